@@ -1,0 +1,3 @@
+pub mod DecimalLemmas
+pub mod FieldLemmas
+pub mod RowLemmas

@@ -1,0 +1,6 @@
+pub mod Decimals
+pub mod Faults
+pub mod Fields
+pub mod Judging
+pub mod Reading
+pub mod Rows

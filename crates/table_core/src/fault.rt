@@ -1,0 +1,122 @@
+//! The faults of a table and of its rows.
+
+ghost use Rattle.std.specs.Prelude.{◌≡◌, Some};
+ghost use Rattle.table_core.specs.Faults.{fault_of_read, name_of, text_of};
+ghost use Rattle.table_core.specs.declared.fault.TableFault.TheVariants as out;
+
+use crate::ReadFault;
+use std::alloc::{AllocError, AllocFailed};
+use std::error::Error;
+use std::fmt;
+
+/// What is wrong with a row. Each table says which of these its rows may have, and what each means
+/// there.
+#[derive(Clone, Copy, Debug, PartialEq, Eq)]
+pub enum RowKind {
+    /// Another number of fields than the header has.
+    Csv,
+    /// The first row is missing, or is not the table's header.
+    Header,
+    /// More rows than the table may have.
+    TooManyRows,
+    /// A word that is not known.
+    What,
+    /// Not a decimal, or one that is out of range.
+    Number,
+    /// A field that must be empty is not.
+    Empty,
+    /// A row that may not follow the one before it.
+    Order,
+    /// Named a second time.
+    Repeated,
+    /// Not named in an earlier row.
+    Unknown,
+}
+
+impl fmt::Display for RowKind {
+    ghost output = { λ kind. Some (name_of kind) };
+
+    fn fmt<W: fmt::Write>(&self, f: &mut fmt::Formatter<W>) -> fmt::Result {
+        match self {
+            RowKind::Csv => f.write_str("Csv"),
+            RowKind::Header => f.write_str("Header"),
+            RowKind::TooManyRows => f.write_str("TooManyRows"),
+            RowKind::What => f.write_str("What"),
+            RowKind::Number => f.write_str("Number"),
+            RowKind::Empty => f.write_str("Empty"),
+            RowKind::Order => f.write_str("Order"),
+            RowKind::Repeated => f.write_str("Repeated"),
+            RowKind::Unknown => f.write_str("Unknown"),
+        }
+    }
+}
+
+/// A row that has a fault. The header is row 1, and rows are counted as `csv` gives records.
+#[derive(Clone, Copy, Debug, PartialEq, Eq)]
+pub struct RowFault {
+    /// Which row.
+    pub row: u32,
+    /// What is wrong with it.
+    pub kind: RowKind,
+}
+
+impl fmt::Display for RowFault {
+    ghost output = { λ fault. Some (text_of fault) };
+
+    fn fmt<W: fmt::Write>(&self, f: &mut fmt::Formatter<W>) -> fmt::Result {
+        let RowFault { row, kind } = *self;
+        write!(f, "row {row}: {kind}")
+    }
+}
+
+impl Error for RowFault {}
+
+/// Why a table was not read.
+#[derive(Clone, Copy, Debug, PartialEq, Eq)]
+pub enum TableFault {
+    /// A row has a fault.
+    Row(RowFault),
+    /// The reader failed.
+    Device,
+    /// Memory ran out.
+    OutOfMemory,
+}
+
+impl fmt::Display for TableFault {
+    fn fmt<W: fmt::Write>(&self, f: &mut fmt::Formatter<W>) -> fmt::Result {
+        match self {
+            TableFault::Row(fault) => write!(f, "{fault}"),
+            TableFault::Device => f.write_str("the reader failed"),
+            TableFault::OutOfMemory => f.write_str("out of memory"),
+        }
+    }
+}
+
+impl Error for TableFault {}
+
+impl From<ReadFault> for TableFault {
+    ghost from_gives = { λ read fault. fault ≡ fault_of_read read };
+
+    fn from(fault: ReadFault) -> TableFault {
+        match fault {
+            ReadFault::Device => TableFault::Device,
+            ReadFault::OutOfMemory => TableFault::OutOfMemory,
+        }
+    }
+}
+
+impl From<AllocError> for TableFault {
+    ghost from_gives = { λ _ fault. fault ≡ out.OutOfMemory };
+
+    fn from(_error: AllocError) -> TableFault {
+        TableFault::OutOfMemory
+    }
+}
+
+impl<T: Drop> From<AllocFailed<T>> for TableFault {
+    ghost from_gives = { λ _ fault. fault ≡ out.OutOfMemory };
+
+    fn from(_error: AllocFailed<T>) -> TableFault {
+        TableFault::OutOfMemory
+    }
+}

@@ -1,0 +1,16 @@
+//! Tables of CSV: their rows one at a time, the fields of a row, and the faults that a row may
+//! have.
+//!
+//! Every table that this repository reads (reports, operations, tariffs, setups, scripts, books)
+//! is read by this crate, so it is the one place that knows the library `csv`.
+#![tactic(auto)]
+
+mod decimals;
+mod fault;
+mod fields;
+mod rows;
+
+pub use decimals::decimal;
+pub use fault::{RowFault, RowKind, TableFault};
+pub use fields::{field, is_word, number};
+pub use rows::{ReadFault, Rows};
