@@ -1,0 +1,14 @@
+-- What a plan says, as plain numbers.
+use Rattle.std.specs.Prelude.{◌≤◌, ℕ, Option, unwrap_or}
+
+-- a fee, the rate a minute before the tariff switch, and the rate after it where there is one
+pub record Rates : Type 0 where
+  pub fee : ℕ
+  pub before : ℕ
+  pub after : Option ℕ
+
+-- the rates that a plan may have: each at most 10^9
+pub record AreRates (fee before : ℕ) (after : Option ℕ) : Type 0 where
+  pub fee_in_range : fee ≤ 1000000000
+  pub before_in_range : before ≤ 1000000000
+  pub after_in_range : unwrap_or after 0 ≤ 1000000000

@@ -1,0 +1,7 @@
+-- What a plan of the code says.
+use Rattle.tariff_core.specs.Rates.{Rates}
+use Rattle.tariff_core.specs.declared.plan.Plan.{Plan}
+
+-- the fee and the rates of a plan
+abbrev pub rates_of : Plan → Rates
+rates_of plan = record { fee = plan.fee; before = plan.before; after = plan.after }

@@ -1,0 +1,15 @@
+//! What a call costs: the times that it has been talked, the plan that it is charged by, and the
+//! price of the one under the other.
+#![tactic(auto)]
+
+mod lawfulness;
+mod plan;
+mod pricing;
+mod time_info;
+mod times;
+
+pub use lawfulness::lawful;
+pub use plan::{MAX_RATE, Plan, PlanRange};
+pub use pricing::{MAX_PRICE, debit, price};
+pub use time_info::{TimeInfo, TimeRange};
+pub use times::{DAY, Times};

@@ -1,0 +1,44 @@
+//! What a call is charged by.
+
+ghost use Rattle.std.specs.Prelude.{◌≡◌, ◌≤◌, IsOk, IfOk, ◌↔◌, unwrap_or};
+ghost use Rattle.tariff_core.specs.Rates.{AreRates};
+
+use thiserror::Error;
+
+/// The highest fee, and the highest rate a minute, in units of money.
+pub const MAX_RATE: u64 = 1_000_000_000;
+
+/// A fee or a rate is above `MAX_RATE`.
+#[derive(Clone, Copy, Debug, PartialEq, Eq, Error)]
+#[error("a fee or a rate is above {MAX_RATE}")]
+pub struct PlanRange;
+
+/// A charging plan: what a call costs once it is talked, and what a minute of it costs.
+#[derive(Clone, Copy, Debug, PartialEq, Eq)]
+pub struct Plan {
+    /// Charged once, as soon as any time is talked.
+    pub fee: u64,
+    /// The rate a minute before the tariff switch.
+    pub before: u64,
+    /// The rate a minute after the switch, where the plan has one.
+    pub after: Option<u64>,
+    pub ghost fee_in_range: { fee ≤ 1000000000 },
+    pub ghost before_in_range: { before ≤ 1000000000 },
+    pub ghost after_in_range: { unwrap_or after 0 ≤ 1000000000 },
+}
+
+impl Plan {
+    ghost use Rattle.tariff_core.specs.RatesOf.{rates_of};
+
+    /// The plan of a fee and one or two rates a minute.
+    pub fn new(fee: u64, before: u64, after: Option<u64>) -> Result<Plan, PlanRange>
+        ensures made { IsOk result ↔ AreRates fee before after }
+        ensures rates { IfOk result
+            (λ plan. rates_of plan ≡ record { fee = fee; before = before; after = after }) }
+    {
+        if fee > MAX_RATE || before > MAX_RATE || after.unwrap_or(0) > MAX_RATE {
+            return Err(PlanRange);
+        }
+        Ok(Plan { fee, before, after })
+    }
+}
