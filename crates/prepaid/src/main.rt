@@ -1,0 +1,29 @@
+//! `prepaid`: prepaid call control on the command line. All of the work is in the library
+//! `prepaid_command`; here it gets the words, standard input and the two outputs.
+#![tactic(auto)]
+
+use prepaid_command::{Fault, command};
+use std::process::ExitCode;
+use std::{env, io};
+
+fn main(rt: HostRuntime) -> ExitCode {
+    let status = match words(&rt) {
+        Ok(words) => command(
+            &rt,
+            words.as_slice(),
+            rt.reader(),
+            &mut io::writer(&rt),
+            &mut rt.stderr(),
+        ),
+        Err(_) => {
+            let _ = rt.eprintln(Fault::OutOfMemory);
+            Fault::OutOfMemory.status()
+        }
+    };
+    ExitCode::from(status)
+}
+
+/// The words after the program's name.
+fn words(rt: &HostRuntime) -> io::Result<Vec<String>> {
+    Ok(env::args(rt)?.skip(1).collect(rt.alloc())?)
+}

@@ -1,0 +1,35 @@
+-- An input of which one byte more than the most was asked for.
+use Rattle.std.proofs.Common.{◌≡◌, ℕ, ◌+◌, ◌<◌, ◌≤◌, List, [], ◌++◌, length, min, take, Option, Some, None, refl, sym, ap, ◌∙◌, arith, length-take}
+use Rattle.std.specs.Prelude.{IfSome, Result, Ok, Err, option_map}
+use Rattle.std.proofs.lemmas.Bool.Decides.{nat_tests}
+use Rattle.std.proofs.lemmas.List.{take_all}
+use Rattle.prepaid_command.specs.Faults.{Refuses, status_of}
+use Rattle.prepaid_command.specs.Input.{sized}
+use Rattle.prepaid_command.specs.declared.fault.Fault.{Fault}
+use Rattle.prepaid_command.specs.declared.fault.Fault.TheVariants as fault
+
+-- what was read of an input that is known: all of it up to the limit
+pub too_long : (known : Option (List ℕ)) (bytes : List ℕ) → IfSome (option_map (take 16777217) known) (λ text. bytes ≡ [] ++ text)
+    → 16777216 < length bytes → IfSome known (λ text. sized text ≡ Err fault.TooLong)
+too_long None bytes read long = tt
+too_long (Some text) bytes read long =
+    let count : length bytes ≡ min 16777217 (length text) = ap length read ∙ length-take 16777217 text in
+    let more : 16777216 < length text = omega arith in
+    grind (arith, nat_tests)
+
+pub fits : (known : Option (List ℕ)) (bytes : List ℕ) → IfSome (option_map (take 16777217) known) (λ text. bytes ≡ [] ++ text)
+    → length bytes ≤ 16777216 → IfSome known (λ text. sized text ≡ Ok bytes)
+fits None bytes read short = tt
+fits (Some text) bytes read short =
+    let count : length bytes ≡ min 16777217 (length text) = ap length read ∙ length-take 16777217 text in
+    let within : length text ≤ 16777216 = omega arith in
+    let all : bytes ≡ text = read ∙ take_all 16777217 text (omega arith) in
+    rw all (grind (arith, nat_tests))
+
+-- a fault of the run may come at any meaning
+pub run_fault : {Y : Type 0} (why : Fault) (meaning : Result Y Fault) → status_of why ≡ 2 → Refuses why meaning
+run_fault fault.Arguments meaning is = absurd (omega arith)
+run_fault fault.TooLong meaning is = absurd (omega arith)
+run_fault (fault.Table part row) meaning is = absurd (omega arith)
+run_fault fault.Device meaning is = tt
+run_fault fault.OutOfMemory meaning is = tt

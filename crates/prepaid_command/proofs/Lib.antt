@@ -1,0 +1,6 @@
+pub mod ArgumentLemmas
+pub mod InputLemmas
+pub mod Known
+pub mod LineLemmas
+pub mod ReportLemmas
+pub mod WordLemmas

@@ -1,0 +1,17 @@
+use Rattle.std.proofs.Common.{◌≡◌, arith}
+use Rattle.prepaid_command.proofs.InputLemmas.{fits, run_fault, too_long}
+use Rattle.prepaid_command.proofs.Known.{if_known}
+use Rattle.prepaid_command.specs.Faults.{Refuses}
+use Rattle.prepaid_command.specs.Input.{sized}
+use Rattle.prepaid_command.proofs.input.read_input.Goals as goal
+
+pub returns-in-Ok-2 : goal.returns-in-Ok-2
+returns-in-Ok-2 g c =
+    let read = rw (c.take-input.ensures.limit, c.take-input.ensures.inner, c.new-bytes.ensures.items) at c.in-Ok-2.ensures.bytes in
+    let count : c.in-Ok-2.field-0 ≡ c.in-Ok.count = cc in
+    fits (g.I.Read.remaining c.args.input) c.read_to_end.new.buf.items read
+    (omega (arith, c.in-Ok-2.ensures.ok, c.read_to_end.new.buf.ok.0, c.new-bytes.ensures.len))
+
+pub returns-in-Err : goal.returns-in-Err
+returns-in-Err g c = if_known (g.I.Read.remaining c.args.input) (λ text. Refuses c.fault_of.result (sized text)) (λ text known.
+    run_fault c.fault_of.result (sized text) c.fault_of.ensures)

@@ -1,0 +1,7 @@
+use Rattle.std.proofs.Common.{sym}
+use Rattle.table_core.specs.Rows.{rows_of}
+use Rattle.prepaid_command.proofs.ReportLemmas.{in_order}
+use Rattle.prepaid_command.proofs.program.price_reports.Goals as goal
+
+pub print_reports-requires : goal.print_reports-requires
+print_reports-requires g c = rw c.deref.ensures.value (in_order _ _ _ c.in-Ok.ensures)

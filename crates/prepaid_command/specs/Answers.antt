@@ -1,0 +1,40 @@
+-- What the program answers to words and an input.
+use Rattle.std.specs.Prelude.{◌≡◌, ◌⊎◌, ℕ, List, Option, Result, Ok, Err, ⊤}
+use Rattle.std.specs.Io.KnownBytes.{Appends, Keeps}
+use Rattle.clap.specs.Words.{Text}
+use Rattle.table_core.specs.Judging.{after}
+use Rattle.table_core.specs.Rows.{rows_of}
+use Rattle.tariff_core.specs.Rates.{Rates}
+use Rattle.prepaid_command.specs.Arguments.{AsksHelp, AsksNothing, AsksPrice}
+use Rattle.prepaid_command.specs.Faults.{meaning_in, status_of}
+use Rattle.prepaid_command.specs.Input.{sized}
+use Rattle.prepaid_command.specs.PriceLines.{price_lines}
+use Rattle.prepaid_command.specs.Reports.{reports_of}
+use Rattle.prepaid_command.specs.declared.fault.Fault.{Fault}
+use Rattle.prepaid_command.specs.declared.fault.Fault.TheVariants as fault
+use Rattle.prepaid_command.specs.declared.fault.Part.TheVariants as part
+
+-- what `price` makes of an input: its lines, or the first fault
+abbrev pub price_of_input : Rates → List ℕ → Result (List ℕ) Fault
+price_of_input plan input = after (sized input) (λ text.
+    after (meaning_in part.Reports (reports_of plan (rows_of text))) (λ reports. Ok (price_lines plan 0 reports)))
+
+-- an answer to the words and the input: the help or the lines that are asked for, or the first fault. A failed reader and want of memory may come at any
+abbrev pub IsAnswer : List Text → List ℕ → Result (List ℕ) Fault → Type 0
+IsAnswer words input (Ok text) = AsksHelp words ⊎ ((plan : Rates) × AsksPrice words plan × (price_of_input plan input ≡ Ok text))
+IsAnswer words input (Err fault.Arguments) = AsksNothing words
+IsAnswer words input (Err fault.TooLong) = (plan : Rates) × AsksPrice words plan × (price_of_input plan input ≡ Err fault.TooLong)
+IsAnswer words input (Err (fault.Table part row)) = (plan : Rates) × AsksPrice words plan × (price_of_input plan input ≡ Err (fault.Table part row))
+IsAnswer words input (Err fault.Device) = ⊤
+IsAnswer words input (Err fault.OutOfMemory) = ⊤
+
+-- an answer was told: a text went to the output whole, at status 0, or the output failed, at status 2; for a fault the output stays as it was
+abbrev pub IsTold : Result (List ℕ) Fault → ℕ → Option (List ℕ) → Option (List ℕ) → Type 0
+IsTold (Ok text) status old new = ((status ≡ 0) × Appends old new text) ⊎ (status ≡ 2)
+IsTold (Err fault) status old new = (status ≡ status_of fault) × Keeps old new
+
+-- the status and the output tell an answer to the words and the input
+pub record Answers (words : List Text) (input : List ℕ) (status : ℕ) (old new : Option (List ℕ)) : Type 0 where
+  pub answer : Result (List ℕ) Fault
+  pub answered : IsAnswer words input answer
+  pub told : IsTold answer status old new

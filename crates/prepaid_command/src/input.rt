@@ -1,0 +1,35 @@
+//! Standard input, read whole.
+
+ghost use Rattle.std.specs.Prelude.{◌≡◌, IfSome};
+ghost use Rattle.prepaid_command.specs.Faults.{Gives, status_of};
+ghost use Rattle.prepaid_command.specs.Input.{sized};
+
+use crate::Fault;
+use std::alloc::Global;
+use std::io::{Error, ErrorKind, Read};
+
+/// The most bytes that an input may have.
+pub const MAX_INPUT: u64 = 16_777_216;
+
+/// All the bytes of the input, or `TooLong` where they are more than `MAX_INPUT`.
+pub fn read_input<I: Read + Drop>(alloc: Global, input: I) -> Result<Vec<u8>, Fault>
+    ensures { IfSome (I.remaining input) (λ text. Gives (λ bytes. bytes.items) result (sized text)) }
+{
+    let mut bytes = Vec::new(alloc);
+    let mut input = input.take(MAX_INPUT + 1);
+    match input.read_to_end(&mut bytes) {
+        Ok(count) if count as u64 > MAX_INPUT => Err(Fault::TooLong),
+        Ok(_) => Ok(bytes),
+        Err(error) => Err(fault_of(&error)),
+    }
+}
+
+fn fault_of(error: &Error) -> Fault
+    ensures { status_of result ≡ 2 }
+{
+    if error.kind() == ErrorKind::OutOfMemory {
+        Fault::OutOfMemory
+    } else {
+        Fault::Device
+    }
+}

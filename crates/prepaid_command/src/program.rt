@@ -1,0 +1,74 @@
+//! The program, from words and bytes to bytes.
+
+ghost use Rattle.std.specs.Prelude.{◌≡◌, map, IfSome, IfOk, string_bytes};
+ghost use Rattle.std.specs.Io.KnownBytes.{Appends, Keeps};
+ghost use Rattle.std.specs.Result.{result_map_both};
+ghost use Rattle.std.specs.Bool.{OnTrue};
+ghost use Rattle.tariff_core.specs.RatesOf.{rates_of};
+ghost use Rattle.prepaid_command.specs.Answers.{Answers, IsAnswer, price_of_input};
+ghost use Rattle.prepaid_command.specs.Faults.{Gives};
+
+use crate::arguments::{Request, read_words};
+use crate::fault::{Fault, Part};
+use crate::input::read_input;
+use crate::price_lines::print_reports;
+use crate::reports::read_reports;
+use std::alloc::Global;
+use std::convert::AsStr;
+use std::io::{Read, Write};
+use tariff_core::Plan;
+
+/// Runs the program over the words after its name, and gives the exit status: 0 where all of the
+/// answer went to `output`, 1 for a fault of the words or the input, 2 where the run failed (want
+/// of memory, an input or an output that failed). A fault goes to `faults` as one line, and then
+/// nothing goes to `output`; a failing `faults` changes no status.
+pub fn command<R: AllocGlobal, S: AsStr, I: Read + Drop, O: Write, E: Write>(
+    rt: &R,
+    words: &[S],
+    input: I,
+    output: &mut O,
+    faults: &mut E,
+) -> u8
+    ensures answers { IfSome (I.remaining input) (λ text.
+        Answers (map S.text words.now) text result (O.contents output.old) (O.contents output.new)) }
+    ensures silent { result ≡ 1 → Keeps (O.contents output.old) (O.contents output.new) }
+{
+    match answer(rt.alloc(), words, input) {
+        Ok(text) => { if print(output, &text) { 0 } else { 2 } }
+        Err(fault) => {
+            let _ = writeln!(faults, "{fault}");
+            fault.status()
+        }
+    }
+}
+
+/// The text that answers the words and the input.
+fn answer<S: AsStr, I: Read + Drop>(alloc: Global, words: &[S], input: I) -> Result<String, Fault>
+    ensures { IfSome (I.remaining input) (λ text. IsAnswer (map S.text words.now) text
+        (result_map_both string_bytes (λ fault. fault) result)) }
+{
+    match read_words(alloc, words)? {
+        Request::Help(text) => Ok(text),
+        Request::Price(plan) => price_reports(alloc, &plan, input),
+    }
+}
+
+/// The lines of `price` for the reports in the input.
+fn price_reports<I: Read + Drop>(alloc: Global, plan: &Plan, input: I) -> Result<String, Fault>
+    ensures { IfSome (I.remaining input) (λ text.
+        Gives string_bytes result (price_of_input (rates_of plan.now) text)) }
+{
+    let bytes = read_input(alloc, input)?;
+    match read_reports(alloc, plan, bytes.as_slice()) {
+        Ok(reports) => Ok(print_reports(alloc, plan, &reports)?),
+        Err(fault) => Err(Fault::in_part(Part::Reports, fault)),
+    }
+}
+
+/// Whether the whole text went to the output.
+fn print<O: Write>(output: &mut O, text: &String) -> bool
+    ensures { OnTrue result
+        (Appends (O.contents output.old) (O.contents output.new) (string_bytes text.now)) }
+{
+    output.write_all(text.as_bytes()).is_ok() && output.flush().is_ok()
+}
