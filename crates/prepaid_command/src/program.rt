@@ -1,9 +1,8 @@
 //! The program, from words and bytes to bytes.
 
-ghost use Rattle.std.specs.Prelude.{◌≡◌, map, IfSome, IfOk, string_bytes};
+ghost use Rattle.std.specs.Prelude.{◌≡◌, ◌⊎◌, map, IfSome, string_bytes};
 ghost use Rattle.std.specs.Io.KnownBytes.{Appends, Keeps};
 ghost use Rattle.std.specs.Result.{result_map_both};
-ghost use Rattle.std.specs.Bool.{OnTrue};
 ghost use Rattle.tariff_core.specs.RatesOf.{rates_of};
 ghost use Rattle.prepaid_command.specs.Answers.{Answers, IsAnswer, price_of_input};
 ghost use Rattle.prepaid_command.specs.Faults.{Gives};
@@ -34,7 +33,7 @@ pub fn command<R: AllocGlobal, S: AsStr, I: Read + Drop, O: Write, E: Write>(
     ensures silent { result ≡ 1 → Keeps (O.contents output.old) (O.contents output.new) }
 {
     match answer(rt.alloc(), words, input) {
-        Ok(text) => { if print(output, &text) { 0 } else { 2 } }
+        Ok(text) => print(output, &text),
         Err(fault) => {
             let _ = writeln!(faults, "{fault}");
             fault.status()
@@ -65,10 +64,15 @@ fn price_reports<I: Read + Drop>(alloc: Global, plan: &Plan, input: I) -> Result
     }
 }
 
-/// Whether the whole text went to the output.
-fn print<O: Write>(output: &mut O, text: &String) -> bool
-    ensures { OnTrue result
-        (Appends (O.contents output.old) (O.contents output.new) (string_bytes text.now)) }
+/// The status of an answer: 0 where the whole text went to the output, 2 where the output failed.
+fn print<O: Write>(output: &mut O, text: &String) -> u8
+    ensures statuses { (result ≡ 0) ⊎ (result ≡ 2) }
+    ensures done { result ≡ 0
+        → Appends (O.contents output.old) (O.contents output.new) (string_bytes text.now) }
 {
-    output.write_all(text.as_bytes()).is_ok() && output.flush().is_ok()
+    if output.write_all(text.as_bytes()).is_ok() && output.flush().is_ok() {
+        0
+    } else {
+        2
+    }
 }
