@@ -1,1 +1,4 @@
+pub mod AffordLemmas
+pub mod CeilingLemmas
+pub mod Lawfuls
 pub mod Prices

@@ -2,14 +2,22 @@
 //! price of the one under the other.
 #![tactic(auto)]
 
+mod affording;
+mod ceilings;
 mod lawfulness;
+mod laws;
 mod plan;
 mod pricing;
+mod reading;
 mod time_info;
 mod times;
 
+pub use affording::afford;
+pub use ceilings::ceiling;
 pub use lawfulness::lawful;
+pub use laws::{afforded_is_greatest, ceiling_is_greatest};
 pub use plan::{MAX_RATE, Plan, PlanRange};
 pub use pricing::{MAX_PRICE, debit, price};
+pub use reading::read_times;
 pub use time_info::{TimeInfo, TimeRange};
 pub use times::{DAY, Times};
