@@ -15,9 +15,12 @@ mod times;
 pub use affording::afford;
 pub use ceilings::ceiling;
 pub use lawfulness::lawful;
-pub use laws::{afforded_is_greatest, ceiling_is_greatest};
+pub use laws::{afforded_is_greatest, ceiling_is_greatest, lawful_times_follow};
 pub use plan::{MAX_RATE, Plan, PlanRange};
 pub use pricing::{MAX_PRICE, debit, price};
 pub use reading::read_times;
 pub use time_info::{TimeInfo, TimeRange};
 pub use times::{DAY, Times};
+
+#[cfg(test)]
+mod tests;
