@@ -4,6 +4,10 @@
 
 mod entry;
 mod fault;
+mod laws;
+mod money;
+mod standing;
 
 pub use entry::{Entry, Op, Reply};
 pub use fault::AccountFault;
+pub use money::MAX_MONEY;
