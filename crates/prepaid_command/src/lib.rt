@@ -2,11 +2,15 @@
 #![tactic(auto)]
 
 mod arguments;
+mod asks;
 mod fault;
 mod input;
+mod operations;
 mod price_lines;
 mod program;
+mod replay_lines;
 mod reports;
+mod tables;
 
 pub use arguments::{Request, read_words};
 pub use fault::{Fault, Part};
