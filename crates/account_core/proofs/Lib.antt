@@ -1,3 +1,6 @@
+pub mod Answering
+pub mod Entering
+pub mod Fitting
 pub mod Moves
 pub mod SoundPasts
 pub mod Soundness

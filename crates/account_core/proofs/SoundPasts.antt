@@ -13,7 +13,7 @@ use Rattle.account_core.proofs.Soundness.{IsAllowed, sound_after, takes_within}
 use Rattle.account_core.proofs.TariffLaws.{TariffLaws}
 use Rattle.account_core.proofs.Verdicts.{credited_capped, credited_showing, deed_showing, verdict_allowed}
 
-nothing_taken : (call : Known) → call.plan ≡ None → taken_of call ≡ 0
+pub nothing_taken : (call : Known) → call.plan ≡ None → taken_of call ≡ 0
 unfolding taken_of
 nothing_taken call none = rw none refl
 
@@ -28,14 +28,14 @@ pub answered_deed : (opening : ℕ) (h : List Event) (event : Event) → IsAnswe
 unfolding answer
 answered_deed opening h event answered = ap (deed_of event.asked) answered.answered ∙ deed_showing event.asked (verdict opening h event.asked) _
 
-answered_credit : (opening : ℕ) (h : List Event) (event : Event) → IsAnswered opening h event → credited event.asked event.reply ≡ credited event.asked (verdict opening h event.asked)
+pub answered_credit : (opening : ℕ) (h : List Event) (event : Event) → IsAnswered opening h event → credited event.asked event.reply ≡ credited event.asked (verdict opening h event.asked)
 unfolding answer
 answered_credit opening h event answered = ap (credited event.asked) answered.answered ∙ credited_showing event.asked (verdict opening h event.asked) _
 
 covered_more : (funds taken taken' t t' more credit : ℕ) → taken ≤ funds → credit ≡ funds - taken → taken' + t ≡ taken + t' → t' ≤ credit + t → taken' ≤ funds + more
 covered_more funds taken taken' t t' more credit covered is moves within = omega arith
 
-available_is : (opening : ℕ) (h : List Event) → available opening h ≡ opening + credits h - taken_by_all h
+pub available_is : (opening : ℕ) (h : List Event) → available opening h ≡ opening + credits h - taken_by_all h
 unfolding available
 available_is opening h = refl
 

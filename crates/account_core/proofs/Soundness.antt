@@ -63,7 +63,7 @@ unfolding taken_of
 taken_ended call paid is =
     let (begun, here) = open_parts call.plan call.returned is in taken_under_returned call.plan (known_after call (Ends paid)) begun refl
 
-taken_granted : (call : Known) (plan : Rates) (units : ℕ) → call.returned ≡ false
+pub taken_granted : (call : Known) (plan : Rates) (units : ℕ) → call.returned ≡ false
     → taken_of (known_after call (Grants plan units)) ≡ ceiling_of (plan_in_force call plan) call.times units
 unfolding taken_of
 taken_granted call plan units here = rw here refl

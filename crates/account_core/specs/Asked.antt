@@ -1,5 +1,5 @@
 -- What an account is asked, as plain data.
-use Rattle.std.specs.Prelude.{◌&&◌, ℕ, Bool, true, nat_le}
+use Rattle.std.specs.Prelude.{◌≡◌, ◌&&◌, ℕ, Bool, true, nat_le}
 use Rattle.tariff_core.specs.Rates.{Rates}
 use Rattle.tariff_core.specs.declared.time_info.TimeInfo.{TimeInfo}
 
@@ -23,3 +23,15 @@ is_in_range (Credits amount) = nat_le 1 amount && nat_le amount 1000000000000000
 is_in_range (Reserves call plan wanted least) = nat_le 1 wanted && nat_le wanted 864000 && nat_le least 864000
 is_in_range (Settles call number info) = true
 is_in_range (Returns call) = true
+
+-- an operation that adds money
+abbrev pub IsCredit : Asked → Type 0
+IsCredit (Credits amount) = Unit {0}
+IsCredit asked = ⊥
+
+-- an operation of this call
+abbrev pub IsOfCall : ℕ → Asked → Type 0
+IsOfCall call (Credits amount) = ⊥
+IsOfCall call (Reserves other plan wanted least) = other ≡ call
+IsOfCall call (Settles other number info) = other ≡ call
+IsOfCall call (Returns other) = other ≡ call

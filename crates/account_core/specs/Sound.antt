@@ -5,11 +5,11 @@ use Rattle.tariff_core.specs.Price.{price_at}
 use Rattle.tariff_core.specs.Rates.{Rates}
 use Rattle.tariff_core.specs.Times.{Elapsed}
 use Rattle.tariff_core.specs.declared.time_info.TimeInfo.{TimeInfo}
-use Rattle.account_core.specs.Answers.{IsLegal, IsLegalPast, accepted_times}
-use Rattle.account_core.specs.Asked.{Asked, Settles}
+use Rattle.account_core.specs.Answers.{IsLegalPast, inadmissible, verdict}
+use Rattle.account_core.specs.Asked.{Asked, call_of}
 use Rattle.account_core.specs.Available.{available, credits, taken_by_all}
 use Rattle.account_core.specs.Events.{Event}
-use Rattle.account_core.specs.Known.{Deed, Ends, Forfeits, Grants, Known, Reports, Rests, deed, is_open, known, nothing_known, paid_of, plan_in_force, taken_of}
+use Rattle.account_core.specs.Known.{Deed, Grants, Known, deed_of, known, known_after, nothing_known, taken_of}
 
 -- a call that was granted something: its times may have come from those at its last grant, within a day, and its top is the ceiling of that grant
 pub record IsHeld (plan : Rates) (call : Known) : Type 0 where
@@ -41,3 +41,16 @@ LegalPastsAreSound = (opening : ℕ) (h : List Event) → opening ≤ 1000000000
 abbrev pub HasRoom : Known → Deed → Type 0
 HasRoom call (Grants plan units) = call.times.before + call.times.after + units ≤ 864000
 HasRoom call deed = Unit {0}
+
+-- what an answer does goes no further than a day, and takes no more than there is
+pub record IsFitting (credit : ℕ) (call : Known) (deed : Deed) : Type 0 where
+  pub room : HasRoom call deed
+  pub covered : taken_of (known_after call deed) ≤ credit + taken_of call
+
+-- the answers to admissible operations do so
+abbrev pub AnswersFit : ℕ → List Event → Type 0
+AnswersFit opening h = (asked : Asked) → inadmissible h asked ≡ None
+    → IsFitting (available opening h) (known (call_of asked) h) (deed_of asked (verdict opening h asked))
+
+abbrev pub SoundPastsAnswer : Type 0
+SoundPastsAnswer = (opening : ℕ) (h : List Event) → IsSoundPast opening h → AnswersFit opening h

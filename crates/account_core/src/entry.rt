@@ -1,5 +1,9 @@
 //! What an account is asked, what it answers, and what it keeps of both.
 
+ghost use Rattle.std.specs.Prelude.{◌≡◌};
+ghost use Rattle.account_core.specs.Answers.{shown_by};
+ghost use Rattle.account_core.specs.Available.{credited};
+
 use tariff_core::{Plan, TimeInfo};
 
 /// An operation on an account. Times are in units of 100 ms, amounts in units of money.
@@ -89,6 +93,23 @@ pub enum Reply {
     },
 }
 
+impl Reply {
+    /// The account's credit after the entry.
+    pub fn available(&self) -> u64
+        ensures { result ≡ shown_by self.now }
+    {
+        match *self {
+            Reply::Credited { available }
+            | Reply::CreditOver { available }
+            | Reply::Granted { available, .. }
+            | Reply::Denied { available }
+            | Reply::Settled { available, .. }
+            | Reply::Forfeit { available, .. }
+            | Reply::Returned { available, .. } => available,
+        }
+    }
+}
+
 /// One entry of an account's history.
 #[derive(Clone, Copy, Debug, PartialEq, Eq)]
 pub struct Entry {
@@ -98,4 +119,18 @@ pub struct Entry {
     pub op: Op,
     /// What was answered.
     pub reply: Reply,
+}
+
+impl Entry {
+    ghost use Rattle.account_core.specs.Events.{asked_of};
+
+    /// What the entry adds to the account's funds.
+    pub fn credited(&self) -> u64
+        ensures { result ≡ credited (asked_of self.now.op) self.now.reply }
+    {
+        match (self.op, self.reply) {
+            (Op::Credit { amount }, Reply::Credited { .. }) => amount,
+            _ => 0,
+        }
+    }
 }

@@ -1,8 +1,10 @@
 //! Why an account refuses an operation.
 
-ghost use Rattle.std.specs.Prelude.{Some};
+ghost use Rattle.std.specs.Prelude.{◌≡◌, Some};
 ghost use Rattle.account_core.specs.Faults.{name_of};
+ghost use Rattle.account_core.specs.declared.fault.AccountFault.TheVariants as out;
 
+use std::alloc::AllocError;
 use std::error::Error;
 use std::fmt;
 
@@ -43,3 +45,11 @@ impl fmt::Display for AccountFault {
 }
 
 impl Error for AccountFault {}
+
+impl From<AllocError> for AccountFault {
+    ghost from_gives = { λ _ fault. fault ≡ out.OutOfMemory };
+
+    fn from(_error: AllocError) -> AccountFault {
+        AccountFault::OutOfMemory
+    }
+}

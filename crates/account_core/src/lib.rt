@@ -2,12 +2,14 @@
 //! and given back when the call ends.
 #![tactic(auto)]
 
+mod account;
 mod entry;
 mod fault;
 mod laws;
 mod money;
 mod standing;
 
+pub use account::Account;
 pub use entry::{Entry, Op, Reply};
 pub use fault::AccountFault;
 pub use money::MAX_MONEY;

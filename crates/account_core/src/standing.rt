@@ -5,6 +5,7 @@ ghost use Rattle.account_core.specs.Answers.{accepted_times, units_offered};
 ghost use Rattle.account_core.specs.Events.{asked_of};
 ghost use Rattle.account_core.specs.Kept.{known_of};
 ghost use Rattle.account_core.specs.Known.{deed_of, is_open, known_after, paid_of, price_under, taken_of, Grants, Reports};
+ghost use Rattle.account_core.specs.Places.{needed_by, owed_to};
 ghost use Rattle.account_core.specs.Replies.{reserve_reply, return_reply, settle_reply};
 ghost use Rattle.account_core.specs.Sound.{HasRoom, IsSound};
 ghost use Rattle.tariff_core.specs.RatesOf.{rates_of};
@@ -142,6 +143,36 @@ impl Standing {
         Reply::Returned {
             paid,
             available: available + self.taken() - paid,
+        }
+    }
+
+    /// The places that an operation of the call needs beyond those that are owed.
+    pub fn needed(&self, op: &Op) -> usize
+        ensures { result ≡ needed_by (known_of self.now) (asked_of op.now) }
+    {
+        match op {
+            Op::Credit { .. } => 1,
+            Op::Reserve { .. } => match (self.is_open(), self.awaits) {
+                (false, _) => 3,
+                (true, false) => 2,
+                (true, true) => 1,
+            },
+            Op::Settle { .. } if self.is_open() && self.awaits => 0,
+            Op::Return { .. } if self.is_open() => 0,
+            Op::Settle { .. } | Op::Return { .. } => 1,
+        }
+    }
+
+    /// The places that the call is owed: one for its Return, and one for a Settle while it awaits it.
+    #[tactic(auto, unfolding(crate::specs::Places::owed_to))]
+    pub fn owed(&self) -> usize
+        ensures value { result ≡ owed_to (known_of self.now) }
+        ensures few { result ≤ 2 }
+    {
+        match (self.is_open(), self.awaits) {
+            (false, _) => 0,
+            (true, false) => 1,
+            (true, true) => 2,
         }
     }
 

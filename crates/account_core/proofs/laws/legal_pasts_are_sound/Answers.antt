@@ -1,3 +1,4 @@
+use Rattle.account_core.proofs.Fitting.{answers_fit}
 use Rattle.account_core.proofs.SoundPasts.{legal_is_sound}
 use Rattle.account_core.proofs.TariffLaws.{TariffLaws}
 use Rattle.account_core.proofs.laws.legal_pasts_are_sound.Goals as goal
@@ -13,4 +14,4 @@ returns c =
       follow = c.lawful_times_follow.ensures.follow;
       read = c.lawful_times_follow.ensures.read;
     } in
-    legal_is_sound laws
+    record { sound = legal_is_sound laws; fitting = answers_fit laws }
