@@ -7,4 +7,6 @@ pub mod Input
 pub mod Operations
 pub mod PriceLines
 pub mod ReplayLines
+pub mod Replays
 pub mod Reports
+pub mod Wishes

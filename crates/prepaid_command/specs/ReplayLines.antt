@@ -1,5 +1,5 @@
 -- The lines that `replay` prints.
-use Rattle.std.specs.Prelude.{ℕ, true, false, List, ◌++◌, codes}
+use Rattle.std.specs.Prelude.{ℕ, true, false, List, ◌++◌, Result, Ok, Err, codes}
 use Rattle.std.specs.Fmt.{decimal}
 use Rattle.account_core.specs.Faults.{name_of}
 use Rattle.account_core.specs.declared.entry.Reply.{Reply}
@@ -27,3 +27,8 @@ reply_line (reply.Returned paid available) = codes "returned paid " ++ paid_and_
 -- the line of a refused operation
 abbrev pub refused_line : AccountFault → List ℕ
 refused_line why = codes "refused " ++ (name_of why ++ codes "\n")
+
+-- the line of an answer: its reply, or the fault in its place
+abbrev pub told_line : Result Reply AccountFault → List ℕ
+told_line (Ok reply) = reply_line reply
+told_line (Err why) = refused_line why
