@@ -2,5 +2,6 @@ pub mod ArgumentLemmas
 pub mod InputLemmas
 pub mod Known
 pub mod LineLemmas
+pub mod ReplayLemmas
 pub mod ReportLemmas
 pub mod WordLemmas

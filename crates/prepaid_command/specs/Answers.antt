@@ -5,11 +5,13 @@ use Rattle.clap.specs.Words.{Text}
 use Rattle.table_core.specs.Judging.{after}
 use Rattle.table_core.specs.Rows.{rows_of}
 use Rattle.tariff_core.specs.Rates.{Rates}
-use Rattle.prepaid_command.specs.Arguments.{AsksHelp, AsksNothing, AsksPrice}
+use Rattle.prepaid_command.specs.Arguments.{AsksFor, AsksHelp, AsksNothing}
 use Rattle.prepaid_command.specs.Faults.{meaning_in, status_of}
 use Rattle.prepaid_command.specs.Input.{sized}
 use Rattle.prepaid_command.specs.PriceLines.{price_lines}
+use Rattle.prepaid_command.specs.Replays.{replayed}
 use Rattle.prepaid_command.specs.Reports.{reports_of}
+use Rattle.prepaid_command.specs.Wishes.{Wish, Prices, Replays}
 use Rattle.prepaid_command.specs.declared.fault.Fault.{Fault}
 use Rattle.prepaid_command.specs.declared.fault.Fault.TheVariants as fault
 use Rattle.prepaid_command.specs.declared.fault.Part.TheVariants as part
@@ -19,12 +21,27 @@ abbrev pub price_of_input : Rates → List ℕ → Result (List ℕ) Fault
 price_of_input plan input = after (sized input) (λ text.
     after (meaning_in part.Reports (reports_of plan (rows_of text))) (λ reports. Ok (price_lines plan 0 reports)))
 
+-- what `replay` makes of it
+abbrev pub replay_of_input : ℕ → ℕ → List ℕ → Result (List ℕ) Fault
+replay_of_input opening limit input = after (sized input) (λ text. meaning_in part.Ops (replayed opening limit (rows_of text)))
+
+-- what is made of an input as it was wished
+abbrev pub answer_to : Wish → List ℕ → Result (List ℕ) Fault
+answer_to (Prices plan) input = price_of_input plan input
+answer_to (Replays opening limit) input = replay_of_input opening limit input
+
+-- the words ask for what has this answer
+pub record IsAnswered (words : List Text) (input : List ℕ) (answer : Result (List ℕ) Fault) : Type 0 where
+  pub wish : Wish
+  pub asked : AsksFor words wish
+  pub answered : answer_to wish input ≡ answer
+
 -- an answer to the words and the input: the help or the lines that are asked for, or the first fault. A failed reader and want of memory may come at any
 abbrev pub IsAnswer : List Text → List ℕ → Result (List ℕ) Fault → Type 0
-IsAnswer words input (Ok text) = AsksHelp words ⊎ ((plan : Rates) × AsksPrice words plan × (price_of_input plan input ≡ Ok text))
+IsAnswer words input (Ok text) = AsksHelp words ⊎ IsAnswered words input (Ok text)
 IsAnswer words input (Err fault.Arguments) = AsksNothing words
-IsAnswer words input (Err fault.TooLong) = (plan : Rates) × AsksPrice words plan × (price_of_input plan input ≡ Err fault.TooLong)
-IsAnswer words input (Err (fault.Table part row)) = (plan : Rates) × AsksPrice words plan × (price_of_input plan input ≡ Err (fault.Table part row))
+IsAnswer words input (Err fault.TooLong) = IsAnswered words input (Err fault.TooLong)
+IsAnswer words input (Err (fault.Table part row)) = IsAnswered words input (Err (fault.Table part row))
 IsAnswer words input (Err fault.Device) = ⊤
 IsAnswer words input (Err fault.OutOfMemory) = ⊤
 

@@ -1,5 +1,5 @@
 -- The command line: what the program takes, and what words ask of it.
-use Rattle.std.specs.Prelude.{◌≡◌, ◌≢◌, ◌⊎◌, ℕ, true, List, [], Option, Some, None, Result, Ok, Err, ⊤, codes, if◌then◌else◌, option_and_then, option_map}
+use Rattle.std.specs.Prelude.{◌≡◌, ◌≢◌, ◌⊎◌, ℕ, true, List, [], Option, Some, None, Result, Ok, Err, ⊤, codes, if◌then◌else◌, nat_le, option_and_then, option_map, unwrap_or}
 use Rattle.std.specs.Str.{bytes_eq}
 use Rattle.clap.specs.Simple.{on_top}
 use Rattle.clap.specs.Words.{App, IsAmong, Row, Rule, Text, fault_of, first_of, new_app, new_rule, subcommand_of, with_rule, with_subcommand}
@@ -9,8 +9,9 @@ use Rattle.clap.specs.declared.error.kind.ErrorKind.TheVariants as kind
 use Rattle.table_core.specs.Decimals.{decimal_of}
 use Rattle.tariff_core.specs.Rates.{Rates}
 use Rattle.tariff_core.specs.RatesOf.{rates_of}
-use Rattle.prepaid_command.specs.declared.arguments.Request.{Request}
-use Rattle.prepaid_command.specs.declared.arguments.Request.TheVariants as request
+use Rattle.prepaid_command.specs.Wishes.{Wish, Prices, Replays}
+use Rattle.prepaid_command.specs.declared.request.Request.{Request}
+use Rattle.prepaid_command.specs.declared.request.Request.TheVariants as request
 use Rattle.prepaid_command.specs.declared.fault.Fault.{Fault}
 use Rattle.prepaid_command.specs.declared.fault.Fault.TheVariants as fault
 
@@ -28,9 +29,13 @@ required_rule name = record (option_rule name) { required = true }
 unfoldable pub price_app : App
 price_app = with_rule (with_rule (with_rule (new_app (codes "price")) (required_rule (codes "fee"))) (required_rule (codes "before"))) (option_rule (codes "after"))
 
+-- `replay --opening N [--limit N]`
+unfoldable pub replay_app : App
+replay_app = with_rule (with_rule (new_app (codes "replay")) (required_rule (codes "opening"))) (option_rule (codes "limit"))
+
 -- the program, with its commands
 unfoldable pub program_app : App
-program_app = with_subcommand (on_top (λ top. record top { no_binary_name = true; subcommand_required = true }) (new_app (codes "prepaid"))) price_app.top
+program_app = with_subcommand (with_subcommand (on_top (λ top. record top { no_binary_name = true; subcommand_required = true }) (new_app (codes "prepaid"))) price_app.top) replay_app.top
 
 -- the kinds of error that clap has for the words; none where they parse
 unfoldable pub errors_in : List Text → List ErrorKind
@@ -61,15 +66,29 @@ plan_in options = option_and_then (λ fee. option_and_then (λ before.
     option_map (λ after. record { fee = fee; before = before; after = after }) (optional_number_in options (codes "after") 1000000000))
     (number_in options (codes "before") 1000000000)) (number_in options (codes "fee") 1000000000)
 
--- the plan that a command asks for the price under
-abbrev pub plan_asked : Option (Text × List Row) → Option Rates
-plan_asked None = None
-plan_asked (Some command) = if bytes_eq command.0 (codes "price") then plan_in command.1 else None
+-- the limit of a history: 3 to 1,000,000, which it is where it is left out
+abbrev pub at_least : ℕ → ℕ → Option ℕ
+at_least least number = if nat_le least number then Some number else None
 
--- what the program is asked for by a command
+abbrev pub limit_in : List Row → Option ℕ
+limit_in options = option_and_then (λ limit. at_least 3 (unwrap_or limit 1000000)) (optional_number_in options (codes "limit") 1000000)
+
+-- the account of `replay`: its opening credit, at most 10^15, and its limit
+abbrev pub replay_in : List Row → Option Wish
+replay_in options = option_and_then (λ opening. option_map (λ limit. Replays opening limit) (limit_in options)) (number_in options (codes "opening") 1000000000000000)
+
+-- what a command is asked for, if its options say it
+abbrev pub wish_in : Option (Text × List Row) → Option Wish
+wish_in None = None
+wish_in (Some command) =
+    if bytes_eq command.0 (codes "price") then option_map (λ plan. Prices plan) (plan_in command.1)
+    else if bytes_eq command.0 (codes "replay") then replay_in command.1 else None
+
+-- the request is what the command is asked for
 abbrev pub IsAsked : Option (Text × List Row) → Option Request → Type 0
-IsAsked command None = plan_asked command ≡ None
-IsAsked command (Some (request.Price plan)) = plan_asked command ≡ Some (rates_of plan)
+IsAsked command None = wish_in command ≡ None
+IsAsked command (Some (request.Price plan)) = wish_in command ≡ Some (Prices (rates_of plan))
+IsAsked command (Some (request.Replay account)) = wish_in command ≡ Some (Replays account.opening account.limit)
 IsAsked command (Some (request.Help text)) = ⊥
 
 -- ---- what the words ask for
@@ -78,21 +97,22 @@ IsAsked command (Some (request.Help text)) = ⊥
 abbrev pub AsksHelp : List Text → Type 0
 AsksHelp words = IsAmong kind.DisplayHelp (errors_in words)
 
--- the words ask for the price under a plan
-pub record AsksPrice (words : List Text) (plan : Rates) : Type 0 where
+-- the words ask for this
+pub record AsksFor (words : List Text) (wish : Wish) : Type 0 where
   pub parsed : errors_in words ≡ []
-  pub plan_is : plan_asked (command_in words) ≡ Some plan
+  pub wish_is : wish_in (command_in words) ≡ Some wish
 
 -- the words ask for nothing that the program does: they don't parse, or an option has no number in its range
 abbrev pub AsksNothing : List Text → Type 0
 AsksNothing words =
     ((error : ErrorKind) × IsAmong error (errors_in words) × (error ≢ kind.DisplayHelp))
-    ⊎ ((errors_in words ≡ []) × (plan_asked (command_in words) ≡ None))
+    ⊎ ((errors_in words ≡ []) × (wish_in (command_in words) ≡ None))
 
 -- what is read from the words is what they ask for; want of memory may come at any
 abbrev pub IsRead : List Text → Result Request Fault → Type 0
 IsRead words (Ok (request.Help text)) = AsksHelp words
-IsRead words (Ok (request.Price plan)) = AsksPrice words (rates_of plan)
+IsRead words (Ok (request.Price plan)) = AsksFor words (Prices (rates_of plan))
+IsRead words (Ok (request.Replay account)) = AsksFor words (Replays account.opening account.limit)
 IsRead words (Err fault.Arguments) = AsksNothing words
 IsRead words (Err fault.OutOfMemory) = ⊤
 IsRead words (Err other) = ⊥
@@ -101,6 +121,7 @@ IsRead words (Err other) = ⊥
 abbrev pub IsRefusal : ErrorKind → Result Request Fault → Type 0
 IsRefusal error (Ok (request.Help text)) = error ≡ kind.DisplayHelp
 IsRefusal error (Ok (request.Price plan)) = ⊥
+IsRefusal error (Ok (request.Replay account)) = ⊥
 IsRefusal error (Err fault.Arguments) = (error ≢ kind.DisplayHelp) × (error ≢ kind.OutOfMemory)
 IsRefusal error (Err fault.OutOfMemory) = ⊤
 IsRefusal error (Err other) = ⊥

@@ -12,6 +12,7 @@ use Rattle.prepaid_command.specs.declared.fault.Part.TheVariants as part
 -- the name of a part
 abbrev pub name_of_part : Part → List ℕ
 name_of_part part.Reports = codes "reports"
+name_of_part part.Ops = codes "ops"
 
 -- the line that tells a fault, without its end
 abbrev pub line_of : Fault → List ℕ

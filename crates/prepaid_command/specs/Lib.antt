@@ -1,6 +1,12 @@
 pub mod Answers
 pub mod Arguments
+pub mod AskingOf
+pub mod Asks
 pub mod Faults
 pub mod Input
+pub mod Operations
 pub mod PriceLines
+pub mod ReplayLines
+pub mod Replays
 pub mod Reports
+pub mod Wishes

@@ -4,9 +4,12 @@ ghost use Rattle.std.specs.Prelude.{◌≡◌, ◌≤◌, Option, Result, false,
 ghost use Rattle.clap.specs.Words.{app_of, found_of, kind_of, rows_of, rule_of, subcommand_rows_of};
 ghost use Rattle.clap.specs.declared.builder.command.Command.TheViews.{out-Command as fields_of};
 ghost use Rattle.tariff_core.specs.RatesOf.{rates_of};
-ghost use Rattle.prepaid_command.specs.Arguments.{IsAsked, IsRead, IsRefusal, number_in, option_rule, optional_number_in, plan_in, price_app, program_app, required_rule};
+ghost use Rattle.prepaid_command.specs.Arguments.{IsAsked, IsRead, IsRefusal, number_in, option_rule, optional_number_in, plan_in, price_app, program_app, replay_app, replay_in, required_rule};
+ghost use Rattle.prepaid_command.specs.Wishes.{Replays};
 
-use crate::Fault;
+use crate::fault::Fault;
+use crate::request::{Opening, Request};
+use account_core::MAX_MONEY;
 use clap::error::ErrorKind;
 use clap::{Arg, ArgAction, ArgMatches, Command, Error};
 use std::alloc::{AllocError, Global};
@@ -14,14 +17,10 @@ use std::convert::AsStr;
 use table_core::decimal;
 use tariff_core::{MAX_RATE, Plan};
 
-/// What the words ask for.
-#[derive(Debug, Drop)]
-pub enum Request {
-    /// The text of the help.
-    Help(String),
-    /// The price of reports under a plan.
-    Price(Plan),
-}
+/// The fewest and the most entries that a history may be limited to.
+const MIN_LIMIT: u64 = 3;
+
+const MAX_LIMIT: u64 = 1_000_000;
 
 /// What the words after the program's name ask for; `Arguments` where they ask for nothing that the
 /// program does, a number out of its range among them.
@@ -41,6 +40,7 @@ fn asked(matches: &ArgMatches<'_>) -> Option<Request>
 {
     match matches.subcommand() {
         Some(("price", options)) => price_plan(options).map(Request::Price),
+        Some(("replay", options)) => replay_opening(options).map(Request::Replay),
         _ => None,
     }
 }
@@ -53,7 +53,8 @@ fn program_command<'a>(alloc: Global) -> Result<Command<'a>, AllocError>
         .about("Prepaid call control: prices, accounts and calls")
         .no_binary_name(true)
         .subcommand_required(true)
-        .subcommand(price_command(alloc)?)
+        .subcommand(price_command(alloc)?)?
+        .subcommand(replay_command(alloc)?)
 }
 
 #[tactic(auto, unfolding(crate::specs::Arguments::price_app))]
@@ -66,6 +67,17 @@ fn price_command<'a>(alloc: Global) -> Result<Command<'a>, AllocError>
         .arg(required(alloc, "fee", "The fee, in units of money"))?
         .arg(required(alloc, "before", "The rate a minute before the switch"))?
         .arg(option(alloc, "after", "The rate a minute after the switch"))
+}
+
+#[tactic(auto, unfolding(crate::specs::Arguments::replay_app))]
+fn replay_command<'a>(alloc: Global) -> Result<Command<'a>, AllocError>
+    ensures app { IfOk result (λ command. app_of command ≡ replay_app) }
+    ensures local { IfOk result (λ command. (fields_of command).has_globals ≡ false) }
+{
+    Command::new(alloc, "replay")
+        .about("Prints what an account replies to each operation")
+        .arg(required(alloc, "opening", "The opening credit, in units of money"))?
+        .arg(option(alloc, "limit", "How many entries its history may have"))
 }
 
 /// `--name N`
@@ -95,6 +107,22 @@ fn price_plan(options: &ArgMatches<'_>) -> Option<Plan>
     let before = number(options, "before", MAX_RATE)?;
     let after = optional_number(options, "after", MAX_RATE)?;
     Plan::new(fee, before, after).ok()
+}
+
+/// The account that the options of `replay` open.
+fn replay_opening(options: &ArgMatches<'_>) -> Option<Opening>
+    ensures { option_map (λ account. Replays account.opening account.limit) result
+        ≡ replay_in (rows_of (found_of options.now)) }
+{
+    let opening = number(options, "opening", MAX_MONEY)?;
+    let limit = optional_number(options, "limit", MAX_LIMIT)?.unwrap_or(MAX_LIMIT);
+    if limit < MIN_LIMIT {
+        return None;
+    }
+    Some(Opening {
+        opening,
+        limit: limit as u32,
+    })
 }
 
 /// The number of an option, from 0 to `most`.

@@ -14,6 +14,8 @@ use table_core::{RowFault, TableFault};
 pub enum Part {
     /// The reports of `price`.
     Reports,
+    /// The operations of `replay`.
+    Ops,
 }
 
 impl fmt::Display for Part {
@@ -22,6 +24,7 @@ impl fmt::Display for Part {
     fn fmt<W: fmt::Write>(&self, f: &mut fmt::Formatter<W>) -> fmt::Result {
         match self {
             Part::Reports => f.write_str("reports"),
+            Part::Ops => f.write_str("ops"),
         }
     }
 }

@@ -2,16 +2,23 @@
 #![tactic(auto)]
 
 mod arguments;
+mod asks;
 mod fault;
 mod input;
+mod operations;
 mod price_lines;
 mod program;
+mod replay_lines;
+mod replaying;
 mod reports;
+mod request;
+mod tables;
 
-pub use arguments::{Request, read_words};
+pub use arguments::read_words;
 pub use fault::{Fault, Part};
 pub use input::MAX_INPUT;
 pub use program::command;
+pub use request::{Opening, Request};
 
 #[cfg(test)]
 mod tests;

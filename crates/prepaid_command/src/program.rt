@@ -4,14 +4,16 @@ ghost use Rattle.std.specs.Prelude.{◌≡◌, ◌⊎◌, map, IfSome, string_by
 ghost use Rattle.std.specs.Io.KnownBytes.{Appends, Keeps};
 ghost use Rattle.std.specs.Result.{result_map_both};
 ghost use Rattle.tariff_core.specs.RatesOf.{rates_of};
-ghost use Rattle.prepaid_command.specs.Answers.{Answers, IsAnswer, price_of_input};
+ghost use Rattle.prepaid_command.specs.Answers.{Answers, IsAnswer, price_of_input, replay_of_input};
 ghost use Rattle.prepaid_command.specs.Faults.{Gives};
 
-use crate::arguments::{Request, read_words};
+use crate::arguments::read_words;
 use crate::fault::{Fault, Part};
 use crate::input::read_input;
 use crate::price_lines::print_reports;
+use crate::replaying::replay;
 use crate::reports::read_reports;
+use crate::request::{Opening, Request};
 use std::alloc::Global;
 use std::convert::AsStr;
 use std::io::{Read, Write};
@@ -49,6 +51,7 @@ fn answer<S: AsStr, I: Read + Drop>(alloc: Global, words: &[S], input: I) -> Res
     match read_words(alloc, words)? {
         Request::Help(text) => Ok(text),
         Request::Price(plan) => price_reports(alloc, &plan, input),
+        Request::Replay(account) => replay_operations(alloc, account, input),
     }
 }
 
@@ -61,6 +64,22 @@ fn price_reports<I: Read + Drop>(alloc: Global, plan: &Plan, input: I) -> Result
     match read_reports(alloc, plan, bytes.as_slice()) {
         Ok(reports) => Ok(print_reports(alloc, plan, &reports)?),
         Err(fault) => Err(Fault::in_part(Part::Reports, fault)),
+    }
+}
+
+/// The lines of `replay` for the operations in the input.
+fn replay_operations<I: Read + Drop>(
+    alloc: Global,
+    account: Opening,
+    input: I,
+) -> Result<String, Fault>
+    ensures { IfSome (I.remaining input) (λ text.
+        Gives string_bytes result (replay_of_input account.opening account.limit text)) }
+{
+    let bytes = read_input(alloc, input)?;
+    match replay(alloc, account.opening, account.limit, bytes.as_slice()) {
+        Ok(text) => Ok(text),
+        Err(fault) => Err(Fault::in_part(Part::Ops, fault)),
     }
 }
 

@@ -7,14 +7,12 @@ ghost use Rattle.table_core.specs.Rows.{rows_of};
 ghost use Rattle.tariff_core.specs.RatesOf.{rates_of};
 ghost use Rattle.prepaid_command.specs.Reports.{is_header, report_at, reports_of};
 
+use crate::tables::LAST_ROW;
 use csv::ByteRecord;
 use std::alloc::Global;
 use std::io::Read;
 use table_core::{RowFault, RowKind, Rows, TableFault, is_word, number};
 use tariff_core::{DAY, Plan, Times, lawful};
-
-/// The last row that a table may have, its header counted.
-const LAST_ROW: u32 = 10_001;
 
 /// The reports, each lawful after the one before it and the first after no time at all.
 pub fn read_reports<I: Read + Drop>(

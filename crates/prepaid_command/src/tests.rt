@@ -1,6 +1,8 @@
 //! The program over texts: worked tables, each fault with its line and status, and readers and
 //! writers that fail.
 
+mod replays;
+
 use crate::command;
 use std::alloc::AllocError;
 use std::io::{self, ErrorKind, Read, Write};
@@ -136,7 +138,7 @@ fn takes_ten_thousand_rows(rt: HostRuntime) -> Result<(), Fail> {
 
 #[test]
 fn refuses_other_words(rt: HostRuntime) {
-    let rows: [&[&str]; 16] = [
+    let rows: [&[&str]; 20] = [
         &[],
         &["prices"],
         &["price"],
@@ -160,7 +162,11 @@ fn refuses_other_words(rt: HostRuntime) {
         &["price", "--fee", "1", "--fee", "1", "--before", "1"],
         &["price", "--fee", "1", "--before", "1", "more"],
         &["--version"],
-        &["replay", "--opening", "1500"],
+        &["replay"],
+        &["replay", "--opening", "1000000000000001"],
+        &["replay", "--opening", "1", "--limit", "2"],
+        &["replay", "--opening", "1", "--limit", "1000001"],
+        &["run"],
     ];
     for words in rows {
         expect(&rt, words, b"before,after\n", 1, "", "prepaid: arguments\n");

@@ -1,8 +1,8 @@
 //! The fields of a row.
 
-ghost use Rattle.std.specs.Prelude.{◌≡◌, ◌<◌, ◌≤◌, length, IfOk};
+ghost use Rattle.std.specs.Prelude.{◌≡◌, ◌<◌, ◌≤◌, length, unwrap_or, IfOk};
 ghost use Rattle.csv.specs.Records.{fields_of};
-ghost use Rattle.table_core.specs.Fields.{field_in, has_word, number_in};
+ghost use Rattle.table_core.specs.Fields.{field_in, has_word, is_blank, number_in, optional_in};
 
 use crate::{RowKind, decimal};
 use csv::ByteRecord;
@@ -30,4 +30,24 @@ pub fn number(row: &ByteRecord, place: usize, most: u64) -> Result<u64, RowKind>
     ensures within { IfOk result (λ number. number ≤ most) }
 {
     decimal(field(row, place), most).ok_or(RowKind::Number)
+}
+
+/// Whether the field at `place` is empty.
+pub fn is_blank(row: &ByteRecord, place: usize) -> bool
+    requires { place < length (fields_of row.now) }
+    ensures { result ≡ is_blank (fields_of row.now) place }
+{
+    field(row, place).is_empty()
+}
+
+/// The decimal in the field at `place`, or none where the field is empty.
+pub fn optional(row: &ByteRecord, place: usize, most: u64) -> Result<Option<u64>, RowKind>
+    requires { place < length (fields_of row.now) }
+    ensures value { result ≡ optional_in (fields_of row.now) place most }
+    ensures within { IfOk result (λ number. unwrap_or number 0 ≤ most) }
+{
+    if is_blank(row, place) {
+        return Ok(None);
+    }
+    Ok(Some(number(row, place, most)?))
 }

@@ -12,7 +12,7 @@ mod rows;
 
 pub use decimals::decimal;
 pub use fault::{RowFault, RowKind, TableFault};
-pub use fields::{field, is_word, number};
+pub use fields::{field, is_blank, is_word, number, optional};
 pub use rows::{ReadFault, Rows};
 
 #[cfg(test)]

@@ -1,0 +1,324 @@
+-- An account keeps what its type says when an answered operation is entered.
+use Rattle.std.proofs.Common.{◌≡◌, ℕ, ◌+◌, ◌-◌, ◌≤◌, ◌<◌, Bool, true, false, Option, Some, None, List, [], ◌∷◌, ◌++◌, length, refl, sym, ap, ◌∙◌, arith, subst}
+use Rattle.std.specs.Prelude.{◌==◌, ◌&&◌, ◌||◌, if◌then◌else◌, not, is_some, map, nat_le, nat_lt, reverse, unwrap_or}
+use Rattle.std.specs.Vec.{vec_capacity}
+use Rattle.std.specs.BTreeMap.{BTreeMap, IsEmpty, Updates, get, is_at}
+use Rattle.std.specs.declared.vec.Vec.{Vec}
+use Rattle.std.specs.declared.alloc.Global.{Global}
+use Rattle.std.specs.Ordering.{nat_cmp}
+use Rattle.std.proofs.lemmas.Bool.{eqb-true}
+use Rattle.std.proofs.lemmas.Bool.Decides.{nat_tests}
+use Rattle.std.proofs.lemmas.List.{length-map, length-reverse, map-append, reverse-append}
+use Rattle.tariff_core.specs.Rates.{Rates}
+use Rattle.tariff_core.specs.Times.{Elapsed}
+use Rattle.tariff_core.specs.declared.time_info.TimeInfo.{TimeInfo}
+use Rattle.account_core.specs.Answers.{IsAnswered, IsLegalPast, answer, inadmissible, settle_verdict, shown_by, accepted_times, units_offered, verdict}
+use Rattle.account_core.specs.Asked.{Asked, Credits, IsCredit, IsOfCall, Reserves, Returns, Settles, call_of}
+use Rattle.account_core.specs.Available.{available, calls, credited, credits, taken_by_all}
+use Rattle.account_core.specs.Events.{Event, asked_of, event_of}
+use Rattle.account_core.specs.Kept.{IsKept, TellsEach, known_of, unknown}
+use Rattle.account_core.specs.Known.{Deed, Ends, Forfeits, Grants, Known, Reports, Rests, deed_of, is_open, known, known_after, paid_of}
+use Rattle.account_core.specs.Ledger.{Ledger, answer_of, refusal_of}
+use Rattle.account_core.specs.Places.{needed, needed_by, or_else, over_limit, owed, owed_to, places_needed, places_owed, refusal}
+use Rattle.account_core.specs.Sound.{AnswersFit, HasRoom, IsSoundPast}
+use Rattle.account_core.specs.declared.account.Account.TheInside.{Inside}
+use Rattle.account_core.specs.declared.entry.Entry.{Entry}
+use Rattle.account_core.specs.declared.entry.Reply.{Reply}
+use Rattle.account_core.specs.declared.entry.Reply.TheVariants as reply
+use Rattle.account_core.specs.declared.fault.AccountFault.{AccountFault}
+use Rattle.account_core.specs.declared.fault.AccountFault.TheVariants as fault
+use Rattle.account_core.specs.declared.standing.Standing.{Standing}
+use Rattle.account_core.proofs.Fitting.{answer_shows}
+use Rattle.account_core.proofs.Moves.{at_most_all, its_call, its_deed, known_apart, known_here, sum_moves}
+use Rattle.account_core.proofs.SoundPasts.{answered_credit, answered_deed}
+use Rattle.account_core.proofs.Verdicts.{credited_capped}
+
+-- what an account keeps, in the words of its callers
+pub kept_of : (a : Inside) (ledger : Ledger) → record { opening = a.opening; limit = a.limit; history = map event_of a.entries.items } ≡ ledger
+    → IsKept a.opening a.limit (reverse (map event_of a.entries.items)) a.calls a.funds a.available a.owed (vec_capacity a.entries)
+    → IsKept ledger.opening ledger.limit (reverse ledger.history) a.calls a.funds a.available a.owed (vec_capacity a.entries)
+kept_of a ledger view_is kept =
+    let P : Ledger → Type 0 = λ l. IsKept l.opening l.limit (reverse l.history) a.calls a.funds a.available a.owed (vec_capacity a.entries) in
+    subst P view_is kept
+
+-- the history with an entry at its end
+pub past_pushed : (items : List Entry) (entry : Entry) → reverse (map event_of (items ++ entry ∷ [])) ≡ event_of entry ∷ reverse (map event_of items)
+past_pushed items entry = rw (map-append event_of items (entry ∷ []), reverse-append) refl
+
+-- ---- what is not refused
+
+or_else_none : (first second : Option AccountFault) → or_else first second ≡ None → (first ≡ None) × (second ≡ None)
+or_else_none None second is = (refl, is)
+or_else_none (Some why) second is = cc
+
+within_by : (over : Bool) (limit places : ℕ) → nat_lt limit places ≡ over → (if over then Some fault.HistoryFull else None) ≡ None → places ≤ limit
+within_by true limit places over is = cc
+within_by false limit places over is = grind (arith, nat_tests)
+
+within_if : (limit places : ℕ) → (if nat_lt limit places then Some fault.HistoryFull else None) ≡ None → places ≤ limit
+within_if limit places is = within_by (nat_lt limit places) limit places refl is
+
+pub admitted : (limit : ℕ) (h : List Event) (asked : Asked) → refusal limit h asked ≡ None → (inadmissible h asked ≡ None) × (length h + owed h + needed h asked ≤ limit)
+unfolding refusal
+admitted limit h asked is =
+    let (admissible, within) = or_else_none (inadmissible h asked) (over_limit limit h asked) is in
+    (admissible, within_if limit (length h + owed h + needed h asked) within)
+
+-- ---- places
+
+owes_grant : (plan : Option Rates) (returned awaits : Bool) (call : ℕ) (rates : Rates) (wanted least : ℕ)
+    → 1 + places_owed (not returned) true ≤ places_owed (is_some plan && not returned) awaits + places_needed (is_some plan && not returned) awaits (Reserves call rates wanted least)
+owes_grant None true awaits call rates wanted least = omega arith
+owes_grant None false awaits call rates wanted least = omega arith
+owes_grant (Some plan) true awaits call rates wanted least = omega arith
+owes_grant (Some plan) false true call rates wanted least = omega arith
+owes_grant (Some plan) false false call rates wanted least = omega arith
+
+owes_denied : (open_yet awaits : Bool) (call : ℕ) (rates : Rates) (wanted least : ℕ) → 1 ≤ places_needed open_yet awaits (Reserves call rates wanted least)
+owes_denied true true call rates wanted least = omega arith
+owes_denied true false call rates wanted least = omega arith
+owes_denied false awaits call rates wanted least = omega arith
+
+owes_report : (open_yet awaits : Bool) → 1 + places_owed open_yet false ≤ places_owed open_yet awaits + (if open_yet && awaits then 0 else 1)
+owes_report true true = omega arith
+owes_report true false = omega arith
+owes_report false awaits = omega arith
+
+owes_end : (plan : Option Rates) (returned awaits : Bool)
+    → 1 + places_owed (is_some plan && false) awaits ≤ places_owed (is_some plan && not returned) awaits + (if is_some plan && not returned then 0 else 1)
+owes_end None returned awaits = omega arith
+owes_end (Some plan) true awaits = omega arith
+owes_end (Some plan) false true = omega arith
+owes_end (Some plan) false false = omega arith
+
+owes_reserve : (denied : Bool) (known : Known) (units : ℕ) (last : Bool) (call : ℕ) (plan : Rates) (wanted least : ℕ)
+    → 1 + owed_to (known_after known (deed_of (Reserves call plan wanted least) (if denied then reply.Denied 0 else reply.Granted units last 0)))
+    ≤ owed_to known + needed_by known (Reserves call plan wanted least)
+unfolding owed_to
+owes_reserve true known units last call plan wanted least = omega (arith, owes_denied (is_open known) known.awaits call plan wanted least)
+owes_reserve false known units last call plan wanted least = owes_grant known.plan known.returned known.awaits call plan wanted least
+
+owes_settle : (times : Option Elapsed) (known : Known) (call number : ℕ) (info : TimeInfo)
+    → 1 + owed_to (known_after known (deed_of (Settles call number info) (settle_verdict known times))) ≤ owed_to known + needed_by known (Settles call number info)
+unfolding owed_to
+owes_settle None known call number info = owes_report (is_open known) known.awaits
+owes_settle (Some times) known call number info = owes_report (is_open known) known.awaits
+
+owes_return : (known : Known) (call paid : ℕ) → 1 + owed_to (known_after known (Ends paid)) ≤ owed_to known + needed_by known (Returns call)
+unfolding owed_to
+owes_return known call paid = owes_end known.plan known.returned known.awaits
+
+-- an answer's entry and what is owed after it take the places that were owed and needed
+pub owes : (opening : ℕ) (h : List Event) (asked : Asked)
+    → 1 + owed_to (known_after (known (call_of asked) h) (deed_of asked (verdict opening h asked))) ≤ owed_to (known (call_of asked) h) + needed h asked
+owes opening h (Credits amount) = omega arith
+owes opening h (Reserves call plan wanted least) =
+    owes_reserve _ (known call h) (units_offered (available opening h) (known call h) plan wanted) _ call plan wanted least
+owes opening h (Settles call number info) = owes_settle (accepted_times (known call h) info) (known call h) call number info
+owes opening h (Returns call) = owes_return (known call h) call (paid_of (known call h))
+
+nothing_owed : (call : Known) → call.plan ≡ None → owed_to call ≡ 0
+unfolding owed_to
+nothing_owed call none = rw none refl
+
+pub owed_moves : (h : List Event) (event : Event)
+    → owed (event ∷ h) + owed_to (known (its_call event) h) ≡ owed h + owed_to (known_after (known (its_call event) h) (its_deed event))
+unfolding owed
+owed_moves h event = sum_moves owed_to nothing_owed h event
+
+pub owed_at_most : (h : List Event) (call : ℕ) → owed_to (known call h) ≤ owed h
+unfolding owed
+owed_at_most h call = at_most_all owed_to nothing_owed h call
+
+-- what is owed after an answered entry
+pub owed_after : (opening : ℕ) (h : List Event) (event : Event) → IsAnswered opening h event → 1 + owed (event ∷ h) ≤ owed h + needed h event.asked
+owed_after opening h event answered =
+    let P : Deed → Type 0 = λ d. 1 + owed_to (known_after (known (its_call event) h) d) ≤ owed_to (known (its_call event) h) + needed h event.asked in
+    let call_owes = subst P (sym (answered_deed opening h event answered)) (owes opening h event.asked) in
+    omega (arith, owed_moves h event, call_owes)
+
+-- ---- the map
+
+apart_at : (call other : ℕ) → (call == other) ≡ false → is_at (nat_cmp call) other ≡ false
+apart_at call other apart = grind (arith, nat_tests)
+
+tells_by : (here : Bool) (old new : BTreeMap ℕ Standing) (h : List Event) (event : Event) (standing : Standing) (call : ℕ) → (its_call event == call) ≡ here
+    → Updates nat_cmp old new (its_call event) (Some standing) → TellsEach old h → known_of standing ≡ known_after (known (its_call event) h) (its_deed event)
+    → known_of (unwrap_or (get nat_cmp new call) unknown) ≡ known call (event ∷ h)
+tells_by true old new h event standing call is updates tells known_is =
+    let P : ℕ → Type 0 = λ c. known_of (unwrap_or (get nat_cmp new c) unknown) ≡ known c (event ∷ h) in
+    subst P (eqb-true (its_call event) call is) (rw updates.1 (known_is ∙ sym (known_here h event)))
+tells_by false old new h event standing call is updates tells known_is =
+    rw (updates.2 call (apart_at (its_call event) call is)) (tells call ∙ sym (known_apart h event call is))
+
+-- the map after the standing of an entry's call is renewed
+pub tells_renewed : (old new : BTreeMap ℕ Standing) (h : List Event) (event : Event) (standing : Standing)
+    → Updates nat_cmp old new (its_call event) (Some standing) → TellsEach old h → known_of standing ≡ known_after (known (its_call event) h) (its_deed event)
+    → TellsEach new (event ∷ h)
+tells_renewed old new h event standing updates tells known_is call = tells_by _ old new h event standing call refl updates tells known_is
+
+rests_by : (here : Bool) (h : List Event) (event : Event) (call : ℕ) → (its_call event == call) ≡ here → its_deed event ≡ Rests → known call (event ∷ h) ≡ known call h
+rests_by true h event call is rests =
+    let P : ℕ → Type 0 = λ c. known c (event ∷ h) ≡ known c h in
+    subst P (eqb-true (its_call event) call is) (known_here h event ∙ ap (known_after (known (its_call event) h)) rests)
+rests_by false h event call is rests = known_apart h event call is
+
+pub tells_resting : (m : BTreeMap ℕ Standing) (h : List Event) (event : Event) → its_deed event ≡ Rests → TellsEach m h → TellsEach m (event ∷ h)
+tells_resting m h event rests tells call = tells call ∙ sym (rests_by _ h event call refl rests)
+
+-- ---- the whole
+
+pub of_call : (call : ℕ) (asked : Asked) → IsOfCall call asked → (call_of asked ≡ call) × ((told : Reply) → credited asked told ≡ 0)
+of_call call (Credits amount) is = absurd is
+of_call call (Reserves other plan wanted least) is = (is, λ told. refl)
+of_call call (Settles other number info) is = (is, λ told. refl)
+of_call call (Returns other) is = (is, λ told. refl)
+
+-- the map and the totals are those of the longer history, and there is room
+pub record IsEntered (h : List Event) (event : Event) (m : BTreeMap ℕ Standing) (funds funds' places places' capacity : ℕ) : Type 0 where
+  pub tells : TellsEach m (event ∷ h)
+  pub funds_are : funds' ≡ funds + credited event.asked event.reply
+  pub places_are : places' ≡ owed (event ∷ h)
+  pub room : length h + (places + needed h event.asked) ≤ capacity
+
+pub entered : (opening limit : ℕ) (h : List Event) (m m' : BTreeMap ℕ Standing) (funds funds' credit places places' capacity capacity' : ℕ) (event : Event)
+    → IsKept opening limit h m funds credit places capacity → refusal limit h event.asked ≡ None → event.reply ≡ answer opening h event.asked
+    → IsEntered h event m' funds funds' places places' capacity' → IsKept opening limit (event ∷ h) m' funds' (shown_by event.reply) places' capacity'
+entered opening limit h m m' funds funds' credit places places' capacity capacity' event kept open_yet is entry =
+    let (admissible, within) = admitted limit h event.asked open_yet in
+    let answered : IsAnswered opening h event = record { admissible = admissible; answered = is } in
+    let owes_more = owed_after opening h event answered in
+    let longer : length (event ∷ h) ≡ length h + 1 = omega arith in
+    record {
+      small = kept.small;
+      legal = (kept.legal, answered);
+      within_limit = omega (arith, within, owes_more, entry.places_are, longer);
+      room = omega (arith, entry.room, owes_more, entry.places_are, kept.places_are, longer);
+      tells = entry.tells;
+      funds_are = omega (arith, entry.funds_are, kept.funds_are);
+      credit_is = answer_shows opening h event is;
+      places_are = entry.places_are;
+    }
+
+-- the same of an account's fields
+module _ (a : Inside) (ledger : Ledger) (view_is : record { opening = a.opening; limit = a.limit; history = map event_of a.entries.items } ≡ ledger)
+    (kept : IsKept a.opening a.limit (reverse (map event_of a.entries.items)) a.calls a.funds a.available a.owed (vec_capacity a.entries)) where
+  pub length_past : length (reverse ledger.history) ≡ length a.entries.items
+  length_past =
+      ap (λ l. length (reverse l.history)) (sym view_is) ∙ (length-reverse (map event_of a.entries.items) ∙ length-map a.entries.items event_of)
+
+  pub entered_inside : (entry : Entry) (items : List Entry) (m : BTreeMap ℕ Standing) (funds credit places capacity : ℕ)
+      → refusal_of ledger (asked_of entry.op) ≡ None → entry.reply ≡ answer_of ledger (asked_of entry.op) → items ≡ a.entries.items ++ entry ∷ []
+      → credit ≡ shown_by entry.reply → IsEntered (reverse ledger.history) (event_of entry) m a.funds funds a.owed places capacity
+      → IsKept a.opening a.limit (reverse (map event_of items)) m funds credit places capacity
+  entered_inside entry items m funds credit places capacity open_yet is items_are shows entry_is =
+      let R : Ledger → Type 0 = λ l. refusal_of l (asked_of entry.op) ≡ None in
+      let A : Ledger → Type 0 = λ l. entry.reply ≡ answer_of l (asked_of entry.op) in
+      let E : Ledger → Type 0 = λ l. IsEntered (reverse l.history) (event_of entry) m a.funds funds a.owed places capacity in
+      let K : List Event → Type 0 = λ h. IsKept a.opening a.limit h m funds (shown_by entry.reply) places capacity in
+      let C : ℕ → Type 0 = λ n. IsKept a.opening a.limit (reverse (map event_of items)) m funds n places capacity in
+      let longer : event_of entry ∷ reverse (map event_of a.entries.items) ≡ reverse (map event_of items) =
+      sym (ap (λ es. reverse (map event_of es)) items_are ∙ past_pushed a.entries.items entry) in
+      let whole = entered a.opening a.limit (reverse (map event_of a.entries.items)) a.calls m a.funds funds a.available a.owed places (vec_capacity a.entries) capacity (event_of entry)
+      kept (subst R (sym view_is) open_yet) (subst A (sym view_is) is) (subst E (sym view_is) entry_is) in
+      subst C (sym shows) (subst K longer whole)
+
+-- ---- a Credit
+
+pub credit_rests : (asked : Asked) (told : Reply) → IsCredit asked → deed_of asked told ≡ Rests
+credit_rests (Credits amount) told is = refl
+credit_rests (Reserves call plan wanted least) told is = absurd is
+credit_rests (Settles call number info) told is = absurd is
+credit_rests (Returns call) told is = absurd is
+
+pub credit_needs : (h : List Event) (asked : Asked) → IsCredit asked → needed h asked ≡ 1
+credit_needs h (Credits amount) is = refl
+credit_needs h (Reserves call plan wanted least) is = absurd is
+credit_needs h (Settles call number info) is = absurd is
+credit_needs h (Returns call) is = absurd is
+
+pub owed_resting : (h : List Event) (event : Event) → its_deed event ≡ Rests → owed (event ∷ h) ≡ owed h
+owed_resting h event rests =
+    let same : owed_to (known_after (known (its_call event) h) (its_deed event)) ≡ owed_to (known (its_call event) h) = ap (λ d. owed_to (known_after (known (its_call event) h) d)) rests in
+    omega (arith, owed_moves h event, same)
+
+pub credit_entered : (h : List Event) (event : Event) (m : BTreeMap ℕ Standing) (funds funds' places capacity : ℕ) → IsCredit event.asked → TellsEach m h
+    → funds' ≡ funds + credited event.asked event.reply → places ≡ owed h → length h + (places + 1) ≤ capacity → IsEntered h event m funds funds' places places capacity
+credit_entered h event m funds funds' places capacity is tells funds_are places_are room =
+    let rests = credit_rests event.asked event.reply is in
+    record {
+      tells = tells_resting m h event rests tells;
+      funds_are = funds_are;
+      places_are = places_are ∙ sym (owed_resting h event rests);
+      room = omega (arith, room, credit_needs h event.asked is);
+    }
+
+-- the funds stay within the largest money
+pub funds_fit : (opening : ℕ) (h : List Event) (event : Event) → IsSoundPast opening h → IsAnswered opening h event
+    → opening + credits h + credited event.asked event.reply ≤ 1000000000000000
+funds_fit opening h event sound answered = omega (arith, answered_credit opening h event answered, credited_capped opening h event.asked sound.capped)
+
+-- ---- an operation of a call
+
+module _ (opening limit : ℕ) (h : List Event) (call : ℕ) (event : Event) (here : IsOfCall call event.asked) (before : Known) (before_is : before ≡ known call h)
+    (open_yet : refusal limit h event.asked ≡ None) (is : event.reply ≡ answer opening h event.asked) where
+  pub before_its : before ≡ known (its_call event) h
+  before_its = before_is ∙ ap (λ c. known c h) (sym (of_call call event.asked here).0)
+
+  answered_here : IsAnswered opening h event
+  answered_here = record { admissible = (admitted limit h event.asked open_yet).0; answered = is }
+
+  pub needs_known : needed_by before event.asked ≡ needed h event.asked
+  needs_known = ap (λ k. needed_by k event.asked) before_its
+
+  pub room_known : AnswersFit opening h → HasRoom before (its_deed event)
+  room_known fitting =
+      let P : Deed → Type 0 = λ d. HasRoom (known (its_call event) h) d in
+      let K : Known → Type 0 = λ k. HasRoom k (its_deed event) in
+      subst K (sym before_its) (subst P (sym (answered_deed opening h event answered_here)) (fitting event.asked (admitted limit h event.asked open_yet).0).room)
+
+  pub some_place : (places : ℕ) → places ≡ owed h → 1 ≤ places + needed_by before event.asked
+  some_place places places_are = omega (arith, places_are, needs_known, owed_after opening h event answered_here)
+
+  pub owed_enough : (places : ℕ) → places ≡ owed h → owed_to before ≤ places
+  owed_enough places places_are = omega (arith, places_are, ap owed_to before_its, owed_at_most h (its_call event))
+
+  pub call_entered : (old new : BTreeMap ℕ Standing) (standing : Standing) (funds places places' capacity owed_before owed_now : ℕ)
+      → TellsEach old h → Updates nat_cmp old new call (Some standing) → known_of standing ≡ known_after before (its_deed event) → places ≡ owed h
+      → owed_before ≡ owed_to before → owed_now ≡ owed_to (known_of standing) → places' ≡ places + owed_now - owed_before
+      → length h + (places + needed_by before event.asked) ≤ capacity → IsEntered h event new funds funds places places' capacity
+  call_entered old new standing funds places places' capacity owed_before owed_now tells updates standing_is places_are before_owed now_owed places'_are room =
+      let (same, rests) = of_call call event.asked here in
+      let U : ℕ → Type 0 = λ c. Updates nat_cmp old new c (Some standing) in
+      let renewed : known_of standing ≡ known_after (known (its_call event) h) (its_deed event) = standing_is ∙ ap (λ k. known_after k (its_deed event)) before_its in
+      record {
+        tells = tells_renewed old new h event standing (subst U (sym same) updates) tells renewed;
+        funds_are = omega (arith, rests event.reply);
+        places_are = omega (arith, places'_are, places_are, before_owed, now_owed, ap owed_to before_its, ap owed_to renewed, owed_moves h event, owed_at_most h (its_call event));
+        room = omega (arith, room, needs_known);
+      }
+
+-- ---- a new account
+
+nothing_owed_yet : owed [] ≡ 0
+unfolding owed
+nothing_owed_yet = refl
+
+nothing_taken_yet : (opening : ℕ) → available opening [] ≡ opening
+unfolding available taken_by_all
+nothing_taken_yet opening = omega arith
+
+pub kept_new : (opening limit : ℕ) (entries : Vec Entry Global) (m : BTreeMap ℕ Standing) → opening ≤ 1000000000000000 → entries.items ≡ [] → IsEmpty m
+    → IsKept opening limit (reverse (map event_of entries.items)) m opening opening 0 (vec_capacity entries)
+kept_new opening limit entries m small none empty =
+    let K : List Entry → Type 0 = λ es. IsKept opening limit (reverse (map event_of es)) m opening opening 0 (vec_capacity entries) in
+    subst K (sym none) (record {
+      small = small;
+      legal = tt;
+      within_limit = omega arith;
+      room = omega arith;
+      tells = λ call. rw empty refl;
+      funds_are = omega arith;
+      credit_is = sym (nothing_taken_yet opening);
+      places_are = sym nothing_owed_yet;
+    })

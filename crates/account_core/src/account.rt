@@ -1,0 +1,139 @@
+//! The sequential account.
+
+ghost use Rattle.std.specs.Prelude.{◌≡◌, ◌≤◌, ◌++◌, ◌∷◌, [], None, map, reverse, IsOk, OnOk, OnErr, IfOk, IfErr};
+ghost use Rattle.account_core.specs.Available.{available};
+ghost use Rattle.account_core.specs.Events.{asked_of, event_of};
+ghost use Rattle.account_core.specs.Kept.{known_of};
+ghost use Rattle.account_core.specs.Known.{known, paid_if_granted};
+ghost use Rattle.account_core.specs.Ledger.{IsRefusal, answer_of, event_by, refusal_of};
+ghost use Rattle.account_core.specs.Places.{IsClosing};
+ghost use Rattle.account_core.specs.Sound.{AnswersFit, IsSoundPast};
+
+mod answering;
+mod entering;
+mod refusing;
+
+use crate::laws::legal_pasts_are_sound;
+use crate::standing::Standing;
+use crate::{AccountFault, Entry, Op, Reply};
+use std::alloc::Global;
+use std::collections::BTreeMap;
+use std::marker::Model;
+
+/// An account: a history of entries, each the one right answer of a sequential account in its place.
+///
+/// Beside its entries it keeps what they come to: the standing of each call, the funds, the credit
+/// that is left, and the places that are owed for closing the open calls. It keeps room in memory
+/// for those places, so that a Return of an open call, and its first Settle since its last grant,
+/// always succeed.
+#[derive(Drop)]
+pub struct Account {
+    entries: Vec<Entry>,
+    calls: BTreeMap<u64, Standing>,
+    opening: u64,
+    limit: u32,
+    funds: u64,
+    available: u64,
+    owed: usize,
+}
+
+impl Model for Account {
+    ghost use Rattle.std.specs.Prelude.{map, reverse};
+    ghost use Rattle.std.specs.Vec.{vec_capacity};
+    ghost use Rattle.account_core.specs.Events.{event_of};
+    ghost use Rattle.account_core.specs.Kept.{IsKept};
+    ghost use Rattle.account_core.specs.Ledger.{Ledger};
+
+    ghost Value = { Ledger };
+
+    ghost view = { λ a. record { opening = a.opening; limit = a.limit; history = map event_of a.entries.items } };
+
+    ghost invariant = { λ a. IsKept a.opening a.limit (reverse (map event_of a.entries.items)) a.calls a.funds a.available a.owed (vec_capacity a.entries) };
+}
+
+impl Account {
+    /// An account with an opening credit of 0 to `MAX_MONEY`, an empty history, and the number of
+    /// entries that this may grow to. It takes no memory yet.
+    pub fn new(alloc: Global, opening: u64, limit: u32) -> Account
+        requires { opening ≤ 1000000000000000 }
+        ensures { result ≡ record { opening = opening; limit = limit; history = [] } }
+    {
+        Account {
+            entries: Vec::new(alloc),
+            calls: BTreeMap::new(alloc),
+            opening,
+            limit,
+            funds: opening,
+            available: opening,
+            owed: 0,
+        }
+    }
+
+    /// Asks the account for a seat, and enters the operation with its answer.
+    ///
+    /// A fault changes nothing. An operation that isn't admissible is `OutOfRange`, `NotOpen` or
+    /// `CallUsed`, in that order; then `HistoryFull` where its entry, the places owed and those that
+    /// it needs pass the limit; then `OutOfMemory`. A Return of an open call, and its first Settle
+    /// since its last grant, always succeed.
+    pub fn apply(&mut self, seat: u32, op: Op) -> Result<Reply, AccountFault>
+        ensures answered { IfOk result (λ reply. reply ≡ answer_of self.old (asked_of op)) }
+        ensures entered { IfOk result (λ reply. self.new ≡
+            record self.old { history = self.old.history ++ event_by seat (asked_of op) reply ∷ [] }) }
+        ensures admitted { OnOk result (refusal_of self.old (asked_of op) ≡ None) }
+        ensures kept { OnErr result (self.new ≡ self.old) }
+        ensures refused { IfErr result (λ fault. IsRefusal self.old (asked_of op) fault) }
+        ensures closing { IsClosing (reverse self.old.history) (asked_of op) → IsOk result }
+    {
+        if let Some(fault) = self.refusal(&op) {
+            return Err(fault);
+        }
+        let reply = self.answer(op);
+        self.enter(Entry { seat, op, reply })?;
+        Ok(reply)
+    }
+
+    /// The entries, oldest first.
+    pub fn history(&self) -> &[Entry]
+        ensures { map event_of result.now ≡ self.now.history }
+    {
+        self.entries.as_slice()
+    }
+
+    /// The credit that is left.
+    pub fn available(&self) -> u64
+        ensures { result ≡ available self.now.opening (reverse self.now.history) }
+    {
+        self.available
+    }
+
+    /// What a call has paid so far, or none where it was never granted anything.
+    pub fn paid(&self, call: u64) -> Option<u64>
+        ensures { result ≡ paid_if_granted (known call (reverse self.now.history)) }
+    {
+        let standing = self.standing(call);
+        if standing.plan.is_some() {
+            Some(standing.paid())
+        } else {
+            None
+        }
+    }
+
+    /// What the account knows of a call.
+    fn standing(&self, call: u64) -> Standing
+        ensures { known_of result ≡ known call (reverse self.now.history) }
+    {
+        match self.calls.get(&call) {
+            Some(standing) => *standing,
+            None => Standing::UNKNOWN,
+        }
+    }
+
+    /// What the type keeps.
+    fn history_is_sound(&self)
+        ensures sound { IsSoundPast self.now.opening (reverse self.now.history) }
+        ensures fitting { AnswersFit self.now.opening (reverse self.now.history) }
+    {
+        let _ = &self.opening;
+        legal_pasts_are_sound();
+    }
+}

@@ -1,0 +1,96 @@
+//! Entries, and what is kept beside them.
+
+ghost use Rattle.std.specs.Prelude.{◌≡◌, ◌+◌, ◌≤◌, ◌++◌, ◌∷◌, [], None, Some, reverse, vec_capacity, vec_len, IsOk, OnErr, OnOk};
+ghost use Rattle.std.specs.BTreeMap.{IsUnchanged, Updates, get};
+ghost use Rattle.std.specs.Ordering.{nat_cmp};
+ghost use Rattle.account_core.specs.Asked.{IsCredit, IsOfCall};
+ghost use Rattle.account_core.specs.Events.{asked_of, event_of};
+ghost use Rattle.account_core.specs.Ledger.{answer_of, refusal_of};
+ghost use Rattle.account_core.specs.Places.{IsClosing};
+
+use crate::standing::Standing;
+use crate::{Account, Entry, Op};
+use std::alloc::AllocError;
+use std::collections::BTreeMap;
+
+impl Account {
+    /// Enters an answered operation. Room for it, and for all that is owed after it, is made before
+    /// anything changes.
+    pub(super) fn enter(&mut self, entry: Entry) -> Result<(), AllocError>
+        requires admitted { refusal_of self.old (asked_of entry.op) ≡ None }
+        requires answered { entry.reply ≡ answer_of self.old (asked_of entry.op) }
+        ensures ok { OnOk result (self.new ≡
+            record self.old { history = self.old.history ++ event_of entry ∷ [] }) }
+        ensures kept { OnErr result (self.new ≡ self.old) }
+        ensures closing { IsClosing (reverse self.old.history) (asked_of entry.op) → IsOk result }
+    {
+        match entry.op {
+            Op::Credit { .. } => self.enter_credit(entry),
+            Op::Reserve { call, .. } | Op::Settle { call, .. } | Op::Return { call } => {
+                self.enter_call(call, entry)
+            }
+        }
+    }
+
+    /// Enters a Credit.
+    fn enter_credit(&mut self, entry: Entry) -> Result<(), AllocError>
+        requires credit { IsCredit (asked_of entry.op) }
+        requires admitted { refusal_of self.old (asked_of entry.op) ≡ None }
+        requires answered { entry.reply ≡ answer_of self.old (asked_of entry.op) }
+        ensures ok { OnOk result (self.new ≡
+            record self.old { history = self.old.history ++ event_of entry ∷ [] }) }
+        ensures kept { OnErr result (self.new ≡ self.old) }
+    {
+        self.history_is_sound();
+        make_room(&mut self.entries, self.owed + 1)?;
+        self.entries.push_reserved(entry);
+        self.funds += entry.credited();
+        self.available = entry.reply.available();
+        Ok(())
+    }
+
+    /// Enters an operation of a call.
+    fn enter_call(&mut self, call: u64, entry: Entry) -> Result<(), AllocError>
+        requires of_call { IsOfCall call (asked_of entry.op) }
+        requires admitted { refusal_of self.old (asked_of entry.op) ≡ None }
+        requires answered { entry.reply ≡ answer_of self.old (asked_of entry.op) }
+        ensures ok { OnOk result (self.new ≡
+            record self.old { history = self.old.history ++ event_of entry ∷ [] }) }
+        ensures kept { OnErr result (self.new ≡ self.old) }
+        ensures closing { IsClosing (reverse self.old.history) (asked_of entry.op) → IsOk result }
+    {
+        self.history_is_sound();
+        let before = self.standing(call);
+        make_room(&mut self.entries, self.owed + before.needed(&entry.op))?;
+        let after = before.after(entry.op, entry.reply);
+        keep_standing(&mut self.calls, call, after)?;
+        self.entries.push_reserved(entry);
+        self.available = entry.reply.available();
+        self.owed = self.owed + after.owed() - before.owed();
+        Ok(())
+    }
+}
+
+/// Makes room for so many more entries.
+fn make_room(entries: &mut Vec<Entry>, places: usize) -> Result<(), AllocError>
+    ensures items { entries.new.items ≡ entries.old.items }
+    ensures ok { OnOk result (vec_len entries.new + places ≤ vec_capacity entries.new) }
+    ensures grows { vec_capacity entries.old ≤ vec_capacity entries.new }
+    ensures enough { vec_len entries.old + places ≤ vec_capacity entries.old → IsOk result }
+{
+    entries.try_reserve(places)
+}
+
+/// Keeps what is known of a call. Only a call that is new takes memory.
+fn keep_standing(
+    calls: &mut BTreeMap<u64, Standing>,
+    call: u64,
+    standing: Standing,
+) -> Result<(), AllocError>
+    ensures ok { OnOk result (Updates nat_cmp calls.old calls.new call (Some standing)) }
+    ensures kept { OnErr result (IsUnchanged calls.old calls.new) }
+    ensures new { OnErr result (get nat_cmp calls.old call ≡ None) }
+{
+    calls.insert(call, standing)?;
+    Ok(())
+}

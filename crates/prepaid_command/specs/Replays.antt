@@ -1,0 +1,41 @@
+-- What `replay` makes of an ops table: the answers of a sequential account to its rows, in order.
+use Rattle.std.specs.Prelude.{ℕ, Option, Some, None, List, [], ◌∷◌, ◌++◌, Result, Ok, Err}
+use Rattle.account_core.specs.Answers.{answer}
+use Rattle.account_core.specs.Events.{Event}
+use Rattle.account_core.specs.Places.{refusal}
+use Rattle.account_core.specs.declared.entry.Reply.{Reply}
+use Rattle.account_core.specs.declared.fault.AccountFault.{AccountFault}
+use Rattle.table_core.specs.Judging.{after}
+use Rattle.table_core.specs.declared.fault.RowFault.{RowFault}
+use Rattle.prepaid_command.specs.Asks.{Asking, asks_of}
+use Rattle.prepaid_command.specs.ReplayLines.{refused_line, reply_line}
+
+-- the line of an operation: its refusal, or else its reply
+abbrev pub line_by : Option AccountFault → Reply → List ℕ
+line_by (Some why) reply = refused_line why
+line_by None reply = reply_line reply
+
+-- the history after an operation, newest first: a refused one makes no entry
+abbrev pub history_by : Option AccountFault → Event → List Event → List Event
+history_by (Some why) event h = h
+history_by None event h = event ∷ h
+
+abbrev pub line_of_ask : ℕ → ℕ → List Event → Asking → List ℕ
+line_of_ask opening limit h ask = line_by (refusal limit h ask.asked) (answer opening h ask.asked)
+
+abbrev pub history_after : ℕ → ℕ → List Event → Asking → List Event
+history_after opening limit h ask =
+    history_by (refusal limit h ask.asked) (record { seat = ask.seat; asked = ask.asked; reply = answer opening h ask.asked }) h
+
+-- the lines of what is asked, from a history on
+unfoldable pub replay_lines : ℕ → ℕ → List Event → List Asking → List ℕ
+replay_lines opening limit h [] = []
+replay_lines opening limit h (ask ∷ asks) = line_of_ask opening limit h ask ++ replay_lines opening limit (history_after opening limit h ask) asks
+
+-- the same, where there are no faults before the lines
+abbrev pub lines_of : ℕ → ℕ → List Event → Result (List Asking) RowFault → Result (List ℕ) RowFault
+lines_of opening limit h asks = after asks (λ asked. Ok (replay_lines opening limit h asked))
+
+-- the lines of a table
+abbrev pub replayed : ℕ → ℕ → List (List (List ℕ)) → Result (List ℕ) RowFault
+replayed opening limit rows = lines_of opening limit [] (asks_of rows)
