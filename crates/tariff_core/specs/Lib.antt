@@ -1,6 +1,13 @@
+pub mod Bands
 pub mod Lawful
+pub mod Places
+pub mod Prefixes
 pub mod Price
 pub mod Rates
 pub mod RatesOf
+pub mod Routes
+pub mod Tariff
+pub mod TariffFaults
+pub mod TariffTable
 pub mod TimeInfo
 pub mod Times

@@ -3,13 +3,21 @@
 #![tactic(auto)]
 
 mod lawfulness;
+mod place;
 mod plan;
+mod prefix;
 mod pricing;
+mod route;
+mod row;
+mod row_reading;
+mod tariff_fault;
 mod time_info;
 mod times;
 
 pub use lawfulness::lawful;
 pub use plan::{MAX_RATE, Plan, PlanRange};
 pub use pricing::{MAX_PRICE, debit, price};
+pub use route::Route;
+pub use tariff_fault::{TariffFault, TariffKind};
 pub use time_info::{TimeInfo, TimeRange};
 pub use times::{DAY, Times};
