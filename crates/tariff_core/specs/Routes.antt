@@ -1,8 +1,6 @@
 -- The route of a call: which rows of the tariff it is charged by.
 use Rattle.std.specs.Prelude.{◌≡◌, ◌≢◌, ◌+◌, ◌-◌, ◌%◌, ◌<◌, ◌≤◌, ℕ, List, ◌++◌, length, Option, Some, None, All, Any, Contains, if◌then◌else◌, nat_lt}
 use Rattle.tariff_core.specs.Bands.{Band}
-use Rattle.tariff_core.specs.RatesOf.{rates_of}
-use Rattle.tariff_core.specs.Rates.{Rates}
 use Rattle.tariff_core.specs.declared.route.Route.{Route}
 
 -- a called number begins with a prefix
@@ -22,6 +20,13 @@ pub record IsBandAt (bands : List Band) (prefix : List ℕ) (time : ℕ) (band :
   pub begun : band.start ≤ time
   pub latest : All (λ other. other.prefix ≡ prefix → other.start ≤ time → other.start ≤ band.start) bands
 
+-- of the rows of a prefix that start after a time of day, on that day, the first
+pub record IsSoonest (bands : List Band) (prefix : List ℕ) (time : ℕ) (band : Band) : Type 0 where
+  pub listed : Contains bands band
+  pub own : band.prefix ≡ prefix
+  pub later : time < band.start
+  pub soonest : All (λ other. other.prefix ≡ prefix → time < other.start → band.start ≤ other.start) bands
+
 -- how long after a time of day the next start is: later on that day, else on the next
 abbrev pub wait : ℕ → ℕ → ℕ
 wait time start = if nat_lt time start then start - time else (864000 - time) + start
@@ -36,9 +41,13 @@ pub record IsNextBand (bands : List Band) (prefix : List ℕ) (time : ℕ) (band
 abbrev pub IsOnly : List Band → List ℕ → Band → Type 0
 IsOnly bands prefix band = All (λ other. other.prefix ≡ prefix → other.start ≡ band.start) bands
 
--- another row of the prefix: the plan switches to the rate of the next one when that starts. Its fee isn't used
+-- another row of the prefix
+abbrev pub HasAnother : List Band → List ℕ → Band → Type 0
+HasAnother bands prefix band = Any (λ other. (other.prefix ≡ prefix) × (other.start ≢ band.start)) bands
+
+-- where there is another, the plan switches to the rate of the next one when that starts. Its fee isn't used
 pub record IsSwitch (bands : List Band) (prefix : List ℕ) (band : Band) (now at : ℕ) (rate : Option ℕ) : Type 0 where
-  pub another : Any (λ other. (other.prefix ≡ prefix) × (other.start ≢ band.start)) bands
+  pub another : HasAnother bands prefix band
   pub next : Band
   pub is_next : IsNextBand bands prefix (now % 864000) next
   pub second_rate : rate ≡ Some next.rate

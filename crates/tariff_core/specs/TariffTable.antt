@@ -67,6 +67,11 @@ rows_from number earlier [] = Ok earlier
 rows_from number earlier (fields ∷ rows) =
     after_row number (row_at number earlier fields) (λ band. rows_from (number + 1) (earlier ++ band ∷ []) rows)
 
+-- the rows of a table before they are judged as a whole
+unfoldable pub bands_of : List (List (List ℕ)) → Result (List Band) TariffFault
+bands_of [] = Err (record { row = 1; kind = kind.Header })
+bands_of (header ∷ rows) = if is_header header then rows_from 2 [] rows else Err (record { row = 1; kind = kind.Header })
+
 -- the first row, from this number on, whose prefix has no row from midnight on
 unfoldable pub without_midnight : List Band → ℕ → List Band → Option ℕ
 without_midnight all number [] = None
@@ -81,9 +86,8 @@ abbrev pub complete : List Band → Result (List Band) TariffFault
 complete bands = complete_by bands (without_midnight bands 2 bands)
 
 -- the rows of a table
-unfoldable pub tariff_of : List (List (List ℕ)) → Result (List Band) TariffFault
-tariff_of [] = Err (record { row = 1; kind = kind.Header })
-tariff_of (header ∷ rows) = if is_header header then after (rows_from 2 [] rows) complete else Err (record { row = 1; kind = kind.Header })
+abbrev pub tariff_of : List (List (List ℕ)) → Result (List Band) TariffFault
+tariff_of rows = after (bands_of rows) complete
 
 -- a fault of the table is the one that its meaning has; want of memory and a failed reader may come at any row
 abbrev pub Refuses : TariffKind → ℕ → Result (List Band) TariffFault → Type 0

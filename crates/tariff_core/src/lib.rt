@@ -2,6 +2,7 @@
 //! price of the one under the other.
 #![tactic(auto)]
 
+mod bands;
 mod lawfulness;
 mod place;
 mod plan;
@@ -10,6 +11,7 @@ mod pricing;
 mod route;
 mod row;
 mod row_reading;
+mod tariff;
 mod tariff_fault;
 mod time_info;
 mod times;
@@ -18,6 +20,7 @@ pub use lawfulness::lawful;
 pub use plan::{MAX_RATE, Plan, PlanRange};
 pub use pricing::{MAX_PRICE, debit, price};
 pub use route::Route;
+pub use tariff::Tariff;
 pub use tariff_fault::{TariffFault, TariffKind};
 pub use time_info::{TimeInfo, TimeRange};
 pub use times::{DAY, Times};

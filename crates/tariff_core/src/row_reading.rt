@@ -16,29 +16,29 @@ use csv::ByteRecord;
 use table_core::{decimal, field, is_word};
 
 /// Whether a row is the header `prefix,from,fee,rate`.
-pub(crate) fn is_header(record: &ByteRecord) -> bool
-    ensures { result ≡ is_header (fields_of record.now) }
+pub(crate) fn is_header(fields: &ByteRecord) -> bool
+    ensures { result ≡ is_header (fields_of fields.now) }
 {
-    record.len() == 4
-        && is_word(record, 0, "prefix")
-        && is_word(record, 1, "from")
-        && is_word(record, 2, "fee")
-        && is_word(record, 3, "rate")
+    fields.len() == 4
+        && is_word(fields, 0, "prefix")
+        && is_word(fields, 1, "from")
+        && is_word(fields, 2, "fee")
+        && is_word(fields, 3, "rate")
 }
 
 /// The row of these four fields.
-pub(crate) fn read_row(record: &ByteRecord) -> Result<Row, TariffKind>
-    requires { length (fields_of record.now) ≡ 4 }
-    ensures { Tells band_of result (band_in (fields_of record.now)) }
+pub(crate) fn read_row(fields: &ByteRecord) -> Result<Row, TariffKind>
+    requires { length (fields_of fields.now) ≡ 4 }
+    ensures { Tells band_of result (band_in (fields_of fields.now)) }
 {
-    let digits = field(record, 0);
+    let digits = field(fields, 0);
     if !is_prefix(digits) {
         return Err(TariffKind::Digits);
     }
     let prefix = Prefix::new(digits);
-    let start = time(field(record, 1)).ok_or(TariffKind::From)?;
-    let fee = decimal(field(record, 2), MAX_RATE).ok_or(TariffKind::Money)?;
-    let rate = decimal(field(record, 3), MAX_RATE).ok_or(TariffKind::Money)?;
+    let start = time(field(fields, 1)).ok_or(TariffKind::From)?;
+    let fee = decimal(field(fields, 2), MAX_RATE).ok_or(TariffKind::Money)?;
+    let rate = decimal(field(fields, 3), MAX_RATE).ok_or(TariffKind::Money)?;
     Ok(Row {
         place: Place { prefix, start },
         cost: Cost { fee, rate },
