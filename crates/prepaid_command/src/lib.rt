@@ -12,3 +12,6 @@ pub use arguments::{Request, read_words};
 pub use fault::{Fault, Part};
 pub use input::MAX_INPUT;
 pub use program::command;
+
+#[cfg(test)]
+mod tests;

@@ -14,3 +14,6 @@ pub use decimals::decimal;
 pub use fault::{RowFault, RowKind, TableFault};
 pub use fields::{field, is_word, number};
 pub use rows::{ReadFault, Rows};
+
+#[cfg(test)]
+mod tests;

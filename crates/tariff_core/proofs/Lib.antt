@@ -1,5 +1,8 @@
+pub mod AffordLemmas
+pub mod CeilingLemmas
 pub mod IndexLemmas
 pub mod Known
+pub mod Lawfuls
 pub mod MidnightLemmas
 pub mod PrefixLemmas
 pub mod Prices

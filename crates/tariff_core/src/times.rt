@@ -69,6 +69,7 @@ impl Times {
     pub fn after(self) -> u32
         ensures value { result ≡ self.after }
         ensures within_day { self.before + self.after ≤ 864000 }
+        ensures unswitched { self.switched ≡ false → self.after ≡ 0 }
     {
         self.after
     }
