@@ -11,6 +11,7 @@ ghost use Rattle.tariff_core.specs.Routes.{IsBandAt, IsSoonest};
 ghost use Rattle.tariff_core.specs.Tariff.{Indexes, IsIndexed, Tells, Keeps, band_of};
 ghost use Rattle.tariff_core.specs.TariffTable.{Gives, bands_of, row_at, without_midnight};
 
+use crate::DAY;
 use crate::place::Place;
 use crate::prefix::Prefix;
 use crate::row::{Cost, Row};
@@ -40,7 +41,7 @@ impl Model for Bands {
     ghost Value = { List Band };
 
     ghost use Rattle.tariff_core.specs.Routes.{IsBandAt, IsSoonest};
-ghost use Rattle.tariff_core.specs.Tariff.{IsIndexed, band_of};
+    ghost use Rattle.tariff_core.specs.Tariff.{IsIndexed, band_of};
 
     ghost view = { λ b. map band_of b.rows.items };
 
@@ -128,14 +129,9 @@ impl Bands {
         ensures row { IfSome result
             (λ row. IsSoonest self.now (digits_of prefix) time (band_of row)) }
     {
-        let first = Place {
-            prefix,
-            start: time + 1,
-        };
-        let end = Place {
-            prefix,
-            start: 864000,
-        };
+        let start = time + 1;
+        let first = Place { prefix, start };
+        let end = Place { prefix, start: DAY };
         let (place, cost) = self.index.range(first..end).next()?;
         Some(Row {
             place: *place,
@@ -164,11 +160,7 @@ fn next_record<R: Read + Drop>(records: &mut Rows<R>, number: u32) -> Result<boo
 
 /// The row of this number, after the rows that are in the index.
 #[tactic(auto, unfolding(crate::specs::TariffTable::row_at))]
-fn judge(
-    index: &BTreeMap<Place, Cost>,
-    number: u32,
-    fields: &ByteRecord,
-) -> Result<Row, TariffKind>
+fn judge(index: &BTreeMap<Place, Cost>, number: u32, fields: &ByteRecord) -> Result<Row, TariffKind>
     ensures { (bands : _) → Indexes index.now bands
         → Tells band_of result (row_at number bands (fields_of fields.now)) }
 {

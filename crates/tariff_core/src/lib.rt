@@ -34,4 +34,6 @@ pub use time_info::{TimeInfo, TimeRange};
 pub use times::{DAY, Times};
 
 #[cfg(test)]
+mod tariff_tests;
+#[cfg(test)]
 mod tests;
