@@ -1,0 +1,139 @@
+-- What an entry moves: it changes what is known of its own call alone, and so the sums over all calls.
+use Rattle.std.proofs.Common.{◌≡◌, ℕ, ◌+◌, ◌≤◌, Bool, true, false, Option, Some, None, List, [], ◌∷◌, refl, sym, ap, ◌∙◌, arith, subst}
+use Rattle.std.specs.Prelude.{◌==◌, ◌&&◌, if◌then◌else◌, not, is_some, sum_by}
+use Rattle.std.proofs.lemmas.Bool.{eqb-true, eq-eqb}
+use Rattle.std.proofs.lemmas.Bool.Decides.{nat_tests}
+use Rattle.std.proofs.lemmas.List.Sums.{sum_by-cons}
+use Rattle.tariff_core.specs.Rates.{Rates}
+use Rattle.account_core.specs.Asked.{Asked, call_of}
+use Rattle.account_core.specs.Available.{begins_call, calls, is_grant}
+use Rattle.account_core.specs.Events.{Event}
+use Rattle.account_core.specs.Known.{Deed, Ends, Forfeits, Grants, Known, Reports, Rests, deed, deed_of, known, known_after}
+use Rattle.account_core.proofs.Sums.{at_most_sum, sum_absent, sum_once, times_in}
+
+-- the call of an entry, and what the entry does to it
+abbrev pub its_call : Event → ℕ
+its_call event = call_of event.asked
+
+abbrev pub its_deed : Event → Deed
+its_deed event = deed_of event.asked event.reply
+
+pub deed_here : (event : Event) → deed (its_call event) event ≡ its_deed event
+unfolding deed
+deed_here event = rw (eq-eqb (its_call event) (its_call event) refl) refl
+
+pub deed_apart : (call : ℕ) (event : Event) → (its_call event == call) ≡ false → deed call event ≡ Rests
+unfolding deed
+deed_apart call event apart = rw apart refl
+
+pub known_here : (h : List Event) (event : Event) → known (its_call event) (event ∷ h) ≡ known_after (known (its_call event) h) (its_deed event)
+known_here h event = ap (known_after (known (its_call event) h)) (deed_here event)
+
+pub known_apart : (h : List Event) (event : Event) (call : ℕ) → (its_call event == call) ≡ false → known call (event ∷ h) ≡ known call h
+known_apart h event call apart = ap (known_after (known call h)) (deed_apart call event apart)
+
+-- ---- each call once
+
+is_begun : Known → ℕ
+is_begun call = if is_some call.plan then 1 else 0
+
+count_begun : (here begins : Bool) (n : ℕ) → ℕ
+count_begun here begins n = if begins then (if here then 1 + n else n) else n
+
+times_in_if : (begins : Bool) (c d : ℕ) (ds : List ℕ) → times_in c (if begins then d ∷ ds else ds) ≡ count_begun (c == d) begins (times_in c ds)
+unfolding count_begun
+times_in_if true c d ds = refl
+times_in_if false c d ds = refl
+
+some_once : (plan : Option Rates) (n : ℕ) → n ≡ (if is_some plan then 1 else 0) → (if not (is_some plan) then 1 + n else n) ≡ 1
+some_once None n is = omega (arith, is)
+some_once (Some plan) n is = is
+
+once_here : (d : Deed) (call : Known) (n : ℕ) → n ≡ is_begun call → count_begun true (is_grant d && not (is_some call.plan)) n ≡ is_begun (known_after call d)
+unfolding count_begun is_begun
+once_here (Grants plan units) call n is = some_once call.plan n is
+once_here (Reports info) call n is = is
+once_here Forfeits call n is = is
+once_here (Ends paid) call n is = is
+once_here Rests call n is = is
+
+apart_same : (begins : Bool) (n : ℕ) → count_begun false begins n ≡ n
+unfolding count_begun
+apart_same true n = refl
+apart_same false n = refl
+
+eq_apart : (c d : ℕ) → (c == d) ≡ false → (d == c) ≡ false
+eq_apart c d apart = grind (arith, nat_tests)
+
+once_cases : (h : List Event) (event : Event) (c : ℕ) (here : Bool) → (c == its_call event) ≡ here → times_in c (calls h) ≡ is_begun (known c h)
+    → count_begun here (begins_call event h) (times_in c (calls h)) ≡ is_begun (known c (event ∷ h))
+once_cases h event c true here is =
+    let same : its_call event ≡ c = sym (eqb-true c (its_call event) here) in
+    let P : ℕ → Type 0 = λ d. times_in d (calls h) ≡ is_begun (known d h) → count_begun true (begins_call event h) (times_in d (calls h)) ≡ is_begun (known d (event ∷ h)) in
+    subst P same (λ known_is. rw (known_here h event) (once_here (its_deed event) (known (its_call event) h) (times_in (its_call event) (calls h)) known_is)) is
+once_cases h event c false apart is =
+    rw (known_apart h event c (eq_apart c (its_call event) apart)) (apart_same (begins_call event h) (times_in c (calls h)) ∙ is)
+
+-- a call stands in the list of calls once, if it was granted anything
+pub calls_once : (h : List Event) (c : ℕ) → times_in c (calls h) ≡ (if is_some (known c h).plan then 1 else 0)
+unfolding is_begun
+calls_once [] c = refl
+calls_once (event ∷ h) c =
+    times_in_if (begins_call event h) c (its_call event) (calls h)
+    ∙ once_cases h event c (c == its_call event) refl (calls_once h c)
+
+-- ---- sums over all calls
+
+sum_cases : (grant begun : Bool) (G F g f n : ℕ) → n ≡ (if begun then 1 else 0) → (n ≡ 0 → G ≡ F) → (n ≡ 1 → G + f ≡ F + g)
+    → (begun ≡ false → f ≡ 0) → (grant ≡ false → begun ≡ false → g ≡ 0)
+    → (if grant && not begun then g + G else G) + f ≡ F + g
+sum_cases true true G F g f n is none once old new = once is
+sum_cases true false G F g f n is none once old new = omega (arith, none is, old refl)
+sum_cases false true G F g f n is none once old new = once is
+sum_cases false false G F g f n is none once old new = omega (arith, none is, old refl, new refl refl)
+
+sum_if : (begins : Bool) (g : ℕ → ℕ) (c : ℕ) (cs : List ℕ) → sum_by g (if begins then c ∷ cs else cs) ≡ (if begins then g c + sum_by g cs else sum_by g cs)
+sum_if true g c cs = sum_by-cons g c cs
+sum_if false g c cs = refl
+
+none_is : (plan : Option Rates) → is_some plan ≡ false → plan ≡ None
+none_is None is = refl
+none_is (Some plan) is = cc
+
+still_none : (call : Known) (d : Deed) → is_grant d ≡ false → is_some call.plan ≡ false → (known_after call d).plan ≡ None
+still_none call (Grants plan units) rests none = cc
+still_none call (Reports info) rests none = none_is call.plan none
+still_none call Forfeits rests none = none_is call.plan none
+still_none call (Ends paid) rests none = none_is call.plan none
+still_none call Rests rests none = none_is call.plan none
+
+at_most_cases : (begun : Bool) (n total value : ℕ) → n ≡ (if begun then 1 else 0) → (n ≡ 1 → value ≤ total) → (begun ≡ false → value ≡ 0) → value ≤ total
+at_most_cases true n total value is once none = once is
+at_most_cases false n total value is once none = omega (arith, none refl)
+
+module _ (value : Known → ℕ) (nothing : (call : Known) → call.plan ≡ None → value call ≡ 0) where
+  -- the sum moves as the entry's own call does
+  pub sum_moves : (h : List Event) (event : Event)
+      → sum_by (λ call. value (known call (event ∷ h))) (calls (event ∷ h)) + value (known (its_call event) h)
+      ≡ sum_by (λ call. value (known call h)) (calls h) + value (known_after (known (its_call event) h) (its_deed event))
+  sum_moves h event =
+      let c : ℕ = its_call event in
+      let old : ℕ → ℕ = λ call. value (known call h) in
+      let new : ℕ → ℕ = λ call. value (known call (event ∷ h)) in
+      let apart : (d : ℕ) → (c == d) ≡ false → new d ≡ old d = λ d off. ap value (known_apart h event d off) in
+      let here : new c ≡ value (known_after (known c h) (its_deed event)) = ap value (known_here h event) in
+      let n : ℕ = times_in c (calls h) in
+      let moved = sum_cases (is_grant (its_deed event)) (is_some (known c h).plan) (sum_by new (calls h)) (sum_by old (calls h)) (new c) (old c) n (calls_once h c)
+      (sum_absent old new c apart (calls h)) (sum_once old new c apart (calls h))
+      (λ none. nothing (known c h) (none_is (known c h).plan none))
+      (λ rests none. here ∙ nothing (known_after (known c h) (its_deed event)) (still_none (known c h) (its_deed event) rests none)) in
+      rw (sum_if (begins_call event h) new c (calls h), ← here) moved
+
+  at_most_of : (call : Known) (n total : ℕ) → n ≡ (if is_some call.plan then 1 else 0) → (n ≡ 1 → value call ≤ total) → value call ≤ total
+  at_most_of call n total is once = at_most_cases (is_some call.plan) n total (value call) is once (λ none. nothing call (none_is call.plan none))
+
+  -- what a call has is at most the sum
+  pub at_most_all : (h : List Event) (c : ℕ) → value (known c h) ≤ sum_by (λ call. value (known call h)) (calls h)
+  at_most_all h c =
+      at_most_of (known c h) (times_in c (calls h)) (sum_by (λ call. value (known call h)) (calls h)) (calls_once h c)
+      (at_most_sum (λ call. value (known call h)) c (calls h))

@@ -1,0 +1,11 @@
+-- The laws of the tariff that the account stands on, as they are told by the crate below.
+use Rattle.tariff_core.specs.Laws.{AffordedAreCovered, AffordedAreWithin, CeilingIsNotPassed, ComingIsTransitive, ComingTimesStand, ReadTimesAre, TimesMayStay}
+
+pub record TariffLaws : Type 0 where
+  pub not_passed : CeilingIsNotPassed
+  pub within : AffordedAreWithin
+  pub covered : AffordedAreCovered
+  pub stand : ComingTimesStand
+  pub stay : TimesMayStay
+  pub follow : ComingIsTransitive
+  pub read : ReadTimesAre

@@ -1,0 +1,98 @@
+-- The sequential account: which operations it takes, and the one right reply to each.
+use Rattle.std.specs.Prelude.{◌≡◌, ◌+◌, ◌==◌, ◌&&◌, ◌||◌, ℕ, Bool, Option, Some, None, List, [], ◌∷◌, if◌then◌else◌, nat_le, nat_lt, reverse}
+use Rattle.tariff_core.specs.Afford.{units_afforded}
+use Rattle.tariff_core.specs.Lawful.{is_lawful}
+use Rattle.tariff_core.specs.Rates.{Rates}
+use Rattle.tariff_core.specs.Reading.{times_read}
+use Rattle.tariff_core.specs.Times.{Elapsed}
+use Rattle.tariff_core.specs.declared.time_info.TimeInfo.{TimeInfo}
+use Rattle.account_core.specs.Asked.{Asked, Credits, Reserves, Settles, Returns, is_in_range}
+use Rattle.account_core.specs.Available.{available, credits}
+use Rattle.account_core.specs.Events.{Event}
+use Rattle.account_core.specs.Known.{Known, is_open, known, paid_of, plan_in_force, price_under, taken_of}
+use Rattle.account_core.specs.declared.entry.Reply.{Reply}
+use Rattle.account_core.specs.declared.entry.Reply.TheVariants as reply
+use Rattle.account_core.specs.declared.fault.AccountFault.{AccountFault}
+use Rattle.account_core.specs.declared.fault.AccountFault.TheVariants as fault
+
+-- a Settle and a Return are of an open call, and a Reserve isn't of one that was returned
+abbrev pub misplaced : List Event → Asked → Option AccountFault
+misplaced h (Credits amount) = None
+misplaced h (Reserves call plan wanted least) = if (known call h).returned then Some fault.CallUsed else None
+misplaced h (Settles call number info) = if is_open (known call h) then None else Some fault.NotOpen
+misplaced h (Returns call) = if is_open (known call h) then None else Some fault.NotOpen
+
+-- why an operation isn't admissible, if it isn't: out of range, else out of place
+abbrev pub inadmissible : List Event → Asked → Option AccountFault
+inadmissible h asked = if is_in_range asked then misplaced h asked else Some fault.OutOfRange
+
+-- the units that a call is offered: the most that the credit, with what the call holds already, covers at their dearest
+unfoldable pub units_offered : ℕ → Known → Rates → ℕ → ℕ
+units_offered available known plan wanted = units_afforded (plan_in_force known plan) known.times wanted (available + taken_of known)
+
+-- the times that a report gives a call, where it is accepted: they are read, lawful within what was granted, and no report before it was a forfeit
+abbrev pub lawful_times : Option Rates → Known → Option Elapsed → Option Elapsed
+lawful_times None known read = None
+lawful_times (Some plan) known None = None
+lawful_times (Some plan) known (Some times) = if is_lawful plan known.times times known.granted then Some times else None
+
+unfoldable pub accepted_times : Known → TimeInfo → Option Elapsed
+accepted_times known info = if known.forfeited then None else lawful_times known.plan known (times_read known.times info)
+
+-- the replies, but for the credit that they show, which is 0 here
+abbrev pub credit_verdict : ℕ → ℕ → Reply
+credit_verdict funds amount = if nat_le (funds + amount) 1000000000000000 then reply.Credited 0 else reply.CreditOver 0
+
+abbrev pub reserve_verdict : ℕ → ℕ → ℕ → Bool → Reply
+reserve_verdict units wanted least forfeited =
+    if nat_lt units least || (units == 0) || forfeited then reply.Denied 0 else reply.Granted units (nat_lt units wanted) 0
+
+abbrev pub settle_verdict : Known → Option Elapsed → Reply
+settle_verdict known (Some times) = reply.Settled (price_under known.plan times) 0
+settle_verdict known None = reply.Forfeit known.top 0
+
+abbrev pub verdict : ℕ → List Event → Asked → Reply
+verdict opening h (Credits amount) = credit_verdict (opening + credits h) amount
+verdict opening h (Reserves call plan wanted least) =
+    reserve_verdict (units_offered (available opening h) (known call h) plan wanted) wanted least (known call h).forfeited
+verdict opening h (Settles call number info) = settle_verdict (known call h) (accepted_times (known call h) info)
+verdict opening h (Returns call) = reply.Returned (paid_of (known call h)) 0
+
+-- a reply that shows another credit
+abbrev pub showing : ℕ → Reply → Reply
+showing credit (reply.Credited available) = reply.Credited credit
+showing credit (reply.CreditOver available) = reply.CreditOver credit
+showing credit (reply.Granted units last available) = reply.Granted units last credit
+showing credit (reply.Denied available) = reply.Denied credit
+showing credit (reply.Settled paid available) = reply.Settled paid credit
+showing credit (reply.Forfeit paid available) = reply.Forfeit paid credit
+showing credit (reply.Returned paid available) = reply.Returned paid credit
+
+-- the credit that a reply shows
+abbrev pub shown_by : Reply → ℕ
+shown_by (reply.Credited available) = available
+shown_by (reply.CreditOver available) = available
+shown_by (reply.Granted units last available) = available
+shown_by (reply.Denied available) = available
+shown_by (reply.Settled paid available) = available
+shown_by (reply.Forfeit paid available) = available
+shown_by (reply.Returned paid available) = available
+
+-- the reply to an operation: it shows what is available after the entry, whoever asked
+unfoldable pub answer : ℕ → List Event → Asked → Reply
+answer opening h asked =
+    showing (available opening (record { seat = 0; asked = asked; reply = verdict opening h asked } ∷ h)) (verdict opening h asked)
+
+-- an entry whose operation was admissible and got the answer
+pub record IsAnswered (opening : ℕ) (h : List Event) (event : Event) : Type 0 where
+  pub admissible : inadmissible h event.asked ≡ None
+  pub answered : event.reply ≡ answer opening h event.asked
+
+-- every entry was answered in its place
+abbrev pub IsLegalPast : ℕ → List Event → Type 0
+IsLegalPast opening [] = Unit {0}
+IsLegalPast opening (event ∷ h) = IsLegalPast opening h × IsAnswered opening h event
+
+-- the same of a history that is listed oldest first
+abbrev pub IsLegal : ℕ → List Event → Type 0
+IsLegal opening history = IsLegalPast opening (reverse history)

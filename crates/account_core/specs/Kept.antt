@@ -1,0 +1,44 @@
+-- What an account keeps beside its entries.
+use Rattle.std.specs.Prelude.{◌≡◌, ◌+◌, ◌≤◌, ℕ, Option, Some, None, List, false, length, unwrap_or}
+use Rattle.std.specs.Option.{option_map}
+use Rattle.std.specs.BTreeMap.{BTreeMap, get}
+use Rattle.std.specs.Ordering.{nat_cmp}
+use Rattle.tariff_core.specs.RatesOf.{rates_of}
+use Rattle.tariff_core.specs.Times.{no_times}
+use Rattle.account_core.specs.Answers.{IsLegalPast}
+use Rattle.account_core.specs.Available.{available, credits}
+use Rattle.account_core.specs.Events.{Event}
+use Rattle.account_core.specs.Known.{Known, known}
+use Rattle.account_core.specs.Places.{owed}
+use Rattle.account_core.specs.declared.standing.Standing.{Standing}
+
+-- what a standing says of its call
+abbrev pub known_of : Standing → Known
+known_of standing = record {
+  plan = option_map rates_of standing.plan;
+  times = standing.times;
+  granted = standing.granted;
+  top = standing.top;
+  forfeited = standing.forfeited;
+  returned = standing.returned;
+  awaits = standing.awaits;
+}
+
+-- the standing of a call before any entry
+abbrev pub unknown : Standing
+unknown = record { plan = None; times = no_times; granted = 0; top = 0; forfeited = false; returned = false; awaits = false }
+
+-- the map has for each call what the history says of it
+abbrev pub TellsEach : BTreeMap ℕ Standing → List Event → Type 0
+TellsEach standings h = (call : ℕ) → known_of (unwrap_or (get nat_cmp standings call) unknown) ≡ known call h
+
+-- the history is legal and within its limit, with a place for each that is owed, in memory too, and the map and the totals are those of the history
+pub record IsKept (opening limit : ℕ) (h : List Event) (standings : BTreeMap ℕ Standing) (funds credit places capacity : ℕ) : Type 0 where
+  pub small : opening ≤ 1000000000000000
+  pub legal : IsLegalPast opening h
+  pub within_limit : length h + places ≤ limit
+  pub room : length h + places ≤ capacity
+  pub tells : TellsEach standings h
+  pub funds_are : funds ≡ opening + credits h
+  pub credit_is : credit ≡ available opening h
+  pub places_are : places ≡ owed h

@@ -1,0 +1,32 @@
+-- An account as its callers see it.
+use Rattle.std.specs.Prelude.{◌≡◌, ℕ, ◌⊎◌, Option, Some, None, List, reverse}
+use Rattle.account_core.specs.Asked.{Asked}
+use Rattle.account_core.specs.Answers.{answer}
+use Rattle.account_core.specs.Events.{Event}
+use Rattle.account_core.specs.Places.{refusal}
+use Rattle.account_core.specs.declared.entry.Reply.{Reply}
+use Rattle.account_core.specs.declared.fault.AccountFault.{AccountFault}
+use Rattle.account_core.specs.declared.fault.AccountFault.TheVariants as fault
+
+-- the credit that it was opened with, how many entries it may have, and those that it has, oldest first
+pub record Ledger : Type 0 where
+  pub opening : ℕ
+  pub limit : ℕ
+  pub history : List Event
+
+-- the reply of an account to an operation
+abbrev pub answer_of : Ledger → Asked → Reply
+answer_of ledger asked = answer ledger.opening (reverse ledger.history) asked
+
+-- why an account refuses an operation, if it does and memory is there
+abbrev pub refusal_of : Ledger → Asked → Option AccountFault
+refusal_of ledger asked = refusal ledger.limit (reverse ledger.history) asked
+
+-- the entry of a seat's operation and its reply
+abbrev pub event_by : ℕ → Asked → Reply → Event
+event_by seat asked reply = record { seat = seat; asked = asked; reply = reply }
+
+-- the fault is that of the operation, and want of memory only where it has none
+abbrev pub IsRefusal : Ledger → Asked → AccountFault → Type 0
+IsRefusal ledger asked why =
+    (refusal_of ledger asked ≡ Some why) ⊎ ((refusal_of ledger asked ≡ None) × (why ≡ fault.OutOfMemory))

@@ -1,0 +1,11 @@
+pub mod Answers
+pub mod Asked
+pub mod Available
+pub mod Events
+pub mod Faults
+pub mod Kept
+pub mod Known
+pub mod Ledger
+pub mod Places
+pub mod Replies
+pub mod Sound

@@ -1,0 +1,26 @@
+-- The replies in closed form, from what an account keeps: the credit, and what it knows of the call.
+use Rattle.std.specs.Prelude.{◌+◌, ◌-◌, ◌==◌, ◌||◌, ℕ, Bool, Option, Some, None, if◌then◌else◌, nat_le, nat_lt}
+use Rattle.tariff_core.specs.Ceiling.{ceiling_of}
+use Rattle.tariff_core.specs.Rates.{Rates}
+use Rattle.tariff_core.specs.Times.{Elapsed}
+use Rattle.account_core.specs.Known.{Known, paid_of, plan_in_force, price_under, taken_of}
+use Rattle.account_core.specs.declared.entry.Reply.{Reply}
+use Rattle.account_core.specs.declared.entry.Reply.TheVariants as reply
+
+-- an amount is added where the funds stay within the largest money
+abbrev pub credit_reply : ℕ → ℕ → ℕ → Reply
+credit_reply credit funds amount = if nat_le (funds + amount) 1000000000000000 then reply.Credited (credit + amount) else reply.CreditOver credit
+
+-- of the credit and what the call holds already, the ceiling of its new units is held
+abbrev pub reserve_reply : ℕ → Known → Rates → ℕ → ℕ → ℕ → Reply
+reserve_reply credit call plan wanted least units =
+    if nat_lt units least || (units == 0) || call.forfeited then reply.Denied credit
+    else reply.Granted units (nat_lt units wanted) (credit + taken_of call - ceiling_of (plan_in_force call plan) call.times units)
+
+abbrev pub settle_reply : ℕ → Known → Option Elapsed → Reply
+settle_reply credit call (Some times) = reply.Settled (price_under call.plan times) credit
+settle_reply credit call None = reply.Forfeit call.top credit
+
+-- what was held beyond what is paid is given back
+abbrev pub return_reply : ℕ → Known → Reply
+return_reply credit call = reply.Returned (paid_of call) (credit + taken_of call - paid_of call)

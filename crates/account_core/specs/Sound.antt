@@ -1,0 +1,43 @@
+-- What holds after every legal history.
+use Rattle.std.specs.Prelude.{◌≡◌, ◌+◌, ◌≤◌, ℕ, Bool, true, false, Option, Some, None, List, [], ◌∷◌, ◌++◌}
+use Rattle.tariff_core.specs.Ceiling.{ceiling_of, may_come}
+use Rattle.tariff_core.specs.Price.{price_at}
+use Rattle.tariff_core.specs.Rates.{Rates}
+use Rattle.tariff_core.specs.Times.{Elapsed}
+use Rattle.tariff_core.specs.declared.time_info.TimeInfo.{TimeInfo}
+use Rattle.account_core.specs.Answers.{IsLegal, IsLegalPast, accepted_times}
+use Rattle.account_core.specs.Asked.{Asked, Settles}
+use Rattle.account_core.specs.Available.{available, credits, taken_by_all}
+use Rattle.account_core.specs.Events.{Event}
+use Rattle.account_core.specs.Known.{Deed, Ends, Forfeits, Grants, Known, Reports, Rests, deed, is_open, known, nothing_known, paid_of, plan_in_force, taken_of}
+
+-- a call that was granted something: its times may have come from those at its last grant, within a day, and its top is the ceiling of that grant
+pub record IsHeld (plan : Rates) (call : Known) : Type 0 where
+  pub base : Elapsed
+  pub units : ℕ
+  pub granted_is : call.granted ≡ base.before + base.after + units
+  pub top_is : call.top ≡ ceiling_of plan base units
+  pub comes : may_come plan base (base.before + base.after + units) call.times ≡ true
+  pub within_day : base.before + base.after + units ≤ 864000
+
+abbrev pub IsSoundUnder : Option Rates → Known → Type 0
+IsSoundUnder None call = call ≡ nothing_known
+IsSoundUnder (Some plan) call = IsHeld plan call
+
+-- nothing is known of a call before its first grant, and it is held afterwards
+abbrev pub IsSound : Known → Type 0
+IsSound call = IsSoundUnder call.plan call
+
+-- every call is sound, the calls take no more than there is, and that is at most 10^15
+pub record IsSoundPast (opening : ℕ) (h : List Event) : Type 0 where
+  pub each : (call : ℕ) → IsSound (known call h)
+  pub covered : taken_by_all h ≤ opening + credits h
+  pub capped : opening + credits h ≤ 1000000000000000
+
+abbrev pub LegalPastsAreSound : Type 0
+LegalPastsAreSound = (opening : ℕ) (h : List Event) → opening ≤ 1000000000000000 → IsLegalPast opening h → IsSoundPast opening h
+
+-- a grant goes no further than a day
+abbrev pub HasRoom : Known → Deed → Type 0
+HasRoom call (Grants plan units) = call.times.before + call.times.after + units ≤ 864000
+HasRoom call deed = Unit {0}

@@ -1,0 +1,101 @@
+//! What an account is asked, what it answers, and what it keeps of both.
+
+use tariff_core::{Plan, TimeInfo};
+
+/// An operation on an account. Times are in units of 100 ms, amounts in units of money.
+#[derive(Clone, Copy, Debug, PartialEq, Eq)]
+pub enum Op {
+    /// Adds money to the account.
+    Credit {
+        /// How much, 1 to `MAX_MONEY`.
+        amount: u64,
+    },
+    /// Holds money for the next time of a call.
+    Reserve {
+        /// The call.
+        call: u64,
+        /// What it is charged by. A call that is open keeps its first plan.
+        plan: Plan,
+        /// The time that is asked for, 1 to 864000.
+        wanted: u32,
+        /// The least time that is of use, 0 to 864000.
+        least: u32,
+    },
+    /// Tells what an open call has used, as its charging report states it.
+    Settle {
+        /// The call.
+        call: u64,
+        /// The number of the mail that brought the report. It is kept and not judged.
+        number: u64,
+        /// The times of the report, cumulative from the call's answer.
+        info: TimeInfo,
+    },
+    /// Ends an open call, and gives back what it holds and hasn't used.
+    Return {
+        /// The call.
+        call: u64,
+    },
+}
+
+/// The answer to an operation. `available` is the account's credit after the entry, `paid` what the
+/// call has paid so far.
+#[derive(Clone, Copy, Debug, PartialEq, Eq)]
+pub enum Reply {
+    /// The amount was added.
+    Credited {
+        /// The credit after it.
+        available: u64,
+    },
+    /// The amount would pass the largest money. Nothing was added.
+    CreditOver {
+        /// The credit, as it was.
+        available: u64,
+    },
+    /// Money is held for more time.
+    Granted {
+        /// How much time, at least 1.
+        units: u32,
+        /// Whether it is less than was wanted, so that nothing more can be expected.
+        last: bool,
+        /// The credit that is left beside what is held.
+        available: u64,
+    },
+    /// Less time than is of use is covered, or the call has a forfeit. What it holds is unchanged.
+    Denied {
+        /// The credit, as it was.
+        available: u64,
+    },
+    /// The report was accepted.
+    Settled {
+        /// The price of its times.
+        paid: u64,
+        /// The credit, as it was.
+        available: u64,
+    },
+    /// The report passed what was granted or took back what an earlier one said, or one before it
+    /// did. The call pays all that was held.
+    Forfeit {
+        /// All that was held.
+        paid: u64,
+        /// The credit, as it was.
+        available: u64,
+    },
+    /// The call is over.
+    Returned {
+        /// What it has paid in all.
+        paid: u64,
+        /// The credit after the rest was given back.
+        available: u64,
+    },
+}
+
+/// One entry of an account's history.
+#[derive(Clone, Copy, Debug, PartialEq, Eq)]
+pub struct Entry {
+    /// The seat that asked.
+    pub seat: u32,
+    /// What it asked.
+    pub op: Op,
+    /// What was answered.
+    pub reply: Reply,
+}

@@ -1,0 +1,45 @@
+//! Why an account refuses an operation.
+
+ghost use Rattle.std.specs.Prelude.{Some};
+ghost use Rattle.account_core.specs.Faults.{name_of};
+
+use std::error::Error;
+use std::fmt;
+
+/// Why an account refuses an operation. A refused operation changes nothing and makes no entry.
+///
+/// Where several fit, the first of this order is answered: `GateClosed`, `OutOfRange`, `NotOpen` or
+/// `CallUsed`, `HistoryFull`, `OutOfMemory`.
+#[derive(Clone, Copy, Debug, PartialEq, Eq)]
+pub enum AccountFault {
+    /// Memory ran out.
+    OutOfMemory = 1,
+    /// The history may not grow so far that a call could still be closed.
+    HistoryFull = 2,
+    /// A Settle or a Return of a call that isn't open.
+    NotOpen = 3,
+    /// A Reserve of a call that was returned.
+    CallUsed = 4,
+    /// An amount of 0 or above the largest money, a wanted time of 0 or above a day, or a least
+    /// time above a day.
+    OutOfRange = 5,
+    /// The gate of an account that is shared was closed.
+    GateClosed = 6,
+}
+
+impl fmt::Display for AccountFault {
+    ghost output = { λ fault. Some (name_of fault) };
+
+    fn fmt<W: fmt::Write>(&self, f: &mut fmt::Formatter<W>) -> fmt::Result {
+        match self {
+            AccountFault::OutOfMemory => f.write_str("OutOfMemory"),
+            AccountFault::HistoryFull => f.write_str("HistoryFull"),
+            AccountFault::NotOpen => f.write_str("NotOpen"),
+            AccountFault::CallUsed => f.write_str("CallUsed"),
+            AccountFault::OutOfRange => f.write_str("OutOfRange"),
+            AccountFault::GateClosed => f.write_str("GateClosed"),
+        }
+    }
+}
+
+impl Error for AccountFault {}
