@@ -1,4 +1,10 @@
 pub mod AffordLemmas
 pub mod CeilingLemmas
+pub mod IndexLemmas
+pub mod Known
 pub mod Lawfuls
+pub mod MidnightLemmas
+pub mod PrefixLemmas
 pub mod Prices
+pub mod RangeLemmas
+pub mod TableLemmas

@@ -1,10 +1,17 @@
 pub mod Afford
+pub mod Bands
 pub mod Ceiling
 pub mod Lawful
 pub mod Laws
+pub mod Places
+pub mod Prefixes
 pub mod Price
 pub mod Rates
 pub mod RatesOf
 pub mod Reading
+pub mod Routes
+pub mod Tariff
+pub mod TariffFaults
+pub mod TariffTable
 pub mod TimeInfo
 pub mod Times

@@ -3,12 +3,20 @@
 #![tactic(auto)]
 
 mod affording;
+mod bands;
 mod ceilings;
 mod lawfulness;
 mod laws;
+mod place;
 mod plan;
+mod prefix;
 mod pricing;
 mod reading;
+mod route;
+mod row;
+mod row_reading;
+mod tariff;
+mod tariff_fault;
 mod time_info;
 mod times;
 
@@ -19,8 +27,13 @@ pub use laws::{afforded_is_greatest, ceiling_is_greatest, lawful_times_follow};
 pub use plan::{MAX_RATE, Plan, PlanRange};
 pub use pricing::{MAX_PRICE, debit, price};
 pub use reading::read_times;
+pub use route::Route;
+pub use tariff::Tariff;
+pub use tariff_fault::{TariffFault, TariffKind};
 pub use time_info::{TimeInfo, TimeRange};
 pub use times::{DAY, Times};
 
+#[cfg(test)]
+mod tariff_tests;
 #[cfg(test)]
 mod tests;

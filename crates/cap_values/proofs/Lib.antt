@@ -1,0 +1,2 @@
+pub mod ArmingLemmas
+pub mod NumberLemmas

@@ -1,0 +1,9 @@
+pub mod Armings
+pub mod Arms
+pub mod CauseValues
+pub mod Causes
+pub mod Charges
+pub mod Codes
+pub mod NumberDigits
+pub mod Numbers
+pub mod Orders

@@ -1,0 +1,41 @@
+-- Operations as plain data, which definitions can write down.
+use Rattle.std.specs.Prelude.{◌+◌, ℕ, Bool, Option, List, [], ◌∷◌}
+use Rattle.cap_values.specs.declared.arms.Arms.{Arms}
+use Rattle.cap_values.specs.declared.operation.ScfOp.{ScfOp}
+use Rattle.cap_values.specs.declared.operation.ScfOp.TheVariants.{RequestReport, ApplyCharging, Continue, ReleaseCall}
+
+-- watch points, pay for a period (its units of 100 ms, the seconds to the switch, whether the call ends with it), go on, release with a cause
+pub data Order : Type 0 where
+  Watch : Arms → Order
+  Pay : ℕ → Option ℕ → Bool → Order
+  GoOn : Order
+  Release : ℕ → Order
+
+-- what an operation says
+abbrev pub order_of : ScfOp → Order
+order_of (RequestReport arms) = Watch arms
+order_of (ApplyCharging charge) = Pay charge.period charge.switch charge.release
+order_of Continue = GoOn
+order_of (ReleaseCall cause) = Release cause.value
+
+-- what operations say, in order
+abbrev pub orders_of : List ScfOp → List Order
+orders_of [] = []
+orders_of (op ∷ ops) = order_of op ∷ orders_of ops
+
+-- a period that an order pays for, in units of 100 ms, and the seconds to a switch
+pub record Paid : Type 0 where
+  pub period : ℕ
+  pub switch : Option ℕ
+
+-- what an order pays for, before what later orders do
+abbrev pub with_paid : Order → List Paid → List Paid
+with_paid (Watch arms) later = later
+with_paid (Pay period switch release) later = record { period = period; switch = switch } ∷ later
+with_paid GoOn later = later
+with_paid (Release cause) later = later
+
+-- what orders pay for, in order
+abbrev pub paid_by : List Order → List Paid
+paid_by [] = []
+paid_by (order ∷ orders) = with_paid order (paid_by orders)

@@ -1,0 +1,29 @@
+//! The values, operations and messages between the gsmSSF and the service (GSM 09.78, CAMEL
+//! phase 2), each within its range.
+#![tactic(auto)]
+
+mod arming;
+mod arms;
+mod cause;
+mod charge;
+mod event;
+mod fault;
+mod leg;
+mod message;
+mod mode;
+mod number;
+mod operation;
+#[cfg(test)]
+mod tests;
+
+pub use arming::{Arming, Point};
+pub use arms::Arms;
+pub use cause::Cause;
+pub use charge::{Charge, MAX_PERIOD, MAX_SWITCH};
+pub use event::Event;
+pub use fault::ValueFault;
+pub use leg::Leg;
+pub use message::SsfMsg;
+pub use mode::Mode;
+pub use number::{MAX_DIGITS, Number};
+pub use operation::ScfOp;

@@ -1,0 +1,62 @@
+//! The numbers of the parties.
+
+ghost use Rattle.std.specs.Prelude.{◌≡◌, ◌↔◌, ◌≤◌, ◌-◌, IsTrue, IsOk, IfOk, IfErr, take, drop, replicate};
+ghost use Rattle.std.specs.Char.{is_ascii_digit};
+ghost use Rattle.std.specs.List.{list_all};
+ghost use Rattle.cap_values.specs.Numbers.{is_number};
+
+use crate::ValueFault;
+
+/// The most digits that a number has.
+pub const MAX_DIGITS: usize = 15;
+
+/// The number of a party (GSM 09.78, CallingPartyNumber, CalledPartyBCDNumber): 1 to `MAX_DIGITS`
+/// ASCII digits.
+#[derive(Clone, Copy, Debug, PartialEq, Eq)]
+pub struct Number {
+    digits: [u8; 15],
+    len: usize,
+    ghost short: { len ≤ 15 },
+    ghost in_range: { IsTrue (is_number (take len digits)) },
+    ghost zeros_behind: { drop len digits ≡ replicate (15 - len) 0 },
+}
+
+impl Number {
+    ghost use Rattle.cap_values.specs.NumberDigits.{digits_of};
+
+    /// The number that a text writes.
+    pub fn new(text: &str) -> Result<Number, ValueFault>
+        ensures made { IsOk result ↔ IsTrue (is_number text.now) }
+        ensures digits { IfOk result (λ number. digits_of number ≡ text.now) }
+        ensures fault { IfErr result (λ fault. fault ≡ ValueFault.ParameterOutOfRange) }
+    {
+        let bytes = text.as_bytes();
+        if !is_number(bytes) {
+            return Err(ValueFault::ParameterOutOfRange);
+        }
+        let len = bytes.len();
+        let mut digits = [0; 15];
+        digits[..len].copy_from_slice(bytes);
+        Ok(Number { digits, len })
+    }
+
+    /// The digits, in ASCII.
+    pub fn as_bytes(&self) -> &[u8]
+        ensures { result.now ≡ digits_of self.now }
+    {
+        &self.digits[..self.len]
+    }
+}
+
+/// Whether a text is 1 to `MAX_DIGITS` ASCII digits.
+fn is_number(text: &[u8]) -> bool
+    ensures { result ≡ is_number text.now }
+{
+    1 <= text.len() && text.len() <= MAX_DIGITS && are_digits(text)
+}
+
+fn are_digits(text: &[u8]) -> bool
+    ensures { result ≡ list_all is_ascii_digit text.now }
+{
+    text.iter().all(|byte| byte.is_ascii_digit())
+}

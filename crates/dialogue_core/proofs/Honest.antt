@@ -1,0 +1,215 @@
+-- A reply of the kind that an account gives has its place in the table.
+use Rattle.std.proofs.Common.{◌≡◌, ℕ, ◌≤◌, Bool, true, false, List, [], ◌∷◌, Option, Some, None, Result, Ok, Err, refl, arith}
+use Rattle.std.specs.Prelude.{if◌then◌else◌, IsOk, ⊤}
+use Rattle.std.proofs.lemmas.Bool.Decides.{nat_tests}
+use Rattle.account_core.specs.Asked.{Asked, Credits, Reserves, Settles, Returns}
+use Rattle.account_core.specs.declared.entry.Reply.{Reply}
+use Rattle.account_core.specs.declared.entry.Reply.TheVariants.{Credited, CreditOver, Granted, Denied, Settled, Forfeit, Returned}
+use Rattle.cap_values.specs.Orders.{Pay}
+use Rattle.cap_values.specs.declared.event.Event.{Event}
+use Rattle.cap_values.specs.declared.event.Event.TheVariants as event
+use Rattle.cap_values.specs.declared.message.SsfMsg.{SsfMsg}
+use Rattle.cap_values.specs.declared.message.SsfMsg.TheVariants as msg
+use Rattle.cap_values.specs.declared.mode.Mode.{Mode}
+use Rattle.cap_values.specs.declared.mode.Mode.TheVariants as mode
+use Rattle.dialogue_core.specs.Phases.{Conditions, Phase, Says, Sequel, FirstAsk, Running, Settling, MoreAsk, Returning, Ending, Closed, Asks, Sends, Finished}
+use Rattle.dialogue_core.specs.Phases as phase
+use Rattle.dialogue_core.specs.Runs.{Exchange, Input, IsHonest, IsRun, Message, Answer, Refusal, last_said, step}
+use Rattle.dialogue_core.specs.Table.{Step, are_units, begun, ending, first_period, first_reply, going_on, more_reply, replied, reported, running, sequel}
+use Rattle.dialogue_core.specs.declared.fault.DialogueFault.{DialogueFault}
+use Rattle.dialogue_core.specs.declared.fault.DialogueFault.TheVariants.{Unexpected}
+use Rattle.tariff_core.specs.declared.route.Route.{Route}
+
+-- what was asked last is what the phase waits for
+abbrev Awaits : Says → Phase → Type 0
+Awaits (Asks (Reserves call plan wanted least)) (FirstAsk t) = ⊤
+Awaits (Asks (Reserves call plan wanted least)) (MoreAsk t) = ⊤
+Awaits (Asks (Settles call number info)) (Settling t active) = ⊤
+Awaits (Asks (Returns call)) (Returning after) = ⊤
+Awaits (Asks asked) phase = ⊥
+Awaits (Sends orders) phase = ⊤
+Awaits Finished phase = ⊤
+
+abbrev AwaitsIn : Step → Type 0
+AwaitsIn (Ok next) = Awaits next.0 next.1
+AwaitsIn (Err fault) = ⊤
+
+awaits_after : (after : Sequel) → AwaitsIn (Ok (sequel after))
+awaits_after phase.Nothing = tt
+awaits_after phase.Continues = tt
+awaits_after phase.Clears = tt
+awaits_after phase.Fails = tt
+awaits_after phase.Closes = tt
+
+awaits_event : (t : Conditions) (e : Event) (m : Mode) → AwaitsIn (reported t e m)
+awaits_event t event.Answer m = tt
+awaits_event t event.CollectedInfo m = tt
+awaits_event t event.RouteSelectFailure m = tt
+awaits_event t event.CalledPartyBusy m = tt
+awaits_event t event.NoAnswer m = tt
+awaits_event t event.Disconnect m = tt
+awaits_event t event.Abandon m = tt
+
+awaits_running : (t : Conditions) (number : ℕ) (message : SsfMsg) → AwaitsIn (running t number message)
+awaits_running t number (msg.InitialDp call calling called) = tt
+awaits_running t number (msg.EventReport e leg m) = awaits_event t e m
+awaits_running t number (msg.ChargingReport active info) = tt
+awaits_running t number msg.Ended = tt
+
+awaits_ending : (message : SsfMsg) → AwaitsIn (ending message)
+awaits_ending (msg.InitialDp call calling called) = tt
+awaits_ending (msg.EventReport e leg m) = awaits_after (going_on m)
+awaits_ending (msg.ChargingReport active info) = tt
+awaits_ending msg.Ended = tt
+
+awaits_first : (t : Conditions) (units : ℕ) (last b : Bool) → AwaitsIn (if b then Ok (first_period t units last, Running t) else Err Unexpected)
+awaits_first t units last true = tt
+awaits_first t units last false = tt
+
+awaits_more : (t : Conditions) (units : ℕ) (last b : Bool) → AwaitsIn (if b then Ok (Sends (Pay units None last ∷ []), Running t) else Err Unexpected)
+awaits_more t units last true = tt
+awaits_more t units last false = tt
+
+awaits_reply : (phase : Phase) (reply : Reply) → AwaitsIn (replied phase reply)
+awaits_reply (FirstAsk t) (Credited a) = tt
+awaits_reply (FirstAsk t) (CreditOver a) = tt
+awaits_reply (FirstAsk t) (Granted units last a) = awaits_first t units last (are_units units)
+awaits_reply (FirstAsk t) (Denied a) = tt
+awaits_reply (FirstAsk t) (Settled p a) = tt
+awaits_reply (FirstAsk t) (Forfeit p a) = tt
+awaits_reply (FirstAsk t) (Returned p a) = tt
+awaits_reply (Running t) reply = tt
+awaits_reply (Settling t true) (Credited a) = tt
+awaits_reply (Settling t true) (CreditOver a) = tt
+awaits_reply (Settling t true) (Granted units last a) = tt
+awaits_reply (Settling t true) (Denied a) = tt
+awaits_reply (Settling t true) (Settled p a) = tt
+awaits_reply (Settling t true) (Forfeit p a) = tt
+awaits_reply (Settling t true) (Returned p a) = tt
+awaits_reply (Settling t false) (Credited a) = tt
+awaits_reply (Settling t false) (CreditOver a) = tt
+awaits_reply (Settling t false) (Granted units last a) = tt
+awaits_reply (Settling t false) (Denied a) = tt
+awaits_reply (Settling t false) (Settled p a) = tt
+awaits_reply (Settling t false) (Forfeit p a) = tt
+awaits_reply (Settling t false) (Returned p a) = tt
+awaits_reply (MoreAsk t) (Credited a) = tt
+awaits_reply (MoreAsk t) (CreditOver a) = tt
+awaits_reply (MoreAsk t) (Granted units last a) = awaits_more t units last (are_units units)
+awaits_reply (MoreAsk t) (Denied a) = tt
+awaits_reply (MoreAsk t) (Settled p a) = tt
+awaits_reply (MoreAsk t) (Forfeit p a) = tt
+awaits_reply (MoreAsk t) (Returned p a) = tt
+awaits_reply (Returning after) (Credited a) = tt
+awaits_reply (Returning after) (CreditOver a) = tt
+awaits_reply (Returning after) (Granted units last a) = tt
+awaits_reply (Returning after) (Denied a) = tt
+awaits_reply (Returning after) (Settled p a) = tt
+awaits_reply (Returning after) (Forfeit p a) = tt
+awaits_reply (Returning after) (Returned p a) = awaits_after after
+awaits_reply Ending reply = tt
+awaits_reply Closed reply = tt
+
+awaits : (phase : Phase) (input : Input) → AwaitsIn (step phase input)
+awaits (FirstAsk t) (Message number message) = tt
+awaits (FirstAsk t) (Answer reply) = awaits_reply (FirstAsk t) reply
+awaits (FirstAsk t) Refusal = tt
+awaits (Running t) (Message number message) = awaits_running t number message
+awaits (Running t) (Answer reply) = awaits_reply (Running t) reply
+awaits (Running t) Refusal = tt
+awaits (Settling t active) (Message number message) = tt
+awaits (Settling t active) (Answer reply) = awaits_reply (Settling t active) reply
+awaits (Settling t true) Refusal = tt
+awaits (Settling t false) Refusal = tt
+awaits (MoreAsk t) (Message number message) = tt
+awaits (MoreAsk t) (Answer reply) = awaits_reply (MoreAsk t) reply
+awaits (MoreAsk t) Refusal = tt
+awaits (Returning after) (Message number message) = tt
+awaits (Returning after) (Answer reply) = awaits_reply (Returning after) reply
+awaits (Returning after) Refusal = awaits_after after
+awaits Ending (Message number message) = awaits_ending message
+awaits Ending (Answer reply) = awaits_reply Ending reply
+awaits Ending Refusal = tt
+awaits Closed (Message number message) = tt
+awaits Closed (Answer reply) = awaits_reply Closed reply
+awaits Closed Refusal = tt
+
+begun_awaits : (call now wanted least : ℕ) (route : Option Route)
+    → Awaits (begun call now wanted least route).0 (begun call now wanted least route).1
+begun_awaits call now wanted least None = tt
+begun_awaits call now wanted least (Some route) = tt
+
+run_awaits : (call now wanted least : ℕ) (route : Option Route) (run : List Exchange) (phase : Phase) → IsRun (begun call now wanted least route) run phase
+    → Awaits (last_said (begun call now wanted least route) run) phase
+run_awaits call now wanted least route [] phase is = rw (← is) (begun_awaits call now wanted least route)
+run_awaits call now wanted least route (exchange ∷ earlier) phase (before, runs, is) = rw is at (awaits before exchange.input)
+
+abbrev given : Bool → Says → Phase → Step
+given b said phase = if b then Ok (said, phase) else Err Unexpected
+
+granted : (b : Bool) (said : Says) (phase : Phase) → b ≡ true → IsOk (given b said phase)
+granted true said phase is = refl
+granted false said phase is = cc
+
+units_are : (units : ℕ) → 1 ≤ units → units ≤ 864000 → are_units units ≡ true
+units_are units positive within = grind (arith, nat_tests)
+
+expected : (asked : Asked) (phase : Phase) (reply : Reply) → Awaits (Asks asked) phase → IsHonest asked reply → IsOk (replied phase reply)
+expected (Credits amount) phase reply waits honest = absurd waits
+expected (Reserves call plan wanted least) (FirstAsk t) (Credited a) waits honest = absurd honest
+expected (Reserves call plan wanted least) (FirstAsk t) (CreditOver a) waits honest = absurd honest
+expected (Reserves call plan wanted least) (FirstAsk t) (Granted units last a) waits honest = granted (are_units units) (first_period t units last) (Running t) (units_are units honest.0 honest.1)
+expected (Reserves call plan wanted least) (FirstAsk t) (Denied a) waits honest = refl
+expected (Reserves call plan wanted least) (FirstAsk t) (Settled p a) waits honest = absurd honest
+expected (Reserves call plan wanted least) (FirstAsk t) (Forfeit p a) waits honest = absurd honest
+expected (Reserves call plan wanted least) (FirstAsk t) (Returned p a) waits honest = absurd honest
+expected (Reserves call plan wanted least) (Running t) reply waits honest = absurd waits
+expected (Reserves call plan wanted least) (Settling t active) reply waits honest = absurd waits
+expected (Reserves call plan wanted least) (MoreAsk t) (Credited a) waits honest = absurd honest
+expected (Reserves call plan wanted least) (MoreAsk t) (CreditOver a) waits honest = absurd honest
+expected (Reserves call plan wanted least) (MoreAsk t) (Granted units last a) waits honest = granted (are_units units) (Sends (Pay units None last ∷ [])) (Running t) (units_are units honest.0 honest.1)
+expected (Reserves call plan wanted least) (MoreAsk t) (Denied a) waits honest = refl
+expected (Reserves call plan wanted least) (MoreAsk t) (Settled p a) waits honest = absurd honest
+expected (Reserves call plan wanted least) (MoreAsk t) (Forfeit p a) waits honest = absurd honest
+expected (Reserves call plan wanted least) (MoreAsk t) (Returned p a) waits honest = absurd honest
+expected (Reserves call plan wanted least) (Returning after) reply waits honest = absurd waits
+expected (Reserves call plan wanted least) Ending reply waits honest = absurd waits
+expected (Reserves call plan wanted least) Closed reply waits honest = absurd waits
+expected (Settles call number info) (FirstAsk t) reply waits honest = absurd waits
+expected (Settles call number info) (Running t) reply waits honest = absurd waits
+expected (Settles call number info) (Settling t true) (Credited a) waits honest = absurd honest
+expected (Settles call number info) (Settling t true) (CreditOver a) waits honest = absurd honest
+expected (Settles call number info) (Settling t true) (Granted units last a) waits honest = absurd honest
+expected (Settles call number info) (Settling t true) (Denied a) waits honest = absurd honest
+expected (Settles call number info) (Settling t true) (Settled p a) waits honest = refl
+expected (Settles call number info) (Settling t true) (Forfeit p a) waits honest = refl
+expected (Settles call number info) (Settling t true) (Returned p a) waits honest = absurd honest
+expected (Settles call number info) (Settling t false) (Credited a) waits honest = absurd honest
+expected (Settles call number info) (Settling t false) (CreditOver a) waits honest = absurd honest
+expected (Settles call number info) (Settling t false) (Granted units last a) waits honest = absurd honest
+expected (Settles call number info) (Settling t false) (Denied a) waits honest = absurd honest
+expected (Settles call number info) (Settling t false) (Settled p a) waits honest = refl
+expected (Settles call number info) (Settling t false) (Forfeit p a) waits honest = refl
+expected (Settles call number info) (Settling t false) (Returned p a) waits honest = absurd honest
+expected (Settles call number info) (MoreAsk t) reply waits honest = absurd waits
+expected (Settles call number info) (Returning after) reply waits honest = absurd waits
+expected (Settles call number info) Ending reply waits honest = absurd waits
+expected (Settles call number info) Closed reply waits honest = absurd waits
+expected (Returns call) (FirstAsk t) reply waits honest = absurd waits
+expected (Returns call) (Running t) reply waits honest = absurd waits
+expected (Returns call) (Settling t active) reply waits honest = absurd waits
+expected (Returns call) (MoreAsk t) reply waits honest = absurd waits
+expected (Returns call) (Returning after) (Credited a) waits honest = absurd honest
+expected (Returns call) (Returning after) (CreditOver a) waits honest = absurd honest
+expected (Returns call) (Returning after) (Granted units last a) waits honest = absurd honest
+expected (Returns call) (Returning after) (Denied a) waits honest = absurd honest
+expected (Returns call) (Returning after) (Settled p a) waits honest = absurd honest
+expected (Returns call) (Returning after) (Forfeit p a) waits honest = absurd honest
+expected (Returns call) (Returning after) (Returned p a) waits honest = refl
+expected (Returns call) Ending reply waits honest = absurd waits
+expected (Returns call) Closed reply waits honest = absurd waits
+
+pub honest_expected : (call now wanted least : ℕ) (route : Option Route) (run : List Exchange) (phase : Phase) (asked : Asked) (reply : Reply)
+    → IsRun (begun call now wanted least route) run phase → last_said (begun call now wanted least route) run ≡ Asks asked → IsHonest asked reply → IsOk (replied phase reply)
+honest_expected call now wanted least route run phase asked reply is said honest =
+    expected asked phase reply (rw said at (run_awaits call now wanted least route run phase is)) honest

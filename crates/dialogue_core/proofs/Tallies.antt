@@ -1,0 +1,198 @@
+-- What a run of a dialogue has asked by the phase that it has come to.
+use Rattle.std.proofs.Common.{◌≡◌, ℕ, ◌+◌, ◌≤◌, Bool, true, false, List, [], ◌∷◌, Option, Some, None, Result, Ok, Err, refl, sym, ap, ◌∙◌, subst, arith}
+use Rattle.std.specs.Prelude.{◌&&◌, ◌||◌, if◌then◌else◌, nat_le, IsOk, ⊤}
+use Rattle.std.proofs.lemmas.Bool.Decides.{nat_tests}
+use Rattle.account_core.specs.Asked.{Asked, Credits, Reserves, Settles, Returns}
+use Rattle.account_core.specs.declared.entry.Reply.{Reply}
+use Rattle.account_core.specs.declared.entry.Reply.TheVariants.{Credited, CreditOver, Granted, Denied, Settled, Forfeit, Returned}
+use Rattle.cap_values.specs.declared.event.Event.{Event}
+use Rattle.cap_values.specs.declared.event.Event.TheVariants as event
+use Rattle.cap_values.specs.declared.message.SsfMsg.{SsfMsg}
+use Rattle.cap_values.specs.declared.message.SsfMsg.TheVariants as msg
+use Rattle.cap_values.specs.declared.mode.Mode.{Mode}
+use Rattle.cap_values.specs.declared.mode.Mode.TheVariants as mode
+use Rattle.cap_values.specs.Orders.{Pay}
+use Rattle.dialogue_core.specs.Phases.{Conditions, Phase, Says, Sequel, FirstAsk, Running, Settling, MoreAsk, Returning, Ending, Closed, Asks, Sends, Finished}
+use Rattle.dialogue_core.specs.Phases as phase
+use Rattle.dialogue_core.specs.Runs.{Exchange, Input, IsRun, Message, Answer, Refusal, is_grant, is_over, last_said, returns_asked, returns_in, settles_in, settles_since_grant, step, was_granted}
+use Rattle.dialogue_core.specs.Table.{Step, are_units, begun, ending, first_period, first_reply, going_on, more_reply, replied, reported, running, sequel}
+use Rattle.dialogue_core.specs.declared.fault.DialogueFault.{DialogueFault}
+use Rattle.dialogue_core.specs.declared.fault.DialogueFault.TheVariants.{Unexpected}
+use Rattle.tariff_core.specs.declared.route.Route.{Route}
+
+-- the settles since the last grant, the returns, and whether there was a grant, by the phase
+pub record Counts (settles returns most owed : ℕ) (granted was : Bool) : Type 0 where
+  pub settled : settles ≤ most
+  pub returned : returns ≡ owed
+  pub grants : granted ≡ was
+
+abbrev owed_by : Bool → ℕ
+owed_by granted = if granted then 1 else 0
+
+abbrev Tally : Phase → ℕ → ℕ → Bool → Type 0
+Tally (FirstAsk t) s r g = Counts s r 0 0 g false
+Tally (Running t) s r g = Counts s r 0 0 g true
+Tally (Settling t active) s r g = Counts s r 1 0 g true
+Tally (MoreAsk t) s r g = Counts s r 1 0 g true
+Tally (Returning after) s r g = Counts s r 1 1 g true
+Tally Ending s r g = Counts s r 1 (owed_by g) g g
+Tally Closed s r g = Counts s r 1 (owed_by g) g g
+
+-- a step keeps the tally
+abbrev Keeps : Input → ℕ → ℕ → Bool → Step → Type 0
+Keeps input s r g (Ok next) =
+    Tally next.1 (if is_grant input then settles_in next.0 else settles_in next.0 + s) (returns_in next.0 + r) (is_grant input || g)
+Keeps input s r g (Err fault) = ⊤
+
+-- the end of a return
+ends : (after : Sequel) (s r : ℕ) (g : Bool) → s ≤ 1 → r ≡ 1 → g ≡ true → (input : Input) → is_grant input ≡ false → Keeps input s r g (Ok (sequel after))
+ends phase.Nothing s r g settled returned grants input plain = rw (plain, grants) (record { settled = omega arith; returned = omega arith; grants = refl })
+ends phase.Continues s r g settled returned grants input plain = rw (plain, grants) (record { settled = omega arith; returned = omega arith; grants = refl })
+ends phase.Clears s r g settled returned grants input plain = rw (plain, grants) (record { settled = omega arith; returned = omega arith; grants = refl })
+ends phase.Fails s r g settled returned grants input plain = rw (plain, grants) (record { settled = omega arith; returned = omega arith; grants = refl })
+ends phase.Closes s r g settled returned grants input plain = rw (plain, grants) (record { settled = omega arith; returned = omega arith; grants = refl })
+
+over : (after : Sequel) (s r : ℕ) (g : Bool) → s ≤ 1 → r ≡ owed_by g → (input : Input) → is_grant input ≡ false → Keeps input s r g (Ok (sequel after))
+over phase.Nothing s r g settled returned input plain = rw plain (record { settled = omega arith; returned = omega (arith, returned); grants = refl })
+over phase.Continues s r g settled returned input plain = rw plain (record { settled = omega arith; returned = omega (arith, returned); grants = refl })
+over phase.Clears s r g settled returned input plain = rw plain (record { settled = omega arith; returned = omega (arith, returned); grants = refl })
+over phase.Fails s r g settled returned input plain = rw plain (record { settled = omega arith; returned = omega (arith, returned); grants = refl })
+over phase.Closes s r g settled returned input plain = rw plain (record { settled = omega arith; returned = omega (arith, returned); grants = refl })
+
+keeps_event : (t : Conditions) (number : ℕ) (message : SsfMsg) (e : Event) (m : Mode) (s r : ℕ) (g : Bool) → Counts s r 0 0 g true
+    → Keeps (Message number message) s r g (reported t e m)
+keeps_event t number message event.Answer m s r g c = record { settled = omega arith; returned = omega arith; grants = c.grants }
+keeps_event t number message event.CollectedInfo m s r g c = record { settled = omega arith; returned = omega arith; grants = c.grants }
+keeps_event t number message event.RouteSelectFailure m s r g c = record { settled = omega arith; returned = omega arith; grants = c.grants }
+keeps_event t number message event.CalledPartyBusy m s r g c = record { settled = omega arith; returned = omega arith; grants = c.grants }
+keeps_event t number message event.NoAnswer m s r g c = record { settled = omega arith; returned = omega arith; grants = c.grants }
+keeps_event t number message event.Disconnect m s r g c = record { settled = omega arith; returned = omega arith; grants = c.grants }
+keeps_event t number message event.Abandon m s r g c = record { settled = omega arith; returned = omega arith; grants = c.grants }
+
+keeps_running : (t : Conditions) (number : ℕ) (message : SsfMsg) (s r : ℕ) (g : Bool) → Counts s r 0 0 g true
+    → Keeps (Message number message) s r g (running t number message)
+keeps_running t number (msg.InitialDp call calling called) s r g c = tt
+keeps_running t number (msg.EventReport e leg m) s r g c = keeps_event t number (msg.EventReport e leg m) e m s r g c
+keeps_running t number (msg.ChargingReport active info) s r g c = record { settled = omega arith; returned = omega arith; grants = c.grants }
+keeps_running t number msg.Ended s r g c = record { settled = omega arith; returned = omega arith; grants = c.grants }
+
+keeps_ending : (number : ℕ) (message : SsfMsg) (s r : ℕ) (g : Bool) → Counts s r 1 (owed_by g) g g → Keeps (Message number message) s r g (ending message)
+keeps_ending number (msg.InitialDp call calling called) s r g c = tt
+keeps_ending number (msg.EventReport e leg m) s r g c = over (going_on m) s r g c.settled c.returned (Message number (msg.EventReport e leg m)) refl
+keeps_ending number (msg.ChargingReport active info) s r g c = tt
+keeps_ending number msg.Ended s r g c = over phase.Closes s r g c.settled c.returned (Message number msg.Ended) refl
+
+grant_first : (t : Conditions) (units a : ℕ) (last b : Bool) (s r : ℕ) (g : Bool) → Counts s r 0 0 g false
+    → Keeps (Answer (Granted units last a)) s r g (if b then Ok (first_period t units last, Running t) else Err Unexpected)
+grant_first t units a last true s r g c = record { settled = omega arith; returned = omega (arith, c.returned); grants = refl }
+grant_first t units a last false s r g c = tt
+
+keeps_first : (t : Conditions) (reply : Reply) (s r : ℕ) (g : Bool) → Counts s r 0 0 g false → Keeps (Answer reply) s r g (first_reply t reply)
+keeps_first t (Credited a) s r g c = tt
+keeps_first t (CreditOver a) s r g c = tt
+keeps_first t (Granted units last a) s r g c = grant_first t units a last (are_units units) s r g c
+keeps_first t (Denied a) s r g c = rw c.grants (record { settled = omega (arith, c.settled); returned = omega (arith, c.returned); grants = refl })
+keeps_first t (Settled p a) s r g c = tt
+keeps_first t (Forfeit p a) s r g c = tt
+keeps_first t (Returned p a) s r g c = tt
+
+keeps_settling : (t : Conditions) (active : Bool) (reply : Reply) (s r : ℕ) (g : Bool) → Counts s r 1 0 g true
+    → Keeps (Answer reply) s r g (replied (Settling t active) reply)
+keeps_settling t true (Settled p a) s r g c = record { settled = omega (arith, c.settled); returned = omega (arith, c.returned); grants = c.grants }
+keeps_settling t true (Forfeit p a) s r g c = record { settled = omega (arith, c.settled); returned = omega (arith, c.returned); grants = c.grants }
+keeps_settling t true (Credited a) s r g c = tt
+keeps_settling t true (CreditOver a) s r g c = tt
+keeps_settling t true (Granted units last a) s r g c = tt
+keeps_settling t true (Denied a) s r g c = tt
+keeps_settling t true (Returned p a) s r g c = tt
+keeps_settling t false (Settled p a) s r g c = record { settled = omega (arith, c.settled); returned = omega (arith, c.returned); grants = c.grants }
+keeps_settling t false (Forfeit p a) s r g c = record { settled = omega (arith, c.settled); returned = omega (arith, c.returned); grants = c.grants }
+keeps_settling t false (Credited a) s r g c = tt
+keeps_settling t false (CreditOver a) s r g c = tt
+keeps_settling t false (Granted units last a) s r g c = tt
+keeps_settling t false (Denied a) s r g c = tt
+keeps_settling t false (Returned p a) s r g c = tt
+
+grant_more : (t : Conditions) (units a : ℕ) (last b : Bool) (s r : ℕ) (g : Bool) → Counts s r 1 0 g true
+    → Keeps (Answer (Granted units last a)) s r g (if b then Ok (Sends (Pay units None last ∷ []), Running t) else Err Unexpected)
+grant_more t units a last true s r g c = record { settled = omega arith; returned = omega (arith, c.returned); grants = refl }
+grant_more t units a last false s r g c = tt
+
+keeps_more : (t : Conditions) (reply : Reply) (s r : ℕ) (g : Bool) → Counts s r 1 0 g true → Keeps (Answer reply) s r g (more_reply t reply)
+keeps_more t (Credited a) s r g c = tt
+keeps_more t (CreditOver a) s r g c = tt
+keeps_more t (Granted units last a) s r g c = grant_more t units a last (are_units units) s r g c
+keeps_more t (Denied a) s r g c = record { settled = omega (arith, c.settled); returned = omega (arith, c.returned); grants = c.grants }
+keeps_more t (Settled p a) s r g c = tt
+keeps_more t (Forfeit p a) s r g c = tt
+keeps_more t (Returned p a) s r g c = tt
+
+keeps_return : (after : Sequel) (reply : Reply) (s r : ℕ) (g : Bool) → Counts s r 1 1 g true → Keeps (Answer reply) s r g (replied (Returning after) reply)
+keeps_return after (Credited a) s r g c = tt
+keeps_return after (CreditOver a) s r g c = tt
+keeps_return after (Granted units last a) s r g c = tt
+keeps_return after (Denied a) s r g c = tt
+keeps_return after (Settled p a) s r g c = tt
+keeps_return after (Forfeit p a) s r g c = tt
+keeps_return after (Returned p a) s r g c = ends after s r g c.settled c.returned c.grants (Answer (Returned p a)) refl
+
+keeps : (phase : Phase) (input : Input) (s r : ℕ) (g : Bool) → Tally phase s r g → Keeps input s r g (step phase input)
+keeps (FirstAsk t) (Message number message) s r g c = tt
+keeps (FirstAsk t) (Answer reply) s r g c = keeps_first t reply s r g c
+keeps (FirstAsk t) Refusal s r g c = rw c.grants (record { settled = omega (arith, c.settled); returned = omega (arith, c.returned); grants = refl })
+keeps (Running t) (Message number message) s r g c = keeps_running t number message s r g c
+keeps (Running t) (Answer reply) s r g c = tt
+keeps (Running t) Refusal s r g c = tt
+keeps (Settling t active) (Message number message) s r g c = tt
+keeps (Settling t active) (Answer reply) s r g c = keeps_settling t active reply s r g c
+keeps (Settling t true) Refusal s r g c = record { settled = omega (arith, c.settled); returned = omega (arith, c.returned); grants = c.grants }
+keeps (Settling t false) Refusal s r g c = record { settled = omega (arith, c.settled); returned = omega (arith, c.returned); grants = c.grants }
+keeps (MoreAsk t) (Message number message) s r g c = tt
+keeps (MoreAsk t) (Answer reply) s r g c = keeps_more t reply s r g c
+keeps (MoreAsk t) Refusal s r g c = record { settled = omega (arith, c.settled); returned = omega (arith, c.returned); grants = c.grants }
+keeps (Returning after) (Message number message) s r g c = tt
+keeps (Returning after) (Answer reply) s r g c = keeps_return after reply s r g c
+keeps (Returning after) Refusal s r g c = ends after s r g c.settled c.returned c.grants Refusal refl
+keeps Ending (Message number message) s r g c = keeps_ending number message s r g c
+keeps Ending (Answer reply) s r g c = tt
+keeps Ending Refusal s r g c = tt
+keeps Closed (Message number message) s r g c = tt
+keeps Closed (Answer reply) s r g c = tt
+keeps Closed Refusal s r g c = tt
+
+begins : (call now wanted least : ℕ) (route : Option Route) → Tally (begun call now wanted least route).1 0 0 false
+begins call now wanted least None = record { settled = omega arith; returned = refl; grants = refl }
+begins call now wanted least (Some route) = record { settled = omega arith; returned = refl; grants = refl }
+
+-- the tally of a run
+pub tally : (call now wanted least : ℕ) (route : Option Route) (run : List Exchange) (phase : Phase) → IsRun (begun call now wanted least route) run phase
+    → Tally phase (settles_since_grant run) (returns_asked run) (was_granted run)
+tally call now wanted least route [] phase is = rw (← is) (begins call now wanted least route)
+tally call now wanted least route (exchange ∷ earlier) phase (before, runs, is) =
+    rw is at (keeps before exchange.input _ _ _ (tally call now wanted least route earlier before runs))
+
+settled_once : (phase : Phase) (s r : ℕ) (g : Bool) → Tally phase s r g → s ≤ 1
+settled_once (FirstAsk t) s r g c = omega (arith, c.settled)
+settled_once (Running t) s r g c = omega (arith, c.settled)
+settled_once (Settling t active) s r g c = c.settled
+settled_once (MoreAsk t) s r g c = c.settled
+settled_once (Returning after) s r g c = c.settled
+settled_once Ending s r g c = c.settled
+settled_once Closed s r g c = c.settled
+
+pub one_settle : (call now wanted least : ℕ) (route : Option Route) (run : List Exchange) (phase : Phase) → IsRun (begun call now wanted least route) run phase
+    → settles_since_grant run ≤ 1
+one_settle call now wanted least route run phase is = settled_once phase _ _ _ (tally call now wanted least route run phase is)
+
+returned_once : (phase : Phase) (s r : ℕ) (g : Bool) → Tally phase s r g → is_over phase ≡ true → r ≡ owed_by g
+returned_once (FirstAsk t) s r g c over = cc
+returned_once (Running t) s r g c over = cc
+returned_once (Settling t active) s r g c over = cc
+returned_once (MoreAsk t) s r g c over = cc
+returned_once (Returning after) s r g c over = cc
+returned_once Ending s r g c over = c.returned
+returned_once Closed s r g c over = c.returned
+
+pub one_return : (call now wanted least : ℕ) (route : Option Route) (run : List Exchange) (phase : Phase) → IsRun (begun call now wanted least route) run phase
+    → is_over phase ≡ true → returns_asked run ≡ (if was_granted run then 1 else 0)
+one_return call now wanted least route run phase is over = returned_once phase _ _ _ (tally call now wanted least route run phase is) over

@@ -1,0 +1,5 @@
+use Rattle.dialogue_core.proofs.Tallies.{one_return}
+use Rattle.dialogue_core.proofs.laws.one_return_if_granted.Goals as goal
+
+pub returns : goal.returns
+returns c = one_return

@@ -1,0 +1,7 @@
+pub mod Configs
+pub mod Faults
+pub mod Phases
+pub mod Runs
+pub mod ServiceArms
+pub mod Table
+pub mod Views

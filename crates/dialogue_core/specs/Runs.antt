@@ -1,0 +1,96 @@
+-- Runs of a dialogue: what it was handed and what it said to that, by the table of the service.
+use Rattle.std.specs.Prelude.{◌≡◌, ◌+◌, ◌≤◌, ◌||◌, ℕ, Bool, true, false, Option, Result, Ok, IsOk, List, [], ◌∷◌, ⊤, if◌then◌else◌}
+use Rattle.account_core.specs.Asked.{Asked, Credits, Reserves, Settles, Returns}
+use Rattle.account_core.specs.declared.entry.Reply.{Reply}
+use Rattle.account_core.specs.declared.entry.Reply.TheVariants.{Granted, Denied, Settled, Forfeit, Returned}
+use Rattle.cap_values.specs.declared.message.SsfMsg.{SsfMsg}
+use Rattle.dialogue_core.specs.Phases.{Phase, Says, Ending, Closed, Asks, Sends, Finished}
+use Rattle.dialogue_core.specs.Table.{Step, begun, replied, told, unanswered}
+use Rattle.tariff_core.specs.declared.route.Route.{Route}
+
+-- what a dialogue is handed
+pub data Input : Type 0 where
+  Message : ℕ → SsfMsg → Input
+  Answer : Reply → Input
+  Refusal : Input
+
+-- the table
+abbrev pub step : Phase → Input → Step
+step phase (Message number message) = told phase number message
+step phase (Answer reply) = replied phase reply
+step phase Refusal = unanswered phase
+
+-- an input that wasn't refused, and the turn to it
+pub record Exchange : Type 0 where
+  pub input : Input
+  pub said : Says
+
+-- the phase after these exchanges, the newest first, of a dialogue that began so
+abbrev pub IsRun : Says × Phase → List Exchange → Phase → Type 0
+IsRun first [] phase = first.1 ≡ phase
+IsRun first (exchange ∷ earlier) phase = (before : Phase) × IsRun first earlier before × (step before exchange.input ≡ Ok (exchange.said, phase))
+
+-- ---- what a run has asked
+
+abbrev pub is_grant : Input → Bool
+is_grant (Answer (Granted units last available)) = true
+is_grant _ = false
+
+abbrev pub settles_in : Says → ℕ
+settles_in (Asks (Settles call number info)) = 1
+settles_in _ = 0
+
+abbrev pub returns_in : Says → ℕ
+returns_in (Asks (Returns call)) = 1
+returns_in _ = 0
+
+-- the settles since the last grant
+abbrev pub settles_since_grant : List Exchange → ℕ
+settles_since_grant [] = 0
+settles_since_grant (exchange ∷ earlier) =
+    if is_grant exchange.input then settles_in exchange.said else settles_in exchange.said + settles_since_grant earlier
+
+abbrev pub returns_asked : List Exchange → ℕ
+returns_asked [] = 0
+returns_asked (exchange ∷ earlier) = returns_in exchange.said + returns_asked earlier
+
+abbrev pub was_granted : List Exchange → Bool
+was_granted [] = false
+was_granted (exchange ∷ earlier) = is_grant exchange.input || was_granted earlier
+
+abbrev pub last_said : Says × Phase → List Exchange → Says
+last_said first [] = first.0
+last_said first (exchange ∷ earlier) = exchange.said
+
+-- nothing more is asked of the account
+abbrev pub is_over : Phase → Bool
+is_over Ending = true
+is_over Closed = true
+is_over _ = false
+
+-- a reply of the kind that an account gives to what was asked
+abbrev pub IsHonest : Asked → Reply → Type 0
+IsHonest (Reserves call plan wanted least) (Granted units last available) = (1 ≤ units) × (units ≤ 864000)
+IsHonest (Reserves call plan wanted least) (Denied available) = ⊤
+IsHonest (Settles call number info) (Settled paid available) = ⊤
+IsHonest (Settles call number info) (Forfeit paid available) = ⊤
+IsHonest (Returns call) (Returned paid available) = ⊤
+IsHonest _ _ = ⊥
+
+-- ---- laws
+
+-- at most one settle is asked between a grant and the next
+abbrev pub OneSettleAGrant : Type 0
+OneSettleAGrant = (call now wanted least : ℕ) (route : Option Route) (run : List Exchange) (phase : Phase)
+    → IsRun (begun call now wanted least route) run phase → settles_since_grant run ≤ 1
+
+-- a run that is done with the account has asked exactly one return where it was granted time, and none elsewhere
+abbrev pub OneReturnIfGranted : Type 0
+OneReturnIfGranted = (call now wanted least : ℕ) (route : Option Route) (run : List Exchange) (phase : Phase)
+    → IsRun (begun call now wanted least route) run phase → is_over phase ≡ true → returns_asked run ≡ (if was_granted run then 1 else 0)
+
+-- a reply of the kind that an account gives to what was asked last has its place in the table
+abbrev pub HonestRepliesAreExpected : Type 0
+HonestRepliesAreExpected = (call now wanted least : ℕ) (route : Option Route) (run : List Exchange) (phase : Phase) (asked : Asked) (reply : Reply)
+    → IsRun (begun call now wanted least route) run phase → last_said (begun call now wanted least route) run ≡ Asks asked
+    → IsHonest asked reply → IsOk (replied phase reply)

@@ -1,0 +1,25 @@
+-- The points that the service watches.
+use Rattle.std.specs.Prelude.{Option, Some, None, List, [], ◌∷◌}
+use Rattle.cap_values.specs.Arms.{arms_of}
+use Rattle.cap_values.specs.declared.arming.Arming.{Arming}
+use Rattle.cap_values.specs.declared.arms.Arms.{Arms}
+use Rattle.cap_values.specs.declared.event.Event.{Event}
+use Rattle.cap_values.specs.declared.event.Event.TheVariants.{RouteSelectFailure, CalledPartyBusy, NoAnswer, Answer, Disconnect, Abandon}
+use Rattle.cap_values.specs.declared.leg.Leg.{Leg}
+use Rattle.cap_values.specs.declared.leg.Leg.TheVariants.{One, Two}
+use Rattle.cap_values.specs.declared.mode.Mode.TheVariants.{Interrupted, NotifyAndContinue}
+
+abbrev pub notified : Event → Arming
+notified event = record { event = event; leg = None; mode = NotifyAndContinue }
+
+abbrev pub interrupted : Leg → Arming
+interrupted leg = record { event = Disconnect; leg = Some leg; mode = Interrupted }
+
+-- each event before the call is over is reported, and the call waits where a party of it hangs up
+abbrev pub service_armings : List Arming
+service_armings =
+    notified RouteSelectFailure ∷ notified CalledPartyBusy ∷ notified NoAnswer ∷ notified Answer ∷ notified Abandon
+    ∷ interrupted One ∷ interrupted Two ∷ []
+
+unfoldable pub service_arms : Arms
+service_arms = arms_of service_armings

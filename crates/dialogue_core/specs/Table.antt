@@ -1,0 +1,149 @@
+-- The table of the service: the turn and the next state for each input.
+use Rattle.std.specs.Prelude.{◌+◌, ◌-◌, ◌&&◌, ℕ, Bool, true, false, Option, Some, None, Result, Ok, Err, List, [], ◌∷◌, if◌then◌else◌, nat_le, option_map}
+use Rattle.std.specs.Int.{div_ceil}
+use Rattle.account_core.specs.Asked.{Asked, Reserves, Settles, Returns}
+use Rattle.account_core.specs.declared.entry.Reply.{Reply}
+use Rattle.account_core.specs.declared.entry.Reply.TheVariants.{Credited, CreditOver, Granted, Denied, Settled, Forfeit, Returned}
+use Rattle.cap_values.specs.Orders.{Order, Watch, Pay, GoOn, Release}
+use Rattle.cap_values.specs.declared.event.Event.{Event}
+use Rattle.cap_values.specs.declared.event.Event.TheVariants as event
+use Rattle.cap_values.specs.declared.message.SsfMsg.{SsfMsg}
+use Rattle.cap_values.specs.declared.message.SsfMsg.TheVariants as msg
+use Rattle.cap_values.specs.declared.mode.Mode.{Mode}
+use Rattle.cap_values.specs.declared.mode.Mode.TheVariants.{Interrupted, NotifyAndContinue, Transparent}
+use Rattle.dialogue_core.specs.Phases.{Conditions, Phase, Says, Sequel, FirstAsk, Running, Settling, MoreAsk, Returning, Ending, Closed, Asks, Sends, Finished}
+use Rattle.dialogue_core.specs.Phases as phase
+use Rattle.dialogue_core.specs.ServiceArms.{service_arms}
+use Rattle.dialogue_core.specs.declared.fault.DialogueFault.{DialogueFault}
+use Rattle.dialogue_core.specs.declared.fault.DialogueFault.TheVariants.{Unexpected, NoAskPending, AskPending}
+use Rattle.tariff_core.specs.RatesOf.{rates_of}
+use Rattle.tariff_core.specs.declared.route.Route.{Route}
+
+-- what is said, and where the dialogue stands then; or why the input is refused
+abbrev pub Step : Type 0
+Step = Result (Says × Phase) DialogueFault
+
+abbrev pub reserve : Conditions → Asked
+reserve t = Reserves t.call t.plan t.wanted t.least
+
+-- the call is settled with, and what follows once it is returned
+abbrev pub give_back : Conditions → Sequel → Step
+give_back t sequel = Ok (Asks (Returns t.call), Returning sequel)
+
+-- the call goes on where it waits
+abbrev pub going_on : Mode → Sequel
+going_on Interrupted = phase.Continues
+going_on NotifyAndContinue = phase.Nothing
+going_on Transparent = phase.Nothing
+
+-- what follows a return
+abbrev pub sequel : Sequel → Says × Phase
+sequel phase.Nothing = (Sends [], Ending)
+sequel phase.Continues = (Sends (GoOn ∷ []), Ending)
+sequel phase.Clears = (Sends (Release 16 ∷ []), Ending)
+sequel phase.Fails = (Sends (Release 41 ∷ []), Ending)
+sequel phase.Closes = (Finished, Closed)
+
+-- ---- begin
+
+-- the whole seconds to the switch, rounded up
+abbrev pub seconds_to : ℕ → Option ℕ → Option ℕ
+seconds_to now None = None
+seconds_to now (Some at) = Some (div_ceil (at - now) 10)
+
+abbrev pub conditions : ℕ → ℕ → ℕ → ℕ → Route → Conditions
+conditions call now wanted least route =
+    record { call = call; plan = rates_of route.plan; wanted = wanted; least = least; switch = seconds_to now route.switch_at }
+
+abbrev pub begun : ℕ → ℕ → ℕ → ℕ → Option Route → Says × Phase
+begun call now wanted least None = (Sends (Release 1 ∷ []), Ending)
+begun call now wanted least (Some route) =
+    (Asks (reserve (conditions call now wanted least route)), FirstAsk (conditions call now wanted least route))
+
+-- ---- a message of the gsmSSF
+
+-- an event of a call that was granted time
+abbrev pub reported : Conditions → Event → Mode → Step
+reported t event.Answer mode = Ok (Sends [], Running t)
+reported t _ mode = give_back t (going_on mode)
+
+abbrev pub running : Conditions → ℕ → SsfMsg → Step
+running t number (msg.InitialDp call calling called) = Err Unexpected
+running t number (msg.EventReport event leg mode) = reported t event mode
+running t number (msg.ChargingReport active info) = Ok (Asks (Settles t.call number info), Settling t active)
+running t number msg.Ended = give_back t phase.Closes
+
+abbrev pub ending : SsfMsg → Step
+ending (msg.InitialDp call calling called) = Err Unexpected
+ending (msg.EventReport event leg mode) = Ok (sequel (going_on mode))
+ending (msg.ChargingReport active info) = Err Unexpected
+ending msg.Ended = Ok (Finished, Closed)
+
+abbrev pub told : Phase → ℕ → SsfMsg → Step
+told (FirstAsk t) number message = Err AskPending
+told (Running t) number message = running t number message
+told (Settling t active) number message = Err AskPending
+told (MoreAsk t) number message = Err AskPending
+told (Returning after) number message = Err AskPending
+told Ending number message = ending message
+told Closed number message = Err Unexpected
+
+-- ---- a reply of the account
+
+-- the units of a grant that may be given on
+abbrev pub are_units : ℕ → Bool
+are_units units = nat_le 1 units && nat_le units 864000
+
+-- the first period: the call is watched, charged, and goes on
+abbrev pub first_period : Conditions → ℕ → Bool → Says
+first_period t units last = Sends (Watch service_arms ∷ Pay units t.switch last ∷ GoOn ∷ [])
+
+abbrev pub first_reply : Conditions → Reply → Step
+first_reply t (Granted units last available) =
+    if are_units units then Ok (first_period t units last, Running t) else Err Unexpected
+first_reply t (Denied available) = Ok (Sends (Release 21 ∷ []), Ending)
+first_reply t _ = Err Unexpected
+
+-- after a report of a call that goes on
+abbrev pub active_reply : Conditions → Reply → Step
+active_reply t (Settled paid available) = Ok (Asks (reserve t), MoreAsk t)
+active_reply t (Forfeit paid available) = give_back t phase.Fails
+active_reply t _ = Err Unexpected
+
+-- after the last report
+abbrev pub last_reply : Conditions → Reply → Step
+last_reply t (Settled paid available) = give_back t phase.Nothing
+last_reply t (Forfeit paid available) = give_back t phase.Nothing
+last_reply t _ = Err Unexpected
+
+abbrev pub more_reply : Conditions → Reply → Step
+more_reply t (Granted units last available) =
+    if are_units units then Ok (Sends (Pay units None last ∷ []), Running t) else Err Unexpected
+more_reply t (Denied available) = give_back t phase.Clears
+more_reply t _ = Err Unexpected
+
+abbrev pub return_reply : Sequel → Reply → Step
+return_reply after (Returned paid available) = Ok (sequel after)
+return_reply after _ = Err Unexpected
+
+abbrev pub replied : Phase → Reply → Step
+replied (FirstAsk t) reply = first_reply t reply
+replied (Running t) reply = Err NoAskPending
+replied (Settling t true) reply = active_reply t reply
+replied (Settling t false) reply = last_reply t reply
+replied (MoreAsk t) reply = more_reply t reply
+replied (Returning after) reply = return_reply after reply
+replied Ending reply = Err NoAskPending
+replied Closed reply = Err NoAskPending
+
+-- ---- a refusal of the account
+
+abbrev pub unanswered : Phase → Step
+unanswered (FirstAsk t) = Ok (Sends (Release 41 ∷ []), Ending)
+unanswered (Running t) = Err NoAskPending
+unanswered (Settling t true) = give_back t phase.Fails
+unanswered (Settling t false) = give_back t phase.Nothing
+unanswered (MoreAsk t) = give_back t phase.Fails
+unanswered (Returning after) = Ok (sequel after)
+unanswered Ending = Err NoAskPending
+unanswered Closed = Err NoAskPending

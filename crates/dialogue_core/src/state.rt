@@ -1,0 +1,42 @@
+//! The states of the service.
+
+use crate::terms::Terms;
+
+/// Where a dialogue stands. An ask is pending in FirstAsk, Settling, MoreAsk and Returning.
+#[derive(Clone, Copy, Debug, PartialEq, Eq)]
+pub(crate) enum State {
+    /// The first time was asked for.
+    FirstAsk(Terms),
+    /// The call was granted time.
+    Running(Terms),
+    /// A report is being settled; active where the call goes on.
+    Settling {
+        /// The call's terms.
+        terms: Terms,
+        /// Whether the call goes on after the report.
+        active: bool,
+    },
+    /// More time was asked for.
+    MoreAsk(Terms),
+    /// What is left is being returned.
+    Returning(Then),
+    /// The account is done with; the gsmSSF isn't.
+    Ending,
+    /// The dialogue is over.
+    Closed,
+}
+
+/// What follows a return.
+#[derive(Clone, Copy, Debug, PartialEq, Eq)]
+pub(crate) enum Then {
+    /// No operation.
+    Nothing,
+    /// The call goes on.
+    GoOn,
+    /// The call is cleared, as the credit is used up.
+    Clear,
+    /// The call is cleared, as the account failed.
+    Fail,
+    /// The dialogue is over.
+    Close,
+}

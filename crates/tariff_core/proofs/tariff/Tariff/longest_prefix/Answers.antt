@@ -1,0 +1,25 @@
+use Rattle.std.proofs.Common.{◌≡◌, ◌∙◌, sym, arith}
+use Rattle.tariff_core.specs.Prefixes.{digits_of}
+use Rattle.tariff_core.proofs.PrefixLemmas.{is_longest, no_route, none_longer_first, none_longer_next}
+use Rattle.tariff_core.proofs.tariff.Tariff.longest_prefix.Goals as goal
+
+pub loop-length-init : goal.loop-length-init
+loop-length-init c = none_longer_first c.args.self.now c.args.called.now c.min-length.result c.min-length.ensures
+
+pub returns-then-has-clause-prefix : goal.returns-then-has-clause-prefix
+returns-then-has-clause-prefix c =
+    let view : c.self.inside.bands ≡ c.args.self.now = c.self.view_is in
+    is_longest c.args.self.now c.args.called.now (digits_of c.new-prefix.result) c.loop-length.length c.new-prefix.ensures
+    (omega (arith, c.min-length.ensures)) (rw (← view) (sym c.has.ensures.value ∙ c.if-has.true)) (rw view at c.has.ensures.short) c.loop-length.invariant
+
+pub loop-length-preserved : goal.loop-length-preserved
+loop-length-preserved c =
+    let view : c.self.inside.bands ≡ c.args.self.now = c.self.view_is in
+    none_longer_next c.args.self.now c.args.called.now (digits_of c.new-prefix.result) c.loop-length.length c.new-prefix.ensures
+    (rw (← view) c.self.invariant) (rw (← view) (sym c.has.ensures.value ∙ c.if-has.false)) c.loop-length.invariant
+
+pub returns-else-has-clause-none : goal.returns-else-has-clause-none
+returns-else-has-clause-none c =
+    let view : c.self.inside.bands ≡ c.args.self.now = c.self.view_is in
+    no_route c.args.self.now c.args.called.now (digits_of c.new-prefix.result) c.loop-length.length c.new-prefix.ensures
+    (rw (← view) c.self.invariant) (rw (← view) (sym c.has.ensures.value ∙ c.if-has.false)) (rw view at c.has.ensures.short) c.loop-length.invariant (omega arith)

@@ -1,0 +1,23 @@
+-- The rows of a tariff table.
+use Rattle.std.specs.Prelude.{◌==◌, ◌&&◌, ℕ, Bool, List, [], ◌∷◌, Option, Some, None, if◌then◌else◌, is_some}
+use Rattle.std.specs.Str.{bytes_eq}
+
+-- a row: calls whose number begins with the prefix cost the fee and the rate a minute, from the start of day on
+pub record Band : Type 0 where
+  pub prefix : List ℕ
+  pub start : ℕ
+  pub fee : ℕ
+  pub rate : ℕ
+
+-- whether a row is for this prefix, from this start on
+abbrev pub is_at : List ℕ → ℕ → Band → Bool
+is_at prefix start band = bytes_eq band.prefix prefix && (band.start == start)
+
+-- the row for a prefix and a start, the first where there are more
+unfoldable pub band_at : List ℕ → ℕ → List Band → Option Band
+band_at prefix start [] = None
+band_at prefix start (band ∷ bands) = if is_at prefix start band then Some band else band_at prefix start bands
+
+-- whether there is one
+abbrev pub has_band : List ℕ → ℕ → List Band → Bool
+has_band prefix start bands = is_some (band_at prefix start bands)

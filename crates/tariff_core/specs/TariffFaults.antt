@@ -1,0 +1,36 @@
+-- The faults of a tariff table: their numbers, their texts, and how an answer meets a table's meaning.
+use Rattle.std.specs.Prelude.{ℕ, List, ◌++◌, codes}
+use Rattle.std.specs.Fmt.{decimal}
+use Rattle.tariff_core.specs.declared.tariff_fault.TariffFault.{TariffFault}
+use Rattle.tariff_core.specs.declared.tariff_fault.TariffKind.{TariffKind}
+use Rattle.tariff_core.specs.declared.tariff_fault.TariffKind.TheVariants as kind
+
+-- the number of a kind
+abbrev pub code_of : TariffKind → ℕ
+code_of kind.Csv = 1
+code_of kind.Header = 2
+code_of kind.Digits = 3
+code_of kind.From = 4
+code_of kind.Money = 5
+code_of kind.Repeated = 6
+code_of kind.NoMidnightBand = 7
+code_of kind.OutOfMemory = 8
+code_of kind.Device = 9
+code_of kind.TooManyRows = 10
+
+-- the name of a kind
+abbrev pub name_of : TariffKind → List ℕ
+name_of kind.Csv = codes "Csv"
+name_of kind.Header = codes "Header"
+name_of kind.Digits = codes "Digits"
+name_of kind.From = codes "From"
+name_of kind.Money = codes "Money"
+name_of kind.Repeated = codes "Repeated"
+name_of kind.NoMidnightBand = codes "NoMidnightBand"
+name_of kind.OutOfMemory = codes "OutOfMemory"
+name_of kind.Device = codes "Device"
+name_of kind.TooManyRows = codes "TooManyRows"
+
+-- `row N: KIND`
+abbrev pub text_of : TariffFault → List ℕ
+text_of fault = codes "row " ++ (decimal fault.row ++ (codes ": " ++ name_of fault.kind))

@@ -1,0 +1,101 @@
+-- The meaning of a tariff table: its rows, or the first fault.
+use Rattle.std.specs.Prelude.{◌≡◌, ◌+◌, ◌*◌, ◌==◌, ◌&&◌, ℕ, Bool, not, List, [], ◌∷◌, ◌++◌, length, Option, Some, None, Result, Ok, Err, ⊤, if◌then◌else◌, nat_le, nat_lt, ok_or, slice_index, take, drop, codes}
+use Rattle.std.specs.Char.{is_ascii_digit}
+use Rattle.std.specs.List.{list_all}
+use Rattle.table_core.specs.Decimals.{decimal_of}
+use Rattle.table_core.specs.Fields.{field_in, has_word}
+use Rattle.table_core.specs.Judging.{after}
+use Rattle.tariff_core.specs.Bands.{Band, has_band}
+use Rattle.tariff_core.specs.declared.tariff_fault.TariffFault.{TariffFault}
+use Rattle.tariff_core.specs.declared.tariff_fault.TariffKind.{TariffKind}
+use Rattle.tariff_core.specs.declared.tariff_fault.TariffKind.TheVariants as kind
+
+-- `prefix,from,fee,rate`
+abbrev pub is_header : List (List ℕ) → Bool
+is_header fields =
+    (length fields == 4) && has_word fields 0 (codes "prefix") && has_word fields 1 (codes "from") && has_word fields 2 (codes "fee") && has_word fields 3 (codes "rate")
+
+-- 0 to 15 digits
+abbrev pub is_prefix : List ℕ → Bool
+is_prefix text = nat_le (length text) 15 && list_all is_ascii_digit text
+
+-- the time of day at hours and minutes, in units of 100 ms
+abbrev pub time_at : Option ℕ → Option ℕ → Option ℕ
+time_at None minutes = None
+time_at (Some hours) None = None
+time_at (Some hours) (Some minutes) = Some ((hours * 60 + minutes) * 600)
+
+-- the time of day that `HH:MM` writes, 00:00 to 23:59
+unfoldable pub time_of : List ℕ → Option ℕ
+time_of text =
+    if (length text == 5) && (slice_index text 2 == 58) then time_at (decimal_of 23 (take 2 text)) (decimal_of 59 (drop 3 text)) else None
+
+-- the prefix in a row, its start, and an amount of money in it
+abbrev pub prefix_in : List (List ℕ) → Result (List ℕ) TariffKind
+prefix_in fields = if is_prefix (field_in fields 0) then Ok (field_in fields 0) else Err kind.Digits
+
+abbrev pub start_in : List (List ℕ) → Result ℕ TariffKind
+start_in fields = ok_or (time_of (field_in fields 1)) kind.From
+
+abbrev pub money_in : List (List ℕ) → ℕ → Result ℕ TariffKind
+money_in fields place = ok_or (decimal_of 1000000000 (field_in fields place)) kind.Money
+
+-- what a row of four fields says
+abbrev pub band_in : List (List ℕ) → Result Band TariffKind
+band_in fields =
+    after (prefix_in fields) (λ prefix. after (start_in fields) (λ start. after (money_in fields 2) (λ fee. after (money_in fields 3) (λ rate.
+    Ok (record { prefix = prefix; start = start; fee = fee; rate = rate })))))
+
+-- the row, where no earlier one has its prefix and its start
+abbrev pub new_band : List Band → Band → Result Band TariffKind
+new_band earlier band = if has_band band.prefix band.start earlier then Err kind.Repeated else Ok band
+
+-- the row of this number, after the earlier ones
+unfoldable pub row_at : ℕ → List Band → List (List ℕ) → Result Band TariffKind
+row_at number earlier fields =
+    if not (length fields == 4) then Err kind.Csv else if nat_lt 10001 number then Err kind.TooManyRows else
+    after (band_in fields) (new_band earlier)
+
+-- what comes after a row; a row that is refused ends the table
+abbrev pub after_row : {X Y : Type 0} → ℕ → Result X TariffKind → (X → Result Y TariffFault) → Result Y TariffFault
+after_row number (Ok x) next = next x
+after_row number (Err why) next = Err (record { row = number; kind = why })
+
+-- the earlier rows, and those from this number on
+unfoldable pub rows_from : ℕ → List Band → List (List (List ℕ)) → Result (List Band) TariffFault
+rows_from number earlier [] = Ok earlier
+rows_from number earlier (fields ∷ rows) =
+    after_row number (row_at number earlier fields) (λ band. rows_from (number + 1) (earlier ++ band ∷ []) rows)
+
+-- the rows of a table before they are judged as a whole
+unfoldable pub bands_of : List (List (List ℕ)) → Result (List Band) TariffFault
+bands_of [] = Err (record { row = 1; kind = kind.Header })
+bands_of (header ∷ rows) = if is_header header then rows_from 2 [] rows else Err (record { row = 1; kind = kind.Header })
+
+-- the first row, from this number on, whose prefix has no row from midnight on
+unfoldable pub without_midnight : List Band → ℕ → List Band → Option ℕ
+without_midnight all number [] = None
+without_midnight all number (band ∷ bands) = if has_band band.prefix 0 all then without_midnight all (number + 1) bands else Some number
+
+-- the rows of a table, where each prefix has a row from midnight on
+abbrev pub complete_by : List Band → Option ℕ → Result (List Band) TariffFault
+complete_by bands None = Ok bands
+complete_by bands (Some number) = Err (record { row = number; kind = kind.NoMidnightBand })
+
+abbrev pub complete : List Band → Result (List Band) TariffFault
+complete bands = complete_by bands (without_midnight bands 2 bands)
+
+-- the rows of a table
+abbrev pub tariff_of : List (List (List ℕ)) → Result (List Band) TariffFault
+tariff_of rows = after (bands_of rows) complete
+
+-- a fault of the table is the one that its meaning has; want of memory and a failed reader may come at any row
+abbrev pub Refuses : TariffKind → ℕ → Result (List Band) TariffFault → Type 0
+Refuses kind.OutOfMemory row meaning = ⊤
+Refuses kind.Device row meaning = ⊤
+Refuses why row meaning = meaning ≡ Err (record { row = row; kind = why })
+
+-- an answer is the table's meaning
+abbrev pub Gives : Result (List Band) TariffFault → Result (List Band) TariffFault → Type 0
+Gives (Ok bands) meaning = meaning ≡ Ok bands
+Gives (Err fault) meaning = Refuses fault.kind fault.row meaning

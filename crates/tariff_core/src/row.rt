@@ -1,0 +1,22 @@
+//! The rows of a tariff table.
+
+ghost use Rattle.std.specs.Prelude.{◌<◌, ◌≤◌};
+
+use crate::place::Place;
+
+/// What the calls of a row cost: the fee, and the rate a minute.
+#[derive(Clone, Copy, Debug)]
+pub(crate) struct Cost {
+    pub fee: u64,
+    pub rate: u64,
+    pub ghost fee_in_range: { fee ≤ 1000000000 },
+    pub ghost rate_in_range: { rate ≤ 1000000000 },
+}
+
+/// A row of a tariff table.
+#[derive(Clone, Copy, Debug)]
+pub(crate) struct Row {
+    pub place: Place,
+    pub cost: Cost,
+    pub ghost in_day: { place.start < 864000 },
+}

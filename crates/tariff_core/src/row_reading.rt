@@ -1,0 +1,72 @@
+//! What the fields of a row say.
+
+ghost use Rattle.std.specs.Prelude.{◌≡◌, ◌<◌, ◌≤◌, length, IfSome};
+ghost use Rattle.std.specs.Char.{is_ascii_digit};
+ghost use Rattle.std.specs.List.{list_all};
+ghost use Rattle.csv.specs.Records.{fields_of};
+ghost use Rattle.tariff_core.specs.Tariff.{Tells, band_of};
+ghost use Rattle.tariff_core.specs.TariffTable.{band_in, is_header, is_prefix, time_of};
+
+use crate::place::Place;
+use crate::plan::MAX_RATE;
+use crate::prefix::{PREFIX_DIGITS, Prefix};
+use crate::row::{Cost, Row};
+use crate::tariff_fault::TariffKind;
+use csv::ByteRecord;
+use table_core::{decimal, field, is_word};
+
+/// Whether a row is the header `prefix,from,fee,rate`.
+pub(crate) fn is_header(fields: &ByteRecord) -> bool
+    ensures { result ≡ is_header (fields_of fields.now) }
+{
+    fields.len() == 4
+        && is_word(fields, 0, "prefix")
+        && is_word(fields, 1, "from")
+        && is_word(fields, 2, "fee")
+        && is_word(fields, 3, "rate")
+}
+
+/// The row of these four fields.
+pub(crate) fn read_row(fields: &ByteRecord) -> Result<Row, TariffKind>
+    requires { length (fields_of fields.now) ≡ 4 }
+    ensures { Tells band_of result (band_in (fields_of fields.now)) }
+{
+    let digits = field(fields, 0);
+    if !is_prefix(digits) {
+        return Err(TariffKind::Digits);
+    }
+    let prefix = Prefix::new(digits);
+    let start = time(field(fields, 1)).ok_or(TariffKind::From)?;
+    let fee = decimal(field(fields, 2), MAX_RATE).ok_or(TariffKind::Money)?;
+    let rate = decimal(field(fields, 3), MAX_RATE).ok_or(TariffKind::Money)?;
+    Ok(Row {
+        place: Place { prefix, start },
+        cost: Cost { fee, rate },
+    })
+}
+
+fn is_prefix(text: &[u8]) -> bool
+    ensures { result ≡ is_prefix text.now }
+{
+    text.len() <= PREFIX_DIGITS && are_digits(text)
+}
+
+fn are_digits(text: &[u8]) -> bool
+    ensures { result ≡ list_all is_ascii_digit text.now }
+{
+    text.iter().all(|byte| byte.is_ascii_digit())
+}
+
+/// The time of day that `HH:MM` writes, in units of 100 ms.
+#[tactic(auto, unfolding(crate::specs::TariffTable::time_of))]
+fn time(text: &[u8]) -> Option<u32>
+    ensures value { result ≡ time_of text.now }
+    ensures in_day { IfSome result (λ time. time < 864000) }
+{
+    if text.len() != 5 || text[2] != b':' {
+        return None;
+    }
+    let hours = decimal(&text[..2], 23)? as u32;
+    let minutes = decimal(&text[3..], 59)? as u32;
+    Some((hours * 60 + minutes) * 600)
+}

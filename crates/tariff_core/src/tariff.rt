@@ -1,0 +1,164 @@
+//! The tariff: what a call to a number costs at a moment.
+
+ghost use Rattle.std.specs.Prelude.{◌≡◌, ◌+◌, ◌<◌, ◌≤◌, ◌%◌, true, is_some, unwrap_or, IfNone, IfSome};
+ghost use Rattle.table_core.specs.Rows.{rows_of};
+ghost use Rattle.tariff_core.specs.Bands.{has_band};
+ghost use Rattle.tariff_core.specs.Prefixes.{digits_of};
+ghost use Rattle.tariff_core.specs.Routes.{HasAnother, HasNoRoute, IsBandAt, IsNextBand, IsOnly, IsPrefixFor, IsRoute, wait};
+ghost use Rattle.tariff_core.specs.Tariff.{band_of};
+ghost use Rattle.tariff_core.specs.TariffTable.{Gives, tariff_of};
+
+use crate::bands::Bands;
+use crate::prefix::{PREFIX_DIGITS, Prefix};
+use crate::route::Route;
+use crate::row::Row;
+use crate::tariff_fault::{TariffFault, TariffKind};
+use crate::{DAY, Plan};
+use std::alloc::Global;
+use std::io::Read;
+use std::marker::Model;
+
+/// A tariff: for each prefix of called numbers the bands of a day, with a fee and a rate each.
+///
+/// Contracts see the rows of its table, in their order.
+#[derive(Drop)]
+pub struct Tariff {
+    bands: Bands,
+}
+
+impl Model for Tariff {
+    ghost use Rattle.std.specs.Prelude.{◌≡◌, true, List};
+    ghost use Rattle.tariff_core.specs.Bands.{Band};
+
+    ghost Value = { List Band };
+
+    ghost use Rattle.tariff_core.specs.Tariff.{is_complete};
+
+    ghost view = { λ t. t.bands };
+
+    ghost invariant = { λ t. is_complete t.bands ≡ true };
+}
+
+impl Tariff {
+    /// The tariff of a CSV table with the header `prefix,from,fee,rate`: a prefix of 0 to 15 ASCII
+    /// digits, a start `HH:MM`, a fee and a rate a minute up to `MAX_RATE`. At most 10,000 rows,
+    /// no two for one prefix and start, and for each prefix one from `00:00` on.
+    ///
+    /// Rows are judged in order as they are read, and within a row the faults in the order Csv,
+    /// TooManyRows, Digits, From, Money, Repeated. NoMidnightBand comes after the last row, at the
+    /// first row of the first prefix that has it. OutOfMemory and Device come at the row that was
+    /// being read.
+    pub fn read<R: Read + Drop>(alloc: Global, reader: R) -> Result<Tariff, TariffFault>
+        ensures { IfSome (R.remaining reader) (λ text. Gives result (tariff_of (rows_of text))) }
+    {
+        let bands = Bands::read(alloc, reader)?;
+        match bands.without_midnight() {
+            None => Ok(Tariff { bands }),
+            Some(row) => Err(TariffFault {
+                row,
+                kind: TariffKind::NoMidnightBand,
+            }),
+        }
+    }
+
+    /// The route of a called number at a moment, in units of 100 ms; none where no prefix of the
+    /// table fits.
+    ///
+    /// The longest prefix counts, and of its bands the latest that has begun at the time of day.
+    /// The next band of the prefix, perhaps on the next day, gives the second rate.
+    pub fn plan(&self, called: &[u8], now: u64) -> Option<Route>
+        requires { now ≤ 2000000000000 }
+        ensures none { IfNone result (HasNoRoute self.now called.now) }
+        ensures route { IfSome result (IsRoute self.now called.now now) }
+        ensures switches { IfSome result (λ route. IfSome route.switch_at
+            (λ at. (now < at) × (at ≤ now + 864000))) }
+    {
+        let prefix = self.longest_prefix(called)?;
+        let time = (now % u64::from(DAY)) as u32;
+        let band = self.band_at(prefix, time);
+        match self.next_band(prefix, time, band) {
+            None => Some(route(band, None, None)),
+            Some(next) => {
+                let switch_at = now + u64::from(wait(time, next.place.start));
+                Some(route(band, Some(next.cost.rate), Some(switch_at)))
+            }
+        }
+    }
+
+    /// The longest prefix of the table that a called number begins with.
+    fn longest_prefix(&self, called: &[u8]) -> Option<Prefix>
+        ensures none { IfNone result (HasNoRoute self.now called.now) }
+        ensures prefix { IfSome result
+            (λ prefix. IsPrefixFor self.now called.now (digits_of prefix)) }
+        ensures midnight { IfSome result
+            (λ prefix. has_band (digits_of prefix) 0 self.now ≡ true) }
+    {
+        for length in (0..=called.len().min(PREFIX_DIGITS)).rev() {
+            let prefix = Prefix::new(&called[..length]);
+            if self.bands.has(prefix, 0) {
+                return Some(prefix);
+            }
+        }
+        None
+    }
+
+    /// The row of a prefix at a time of day.
+    fn band_at(&self, prefix: Prefix, time: u32) -> Row
+        requires in_day { time < 864000 }
+        requires midnight { has_band (digits_of prefix) 0 self.now ≡ true }
+        ensures { IsBandAt self.now (digits_of prefix) time (band_of result) }
+    {
+        self.bands.latest(prefix, time).unwrap()
+    }
+
+    /// The row of a prefix that starts next after a time of day, where it has more than `band`.
+    fn next_band(&self, prefix: Prefix, time: u32, band: Row) -> Option<Row>
+        requires in_day { time < 864000 }
+        requires midnight { has_band (digits_of prefix) 0 self.now ≡ true }
+        requires band { IsBandAt self.now (digits_of prefix) time (band_of band) }
+        ensures only { IfNone result (IsOnly self.now (digits_of prefix) (band_of band)) }
+        ensures next { IfSome result
+            (λ next. IsNextBand self.now (digits_of prefix) time (band_of next)) }
+        ensures another { IfSome result
+            (λ next. HasAnother self.now (digits_of prefix) (band_of band)) }
+    {
+        match self.bands.soonest(prefix, time) {
+            Some(next) => Some(next),
+            None if band.place.start > 0 => Some(self.band_at(prefix, 0)),
+            None => None,
+        }
+    }
+}
+
+/// How long after a time of day a start is: later on that day, else on the next.
+fn wait(time: u32, start: u32) -> u32
+    requires time { time < 864000 }
+    requires start { start < 864000 }
+    ensures value { result ≡ wait time start }
+    ensures within_day { (1 ≤ result) × (result ≤ 864000) }
+{
+    if time < start {
+        start - time
+    } else {
+        DAY - time + start
+    }
+}
+
+/// The route of a row, and the rate and the moment of its switch.
+fn route(band: Row, after: Option<u64>, switch_at: Option<u64>) -> Route
+    requires rate { unwrap_or after 0 ≤ 1000000000 }
+    requires both { is_some switch_at ≡ is_some after }
+    ensures fee { result.plan.fee ≡ band.cost.fee }
+    ensures first_rate { result.plan.before ≡ band.cost.rate }
+    ensures second_rate { result.plan.after ≡ after }
+    ensures moment { result.switch_at ≡ switch_at }
+{
+    Route {
+        plan: Plan {
+            fee: band.cost.fee,
+            before: band.cost.rate,
+            after,
+        },
+        switch_at,
+    }
+}

@@ -1,0 +1,81 @@
+//! The faults of a tariff table.
+
+ghost use Rattle.std.specs.Prelude.{◌≡◌, Some};
+ghost use Rattle.tariff_core.specs.TariffFaults.{code_of, name_of, text_of};
+
+use std::error::Error;
+use std::fmt;
+
+/// What is wrong with a row of a tariff table, or why it could not be read.
+#[derive(Clone, Copy, Debug, PartialEq, Eq)]
+pub enum TariffKind {
+    /// Another number of fields than the header has.
+    Csv = 1,
+    /// The first row is missing, or is not the table's header.
+    Header = 2,
+    /// A prefix that is not 0 to 15 ASCII digits.
+    Digits = 3,
+    /// A start that is not a time of day, `00:00` to `23:59`.
+    From = 4,
+    /// A fee or a rate that is not a decimal up to `MAX_RATE`.
+    Money = 5,
+    /// The prefix and the start of an earlier row.
+    Repeated = 6,
+    /// The first row of a prefix that has no row from `00:00` on.
+    NoMidnightBand = 7,
+    /// The row found no memory.
+    OutOfMemory = 8,
+    /// The reader failed at the row.
+    Device = 9,
+    /// More rows than a table may have.
+    TooManyRows = 10,
+}
+
+impl TariffKind {
+    /// The number of the kind.
+    pub fn code(self) -> u8
+        ensures { result ≡ code_of self }
+    {
+        self as u8
+    }
+}
+
+impl fmt::Display for TariffKind {
+    ghost output = { λ kind. Some (name_of kind) };
+
+    fn fmt<W: fmt::Write>(&self, f: &mut fmt::Formatter<W>) -> fmt::Result {
+        match self {
+            TariffKind::Csv => f.write_str("Csv"),
+            TariffKind::Header => f.write_str("Header"),
+            TariffKind::Digits => f.write_str("Digits"),
+            TariffKind::From => f.write_str("From"),
+            TariffKind::Money => f.write_str("Money"),
+            TariffKind::Repeated => f.write_str("Repeated"),
+            TariffKind::NoMidnightBand => f.write_str("NoMidnightBand"),
+            TariffKind::OutOfMemory => f.write_str("OutOfMemory"),
+            TariffKind::Device => f.write_str("Device"),
+            TariffKind::TooManyRows => f.write_str("TooManyRows"),
+        }
+    }
+}
+
+/// A fault of a tariff table, and the row that it was met at. The header is row 1, and rows are
+/// counted as `csv` gives records.
+#[derive(Clone, Copy, Debug, PartialEq, Eq)]
+pub struct TariffFault {
+    /// Which row.
+    pub row: u32,
+    /// What is wrong with it.
+    pub kind: TariffKind,
+}
+
+impl fmt::Display for TariffFault {
+    ghost output = { λ fault. Some (text_of fault) };
+
+    fn fmt<W: fmt::Write>(&self, f: &mut fmt::Formatter<W>) -> fmt::Result {
+        let TariffFault { row, kind } = *self;
+        write!(f, "row {row}: {kind}")
+    }
+}
+
+impl Error for TariffFault {}
