@@ -12,8 +12,8 @@ use Rattle.std.proofs.lemmas.List.{length-map, length-reverse, map-append, rever
 use Rattle.tariff_core.specs.Rates.{Rates}
 use Rattle.tariff_core.specs.Times.{Elapsed}
 use Rattle.tariff_core.specs.declared.time_info.TimeInfo.{TimeInfo}
-use Rattle.account_core.specs.Answers.{IsAnswered, IsLegalPast, answer, inadmissible, settle_verdict, shown_by, accepted_times, units_offered, verdict}
-use Rattle.account_core.specs.Asked.{Asked, Credits, IsCredit, IsOfCall, Reserves, Returns, Settles, call_of}
+use Rattle.account_core.specs.Answers.{IsAnswered, IsLegalPast, answer, inadmissible, misplaced, settle_verdict, shown_by, accepted_times, units_offered, verdict}
+use Rattle.account_core.specs.Asked.{Asked, Credits, IsCredit, IsOfCall, Reserves, Returns, Settles, call_of, is_in_range}
 use Rattle.account_core.specs.Available.{available, calls, credited, credits, taken_by_all}
 use Rattle.account_core.specs.Events.{Event, asked_of, event_of}
 use Rattle.account_core.specs.Kept.{IsKept, TellsEach, known_of, unknown}
@@ -63,6 +63,31 @@ unfolding refusal
 admitted limit h asked is =
     let (admissible, within) = or_else_none (inadmissible h asked) (over_limit limit h asked) is in
     (admissible, within_if limit (length h + owed h + needed h asked) within)
+
+-- ---- an account has no gate
+
+gate_by : (b : Bool) (first second : Option AccountFault) → (first ≡ Some fault.GateClosed → ⊥) → (second ≡ Some fault.GateClosed → ⊥)
+    → (if b then first else second) ≡ Some fault.GateClosed → ⊥
+gate_by true first second x y is = x is
+gate_by false first second x y is = y is
+
+gate_misplaced : (h : List Event) (asked : Asked) → misplaced h asked ≡ Some fault.GateClosed → ⊥
+gate_misplaced h (Credits amount) is = cc
+gate_misplaced h (Reserves call plan wanted least) is = gate_by (known call h).returned (Some fault.CallUsed) None (λ e. cc) (λ e. cc) is
+gate_misplaced h (Settles call number info) is = gate_by (is_open (known call h)) None (Some fault.NotOpen) (λ e. cc) (λ e. cc) is
+gate_misplaced h (Returns call) is = gate_by (is_open (known call h)) None (Some fault.NotOpen) (λ e. cc) (λ e. cc) is
+
+gate_either : (first second : Option AccountFault) → (first ≡ Some fault.GateClosed → ⊥) → (second ≡ Some fault.GateClosed → ⊥)
+    → or_else first second ≡ Some fault.GateClosed → ⊥
+gate_either None second x y is = y is
+gate_either (Some why) second x y is = x is
+
+pub never_gated : (limit : ℕ) (h : List Event) (asked : Asked) → refusal limit h asked ≡ Some fault.GateClosed → ⊥
+unfolding refusal
+never_gated limit h asked is =
+    gate_either (inadmissible h asked) (over_limit limit h asked)
+    (gate_by (is_in_range asked) (misplaced h asked) (Some fault.OutOfRange) (gate_misplaced h asked) (λ e. cc))
+    (gate_by (nat_lt limit (length h + owed h + needed h asked)) (Some fault.HistoryFull) None (λ e. cc) (λ e. cc)) is
 
 -- ---- places
 

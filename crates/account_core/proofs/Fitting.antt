@@ -17,7 +17,7 @@ use Rattle.account_core.specs.declared.entry.Reply.TheVariants as reply
 use Rattle.account_core.proofs.Moves.{at_most_all, its_call, its_deed}
 use Rattle.account_core.proofs.SoundPasts.{available_is, nothing_taken, taken_moves}
 use Rattle.account_core.proofs.Soundness.{IsAllowed, sound_after, taken_ended, taken_granted, taken_open, takes_within}
-use Rattle.account_core.proofs.TariffLaws.{TariffLaws}
+use Rattle.account_core.specs.TariffLaws.{TariffLaws}
 use Rattle.account_core.proofs.Verdicts.{verdict_allowed}
 
 room_allowed : (credit : ℕ) (call : Known) (deed : Deed) → IsAllowed credit call deed → HasRoom call deed

@@ -20,7 +20,7 @@ use Rattle.account_core.specs.declared.fault.AccountFault.{AccountFault}
 use Rattle.account_core.specs.declared.fault.AccountFault.TheVariants as fault
 use Rattle.account_core.proofs.Moves.{its_call, its_deed, known_apart, known_here, sum_moves}
 use Rattle.account_core.proofs.Soundness.{IsAllowed, IsEnd, IsGrant, IsReport, sound_after, stands, takes_within}
-use Rattle.account_core.proofs.TariffLaws.{TariffLaws}
+use Rattle.account_core.specs.TariffLaws.{TariffLaws}
 
 -- ---- what a reply shows changes nothing else
 

@@ -1,6 +1,7 @@
 //! The sequential account.
 
-ghost use Rattle.std.specs.Prelude.{◌≡◌, ◌≤◌, ◌++◌, ◌∷◌, [], None, map, reverse, IsOk, OnOk, OnErr, IfOk, IfErr};
+ghost use Rattle.std.specs.Prelude.{◌≡◌, ◌≢◌, ◌≤◌, ◌++◌, ◌∷◌, [], None, map, reverse, IsOk, OnOk, OnErr, IfOk, IfErr};
+ghost use Rattle.account_core.specs.Answers.{IsLegal};
 ghost use Rattle.account_core.specs.Available.{available};
 ghost use Rattle.account_core.specs.Events.{asked_of, event_of};
 ghost use Rattle.account_core.specs.Kept.{known_of};
@@ -82,6 +83,7 @@ impl Account {
         ensures admitted { OnOk result (refusal_of self.old (asked_of op) ≡ None) }
         ensures kept { OnErr result (self.new ≡ self.old) }
         ensures refused { IfErr result (λ fault. IsRefusal self.old (asked_of op) fault) }
+        ensures ungated { result ≢ Err AccountFault.GateClosed }
         ensures closing { IsClosing (reverse self.old.history) (asked_of op) → IsOk result }
     {
         if let Some(fault) = self.refusal(&op) {
@@ -92,9 +94,11 @@ impl Account {
         Ok(reply)
     }
 
-    /// The entries, oldest first.
+    /// The entries, oldest first. They are a legal history.
     pub fn history(&self) -> &[Entry]
-        ensures { map event_of result.now ≡ self.now.history }
+        ensures value { map event_of result.now ≡ self.now.history }
+        ensures legal { IsLegal self.now.opening self.now.history }
+        ensures small { self.now.opening ≤ 1000000000000000 }
     {
         self.entries.as_slice()
     }
