@@ -8,6 +8,8 @@ mod fault;
 mod laws;
 mod money;
 mod standing;
+#[cfg(test)]
+mod tests;
 
 pub use account::Account;
 pub use entry::{Entry, Op, Reply};
