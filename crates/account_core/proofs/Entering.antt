@@ -61,7 +61,7 @@ within_if limit places is = within_by (nat_lt limit places) limit places refl is
 pub admitted : (limit : ℕ) (h : List Event) (asked : Asked) → refusal limit h asked ≡ None → (inadmissible h asked ≡ None) × (length h + owed h + needed h asked ≤ limit)
 unfolding refusal
 admitted limit h asked is =
-    let (admissible, within) = or_else_none (inadmissible h asked) (over_limit limit h asked) is in
+    let (admissible, within) = or_else_none (inadmissible h asked) (over_limit limit (length h + owed h) (needed h asked)) is in
     (admissible, within_if limit (length h + owed h + needed h asked) within)
 
 -- ---- an account has no gate
@@ -71,11 +71,11 @@ gate_by : (b : Bool) (first second : Option AccountFault) → (first ≡ Some fa
 gate_by true first second x y is = x is
 gate_by false first second x y is = y is
 
-gate_misplaced : (h : List Event) (asked : Asked) → misplaced h asked ≡ Some fault.GateClosed → ⊥
-gate_misplaced h (Credits amount) is = cc
-gate_misplaced h (Reserves call plan wanted least) is = gate_by (known call h).returned (Some fault.CallUsed) None (λ e. cc) (λ e. cc) is
-gate_misplaced h (Settles call number info) is = gate_by (is_open (known call h)) None (Some fault.NotOpen) (λ e. cc) (λ e. cc) is
-gate_misplaced h (Returns call) is = gate_by (is_open (known call h)) None (Some fault.NotOpen) (λ e. cc) (λ e. cc) is
+gate_misplaced : (call : Known) (asked : Asked) → misplaced call asked ≡ Some fault.GateClosed → ⊥
+gate_misplaced call (Credits amount) is = cc
+gate_misplaced call (Reserves number plan wanted least) is = gate_by call.returned (Some fault.CallUsed) None (λ e. cc) (λ e. cc) is
+gate_misplaced call (Settles number mail info) is = gate_by (is_open call) None (Some fault.NotOpen) (λ e. cc) (λ e. cc) is
+gate_misplaced call (Returns number) is = gate_by (is_open call) None (Some fault.NotOpen) (λ e. cc) (λ e. cc) is
 
 gate_either : (first second : Option AccountFault) → (first ≡ Some fault.GateClosed → ⊥) → (second ≡ Some fault.GateClosed → ⊥)
     → or_else first second ≡ Some fault.GateClosed → ⊥
@@ -85,8 +85,8 @@ gate_either (Some why) second x y is = x is
 pub never_gated : (limit : ℕ) (h : List Event) (asked : Asked) → refusal limit h asked ≡ Some fault.GateClosed → ⊥
 unfolding refusal
 never_gated limit h asked is =
-    gate_either (inadmissible h asked) (over_limit limit h asked)
-    (gate_by (is_in_range asked) (misplaced h asked) (Some fault.OutOfRange) (gate_misplaced h asked) (λ e. cc))
+    gate_either (inadmissible h asked) (over_limit limit (length h + owed h) (needed h asked))
+    (gate_by (is_in_range asked) (misplaced (known (call_of asked) h) asked) (Some fault.OutOfRange) (gate_misplaced (known (call_of asked) h) asked) (λ e. cc))
     (gate_by (nat_lt limit (length h + owed h + needed h asked)) (Some fault.HistoryFull) None (λ e. cc) (λ e. cc)) is
 
 -- ---- places

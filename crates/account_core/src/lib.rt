@@ -5,6 +5,7 @@
 mod account;
 mod entry;
 mod fault;
+mod judging;
 mod laws;
 mod money;
 mod standing;
