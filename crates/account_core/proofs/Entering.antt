@@ -12,8 +12,8 @@ use Rattle.std.proofs.lemmas.List.{length-map, length-reverse, map-append, rever
 use Rattle.tariff_core.specs.Rates.{Rates}
 use Rattle.tariff_core.specs.Times.{Elapsed}
 use Rattle.tariff_core.specs.declared.time_info.TimeInfo.{TimeInfo}
-use Rattle.account_core.specs.Answers.{IsAnswered, IsLegalPast, answer, inadmissible, settle_verdict, shown_by, accepted_times, units_offered, verdict}
-use Rattle.account_core.specs.Asked.{Asked, Credits, IsCredit, IsOfCall, Reserves, Returns, Settles, call_of}
+use Rattle.account_core.specs.Answers.{IsAnswered, IsLegalPast, answer, inadmissible, misplaced, settle_verdict, shown_by, accepted_times, units_offered, verdict}
+use Rattle.account_core.specs.Asked.{Asked, Credits, IsCredit, IsOfCall, Reserves, Returns, Settles, call_of, is_in_range}
 use Rattle.account_core.specs.Available.{available, calls, credited, credits, taken_by_all}
 use Rattle.account_core.specs.Events.{Event, asked_of, event_of}
 use Rattle.account_core.specs.Kept.{IsKept, TellsEach, known_of, unknown}
@@ -61,8 +61,33 @@ within_if limit places is = within_by (nat_lt limit places) limit places refl is
 pub admitted : (limit : ℕ) (h : List Event) (asked : Asked) → refusal limit h asked ≡ None → (inadmissible h asked ≡ None) × (length h + owed h + needed h asked ≤ limit)
 unfolding refusal
 admitted limit h asked is =
-    let (admissible, within) = or_else_none (inadmissible h asked) (over_limit limit h asked) is in
+    let (admissible, within) = or_else_none (inadmissible h asked) (over_limit limit (length h + owed h) (needed h asked)) is in
     (admissible, within_if limit (length h + owed h + needed h asked) within)
+
+-- ---- an account has no gate
+
+gate_by : (b : Bool) (first second : Option AccountFault) → (first ≡ Some fault.GateClosed → ⊥) → (second ≡ Some fault.GateClosed → ⊥)
+    → (if b then first else second) ≡ Some fault.GateClosed → ⊥
+gate_by true first second x y is = x is
+gate_by false first second x y is = y is
+
+gate_misplaced : (call : Known) (asked : Asked) → misplaced call asked ≡ Some fault.GateClosed → ⊥
+gate_misplaced call (Credits amount) is = cc
+gate_misplaced call (Reserves number plan wanted least) is = gate_by call.returned (Some fault.CallUsed) None (λ e. cc) (λ e. cc) is
+gate_misplaced call (Settles number mail info) is = gate_by (is_open call) None (Some fault.NotOpen) (λ e. cc) (λ e. cc) is
+gate_misplaced call (Returns number) is = gate_by (is_open call) None (Some fault.NotOpen) (λ e. cc) (λ e. cc) is
+
+gate_either : (first second : Option AccountFault) → (first ≡ Some fault.GateClosed → ⊥) → (second ≡ Some fault.GateClosed → ⊥)
+    → or_else first second ≡ Some fault.GateClosed → ⊥
+gate_either None second x y is = y is
+gate_either (Some why) second x y is = x is
+
+pub never_gated : (limit : ℕ) (h : List Event) (asked : Asked) → refusal limit h asked ≡ Some fault.GateClosed → ⊥
+unfolding refusal
+never_gated limit h asked is =
+    gate_either (inadmissible h asked) (over_limit limit (length h + owed h) (needed h asked))
+    (gate_by (is_in_range asked) (misplaced (known (call_of asked) h) asked) (Some fault.OutOfRange) (gate_misplaced (known (call_of asked) h) asked) (λ e. cc))
+    (gate_by (nat_lt limit (length h + owed h + needed h asked)) (Some fault.HistoryFull) None (λ e. cc) (λ e. cc)) is
 
 -- ---- places
 

@@ -10,15 +10,16 @@ use Rattle.account_core.specs.Asked.{Asked, Credits, Reserves, Returns, Settles,
 use Rattle.account_core.specs.Available.{available, credited, credits, taken_by_all}
 use Rattle.account_core.specs.Events.{Event}
 use Rattle.account_core.specs.Known.{Deed, Ends, Forfeits, Grants, Known, Reports, Rests, deed, deed_of, is_open, known, known_after, paid_of, plan_in_force, price_under, taken_of}
-use Rattle.account_core.specs.Replies.{credit_reply, reserve_reply, return_reply, settle_reply}
+use Rattle.account_core.specs.Replies.{credit_reply, reply_for, reserve_reply, return_reply, settle_reply}
 use Rattle.account_core.specs.Sound.{AnswersFit, HasRoom, IsFitting, IsSound, IsSoundPast}
 use Rattle.account_core.specs.declared.entry.Reply.{Reply}
 use Rattle.account_core.specs.declared.entry.Reply.TheVariants as reply
+use Rattle.account_core.specs.declared.fault.AccountFault.TheVariants as fault
 use Rattle.account_core.proofs.Moves.{at_most_all, its_call, its_deed}
 use Rattle.account_core.proofs.SoundPasts.{available_is, nothing_taken, taken_moves}
 use Rattle.account_core.proofs.Soundness.{IsAllowed, sound_after, taken_ended, taken_granted, taken_open, takes_within}
-use Rattle.account_core.proofs.TariffLaws.{TariffLaws}
-use Rattle.account_core.proofs.Verdicts.{verdict_allowed}
+use Rattle.account_core.specs.TariffLaws.{TariffLaws}
+use Rattle.account_core.proofs.Verdicts.{in_place, none_else, none_if, verdict_allowed}
 
 room_allowed : (credit : ℕ) (call : Known) (deed : Deed) → IsAllowed credit call deed → HasRoom call deed
 room_allowed credit call (Grants plan units) grant = grant.within_day
@@ -143,6 +144,16 @@ module _ (opening : ℕ) (h : List Event) (sound : IsSoundPast opening h) where
       let is : available opening (e ∷ h) ≡ available opening h + taken_of (known c h) - paid_of (known c h) =
       omega (arith, moves, taken_ended (known c h) (paid_of (known c h)) open_yet) in
       ap (reply.Returned (paid_of (known c h))) is
+
+  -- the answer to an admissible operation
+  pub answer_for : AnswersFit opening h → (asked : Asked) → inadmissible h asked ≡ None
+      → answer opening h asked ≡ reply_for (available opening h) (opening + credits h) (known (call_of asked) h) asked
+  answer_for fitting (Credits amount) is = credit_answer amount
+  answer_for fitting (Reserves c plan wanted least) is =
+      reserve_answer c plan wanted least (none_if (known c h).returned fault.CallUsed (in_place h (Reserves c plan wanted least) is).1) (fitting (Reserves c plan wanted least) is)
+  answer_for fitting (Settles c number info) is =
+      settle_answer c number info (none_else (is_open (known c h)) fault.NotOpen (in_place h (Settles c number info) is).1) (fitting (Settles c number info) is)
+  answer_for fitting (Returns c) is = return_answer c (none_else (is_open (known c h)) fault.NotOpen (in_place h (Returns c) is).1) (fitting (Returns c) is)
 
 -- ---- what an answer shows
 

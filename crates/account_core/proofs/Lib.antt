@@ -1,10 +1,10 @@
 pub mod Answering
 pub mod Entering
 pub mod Fitting
+pub mod LawLemmas
 pub mod Moves
 pub mod SoundPasts
 pub mod Soundness
 pub mod StandingLemmas
 pub mod Sums
-pub mod TariffLaws
 pub mod Verdicts

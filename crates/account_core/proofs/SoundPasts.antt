@@ -10,7 +10,7 @@ use Rattle.account_core.specs.Known.{Known, deed_of, known, known_after, taken_o
 use Rattle.account_core.specs.Sound.{IsSound, IsSoundPast, LegalPastsAreSound}
 use Rattle.account_core.proofs.Moves.{its_call, its_deed, known_apart, known_here, sum_moves}
 use Rattle.account_core.proofs.Soundness.{IsAllowed, sound_after, takes_within}
-use Rattle.account_core.proofs.TariffLaws.{TariffLaws}
+use Rattle.account_core.specs.TariffLaws.{TariffLaws}
 use Rattle.account_core.proofs.Verdicts.{credited_capped, credited_showing, deed_showing, verdict_allowed}
 
 pub nothing_taken : (call : Known) → call.plan ≡ None → taken_of call ≡ 0

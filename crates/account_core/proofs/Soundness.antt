@@ -12,7 +12,7 @@ use Rattle.account_core.specs.Answers.{accepted_times, lawful_times}
 use Rattle.account_core.specs.Known.{Deed, Ends, Forfeits, Grants, Known, Reports, Rests, is_open, known_after, nothing_known, paid_of, plan_in_force, taken_of, taken_under}
 use Rattle.account_core.specs.Sound.{IsHeld, IsSound, IsSoundUnder}
 use Rattle.account_core.proofs.StandingLemmas.{paid_within}
-use Rattle.account_core.proofs.TariffLaws.{TariffLaws}
+use Rattle.account_core.specs.TariffLaws.{TariffLaws}
 
 -- ---- what an answered entry may do, with this much credit left
 

@@ -20,7 +20,7 @@ use Rattle.account_core.specs.declared.fault.AccountFault.{AccountFault}
 use Rattle.account_core.specs.declared.fault.AccountFault.TheVariants as fault
 use Rattle.account_core.proofs.Moves.{its_call, its_deed, known_apart, known_here, sum_moves}
 use Rattle.account_core.proofs.Soundness.{IsAllowed, IsEnd, IsGrant, IsReport, sound_after, stands, takes_within}
-use Rattle.account_core.proofs.TariffLaws.{TariffLaws}
+use Rattle.account_core.specs.TariffLaws.{TariffLaws}
 
 -- ---- what a reply shows changes nothing else
 
@@ -42,8 +42,8 @@ in_range : (range : Bool) (later : Option AccountFault) → (if range then later
 in_range true later is = (refl, is)
 in_range false later is = cc
 
-pub in_place : (h : List Event) (asked : Asked) → inadmissible h asked ≡ None → (is_in_range asked ≡ true) × (misplaced h asked ≡ None)
-in_place h asked is = in_range (is_in_range asked) (misplaced h asked) is
+pub in_place : (h : List Event) (asked : Asked) → inadmissible h asked ≡ None → (is_in_range asked ≡ true) × (misplaced (known (call_of asked) h) asked ≡ None)
+in_place h asked is = in_range (is_in_range asked) (misplaced (known (call_of asked) h) asked) is
 
 pub none_if : (b : Bool) (why : AccountFault) → (if b then Some why else None) ≡ None → b ≡ false
 none_if true why is = cc

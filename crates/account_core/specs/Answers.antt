@@ -6,7 +6,7 @@ use Rattle.tariff_core.specs.Rates.{Rates}
 use Rattle.tariff_core.specs.Reading.{times_read}
 use Rattle.tariff_core.specs.Times.{Elapsed}
 use Rattle.tariff_core.specs.declared.time_info.TimeInfo.{TimeInfo}
-use Rattle.account_core.specs.Asked.{Asked, Credits, Reserves, Settles, Returns, is_in_range}
+use Rattle.account_core.specs.Asked.{Asked, Credits, Reserves, Settles, Returns, call_of, is_in_range}
 use Rattle.account_core.specs.Available.{available, credits}
 use Rattle.account_core.specs.Events.{Event}
 use Rattle.account_core.specs.Known.{Known, is_open, known, paid_of, plan_in_force, price_under, taken_of}
@@ -16,15 +16,18 @@ use Rattle.account_core.specs.declared.fault.AccountFault.{AccountFault}
 use Rattle.account_core.specs.declared.fault.AccountFault.TheVariants as fault
 
 -- a Settle and a Return are of an open call, and a Reserve isn't of one that was returned
-abbrev pub misplaced : List Event → Asked → Option AccountFault
-misplaced h (Credits amount) = None
-misplaced h (Reserves call plan wanted least) = if (known call h).returned then Some fault.CallUsed else None
-misplaced h (Settles call number info) = if is_open (known call h) then None else Some fault.NotOpen
-misplaced h (Returns call) = if is_open (known call h) then None else Some fault.NotOpen
+abbrev pub misplaced : Known → Asked → Option AccountFault
+misplaced call (Credits amount) = None
+misplaced call (Reserves number plan wanted least) = if call.returned then Some fault.CallUsed else None
+misplaced call (Settles number mail info) = if is_open call then None else Some fault.NotOpen
+misplaced call (Returns number) = if is_open call then None else Some fault.NotOpen
 
 -- why an operation isn't admissible, if it isn't: out of range, else out of place
+abbrev pub inadmissible_for : Known → Asked → Option AccountFault
+inadmissible_for call asked = if is_in_range asked then misplaced call asked else Some fault.OutOfRange
+
 abbrev pub inadmissible : List Event → Asked → Option AccountFault
-inadmissible h asked = if is_in_range asked then misplaced h asked else Some fault.OutOfRange
+inadmissible h asked = inadmissible_for (known (call_of asked) h) asked
 
 -- the units that a call is offered: the most that the credit, with what the call holds already, covers at their dearest
 unfoldable pub units_offered : ℕ → Known → Rates → ℕ → ℕ

@@ -5,7 +5,9 @@ pub mod Events
 pub mod Faults
 pub mod Kept
 pub mod Known
+pub mod Laws
 pub mod Ledger
 pub mod Places
 pub mod Replies
 pub mod Sound
+pub mod TariffLaws

@@ -2,7 +2,7 @@
 use Rattle.std.specs.Prelude.{◌≡◌, ◌+◌, ◌&&◌, ℕ, Bool, true, Option, Some, None, List, if◌then◌else◌, length, nat_lt, sum_by}
 use Rattle.account_core.specs.Asked.{Asked, Credits, Reserves, Settles, Returns, call_of}
 use Rattle.account_core.specs.Available.{calls}
-use Rattle.account_core.specs.Answers.{inadmissible}
+use Rattle.account_core.specs.Answers.{inadmissible_for}
 use Rattle.account_core.specs.Events.{Event}
 use Rattle.account_core.specs.Known.{Known, is_open, known}
 use Rattle.account_core.specs.declared.fault.AccountFault.{AccountFault}
@@ -38,12 +38,15 @@ or_else (Some why) later = Some why
 or_else None later = later
 
 -- an operation passes the limit where the entries, the places owed and those that it needs are more
-abbrev pub over_limit : ℕ → List Event → Asked → Option AccountFault
-over_limit limit h asked = if nat_lt limit (length h + owed h + needed h asked) then Some fault.HistoryFull else None
+abbrev pub over_limit : ℕ → ℕ → ℕ → Option AccountFault
+over_limit limit kept needs = if nat_lt limit (kept + needs) then Some fault.HistoryFull else None
 
 -- why an operation is refused, if it is and memory is there: inadmissible, else over the limit
+abbrev pub refusal_for : ℕ → ℕ → ℕ → Known → Asked → Option AccountFault
+refusal_for limit entries owed call asked = or_else (inadmissible_for call asked) (over_limit limit (entries + owed) (needed_by call asked))
+
 unfoldable pub refusal : ℕ → List Event → Asked → Option AccountFault
-refusal limit h asked = or_else (inadmissible h asked) (over_limit limit h asked)
+refusal limit h asked = refusal_for limit (length h) (owed h) (known (call_of asked) h) asked
 
 -- a Return of an open call, or its first Settle since its last grant: the places for it are kept
 abbrev pub IsClosing : List Event → Asked → Type 0

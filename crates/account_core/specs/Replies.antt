@@ -3,6 +3,8 @@ use Rattle.std.specs.Prelude.{◌+◌, ◌-◌, ◌==◌, ◌||◌, ℕ, Bool, O
 use Rattle.tariff_core.specs.Ceiling.{ceiling_of}
 use Rattle.tariff_core.specs.Rates.{Rates}
 use Rattle.tariff_core.specs.Times.{Elapsed}
+use Rattle.account_core.specs.Answers.{accepted_times, units_offered}
+use Rattle.account_core.specs.Asked.{Asked, Credits, Reserves, Returns, Settles}
 use Rattle.account_core.specs.Known.{Known, paid_of, plan_in_force, price_under, taken_of}
 use Rattle.account_core.specs.declared.entry.Reply.{Reply}
 use Rattle.account_core.specs.declared.entry.Reply.TheVariants as reply
@@ -24,3 +26,11 @@ settle_reply credit call None = reply.Forfeit call.top credit
 -- what was held beyond what is paid is given back
 abbrev pub return_reply : ℕ → Known → Reply
 return_reply credit call = reply.Returned (paid_of call) (credit + taken_of call - paid_of call)
+
+-- the reply to an operation, where the funds are the opening and the accepted credits
+abbrev pub reply_for : ℕ → ℕ → Known → Asked → Reply
+reply_for credit funds call (Credits amount) = credit_reply credit funds amount
+reply_for credit funds call (Reserves number plan wanted least) =
+    reserve_reply credit call plan wanted least (units_offered credit call plan wanted)
+reply_for credit funds call (Settles number mail info) = settle_reply credit call (accepted_times call info)
+reply_for credit funds call (Returns number) = return_reply credit call

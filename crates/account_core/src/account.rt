@@ -1,6 +1,7 @@
 //! The sequential account.
 
-ghost use Rattle.std.specs.Prelude.{◌≡◌, ◌≤◌, ◌++◌, ◌∷◌, [], None, map, reverse, IsOk, OnOk, OnErr, IfOk, IfErr};
+ghost use Rattle.std.specs.Prelude.{◌≡◌, ◌≢◌, ◌≤◌, ◌++◌, ◌∷◌, [], None, map, reverse, IsOk, OnOk, OnErr, IfOk, IfErr};
+ghost use Rattle.account_core.specs.Answers.{IsLegal, inadmissible};
 ghost use Rattle.account_core.specs.Available.{available};
 ghost use Rattle.account_core.specs.Events.{asked_of, event_of};
 ghost use Rattle.account_core.specs.Kept.{known_of};
@@ -9,10 +10,9 @@ ghost use Rattle.account_core.specs.Ledger.{IsRefusal, answer_of, event_by, refu
 ghost use Rattle.account_core.specs.Places.{IsClosing};
 ghost use Rattle.account_core.specs.Sound.{AnswersFit, IsSoundPast};
 
-mod answering;
 mod entering;
-mod refusing;
 
+use crate::judging::{judge, reply};
 use crate::laws::legal_pasts_are_sound;
 use crate::standing::Standing;
 use crate::{AccountFault, Entry, Op, Reply};
@@ -82,6 +82,7 @@ impl Account {
         ensures admitted { OnOk result (refusal_of self.old (asked_of op) ≡ None) }
         ensures kept { OnErr result (self.new ≡ self.old) }
         ensures refused { IfErr result (λ fault. IsRefusal self.old (asked_of op) fault) }
+        ensures ungated { result ≢ Err AccountFault.GateClosed }
         ensures closing { IsClosing (reverse self.old.history) (asked_of op) → IsOk result }
     {
         if let Some(fault) = self.refusal(&op) {
@@ -92,9 +93,22 @@ impl Account {
         Ok(reply)
     }
 
-    /// The entries, oldest first.
+    /// Why an operation would be refused now, if it would be for any reason but want of memory. One
+    /// that closes a call, a Return or the first Settle since its last grant, never is.
+    #[tactic(auto, unfolding(crate::specs::Places::refusal))]
+    pub fn refusal(&self, op: &Op) -> Option<AccountFault>
+        ensures value { result ≡ refusal_of self.now (asked_of op.now) }
+        ensures closing { IsClosing (reverse self.now.history) (asked_of op.now) → result ≡ None }
+    {
+        let standing = self.standing(op.call());
+        judge(op, &standing, self.entries.len(), self.owed, self.limit)
+    }
+
+    /// The entries, oldest first. They are a legal history.
     pub fn history(&self) -> &[Entry]
-        ensures { map event_of result.now ≡ self.now.history }
+        ensures value { map event_of result.now ≡ self.now.history }
+        ensures legal { IsLegal self.now.opening self.now.history }
+        ensures small { self.now.opening ≤ 1000000000000000 }
     {
         self.entries.as_slice()
     }
@@ -126,6 +140,16 @@ impl Account {
             Some(standing) => *standing,
             None => Standing::UNKNOWN,
         }
+    }
+
+    /// The answer to an admissible operation.
+    fn answer(&self, op: Op) -> Reply
+        requires { inadmissible (reverse self.now.history) (asked_of op) ≡ None }
+        ensures { result ≡ answer_of self.now (asked_of op) }
+    {
+        self.history_is_sound();
+        let standing = self.standing(op.call());
+        reply(op, &standing, self.funds, self.available)
     }
 
     /// What the type keeps.

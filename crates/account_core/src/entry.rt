@@ -2,6 +2,7 @@
 
 ghost use Rattle.std.specs.Prelude.{◌≡◌};
 ghost use Rattle.account_core.specs.Answers.{shown_by};
+ghost use Rattle.account_core.specs.Asked.{call_of};
 ghost use Rattle.account_core.specs.Available.{credited};
 
 use tariff_core::{Plan, TimeInfo};
@@ -39,6 +40,20 @@ pub enum Op {
         /// The call.
         call: u64,
     },
+}
+
+impl Op {
+    ghost use Rattle.account_core.specs.Events.{asked_of};
+
+    /// The call that is asked for, and 0 where it is none, at a Credit.
+    pub fn call(&self) -> u64
+        ensures { result ≡ call_of (asked_of self.now) }
+    {
+        match *self {
+            Op::Credit { .. } => 0,
+            Op::Reserve { call, .. } | Op::Settle { call, .. } | Op::Return { call } => call,
+        }
+    }
 }
 
 /// The answer to an operation. `available` is the account's credit after the entry, `paid` what the

@@ -1,13 +1,46 @@
-//! Laws of legal histories, each the contract of a function that does nothing.
+//! Laws of legal histories, each the contract of a function that does nothing: what the sequential
+//! account comes to, in words that know nothing of how it answers.
 
+ghost use Rattle.account_core.specs.Laws.{ClosedCallsPayTheTariff, NoBalanceIsNegative, SettlesKeepTheCredit, TimesAreReported};
 ghost use Rattle.account_core.specs.Sound.{LegalPastsAreSound, SoundPastsAnswer};
+ghost use Rattle.account_core.specs.TariffLaws.{TariffLaws};
 
 use tariff_core::{afforded_is_greatest, ceiling_is_greatest, lawful_times_follow};
+
+/// No balance is negative: at no place of a legal history do its calls take more than there is.
+pub fn no_balance_is_negative()
+    ensures { NoBalanceIsNegative }
+{
+    tariff_laws();
+}
+
+/// A call that was returned without a forfeit has paid exactly the price of its times, and these are
+/// what its last report states.
+pub fn closed_calls_pay_the_tariff()
+    ensures paid { ClosedCallsPayTheTariff }
+    ensures times { TimesAreReported }
+{
+    tariff_laws();
+}
+
+/// A Settle never changes what is available.
+pub fn settles_keep_the_credit()
+    ensures { SettlesKeepTheCredit }
+{
+    tariff_laws();
+}
 
 /// What holds after every legal history, and of the answers that come next.
 pub(crate) fn legal_pasts_are_sound()
     ensures sound { LegalPastsAreSound }
     ensures fitting { SoundPastsAnswer }
+{
+    tariff_laws();
+}
+
+/// The laws of the tariff, as the proofs of this crate take them.
+fn tariff_laws()
+    ensures { TariffLaws }
 {
     ceiling_is_greatest();
     afforded_is_greatest();

@@ -4,7 +4,7 @@ ghost use Rattle.std.specs.Prelude.{◌≡◌, ◌+◌, ◌≤◌, true, false};
 ghost use Rattle.account_core.specs.Answers.{accepted_times, units_offered};
 ghost use Rattle.account_core.specs.Events.{asked_of};
 ghost use Rattle.account_core.specs.Kept.{known_of};
-ghost use Rattle.account_core.specs.Known.{deed_of, is_open, known_after, paid_of, price_under, taken_of, Grants, Reports};
+ghost use Rattle.account_core.specs.Known.{deed_of, is_open, known_after, paid_of, plan_in_force, price_under, taken_of, Grants, Reports};
 ghost use Rattle.account_core.specs.Places.{needed_by, owed_to};
 ghost use Rattle.account_core.specs.Replies.{reserve_reply, return_reply, settle_reply};
 ghost use Rattle.account_core.specs.Sound.{HasRoom, IsSound};
@@ -102,7 +102,7 @@ impl Standing {
             (units_offered available (known_of self.now) (rates_of plan) wanted) }
     {
         afforded_is_greatest();
-        let plan = self.plan.unwrap_or(plan);
+        let plan = self.plan_in_force(plan);
         let money = available + self.taken();
         let units = afford(&plan, self.times, wanted, money);
         if units < least || units == 0 || self.forfeited {
@@ -213,7 +213,7 @@ impl Standing {
         requires room { self.times.before + self.times.after + units ≤ 864000 }
         ensures { known_of result ≡ known_after (known_of self) (Grants (rates_of plan) units) }
     {
-        let plan = self.plan.unwrap_or(plan);
+        let plan = self.plan_in_force(plan);
         Standing {
             plan: Some(plan),
             granted: self.times.total() + units,
@@ -236,6 +236,13 @@ impl Standing {
             awaits: false,
             ..self
         }
+    }
+
+    /// The plan that a grant goes by: the call's first one.
+    fn plan_in_force(&self, plan: Plan) -> Plan
+        ensures { rates_of result ≡ plan_in_force (known_of self.now) (rates_of plan) }
+    {
+        self.plan.unwrap_or(plan)
     }
 
     /// The price of times under the call's plan.

@@ -1,4 +1,4 @@
--- The laws of the tariff that the account stands on, as they are told by the crate below.
+-- The laws of the tariff that an account stands on.
 use Rattle.tariff_core.specs.Laws.{AffordedAreCovered, AffordedAreWithin, CeilingIsNotPassed, ComingIsTransitive, ComingTimesStand, ReadTimesAre, TimesMayStay}
 
 pub record TariffLaws : Type 0 where

@@ -1,0 +1,174 @@
+-- The laws of legal histories.
+use Rattle.std.proofs.Common.{◌≡◌, ℕ, ◌+◌, ◌≤◌, Bool, true, false, Option, Some, None, List, [], ◌∷◌, ◌++◌, refl, sym, ap, ◌∙◌, arith, subst}
+use Rattle.std.specs.Prelude.{◌==◌, if◌then◌else◌, reverse, unwrap_or}
+use Rattle.std.proofs.lemmas.Bool.{eq-eqb, eqb-true}
+use Rattle.std.proofs.lemmas.List.{reverse-append}
+use Rattle.tariff_core.specs.Price.{price_at}
+use Rattle.tariff_core.specs.Rates.{Rates}
+use Rattle.tariff_core.specs.Reading.{times_read}
+use Rattle.tariff_core.specs.Times.{Elapsed}
+use Rattle.tariff_core.specs.declared.time_info.TimeInfo.{TimeInfo}
+use Rattle.account_core.specs.Answers.{IsAnswered, IsLegalPast, accepted_times, answer, settle_verdict, verdict}
+use Rattle.account_core.specs.Asked.{Asked, Credits, Reserves, Returns, Settles, call_of}
+use Rattle.account_core.specs.Available.{available, credited}
+use Rattle.account_core.specs.Events.{Event}
+use Rattle.account_core.specs.Known.{Deed, Ends, Forfeits, Grants, Known, Reports, Rests, deed, deed_of, is_open, known, known_after, paid_of, price_under, taken_of}
+use Rattle.account_core.specs.Laws.{AreReported, ClosedCallsPayTheTariff, IsClosed, IsSettle, NoBalanceIsNegative, SettlesKeepTheCredit, TimesAreReported, last_report, report_after, told, told_after}
+use Rattle.account_core.specs.Sound.{IsSoundPast}
+use Rattle.account_core.specs.TariffLaws.{TariffLaws}
+use Rattle.account_core.specs.declared.entry.Reply.{Reply}
+use Rattle.account_core.specs.declared.entry.Reply.TheVariants as reply
+use Rattle.account_core.proofs.Fitting.{available_moves}
+use Rattle.account_core.proofs.Moves.{deed_apart, deed_here, its_call, its_deed, known_apart, known_here}
+use Rattle.account_core.proofs.SoundPasts.{answered_deed, entry_allowed, legal_is_sound}
+use Rattle.account_core.proofs.Soundness.{IsAllowed, IsReport, accepted, open_parts, taken_open, takes_within}
+
+-- what came first in a legal history is legal
+prefix_legal : (opening : ℕ) (later h : List Event) → IsLegalPast opening (later ++ h) → IsLegalPast opening h
+prefix_legal opening [] h legal = legal
+prefix_legal opening (event ∷ later) h legal = prefix_legal opening later h legal.0
+
+pub no_negative : TariffLaws → NoBalanceIsNegative
+no_negative laws opening history later small legal =
+    let P : List Event → Type 0 = λ h. IsLegalPast opening h in
+    let past = subst P (reverse-append history later) legal in
+    (legal_is_sound laws opening (reverse history) small (prefix_legal opening (reverse later) (reverse history) past)).covered
+
+-- ---- closed calls
+
+told_here : (h : List Event) (event : Event) → told (its_call event) (event ∷ h) ≡ told_after (told (its_call event) h) (its_deed event)
+told_here h event = ap (told_after (told (its_call event) h)) (deed_here event)
+
+told_apart : (h : List Event) (event : Event) (call : ℕ) → (its_call event == call) ≡ false → told call (event ∷ h) ≡ told call h
+told_apart h event call apart = ap (told_after (told call h)) (deed_apart call event apart)
+
+ended_yet : (call : Known) → is_open call ≡ true → call.returned ≡ true → ⊥
+ended_yet call is ended = let yet = (open_parts call.plan call.returned is).1 in cc
+
+-- a call that is returned told what it has paid
+told_by : (credit : ℕ) (call : Known) (before : Option ℕ) (deed : Deed) → IsAllowed credit call deed → (call.returned ≡ true → before ≡ Some (paid_of call))
+    → (known_after call deed).returned ≡ true → told_after before deed ≡ Some (paid_of (known_after call deed))
+told_by credit call before (Grants plan units) grant known_told ended = let yet = grant.unreturned in cc
+told_by credit call before (Reports info) report known_told ended = absurd (ended_yet call report.open_yet ended)
+told_by credit call before Forfeits is known_told ended = absurd (ended_yet call is ended)
+told_by credit call before (Ends paid) end known_told ended = ap Some end.paid_is
+told_by credit call before Rests rests known_told ended = known_told ended
+
+module _ (laws : TariffLaws) where
+  allowed_at : (opening : ℕ) (h : List Event) (event : Event) → opening ≤ 1000000000000000 → IsLegalPast opening (event ∷ h)
+      → IsAllowed (available opening h) (known (its_call event) h) (its_deed event)
+  allowed_at opening h event small legal =
+      entry_allowed laws opening h event ((legal_is_sound laws opening h small legal.0).each (its_call event)) legal.1
+
+  told_more : (here : Bool) (opening : ℕ) (h : List Event) (event : Event) (call : ℕ) → (its_call event == call) ≡ here → opening ≤ 1000000000000000
+      → IsLegalPast opening (event ∷ h) → ((c : ℕ) → (known c h).returned ≡ true → told c h ≡ Some (paid_of (known c h)))
+      → (known call (event ∷ h)).returned ≡ true → told call (event ∷ h) ≡ Some (paid_of (known call (event ∷ h)))
+  told_more true opening h event call is small legal before =
+      let P : ℕ → Type 0 = λ c. (known c (event ∷ h)).returned ≡ true → told c (event ∷ h) ≡ Some (paid_of (known c (event ∷ h))) in
+      subst P (eqb-true (its_call event) call is)
+      (rw (known_here h event, told_here h event)
+      (told_by (available opening h) (known (its_call event) h) (told (its_call event) h) (its_deed event) (allowed_at opening h event small legal) (before (its_call event))))
+  told_more false opening h event call is small legal before = rw (known_apart h event call is, told_apart h event call is) (before call)
+
+  told_paid : (opening : ℕ) (h : List Event) → opening ≤ 1000000000000000 → IsLegalPast opening h
+      → (call : ℕ) → (known call h).returned ≡ true → told call h ≡ Some (paid_of (known call h))
+  told_paid opening [] small legal call ended = cc
+  told_paid opening (event ∷ h) small legal call ended =
+      told_more (its_call event == call) opening h event call refl small legal (told_paid opening h small legal.0) ended
+
+  pub closed_pay : ClosedCallsPayTheTariff
+  closed_pay opening history call plan small legal closed =
+      told_paid opening (reverse history) small legal call closed.returned
+      ∙ ap Some (rw (closed.lawful, closed.granted) refl)
+
+-- ---- the last report
+
+read_unwrapped : (old : Elapsed) (info : TimeInfo) (times : Elapsed) → times_read old info ≡ Some times → times_read old info ≡ Some (unwrap_or (times_read old info) old)
+read_unwrapped old info times is = rw is refl
+
+-- a Settle's answer either reads the report or forfeits
+settle_reported : (call : Known) (c number : ℕ) (info : TimeInfo) (times : Option Elapsed) → accepted_times call info ≡ times
+    → (known_after call (deed_of (Settles c number info) (settle_verdict call times))).forfeited ≡ false
+    → AreReported (Some info) (known_after call (deed_of (Settles c number info) (settle_verdict call times))).times
+settle_reported call c number info None is lawful = cc
+settle_reported call c number info (Some times) is lawful = (call.times, read_unwrapped call.times info times (accepted call info times is).read)
+
+reserve_times : (call : Known) (c : ℕ) (plan : Rates) (wanted least : ℕ) (told : Reply)
+    → ((known_after call (deed_of (Reserves c plan wanted least) told)).times ≡ call.times) × ((known_after call (deed_of (Reserves c plan wanted least) told)).forfeited ≡ call.forfeited)
+reserve_times call c plan wanted least (reply.Granted units last available) = (refl, refl)
+reserve_times call c plan wanted least told = (refl, refl)
+
+-- what an answered entry does to the times of its call is what its report states
+reported_by : (opening : ℕ) (h : List Event) (asked : Asked) (before : Option TimeInfo)
+    → ((known (call_of asked) h).forfeited ≡ false → AreReported before (known (call_of asked) h).times)
+    → (known_after (known (call_of asked) h) (deed_of asked (verdict opening h asked))).forfeited ≡ false
+    → AreReported (report_after before asked) (known_after (known (call_of asked) h) (deed_of asked (verdict opening h asked))).times
+reported_by opening h (Credits amount) before known_told lawful = known_told lawful
+reported_by opening h (Reserves c plan wanted least) before known_told lawful =
+    let (times, forfeited) = reserve_times (known c h) c plan wanted least (verdict opening h (Reserves c plan wanted least)) in
+    rw times (known_told (sym forfeited ∙ lawful))
+reported_by opening h (Settles c number info) before known_told lawful =
+    settle_reported (known c h) c number info (accepted_times (known c h) info) refl lawful
+reported_by opening h (Returns c) before known_told lawful = known_told lawful
+
+report_here : (h : List Event) (event : Event) → last_report (its_call event) (event ∷ h) ≡ report_after (last_report (its_call event) h) event.asked
+report_here h event = rw (eq-eqb (its_call event) (its_call event) refl) refl
+
+report_apart : (h : List Event) (event : Event) (call : ℕ) → (its_call event == call) ≡ false → last_report call (event ∷ h) ≡ last_report call h
+report_apart h event call apart = rw apart refl
+
+IsReported : ℕ → List Event → Type 0
+IsReported call h = (known call h).forfeited ≡ false → AreReported (last_report call h) (known call h).times
+
+reported_more : (here : Bool) (opening : ℕ) (h : List Event) (event : Event) (call : ℕ) → (its_call event == call) ≡ here → IsAnswered opening h event
+    → ((c : ℕ) → IsReported c h) → IsReported call (event ∷ h)
+unfolding IsReported
+reported_more true opening h event call is answered before =
+    let P : ℕ → Type 0 = λ c. (known c (event ∷ h)).forfeited ≡ false → AreReported (last_report c (event ∷ h)) (known c (event ∷ h)).times in
+    subst P (eqb-true (its_call event) call is)
+    (rw (known_here h event, report_here h event, answered_deed opening h event answered)
+    (reported_by opening h event.asked (last_report (its_call event) h) (before (its_call event))))
+reported_more false opening h event call is answered before = rw (known_apart h event call is, report_apart h event call is) (before call)
+
+reported : (opening : ℕ) (h : List Event) → IsLegalPast opening h → (call : ℕ) → IsReported call h
+unfolding IsReported
+reported opening [] legal call lawful = refl
+reported opening (event ∷ h) legal call lawful = reported_more (its_call event == call) opening h event call refl legal.1 (reported opening h legal.0) lawful
+
+pub times_reported : TimesAreReported
+unfolding IsReported
+times_reported opening history call small legal lawful = reported opening (reverse history) legal call lawful
+
+-- ---- a Settle
+
+settle_takes : (credit : ℕ) (call : Known) (asked : Asked) (told : Reply) → IsSettle asked → IsAllowed credit call (deed_of asked told)
+    → taken_of (known_after call (deed_of asked told)) ≡ taken_of call
+settle_takes credit call (Credits amount) told is allowed = absurd is
+settle_takes credit call (Reserves c plan wanted least) told is allowed = absurd is
+settle_takes credit call (Settles c number info) (reply.Settled paid available) is report =
+    taken_open (known_after call (Reports info)) report.open_yet ∙ sym (taken_open call report.open_yet)
+settle_takes credit call (Settles c number info) (reply.Forfeit paid available) is here =
+    taken_open (known_after call Forfeits) here ∙ sym (taken_open call here)
+settle_takes credit call (Settles c number info) told is allowed = refl
+settle_takes credit call (Returns c) told is allowed = absurd is
+
+settle_credits : (asked : Asked) (told : Reply) → IsSettle asked → credited asked told ≡ 0
+settle_credits (Credits amount) told is = absurd is
+settle_credits (Reserves c plan wanted least) told is = absurd is
+settle_credits (Settles c number info) told is = refl
+settle_credits (Returns c) told is = absurd is
+
+settle_keeps_past : TariffLaws → (opening : ℕ) (h : List Event) (event : Event) → opening ≤ 1000000000000000 → IsLegalPast opening (event ∷ h) → IsSettle event.asked
+    → available opening (event ∷ h) ≡ available opening h
+settle_keeps_past laws opening h event small legal is =
+    let sound = legal_is_sound laws opening h small legal.0 in
+    let same = settle_takes (available opening h) (known (its_call event) h) event.asked event.reply is (allowed_at laws opening h event small legal) in
+    let moves = available_moves opening h event sound (omega (arith, same)) in
+    omega (arith, moves, same, settle_credits event.asked event.reply is)
+
+pub settle_keeps : TariffLaws → SettlesKeepTheCredit
+settle_keeps laws opening history event small legal is =
+    let P : List Event → Type 0 = λ h. IsLegalPast opening h in
+    let Q : List Event → Type 0 = λ h. available opening h ≡ available opening (reverse history) in
+    let longer = reverse-append history (event ∷ []) in
+    subst Q (sym longer) (settle_keeps_past laws opening (reverse history) event small (subst P longer legal) is)

@@ -1,0 +1,64 @@
+-- What is true of every legal history, in words of its own.
+use Rattle.std.specs.Prelude.{◌≡◌, ◌+◌, ◌==◌, ◌≤◌, ℕ, true, false, Option, Some, None, List, [], ◌∷◌, ◌++◌, if◌then◌else◌, reverse}
+use Rattle.tariff_core.specs.Price.{price_at}
+use Rattle.tariff_core.specs.Rates.{Rates}
+use Rattle.tariff_core.specs.Reading.{times_read}
+use Rattle.tariff_core.specs.Times.{Elapsed, no_times}
+use Rattle.tariff_core.specs.declared.time_info.TimeInfo.{TimeInfo}
+use Rattle.account_core.specs.Answers.{IsLegal}
+use Rattle.account_core.specs.Asked.{Asked, Credits, Reserves, Returns, Settles, call_of}
+use Rattle.account_core.specs.Available.{available, credits, taken_by_all}
+use Rattle.account_core.specs.Events.{Event}
+use Rattle.account_core.specs.Known.{Deed, Ends, deed, known}
+
+-- no balance is negative: at no place of a legal history do all calls take more than the opening and the credits accepted so far
+abbrev pub NoBalanceIsNegative : Type 0
+NoBalanceIsNegative = (opening : ℕ) (history later : List Event) → opening ≤ 1000000000000000 → IsLegal opening (history ++ later)
+    → taken_by_all (reverse history) ≤ opening + credits (reverse history)
+
+-- what the Returned of a call told that it paid in all
+abbrev pub told_after : Option ℕ → Deed → Option ℕ
+told_after before (Ends paid) = Some paid
+told_after before other = before
+
+abbrev pub told : ℕ → List Event → Option ℕ
+told call [] = None
+told call (event ∷ h) = told_after (told call h) (deed call event)
+
+-- a call that was granted something and returned without a forfeit
+pub record IsClosed (call : ℕ) (plan : Rates) (h : List Event) : Type 0 where
+  pub granted : (known call h).plan ≡ Some plan
+  pub returned : (known call h).returned ≡ true
+  pub lawful : (known call h).forfeited ≡ false
+
+-- it has paid exactly the price of its times
+abbrev pub ClosedCallsPayTheTariff : Type 0
+ClosedCallsPayTheTariff = (opening : ℕ) (history : List Event) (call : ℕ) (plan : Rates) → opening ≤ 1000000000000000 → IsLegal opening history
+    → IsClosed call plan (reverse history) → told call (reverse history) ≡ Some (price_at plan (known call (reverse history)).times)
+
+-- the last report of a call, whatever was answered
+abbrev pub report_after : Option TimeInfo → Asked → Option TimeInfo
+report_after before (Settles call number info) = Some info
+report_after before asked = before
+
+abbrev pub last_report : ℕ → List Event → Option TimeInfo
+last_report call [] = None
+last_report call (event ∷ h) = if call_of event.asked == call then report_after (last_report call h) event.asked else last_report call h
+
+-- the times of a call without a forfeit: those read from its last report, and none before any report
+abbrev pub AreReported : Option TimeInfo → Elapsed → Type 0
+AreReported None times = times ≡ no_times
+AreReported (Some info) times = (before : Elapsed) × (times_read before info ≡ Some times)
+
+abbrev pub TimesAreReported : Type 0
+TimesAreReported = (opening : ℕ) (history : List Event) (call : ℕ) → opening ≤ 1000000000000000 → IsLegal opening history
+    → (known call (reverse history)).forfeited ≡ false → AreReported (last_report call (reverse history)) (known call (reverse history)).times
+
+-- a Settle changes nothing of what is available
+abbrev pub IsSettle : Asked → Type 0
+IsSettle (Settles call number info) = Unit {0}
+IsSettle asked = ⊥
+
+abbrev pub SettlesKeepTheCredit : Type 0
+SettlesKeepTheCredit = (opening : ℕ) (history : List Event) (event : Event) → opening ≤ 1000000000000000 → IsLegal opening (history ++ event ∷ []) → IsSettle event.asked
+    → available opening (reverse (history ++ event ∷ [])) ≡ available opening (reverse history)

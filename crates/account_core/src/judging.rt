@@ -1,0 +1,99 @@
+//! What an account says to an operation, by what it knows: of the call, and in total.
+
+ghost use Rattle.std.specs.Prelude.{◌≡◌, ◌+◌, ◌≤◌, true};
+ghost use Rattle.account_core.specs.Answers.{inadmissible_for};
+ghost use Rattle.account_core.specs.Asked.{is_in_range};
+ghost use Rattle.account_core.specs.Events.{asked_of};
+ghost use Rattle.account_core.specs.Kept.{known_of};
+ghost use Rattle.account_core.specs.Known.{taken_of};
+ghost use Rattle.account_core.specs.Places.{refusal_for};
+ghost use Rattle.account_core.specs.Replies.{credit_reply, reply_for};
+ghost use Rattle.account_core.specs.Sound.{IsSound};
+
+use crate::standing::Standing;
+use crate::{AccountFault, MAX_MONEY, Op, Reply};
+use tariff_core::DAY;
+
+/// Why an operation is refused, if it is: out of range, else out of place, else over the limit.
+pub(crate) fn judge(
+    op: &Op,
+    standing: &Standing,
+    entries: usize,
+    owed: usize,
+    limit: u32,
+) -> Option<AccountFault>
+    requires { entries + owed ≤ limit }
+    ensures { result ≡ refusal_for limit entries owed (known_of standing.now) (asked_of op.now) }
+{
+    if let Some(fault) = inadmissible(op, standing) {
+        return Some(fault);
+    }
+    if entries + owed + standing.needed(op) > limit as usize {
+        Some(AccountFault::HistoryFull)
+    } else {
+        None
+    }
+}
+
+/// Whether an operation is out of range, or out of place.
+fn inadmissible(op: &Op, standing: &Standing) -> Option<AccountFault>
+    ensures { result ≡ inadmissible_for (known_of standing.now) (asked_of op.now) }
+{
+    if !is_in_range(op) {
+        return Some(AccountFault::OutOfRange);
+    }
+    match op {
+        Op::Reserve { .. } if standing.returned => Some(AccountFault::CallUsed),
+        Op::Settle { .. } | Op::Return { .. } if !standing.is_open() => Some(AccountFault::NotOpen),
+        _ => None,
+    }
+}
+
+/// Whether an operation's amount and times are within their ranges.
+fn is_in_range(op: &Op) -> bool
+    ensures { result ≡ is_in_range (asked_of op.now) }
+{
+    match *op {
+        Op::Credit { amount } => 1 <= amount && amount <= MAX_MONEY,
+        Op::Reserve { wanted, least, .. } => 1 <= wanted && wanted <= DAY && least <= DAY,
+        Op::Settle { .. } | Op::Return { .. } => true,
+    }
+}
+
+/// The reply to an operation that isn't refused, where the funds are the opening and the accepted
+/// credits, and so much of them is available.
+pub(crate) fn reply(op: Op, standing: &Standing, funds: u64, available: u64) -> Reply
+    requires sound { IsSound (known_of standing.now) }
+    requires money { available + taken_of (known_of standing.now) ≤ 1000000000000000 }
+    requires capped { funds ≤ 1000000000000000 }
+    requires ranged { is_in_range (asked_of op) ≡ true }
+    ensures { result ≡ reply_for available funds (known_of standing.now) (asked_of op) }
+{
+    match op {
+        Op::Credit { amount } => credit(amount, funds, available),
+        Op::Reserve {
+            plan,
+            wanted,
+            least,
+            ..
+        } => standing.reserve(plan, wanted, least, available),
+        Op::Settle { info, .. } => standing.settle(info, available),
+        Op::Return { .. } => standing.give_back(available),
+    }
+}
+
+/// The reply to a Credit: it is added where the funds stay within the largest money.
+fn credit(amount: u64, funds: u64, available: u64) -> Reply
+    requires amount { amount ≤ 1000000000000000 }
+    requires capped { funds ≤ 1000000000000000 }
+    requires money { available ≤ 1000000000000000 }
+    ensures { result ≡ credit_reply available funds amount }
+{
+    if funds + amount <= MAX_MONEY {
+        Reply::Credited {
+            available: available + amount,
+        }
+    } else {
+        Reply::CreditOver { available }
+    }
+}
