@@ -1,10 +1,10 @@
 -- The rows so far and those that are left are the rows of the table.
-use Rattle.std.proofs.Common.{◌≡◌, ℕ, ◌+◌, ◌≤◌, Bool, true, false, List, [], ◌∷◌, ◌++◌, length, Result, Ok, Err, refl, arith}
-use Rattle.std.specs.Prelude.{◌==◌, not, nat_lt, if◌then◌else◌}
+use Rattle.std.proofs.Common.{◌≡◌, ℕ, ◌+◌, ◌≤◌, Bool, true, false, List, [], ◌∷◌, ◌++◌, length, Option, Some, None, Result, Ok, Err, refl, arith}
+use Rattle.std.specs.Prelude.{◌==◌, IsErrAnd, not, nat_lt, if◌then◌else◌}
 use Rattle.std.proofs.lemmas.Bool.Decides.{nat_tests}
 use Rattle.table_core.specs.Judging.{after}
 use Rattle.tariff_core.specs.Bands.{Band, has_band}
-use Rattle.tariff_core.specs.TariffTable.{Refuses, band_in, bands_of, is_header, new_band, row_at, rows_from}
+use Rattle.tariff_core.specs.TariffTable.{ComesBy, Gives, NotBefore, Refuses, after_row, band_in, bands_of, complete, complete_by, is_header, new_band, row_at, rows_from, without_midnight}
 use Rattle.tariff_core.specs.declared.tariff_fault.TariffFault.{TariffFault}
 use Rattle.tariff_core.specs.declared.tariff_fault.TariffKind.{TariffKind}
 use Rattle.tariff_core.specs.declared.tariff_fault.TariffKind.TheVariants as kind
@@ -77,6 +77,87 @@ refused kind.From number meaning is = is
 refused kind.Money number meaning is = is
 refused kind.Repeated number meaning is = is
 refused kind.NoMidnightBand number meaning is = is
-refused kind.OutOfMemory number meaning is = tt
-refused kind.Device number meaning is = tt
+refused kind.OutOfMemory number meaning is = rw is (omega arith)
+refused kind.Device number meaning is = rw is (omega arith)
 refused kind.TooManyRows number meaning is = is
+
+-- ---- where a table that can't be read on may be given up
+
+-- the two kinds that aren't the table's own, and the rest
+comes_at : (why : TariffKind) (row : ℕ) → ComesBy row why row
+comes_at kind.Csv row = omega arith
+comes_at kind.Header row = omega arith
+comes_at kind.Digits row = omega arith
+comes_at kind.From row = omega arith
+comes_at kind.Money row = omega arith
+comes_at kind.Repeated row = omega arith
+comes_at kind.NoMidnightBand row = tt
+comes_at kind.OutOfMemory row = omega arith
+comes_at kind.Device row = omega arith
+comes_at kind.TooManyRows row = omega arith
+
+comes_later : (why : TariffKind) (low high row : ℕ) → low ≤ high → ComesBy high why row → ComesBy low why row
+comes_later kind.Csv low high row le by = omega (arith, by)
+comes_later kind.Header low high row le by = omega (arith, by)
+comes_later kind.Digits low high row le by = omega (arith, by)
+comes_later kind.From low high row le by = omega (arith, by)
+comes_later kind.Money low high row le by = omega (arith, by)
+comes_later kind.Repeated low high row le by = omega (arith, by)
+comes_later kind.NoMidnightBand low high row le by = tt
+comes_later kind.OutOfMemory low high row le by = omega (arith, by)
+comes_later kind.Device low high row le by = omega (arith, by)
+comes_later kind.TooManyRows low high row le by = omega (arith, by)
+
+not_before_later : (meaning : Result (List Band) TariffFault) (low high : ℕ) → low ≤ high → NotBefore high meaning → NotBefore low meaning
+not_before_later (Ok bands) low high le by = tt
+not_before_later (Err fault) low high le by = comes_later fault.kind low high fault.row le by
+
+not_before_row : (number : ℕ) (row : Result Band TariffKind) (rest : Band → Result (List Band) TariffFault)
+    → ((band : Band) → NotBefore (number + 1) (rest band)) → NotBefore number (after_row number row rest)
+not_before_row number (Ok band) rest later = not_before_later (rest band) number (number + 1) (omega arith) (later band)
+not_before_row number (Err why) rest later = comes_at why number
+
+-- the rows from a number on have no fault before it
+pub rows_not_before : (number : ℕ) (earlier : List Band) (left : List Fields) → NotBefore number (rows_from number earlier left)
+unfolding rows_from
+rows_not_before number earlier [] = tt
+rows_not_before number earlier (fields ∷ rows) =
+    not_before_row number (row_at number earlier fields) (λ band. rows_from (number + 1) (earlier ++ band ∷ []) rows)
+    (λ band. rows_not_before (number + 1) (earlier ++ band ∷ []) rows)
+
+not_before_header : (right : Bool) (rest : Result (List Band) TariffFault) → NotBefore 2 rest
+    → NotBefore 1 (if right then rest else Err (record { row = 1; kind = kind.Header }))
+not_before_header true rest by = not_before_later rest 1 2 (omega arith) by
+not_before_header false rest by = omega arith
+
+pub bands_not_before : (rows : List Fields) → NotBefore 1 (bands_of rows)
+unfolding bands_of
+bands_not_before [] = omega arith
+bands_not_before (header ∷ rows) = not_before_header (is_header header) (rows_from 2 [] rows) (rows_not_before 2 [] rows)
+
+not_before_complete : (bands : List Band) (missing : Option ℕ) (row : ℕ) → NotBefore row (complete_by bands missing)
+not_before_complete bands None row = tt
+not_before_complete bands (Some number) row = tt
+
+not_before_whole : (row : ℕ) (meaning : Result (List Band) TariffFault) → NotBefore row meaning → NotBefore row (after meaning complete)
+not_before_whole row (Ok bands) by = not_before_complete bands (without_midnight bands 2 bands) row
+not_before_whole row (Err fault) by = by
+
+-- a fault of the rows is one of the table
+pub refused_whole : (why : TariffKind) (row : ℕ) (meaning : Result (List Band) TariffFault) → Refuses why row meaning → Refuses why row (after meaning complete)
+refused_whole kind.Csv row meaning is = rw is refl
+refused_whole kind.Header row meaning is = rw is refl
+refused_whole kind.Digits row meaning is = rw is refl
+refused_whole kind.From row meaning is = rw is refl
+refused_whole kind.Money row meaning is = rw is refl
+refused_whole kind.Repeated row meaning is = rw is refl
+refused_whole kind.NoMidnightBand row meaning is = rw is refl
+refused_whole kind.OutOfMemory row meaning is = not_before_whole row meaning is
+refused_whole kind.Device row meaning is = not_before_whole row meaning is
+refused_whole kind.TooManyRows row meaning is = rw is refl
+
+-- a fault that is passed on
+pub passed_on : (answer : Result (List Band) TariffFault) (fault : TariffFault) (meaning : Result (List Band) TariffFault)
+    → IsErrAnd answer (λ met. met ≡ fault) → Gives (Err fault) meaning → Gives answer meaning
+passed_on (Ok bands) fault meaning met gives = absurd met
+passed_on (Err why) fault meaning met gives = rw met gives

@@ -1,5 +1,5 @@
 -- The meaning of a tariff table: its rows, or the first fault.
-use Rattle.std.specs.Prelude.{◌≡◌, ◌+◌, ◌*◌, ◌==◌, ◌&&◌, ℕ, Bool, not, List, [], ◌∷◌, ◌++◌, length, Option, Some, None, Result, Ok, Err, ⊤, if◌then◌else◌, nat_le, nat_lt, ok_or, slice_index, take, drop, codes}
+use Rattle.std.specs.Prelude.{◌≡◌, ◌≤◌, ◌+◌, ◌*◌, ◌==◌, ◌&&◌, ℕ, Bool, not, List, [], ◌∷◌, ◌++◌, length, Option, Some, None, Result, Ok, Err, ⊤, if◌then◌else◌, nat_le, nat_lt, ok_or, slice_index, take, drop, codes}
 use Rattle.std.specs.Char.{is_ascii_digit}
 use Rattle.std.specs.List.{list_all}
 use Rattle.table_core.specs.Decimals.{decimal_of}
@@ -89,10 +89,20 @@ complete bands = complete_by bands (without_midnight bands 2 bands)
 abbrev pub tariff_of : List (List (List ℕ)) → Result (List Band) TariffFault
 tariff_of rows = after (bands_of rows) complete
 
--- a fault of the table is the one that its meaning has; want of memory and a failed reader may come at any row
+-- where a fault comes: at its row, but after the last where a prefix has no row from midnight on
+abbrev pub ComesBy : ℕ → TariffKind → ℕ → Type 0
+ComesBy number kind.NoMidnightBand row = ⊤
+ComesBy number _ row = number ≤ row
+
+-- no row before this one has a fault
+abbrev pub NotBefore : ℕ → Result (List Band) TariffFault → Type 0
+NotBefore number (Ok bands) = ⊤
+NotBefore number (Err fault) = ComesBy number fault.kind fault.row
+
+-- a fault of the table is the one that its meaning has; want of memory and a failed reader come before that
 abbrev pub Refuses : TariffKind → ℕ → Result (List Band) TariffFault → Type 0
-Refuses kind.OutOfMemory row meaning = ⊤
-Refuses kind.Device row meaning = ⊤
+Refuses kind.OutOfMemory row meaning = NotBefore row meaning
+Refuses kind.Device row meaning = NotBefore row meaning
 Refuses why row meaning = meaning ≡ Err (record { row = row; kind = why })
 
 -- an answer is the table's meaning

@@ -9,7 +9,7 @@ ghost use Rattle.tariff_core.specs.Places.{by_place};
 ghost use Rattle.tariff_core.specs.Prefixes.{digits_of};
 ghost use Rattle.tariff_core.specs.Routes.{IsBandAt, IsSoonest};
 ghost use Rattle.tariff_core.specs.Tariff.{Indexes, IsIndexed, Tells, Keeps, band_of};
-ghost use Rattle.tariff_core.specs.TariffTable.{Gives, bands_of, row_at, without_midnight};
+ghost use Rattle.tariff_core.specs.TariffTable.{Gives, NotBefore, bands_of, row_at, without_midnight};
 
 use crate::DAY;
 use crate::place::Place;
@@ -40,7 +40,6 @@ impl Model for Bands {
 
     ghost Value = { List Band };
 
-    ghost use Rattle.tariff_core.specs.Routes.{IsBandAt, IsSoonest};
     ghost use Rattle.tariff_core.specs.Tariff.{IsIndexed, band_of};
 
     ghost view = { λ b. map band_of b.rows.items };
@@ -143,7 +142,8 @@ impl Bands {
 /// Takes the row of this number, or answers false where none is left.
 fn next_record<R: Read + Drop>(records: &mut Rows<R>, number: u32) -> Result<bool, TariffFault>
     ensures takes { IfOk result (TakesRow R.remaining records.old records.new) }
-    ensures fault { IfErr result (λ fault. (meaning : _) → Gives (Err fault) meaning) }
+    ensures fault { IfErr result
+        (λ fault. (meaning : _) → NotBefore number meaning → Gives (Err fault) meaning) }
 {
     match records.next_row() {
         Ok(found) => Ok(found),

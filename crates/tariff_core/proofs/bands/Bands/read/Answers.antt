@@ -2,9 +2,10 @@ use Rattle.std.proofs.Common.{◌∙◌, refl, sym, arith}
 use Rattle.std.specs.Prelude.{map}
 use Rattle.table_core.specs.Rows.{rows_of}
 use Rattle.tariff_core.specs.Tariff.{band_of}
+use Rattle.tariff_core.specs.TariffTable.{bands_of}
 use Rattle.tariff_core.proofs.IndexLemmas.{count_more, indexes_none, keeps_indexed, rows_more}
 use Rattle.tariff_core.proofs.Known.{at_known, if_known}
-use Rattle.tariff_core.proofs.TableLemmas.{header_missing, header_read, header_wrong, is_new, none_left, refused, row_read, row_refused}
+use Rattle.tariff_core.proofs.TableLemmas.{bands_not_before, header_missing, header_read, header_wrong, is_new, none_left, passed_on, refused, row_read, row_refused, rows_not_before}
 use Rattle.tariff_core.proofs.bands.Bands.read.Goals as goal
 use Rattle.tariff_core.proofs.bands.Bands.read.Goals.{then-not-branch-via-then-not-branch, then-not-branch-via-else-not-branch+then-not-is_header}
 
@@ -68,3 +69,19 @@ pub returns : goal.returns
 returns g c = if_known _ _ (λ text known.
     let (left, has, so_far) = c.loop-index.invariant.so_far text known in
     so_far ∙ none_left c.loop-index.number (map band_of c.loop-index.rows.items) left (rw c.if-branch.false at c.in_ok-next_record-2.ensures.takes left has))
+
+pub returns-in_err-next_record : goal.returns-in_err-next_record
+returns-in_err-next_record g c = if_known _ _ (λ text known.
+    passed_on c.from_residual.result c.in_err-next_record.field-0.0 (bands_of (rows_of text)) c.from_residual.ensures.1
+    (c.in_err-next_record.ensures.fault _ (bands_not_before (rows_of text))))
+
+pub returns-in_err-next_record-2 : goal.returns-in_err-next_record-2
+returns-in_err-next_record-2 g c = if_known _ _ (λ text known.
+    let (left, has, so_far) = c.loop-index.invariant.so_far text known in
+    rw so_far (passed_on c.from_residual-in_err-next_record-2.result c.in_err-next_record-2.field-0.0 _ c.from_residual-in_err-next_record-2.ensures.1
+    (c.in_err-next_record-2.ensures.fault _ (rows_not_before c.loop-index.number (map band_of c.loop-index.rows.items) left))))
+
+pub returns-in-Err-keep : goal.returns-in-Err-keep
+returns-in-Err-keep g c = if_known _ _ (λ text known.
+    let (left, has, so_far) = c.loop-index.invariant.so_far text known in
+    rw so_far (rows_not_before c.loop-index.number (map band_of c.loop-index.rows.items) left))
