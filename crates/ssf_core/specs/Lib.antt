@@ -1,0 +1,10 @@
+pub mod Configs
+pub mod Happenings
+pub mod Modes
+pub mod Moves
+pub mod Phases
+pub mod Quantities
+pub mod Split
+pub mod Stages
+pub mod Table
+pub mod Traces
