@@ -140,6 +140,11 @@ next_of stage =
     sooner_of (expiry_of Tsw (stage_due stage Tsw))
     (sooner_of (expiry_of Tcp (stage_due stage Tcp)) (sooner_of (expiry_of Tccd (stage_due stage Tccd)) (expiry_of Tssf (stage_due stage Tssf))))
 
+-- the moment of an expiry
+abbrev pub moment_of : Option Expiry → Option ℕ
+moment_of None = None
+moment_of (Some expiry) = Some expiry.due
+
 -- an expiry that is due by now
 abbrev pub due_by : ℕ → Option Expiry → Option Expiry
 due_by now None = None

@@ -3,7 +3,7 @@
 ghost use Rattle.std.specs.Prelude.{◌≡◌, ◌+◌, ◌≤◌, Some};
 ghost use Rattle.arrayvec.specs.ArrayVec.{array_vec_len};
 ghost use Rattle.ssf_core.specs.Moves.{defaulted, expired, period_over, period_over_in, send_all, switched_stage};
-ghost use Rattle.ssf_core.specs.Stages.{IsActiveTimely, IsBounded, IsTimely, due_by, expiry_of, next_of, sooner_of, stage_due, switch_due_of, tccd_due_of, tcp_due_of};
+ghost use Rattle.ssf_core.specs.Stages.{IsActiveTimely, IsBounded, IsTimely, due_by, expiry_of, moment_of, next_of, sooner_of, stage_due, switch_due_of, tccd_due_of, tcp_due_of};
 
 use crate::reports::report;
 use crate::sending::{clear, proceed, send};
@@ -126,6 +126,17 @@ pub(crate) fn next_expiry(stage: &Stage) -> Option<Expiry>
     let tccd = expiry(Timer::Tccd, tccd_due(stage));
     let tssf = expiry(Timer::Tssf, tssf_due(stage));
     sooner(tsw, sooner(tcp, sooner(tccd, tssf)))
+}
+
+/// The moment of the next expiry.
+pub(crate) fn next_moment(stage: &Stage) -> Option<Moment>
+    requires { IsBounded stage.now }
+    ensures { result ≡ moment_of (next_of stage.now) }
+{
+    match next_expiry(stage) {
+        Some(expiry) => Some(expiry.due),
+        None => None,
+    }
 }
 
 /// The next expiry, if it is due by now.

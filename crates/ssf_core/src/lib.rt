@@ -13,12 +13,17 @@ mod modes;
 mod operations;
 mod reports;
 mod sending;
+mod ssf;
 mod stage;
 mod state;
+#[cfg(test)]
+mod tests;
 mod timer;
+mod timers;
 
 pub use bcsm_event::BcsmEvent;
 pub use config::{DefaultHandling, MAX_TIMER, SsfConfig};
 pub use fault::SsfFault;
 pub use item::{Item, Moment, Out, Step};
+pub use ssf::Ssf;
 pub use state::State;

@@ -1,10 +1,12 @@
 //! Where a call stands: each state with the data that it needs, and no other.
 
 ghost use Rattle.std.specs.Prelude.{◌≡◌, ◌≤◌};
+ghost use Rattle.ssf_core.specs.Phases.{state_in};
 ghost use Rattle.ssf_core.specs.Stages.{started};
+ghost use Rattle.ssf_core.specs.Stands.{phase_of};
 
-use crate::Moment;
 use crate::modes::Modes;
+use crate::{Moment, State};
 use cap_values::Charge;
 
 /// A state of the table, with its phase.
@@ -80,5 +82,17 @@ pub(crate) fn started(switch: Switch, now: Moment, seconds: Option<u32>) -> Swit
         (Switch::Due(_), Some(seconds)) => Switch::Due(now + 10 * u64::from(seconds)),
         (Switch::Unset, None) => Switch::Unset,
         (Switch::Due(moment), None) => Switch::Due(moment),
+    }
+}
+
+/// The state that a caller sees.
+pub(crate) fn state_of(stage: &Stage) -> State
+    ensures { result ≡ state_in (phase_of stage.now) }
+{
+    match stage {
+        Stage::Unused | Stage::Ended => State::Idle,
+        Stage::Requested => State::WaitForRequest,
+        Stage::Initial { .. } | Stage::Down { .. } => State::WaitingForInstructions,
+        Stage::Setup(_) | Stage::Active(_) => State::Monitoring,
     }
 }
