@@ -1,0 +1,4 @@
+pub mod CallLemmas
+pub mod ExpiryLemmas
+pub mod InputLemmas
+pub mod TimerLemmas

@@ -1,0 +1,254 @@
+-- The next expiry, and what it leaves.
+use Rattle.std.proofs.Common.{◌≡◌, ◌+◌, ◌<◌, ◌≤◌, ℕ, Bool, true, false, Option, Some, None, List, [], ◌∷◌, ◌⊎◌, inl, inr, length, refl, sym, ap, subst, ◌∙◌, arith}
+use Rattle.std.proofs.lemmas.Bool.Decides.{nat_tests}
+use Rattle.std.proofs.lemmas.Bool.{cases_lt}
+use Rattle.std.specs.Prelude.{if◌then◌else◌, nat_lt, nat_le}
+use Rattle.cap_values.specs.declared.charge.Charge.{Charge}
+use Rattle.ssf_core.specs.Moves.{Move, cleared, defaulted, expired, period_over, quietly}
+use Rattle.ssf_core.specs.Stages.{IsActiveTimely, IsBounded, IsChargingTimely, IsQuiet, IsSwitchTimely, IsTimely, due_by, expiries_left, expiry_of, items_after_period, items_left, next_of, periods_left, sooner_of, stage_due, switch_due_of, switches_left, tccd_due_of, tcp_due_of}
+use Rattle.ssf_core.specs.Traces.{rank}
+use Rattle.ssf_core.specs.declared.config.DefaultHandling.{DefaultHandling}
+use Rattle.ssf_core.specs.declared.config.DefaultHandling.TheVariants as handling
+use Rattle.ssf_core.specs.declared.config.SsfConfig.{SsfConfig}
+use Rattle.ssf_core.specs.declared.stage.Active.{Active}
+use Rattle.ssf_core.specs.declared.stage.Charging.{Charging}
+use Rattle.ssf_core.specs.declared.stage.Charging.TheVariants as charging
+use Rattle.ssf_core.specs.declared.stage.Setup.{Setup}
+use Rattle.ssf_core.specs.declared.stage.Stage.{Stage}
+use Rattle.ssf_core.specs.declared.stage.Stage.TheVariants as stage
+use Rattle.ssf_core.specs.declared.stage.Switch.{Switch}
+use Rattle.ssf_core.specs.declared.stage.Switch.TheVariants as switch
+use Rattle.ssf_core.specs.declared.timer.Expiry.{Expiry}
+use Rattle.ssf_core.specs.declared.timer.Timer.{Timer}
+use Rattle.ssf_core.specs.declared.timer.Timer.TheVariants.{Tsw, Tcp, Tccd, Tssf}
+
+-- an expiry comes before a timer that is due at a moment
+abbrev pub Before : Expiry → Timer → ℕ → Type 0
+Before e timer d = (e.due < d) ⊎ ((e.due ≡ d) × (rank e.timer ≤ rank timer))
+
+-- if the timer is due, this is an expiry that comes before it
+abbrev pub Leads : Option Expiry → Timer → Option ℕ → Type 0
+Leads x timer a = (d : ℕ) → a ≡ Some d → (e : Expiry) × (x ≡ Some e) × Before e timer d
+
+-- the timer of this expiry is due then
+abbrev pub Sound : Stage → Option Expiry → Type 0
+Sound s x = (e : Expiry) → x ≡ Some e → stage_due s e.timer ≡ Some e.due
+
+leads_own : (timer : Timer) (a : Option ℕ) → Leads (expiry_of timer a) timer a
+leads_own timer None d due = absurd (cc)
+leads_own timer (Some m) d due = let same : m ≡ d = cc in (record { due = m; timer = timer }, refl, inr (same, omega arith))
+
+leads_left_at : (e f : Expiry) (b : Bool) (timer : Timer) (d : ℕ) → nat_lt f.due e.due ≡ b → Before e timer d
+    → (g : Expiry) × ((if b then Some f else Some e) ≡ Some g) × Before g timer d
+leads_left_at e f true timer d lower (inl sooner) = let lt : f.due < e.due = grind (arith, nat_tests) in (f, refl, inl (omega arith))
+leads_left_at e f true timer d lower (inr (at, order)) = let lt : f.due < e.due = grind (arith, nat_tests) in (f, refl, inl (omega arith))
+leads_left_at e f false timer d lower before = (e, refl, before)
+
+leads_left : (x y : Option Expiry) (timer : Timer) (a : Option ℕ) → Leads x timer a → Leads (sooner_of x y) timer a
+leads_left None y timer a leads d due = let (e, is, before) = leads d due in absurd (cc)
+leads_left (Some e) None timer a leads d due = leads d due
+leads_left (Some e) (Some f) timer a leads d due =
+    let (g, is, before) = leads d due in
+    let same : g ≡ e = cc in
+    leads_left_at e f (nat_lt f.due e.due) timer d refl (subst (λ (g : Expiry). Before g timer d) same before)
+
+leads_right_at : (e f : Expiry) (b : Bool) (timer : Timer) (d : ℕ) → nat_lt f.due e.due ≡ b → rank e.timer ≤ rank timer → Before f timer d
+    → (g : Expiry) × ((if b then Some f else Some e) ≡ Some g) × Before g timer d
+leads_right_at e f true timer d lower first before = (f, refl, before)
+leads_right_at e f false timer d lower first (inl sooner) = let le : e.due ≤ f.due = grind (arith, nat_tests) in (e, refl, inl (omega arith))
+leads_right_at e f false timer d lower first (inr (at, order)) =
+    let le : e.due ≤ d = grind (arith, nat_tests) in (e, refl, elim (cases_lt e.due d) [ inl lt ↦ inl lt | inr ge ↦ inr (omega arith, first) ])
+
+leads_right : (x y : Option Expiry) (timer : Timer) (a : Option ℕ) → ((e : Expiry) → x ≡ Some e → rank e.timer ≤ rank timer) → Leads y timer a
+    → Leads (sooner_of x y) timer a
+leads_right None y timer a first leads d due = leads d due
+leads_right (Some e) None timer a first leads d due = let (f, is, before) = leads d due in absurd (cc)
+leads_right (Some e) (Some f) timer a first leads d due =
+    let (g, is, before) = leads d due in
+    let same : g ≡ f = cc in
+    leads_right_at e f (nat_lt f.due e.due) timer d refl (first e refl) (subst (λ (g : Expiry). Before g timer d) same before)
+
+rank_own : (timer later : Timer) (a : Option ℕ) → rank timer ≤ rank later → (e : Expiry) → expiry_of timer a ≡ Some e → rank e.timer ≤ rank later
+rank_own timer later None le e is = absurd (cc)
+rank_own timer later (Some m) le e is = let same : timer ≡ e.timer = cc in subst (λ (x : Timer). rank x ≤ rank later) same le
+
+-- the next expiry comes before every timer that is due
+pub next_leads : (s : Stage) (timer : Timer) → Leads (next_of s) timer (stage_due s timer)
+next_leads s Tsw = leads_left (expiry_of Tsw (stage_due s Tsw)) _ Tsw _ (leads_own Tsw (stage_due s Tsw))
+next_leads s Tcp =
+    leads_right (expiry_of Tsw (stage_due s Tsw)) _ Tcp _ (rank_own Tsw Tcp (stage_due s Tsw) (omega arith))
+    (leads_left (expiry_of Tcp (stage_due s Tcp)) _ Tcp _ (leads_own Tcp (stage_due s Tcp)))
+next_leads s Tccd =
+    leads_right (expiry_of Tsw (stage_due s Tsw)) _ Tccd _ (rank_own Tsw Tccd (stage_due s Tsw) (omega arith))
+    (leads_right (expiry_of Tcp (stage_due s Tcp)) _ Tccd _ (rank_own Tcp Tccd (stage_due s Tcp) (omega arith))
+    (leads_left (expiry_of Tccd (stage_due s Tccd)) _ Tccd _ (leads_own Tccd (stage_due s Tccd))))
+next_leads s Tssf =
+    leads_right (expiry_of Tsw (stage_due s Tsw)) _ Tssf _ (rank_own Tsw Tssf (stage_due s Tsw) (omega arith))
+    (leads_right (expiry_of Tcp (stage_due s Tcp)) _ Tssf _ (rank_own Tcp Tssf (stage_due s Tcp) (omega arith))
+    (leads_right (expiry_of Tccd (stage_due s Tccd)) _ Tssf _ (rank_own Tccd Tssf (stage_due s Tccd) (omega arith)) (leads_own Tssf (stage_due s Tssf))))
+
+sound_own : (s : Stage) (timer : Timer) (a : Option ℕ) → stage_due s timer ≡ a → Sound s (expiry_of timer a)
+sound_own s timer None is e eq = absurd (cc)
+sound_own s timer (Some m) is e eq =
+    let same : record { due = m; timer = timer } ≡ e = cc in
+    subst (λ (x : Expiry). stage_due s x.timer ≡ Some x.due) same is
+
+sound_if : (s : Stage) (b : Bool) (x y : Expiry) → Sound s (Some x) → Sound s (Some y) → Sound s (if b then Some y else Some x)
+sound_if s true x y sx sy = sy
+sound_if s false x y sx sy = sx
+
+sound_sooner : (s : Stage) (x y : Option Expiry) → Sound s x → Sound s y → Sound s (sooner_of x y)
+sound_sooner s None y sx sy = sy
+sound_sooner s (Some e) None sx sy = sx
+sound_sooner s (Some e) (Some f) sx sy = sound_if s (nat_lt f.due e.due) e f sx sy
+
+-- the timer of the next expiry is due then
+pub next_sound : (s : Stage) → Sound s (next_of s)
+next_sound s =
+    sound_sooner s _ _ (sound_own s Tsw (stage_due s Tsw) refl)
+    (sound_sooner s _ _ (sound_own s Tcp (stage_due s Tcp) refl)
+    (sound_sooner s _ _ (sound_own s Tccd (stage_due s Tccd) refl) (sound_own s Tssf (stage_due s Tssf) refl)))
+
+due_by_if : (now : ℕ) (x e : Expiry) (b : Bool) → nat_le x.due now ≡ b → (if b then Some x else None) ≡ Some e → (Some x ≡ Some e) × (e.due ≤ now)
+due_by_if now x e true le is = let low : x.due ≤ now = grind (arith, nat_tests) in let same : x ≡ e = cc in (is, subst (λ (y : Expiry). y.due ≤ now) same low)
+due_by_if now x e false le is = absurd (cc)
+
+-- an expiry that is due by now is the next
+pub due_by-some : (now : ℕ) (x : Option Expiry) (e : Expiry) → due_by now x ≡ Some e → (x ≡ Some e) × (e.due ≤ now)
+due_by-some now None e is = absurd (cc)
+due_by-some now (Some x) e is = due_by_if now x e (nat_le x.due now) refl is
+
+due_by_none_if : (now : ℕ) (x : Expiry) (b : Bool) → nat_le x.due now ≡ b → (if b then Some x else None) ≡ None → now < x.due
+due_by_none_if now x true le is = absurd (cc)
+due_by_none_if now x false le is = grind (arith, nat_tests)
+
+due_by-none : (now : ℕ) (x : Option Expiry) (e : Expiry) → due_by now x ≡ None → x ≡ Some e → now < e.due
+due_by-none now None e is eq = absurd (cc)
+due_by-none now (Some x) e is eq =
+    let same : x ≡ e = cc in subst (λ (y : Expiry). now < y.due) same (due_by_none_if now x (nat_le x.due now) refl is)
+
+pub later_than : (e : Expiry) (timer : Timer) (d : ℕ) → Before e timer d → e.due ≤ d
+later_than e timer d (inl sooner) = omega arith
+later_than e timer d (inr (at, order)) = omega arith
+
+-- where no expiry is due by now, no timer is
+pub quiet_by : (now : ℕ) (s : Stage) → due_by now (next_of s) ≡ None → IsQuiet now s
+quiet_by now s none timer d is =
+    let (e, next, before) = next_leads s timer d is in
+    let le = later_than e timer d before in
+    let lt = due_by-none now (next_of s) e none next in
+    omega (arith, le, lt)
+
+-- the next expiry comes first
+pub next_first : (s : Stage) (e : Expiry) → next_of s ≡ Some e → (timer : Timer) (d : ℕ) → stage_due s timer ≡ Some d → Before e timer d
+next_first s e next timer d is =
+    let (f, also, before) = next_leads s timer d is in
+    let same : f ≡ e = cc in subst (λ (y : Expiry). Before y timer d) same before
+
+switch_later : (clock now : ℕ) (w : Switch) → IsSwitchTimely clock w → clock ≤ now → ((d : ℕ) → switch_due_of w ≡ Some d → now ≤ d) → IsSwitchTimely now w
+switch_later clock now switch.Unset timely le all = tt
+switch_later clock now (switch.Due m) timely le all = all m refl
+switch_later clock now (switch.Passed m) timely le all = omega arith
+
+charging_later : (clock now end : ℕ) (ch : Charging) → ((d : ℕ) → tcp_due_of end ch ≡ Some d → now ≤ d) → ((d : ℕ) → tccd_due_of ch ≡ Some d → now ≤ d)
+    → IsChargingTimely now end ch
+charging_later clock now end charging.Off tcp tccd = tt
+charging_later clock now end (charging.Running release) tcp tccd = tcp end refl
+charging_later clock now end (charging.Over m) tcp tccd = tccd m refl
+
+-- a stage stays timely up to its least due moment
+pub timely_later : (clock now : ℕ) (s : Stage) → IsTimely clock s → clock ≤ now → ((timer : Timer) (d : ℕ) → stage_due s timer ≡ Some d → now ≤ d) → IsTimely now s
+timely_later clock now stage.Unused timely le all = tt
+timely_later clock now stage.Requested timely le all = tt
+timely_later clock now (stage.Initial setup m) timely le all = (all Tssf m refl, switch_later clock now setup.switch timely.1 le (all Tsw))
+timely_later clock now (stage.Setup setup) timely le all = switch_later clock now setup.switch timely le (all Tsw)
+timely_later clock now (stage.Active active) timely le all = record {
+  answered = let old = timely.answered in omega arith;
+  granted = timely.granted;
+  charging = charging_later clock now (active.answered + active.granted) active.charging (all Tcp) (all Tccd);
+  switch = switch_later clock now active.switch timely.switch le (all Tsw);
+}
+timely_later clock now (stage.Down m) timely le all = all Tssf m refl
+timely_later clock now stage.Ended timely le all = tt
+
+-- what an expiry leaves: a timely stage, fewer items and fewer expiries to come, and no report before the rest
+pub record Leaves (d : ℕ) (s : Stage) (move : Move) : Type 0 where
+  pub timely : IsTimely d move.stage
+  pub room : length move.sent + items_left move.stage ≤ items_left s
+  pub fewer : expiries_left move.stage < expiries_left s
+  pub none_first : move.first ≡ []
+
+one_switch : (w : Switch) (d : ℕ) → switch_due_of w ≡ Some d → switches_left w ≡ 1
+one_switch switch.Unset d due = absurd (cc)
+one_switch (switch.Due m) d due = refl
+one_switch (switch.Passed m) d due = absurd (cc)
+
+leaves_period : (tccd : ℕ) (active : Active) (d : ℕ) (ch : Charging) → active.charging ≡ ch → IsActiveTimely d active → tcp_due_of (active.answered + active.granted) ch ≡ Some d
+    → Leaves d (stage.Active active) (period_over tccd active d ch)
+leaves_period tccd active d charging.Off is timely due = absurd (cc)
+leaves_period tccd active d (charging.Running true) is timely due = record {
+  timely = tt;
+  room = rw is (omega arith);
+  fewer = rw is (omega arith);
+  none_first = refl;
+}
+leaves_period tccd active d (charging.Running false) is timely due = record {
+  timely = record { answered = timely.answered; granted = timely.granted; charging = omega arith; switch = timely.switch };
+  room = rw is (omega arith);
+  fewer = rw is (omega arith);
+  none_first = refl;
+}
+leaves_period tccd active d (charging.Over m) is timely due = absurd (cc)
+
+leaves_over : (active : Active) (d : ℕ) (ch : Charging) → active.charging ≡ ch → tccd_due_of ch ≡ Some d → (2 ≤ items_left (stage.Active active)) × (0 < expiries_left (stage.Active active))
+leaves_over active d charging.Off is due = absurd (cc)
+leaves_over active d (charging.Running release) is due = absurd (cc)
+leaves_over active d (charging.Over m) is due = (rw is (omega arith), rw is (omega arith))
+
+leaves_default : (d : ℕ) (s : Stage) (default : DefaultHandling) → items_left s ≡ 2 → 0 < expiries_left s → Leaves d s (defaulted default)
+leaves_default d s handling.Proceed two some = record { timely = tt; room = omega arith; fewer = omega arith; none_first = refl }
+leaves_default d s handling.Release two some = record { timely = tt; room = omega arith; fewer = omega arith; none_first = refl }
+
+pub leaves : (config : SsfConfig) (s : Stage) (d : ℕ) (timer : Timer) → IsTimely d s → stage_due s timer ≡ Some d → Leaves d s (expired config s d timer)
+leaves config stage.Unused d timer timely due = absurd (cc)
+leaves config stage.Requested d timer timely due = absurd (cc)
+leaves config (stage.Initial setup m) d Tsw timely due = let one = one_switch setup.switch d due in
+    record { timely = (timely.0, omega arith); room = omega arith; fewer = omega arith; none_first = refl }
+leaves config (stage.Initial setup m) d Tcp timely due = absurd (cc)
+leaves config (stage.Initial setup m) d Tccd timely due = absurd (cc)
+leaves config (stage.Initial setup m) d Tssf timely due = leaves_default d (stage.Initial setup m) config.default_handling refl (omega arith)
+leaves config (stage.Setup setup) d Tsw timely due = let one = one_switch setup.switch d due in
+    record { timely = omega arith; room = omega arith; fewer = omega arith; none_first = refl }
+leaves config (stage.Setup setup) d Tcp timely due = absurd (cc)
+leaves config (stage.Setup setup) d Tccd timely due = absurd (cc)
+leaves config (stage.Setup setup) d Tssf timely due = absurd (cc)
+leaves config (stage.Active active) d Tsw timely due = let one = one_switch active.switch d due in record {
+  timely = record { answered = timely.answered; granted = timely.granted; charging = timely.charging; switch = omega arith };
+  room = omega arith;
+  fewer = omega arith;
+  none_first = refl;
+}
+leaves config (stage.Active active) d Tcp timely due = leaves_period config.tccd active d active.charging refl timely due
+leaves config (stage.Active active) d Tccd timely due = let left = leaves_over active d active.charging refl due in
+    record { timely = tt; room = left.0; fewer = left.1; none_first = refl }
+leaves config (stage.Active active) d Tssf timely due = absurd (cc)
+leaves config (stage.Down m) d Tsw timely due = absurd (cc)
+leaves config (stage.Down m) d Tcp timely due = absurd (cc)
+leaves config (stage.Down m) d Tccd timely due = absurd (cc)
+leaves config (stage.Down m) d Tssf timely due = leaves_default d (stage.Down m) config.default_handling refl (omega arith)
+leaves config stage.Ended d timer timely due = absurd (cc)
+
+period_few : (ch : Charging) → items_after_period ch ≤ 3
+period_few charging.Off = omega arith
+period_few (charging.Running release) = omega arith
+period_few (charging.Over m) = omega arith
+
+-- the timers of a stage send at most three items
+pub few_left : (s : Stage) → items_left s ≤ 3
+few_left stage.Unused = omega arith
+few_left stage.Requested = omega arith
+few_left (stage.Initial setup m) = omega arith
+few_left (stage.Setup setup) = omega arith
+few_left (stage.Active active) = period_few active.charging
+few_left (stage.Down m) = omega arith
+few_left stage.Ended = omega arith

@@ -1,0 +1,13 @@
+pub mod Calls
+pub mod Configs
+pub mod Happenings
+pub mod Modes
+pub mod Moves
+pub mod Phases
+pub mod Quantities
+pub mod Running
+pub mod Split
+pub mod Stages
+pub mod Stands
+pub mod Table
+pub mod Traces

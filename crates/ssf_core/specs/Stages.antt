@@ -1,0 +1,202 @@
+-- The stages of the code: where a call stands, with its data.
+use Rattle.std.specs.Prelude.{◌≡◌, ◌+◌, ◌*◌, ◌≤◌, ◌<◌, ℕ, Bool, true, false, Option, Some, None, if◌then◌else◌, nat_le, nat_lt}
+use Rattle.cap_values.specs.declared.mode.Mode.TheVariants.{Transparent}
+use Rattle.cap_values.specs.declared.charge.Charge.{Charge}
+use Rattle.ssf_core.specs.declared.stage.Active.{Active}
+use Rattle.ssf_core.specs.declared.stage.Charging.{Charging}
+use Rattle.ssf_core.specs.declared.stage.Charging.TheVariants as charging
+use Rattle.ssf_core.specs.declared.stage.Setup.{Setup}
+use Rattle.ssf_core.specs.declared.stage.Stage.{Stage}
+use Rattle.ssf_core.specs.declared.stage.Stage.TheVariants as stage
+use Rattle.ssf_core.specs.declared.stage.Switch.{Switch}
+use Rattle.ssf_core.specs.declared.stage.Switch.TheVariants as switch
+use Rattle.ssf_core.specs.declared.timer.Expiry.{Expiry}
+use Rattle.ssf_core.specs.declared.timer.Timer.{Timer}
+use Rattle.ssf_core.specs.declared.timer.Timer.TheVariants.{Tsw, Tcp, Tccd, Tssf}
+
+-- the Tsw rule
+abbrev pub started : Switch → ℕ → Option ℕ → Switch
+started (switch.Passed moment) now seconds = switch.Passed moment
+started switch.Unset now (Some seconds) = switch.Due (now + 10 * seconds)
+started switch.Unset now None = switch.Unset
+started (switch.Due moment) now (Some seconds) = switch.Due (now + 10 * seconds)
+started (switch.Due moment) now None = switch.Due moment
+
+-- the moment of the switch, once it came
+abbrev pub passed : Switch → Option ℕ
+passed switch.Unset = None
+passed (switch.Due moment) = None
+passed (switch.Passed moment) = Some moment
+
+-- when Tsw is due
+abbrev pub switch_due_of : Switch → Option ℕ
+switch_due_of switch.Unset = None
+switch_due_of (switch.Due moment) = Some moment
+switch_due_of (switch.Passed moment) = None
+
+abbrev pub tcp_due_of : ℕ → Charging → Option ℕ
+tcp_due_of end charging.Off = None
+tcp_due_of end (charging.Running release) = Some end
+tcp_due_of end (charging.Over moment) = None
+
+abbrev pub tccd_due_of : Charging → Option ℕ
+tccd_due_of charging.Off = None
+tccd_due_of (charging.Running release) = None
+tccd_due_of (charging.Over moment) = Some moment
+
+-- when the timers of an active call are due
+abbrev pub active_due : Active → Timer → Option ℕ
+active_due active Tsw = switch_due_of active.switch
+active_due active Tcp = tcp_due_of (active.answered + active.granted) active.charging
+active_due active Tccd = tccd_due_of active.charging
+active_due active Tssf = None
+
+-- when the timers of a call that waits before its answer are due
+abbrev pub initial_due : Setup → ℕ → Timer → Option ℕ
+initial_due setup moment Tsw = switch_due_of setup.switch
+initial_due setup moment Tcp = None
+initial_due setup moment Tccd = None
+initial_due setup moment Tssf = Some moment
+
+abbrev pub setup_due : Setup → Timer → Option ℕ
+setup_due setup Tsw = switch_due_of setup.switch
+setup_due setup Tcp = None
+setup_due setup Tccd = None
+setup_due setup Tssf = None
+
+abbrev pub down_due : ℕ → Timer → Option ℕ
+down_due moment Tsw = None
+down_due moment Tcp = None
+down_due moment Tccd = None
+down_due moment Tssf = Some moment
+
+-- when a timer of a stage is due
+abbrev pub stage_due : Stage → Timer → Option ℕ
+stage_due stage.Unused timer = None
+stage_due stage.Requested timer = None
+stage_due (stage.Initial setup moment) timer = initial_due setup moment timer
+stage_due (stage.Setup setup) timer = setup_due setup timer
+stage_due (stage.Active active) timer = active_due active timer
+stage_due (stage.Down moment) timer = down_due moment timer
+stage_due stage.Ended timer = None
+
+-- the switch isn't behind, unless it came
+abbrev pub IsSwitchTimely : ℕ → Switch → Type 0
+IsSwitchTimely now switch.Unset = Unit {0}
+IsSwitchTimely now (switch.Due moment) = now ≤ moment
+IsSwitchTimely now (switch.Passed moment) = moment ≤ now
+
+-- neither is the end of the period, or of the wait for a further one
+abbrev pub IsChargingTimely : ℕ → ℕ → Charging → Type 0
+IsChargingTimely now end charging.Off = Unit {0}
+IsChargingTimely now end (charging.Running release) = now ≤ end
+IsChargingTimely now end (charging.Over moment) = now ≤ moment
+
+-- an active call that is timely
+pub record IsActiveTimely (now : ℕ) (active : Active) : Type 0 where
+  pub answered : active.answered ≤ now
+  pub granted : active.granted ≤ 864000
+  pub charging : IsChargingTimely now (active.answered + active.granted) active.charging
+  pub switch : IsSwitchTimely now active.switch
+
+-- what was is behind, and no due moment is
+abbrev pub IsTimely : ℕ → Stage → Type 0
+IsTimely now stage.Unused = Unit {0}
+IsTimely now stage.Requested = Unit {0}
+IsTimely now (stage.Initial setup moment) = (now ≤ moment) × IsSwitchTimely now setup.switch
+IsTimely now (stage.Setup setup) = IsSwitchTimely now setup.switch
+IsTimely now (stage.Active active) = IsActiveTimely now active
+IsTimely now (stage.Down moment) = now ≤ moment
+IsTimely now stage.Ended = Unit {0}
+
+-- no timer is due by now
+abbrev pub IsQuiet : ℕ → Stage → Type 0
+IsQuiet now stage = (timer : Timer) (d : ℕ) → stage_due stage timer ≡ Some d → now < d
+
+-- moments that can be added to
+abbrev pub IsBounded : Stage → Type 0
+IsBounded stage.Unused = Unit {0}
+IsBounded stage.Requested = Unit {0}
+IsBounded (stage.Initial setup moment) = Unit {0}
+IsBounded (stage.Setup setup) = Unit {0}
+IsBounded (stage.Active active) = (active.answered ≤ 2000000000000) × (active.granted ≤ 864000)
+IsBounded (stage.Down moment) = Unit {0}
+IsBounded stage.Ended = Unit {0}
+
+-- an expiry of a timer that runs
+abbrev pub expiry_of : Timer → Option ℕ → Option Expiry
+expiry_of timer None = None
+expiry_of timer (Some moment) = Some (record { due = moment; timer = timer })
+
+-- the sooner of two expiries, the first at one moment
+abbrev pub sooner_of : Option Expiry → Option Expiry → Option Expiry
+sooner_of None second = second
+sooner_of (Some first) None = Some first
+sooner_of (Some first) (Some second) = if nat_lt second.due first.due then Some second else Some first
+
+-- the next expiry of a stage
+abbrev pub next_of : Stage → Option Expiry
+next_of stage =
+    sooner_of (expiry_of Tsw (stage_due stage Tsw))
+    (sooner_of (expiry_of Tcp (stage_due stage Tcp)) (sooner_of (expiry_of Tccd (stage_due stage Tccd)) (expiry_of Tssf (stage_due stage Tssf))))
+
+-- the moment of an expiry
+abbrev pub moment_of : Option Expiry → Option ℕ
+moment_of None = None
+moment_of (Some expiry) = Some expiry.due
+
+-- an expiry that is due by now
+abbrev pub due_by : ℕ → Option Expiry → Option Expiry
+due_by now None = None
+due_by now (Some expiry) = if nat_le expiry.due now then Some expiry else None
+
+-- before anything is armed, charged or switched
+abbrev pub blank : Setup
+blank = record {
+  modes = record {
+    route_select_failure = Transparent;
+    called_party_busy = Transparent;
+    no_answer = Transparent;
+    answer = Transparent;
+    disconnect_one = Transparent;
+    disconnect_two = Transparent;
+    abandon = Transparent;
+  };
+  charge = None;
+  switch = switch.Unset;
+}
+
+abbrev pub items_after_period : Charging → ℕ
+items_after_period charging.Off = 0
+items_after_period (charging.Running release) = 3
+items_after_period (charging.Over moment) = 2
+
+-- the most items that the timers of a stage send
+abbrev pub items_left : Stage → ℕ
+items_left stage.Unused = 0
+items_left stage.Requested = 0
+items_left (stage.Initial setup moment) = 2
+items_left (stage.Setup setup) = 0
+items_left (stage.Active active) = items_after_period active.charging
+items_left (stage.Down moment) = 2
+items_left stage.Ended = 0
+
+abbrev pub switches_left : Switch → ℕ
+switches_left switch.Unset = 0
+switches_left (switch.Due moment) = 1
+switches_left (switch.Passed moment) = 0
+
+abbrev pub periods_left : Charging → ℕ
+periods_left charging.Off = 0
+periods_left (charging.Running release) = 2
+periods_left (charging.Over moment) = 1
+
+-- the most expiries that a stage has before its next input
+abbrev pub expiries_left : Stage → ℕ
+expiries_left stage.Unused = 0
+expiries_left stage.Requested = 0
+expiries_left (stage.Initial setup moment) = 1 + switches_left setup.switch
+expiries_left (stage.Setup setup) = switches_left setup.switch
+expiries_left (stage.Active active) = periods_left active.charging + switches_left active.switch
+expiries_left (stage.Down moment) = 1
+expiries_left stage.Ended = 0

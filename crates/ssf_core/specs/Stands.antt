@@ -1,0 +1,84 @@
+-- Which traces a stage of the code stands for.
+use Rattle.std.specs.Prelude.{◌≡◌, ◌+◌, ◌≤◌, ℕ, Bool, Option, Some, None, List}
+use Rattle.std.specs.Option.{option_map}
+use Rattle.cap_values.specs.declared.arming.Point.{Point}
+use Rattle.cap_values.specs.declared.charge.Charge.{Charge}
+use Rattle.cap_values.specs.declared.mode.Mode.{Mode}
+use Rattle.ssf_core.specs.Happenings.{Happening}
+use Rattle.ssf_core.specs.Modes.{modes_at}
+use Rattle.ssf_core.specs.Moves.{period_of}
+use Rattle.ssf_core.specs.Phases.{Phase, Unused, Requested, Initial, Setup, Active, Down, Ended}
+use Rattle.ssf_core.specs.Quantities.{answered, granted, last_input, last_moment, mode_at, pending, period_end, switch_due, switched}
+use Rattle.ssf_core.specs.Stages.{blank, passed, switch_due_of, tccd_due_of}
+use Rattle.ssf_core.specs.Traces.{IsTrace, awaited_switch, phase_after}
+use Rattle.ssf_core.specs.declared.config.SsfConfig.{SsfConfig}
+use Rattle.ssf_core.specs.declared.stage.Active.{Active as AnActive}
+use Rattle.ssf_core.specs.declared.stage.Charging.{Charging}
+use Rattle.ssf_core.specs.declared.stage.Charging.TheVariants as charging
+use Rattle.ssf_core.specs.declared.stage.Setup.{Setup as ASetup}
+use Rattle.ssf_core.specs.declared.stage.Stage.{Stage}
+use Rattle.ssf_core.specs.declared.stage.Stage.TheVariants as stage
+
+-- the phase of a stage
+abbrev pub phase_of : Stage → Phase
+phase_of stage.Unused = Unused
+phase_of stage.Requested = Requested
+phase_of (stage.Initial setup due) = Initial
+phase_of (stage.Setup setup) = Setup
+phase_of (stage.Active active) = Active
+phase_of (stage.Down due) = Down
+phase_of stage.Ended = Ended
+
+abbrev pub release_of : Option Charge → Option Bool
+release_of None = None
+release_of (Some charge) = Some charge.release
+
+abbrev pub running : Charging → Option Bool
+running charging.Off = None
+running (charging.Running release) = Some release
+running (charging.Over due) = None
+
+-- a call before its answer has these modes, this pending period and this sum, no end of a period, and this switch
+pub record SetupHas (setup : ASetup) (modes : Point → Mode) (wish : Option Bool) (sum : ℕ) (end came awaited : Option ℕ) : Type 0 where
+  pub same_modes : (p : Point) → modes p ≡ modes_at setup.modes p
+  pub same_wish : wish ≡ release_of setup.charge
+  pub same_sum : sum ≡ period_of setup.charge
+  pub no_end : end ≡ None
+  pub same_switch : came ≡ passed setup.switch
+  pub same_awaited : awaited ≡ switch_due_of setup.switch
+
+-- a call after its answer has these modes, this pending period, this sum, this wait for a further period, this answer and this switch
+pub record ActiveHas (active : AnActive) (modes : Point → Mode) (wish : Option Bool) (sum : ℕ) (wait answer came awaited : Option ℕ) : Type 0 where
+  pub same_modes : (p : Point) → modes p ≡ modes_at active.modes p
+  pub same_wish : wish ≡ running active.charging
+  pub same_sum : sum ≡ active.granted
+  pub same_wait : wait ≡ tccd_due_of active.charging
+  pub same_answer : answer ≡ Some active.answered
+  pub same_switch : came ≡ passed active.switch
+  pub same_awaited : awaited ≡ switch_due_of active.switch
+
+abbrev pub SetupMatches : ASetup → List Happening → Type 0
+SetupMatches setup trace =
+    SetupHas setup (mode_at trace) (pending trace) (granted trace) (period_end trace) (switched trace) (awaited_switch (switched trace) (switch_due trace))
+
+abbrev pub ActiveMatches : ℕ → AnActive → List Happening → Type 0
+ActiveMatches tccd active trace =
+    ActiveHas active (mode_at trace) (pending trace) (granted trace) (option_map (λ end. end + tccd) (period_end trace)) (answered trace) (switched trace)
+    (awaited_switch (switched trace) (switch_due trace))
+
+-- the data of a stage are those that the trace tells
+abbrev pub StageMatches : SsfConfig → Stage → List Happening → Type 0
+StageMatches config stage.Unused trace = SetupMatches blank trace
+StageMatches config stage.Requested trace = SetupMatches blank trace
+StageMatches config (stage.Initial setup due) trace = SetupMatches setup trace × (last_input trace + config.tssf ≡ due)
+StageMatches config (stage.Setup setup) trace = SetupMatches setup trace
+StageMatches config (stage.Active active) trace = ActiveMatches config.tccd active trace
+StageMatches config (stage.Down due) trace = last_input trace + config.tssf ≡ due
+StageMatches config stage.Ended trace = Unit {0}
+
+-- a stage stands for a trace by a moment
+pub record StageStands (config : SsfConfig) (last : ℕ) (stage : Stage) (trace : List Happening) : Type 0 where
+  pub is_trace : IsTrace config trace
+  pub phase : phase_after config trace ≡ phase_of stage
+  pub data' : StageMatches config stage trace
+  pub behind : last_moment trace ≤ last

@@ -1,0 +1,47 @@
+//! What the gsmSSF sends.
+
+use crate::SsfFault;
+use arrayvec::ArrayVec;
+use cap_values::{Cause, SsfMsg};
+
+/// A moment, in units of 100 ms from the caller's origin: 0 to 2,000,000,000,000.
+pub type Moment = u64;
+
+/// What the gsmSSF sends: a message to the service, or an instruction to the switch.
+#[derive(Clone, Copy, Debug, PartialEq, Eq)]
+pub enum Item {
+    /// A message to the service.
+    Msg(SsfMsg),
+    /// The call goes on.
+    Proceed,
+    /// The call is cleared with this cause.
+    Clear(Cause),
+}
+
+/// What is sent, and as of which moment: of a timer's items, the one at which it was due.
+#[derive(Clone, Copy, Debug, PartialEq, Eq)]
+pub struct Out {
+    /// The moment.
+    pub at: Moment,
+    /// What is sent.
+    pub item: Item,
+}
+
+impl Default for Out {
+    /// `Proceed` at 0: what an unused place of a list holds.
+    fn default() -> Out {
+        Out {
+            at: 0,
+            item: Item::Proceed,
+        }
+    }
+}
+
+/// What a call of the gsmSSF gives.
+#[derive(Debug, Drop)]
+pub struct Step {
+    /// What was sent, in order.
+    pub sent: ArrayVec<Out, 8>,
+    /// Why the input was refused, if it was.
+    pub fault: Option<SsfFault>,
+}

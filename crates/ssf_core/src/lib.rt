@@ -1,0 +1,29 @@
+//! The gsmSSF: what the switch runs for one prepaid call (GSM 03.78, CAMEL phase 2).
+#![tactic(auto)]
+
+mod bcsm_event;
+mod config;
+mod events;
+mod expiries;
+mod fault;
+mod input;
+mod inputs;
+mod item;
+mod modes;
+mod operations;
+mod reports;
+mod sending;
+mod ssf;
+mod stage;
+mod state;
+#[cfg(test)]
+mod tests;
+mod timer;
+mod timers;
+
+pub use bcsm_event::BcsmEvent;
+pub use config::{DefaultHandling, MAX_TIMER, SsfConfig};
+pub use fault::SsfFault;
+pub use item::{Item, Moment, Out, Step};
+pub use ssf::Ssf;
+pub use state::State;

@@ -1,0 +1,117 @@
+//! What is sent, put at the end of a step.
+
+ghost use Rattle.std.specs.Prelude.{◌≡◌, ◌+◌, ◌<◌, ◌≤◌, ◌∷◌, []};
+ghost use Rattle.arrayvec.specs.ArrayVec.{array_vec_len};
+ghost use Rattle.cap_values.specs.declared.message.SsfMsg.TheVariants as message;
+ghost use Rattle.ssf_core.specs.Moves.{met_by, send_all, send_move};
+ghost use Rattle.ssf_core.specs.Table.{notified};
+ghost use Rattle.ssf_core.specs.declared.item.Item.TheVariants as item;
+
+use crate::stage::Stage;
+use crate::{Item, Moment, Out, SsfConfig};
+use arrayvec::ArrayVec;
+use cap_values::{Cause, Event, Leg, Mode, SsfMsg};
+
+/// Sends an item as of a moment.
+pub(crate) fn send(sent: &mut ArrayVec<Out, 8>, now: Moment, item: Item)
+    requires { array_vec_len sent.old < 8 }
+    ensures items { sent.new.items ≡ send_all sent.old.items now (item ∷ []) }
+    ensures room { array_vec_len sent.new ≡ array_vec_len sent.old + 1 }
+{
+    sent.push(Out { at: now, item });
+}
+
+/// The dialogue ends: `Ended` is sent last.
+pub(crate) fn end(sent: &mut ArrayVec<Out, 8>, now: Moment) -> Stage
+    requires { array_vec_len sent.old < 8 }
+    ensures stage { result ≡ Stage.Ended }
+    ensures items { sent.new.items ≡ send_all sent.old.items now (item.Msg message.Ended ∷ []) }
+    ensures room { array_vec_len sent.new ≡ array_vec_len sent.old + 1 }
+{
+    send(sent, now, Item::Msg(SsfMsg::Ended));
+    Stage::Ended
+}
+
+/// The call is cleared, and the dialogue ends.
+pub(crate) fn clear(sent: &mut ArrayVec<Out, 8>, now: Moment, cause: Cause) -> Stage
+    requires { array_vec_len sent.old ≤ 6 }
+    ensures stage { result ≡ Stage.Ended }
+    ensures items { sent.new.items ≡ send_all sent.old.items now (item.Clear cause ∷ item.Msg message.Ended ∷ []) }
+    ensures room { array_vec_len sent.new ≡ array_vec_len sent.old + 2 }
+{
+    send(sent, now, Item::Clear(cause));
+    end(sent, now)
+}
+
+/// The call goes on without the service.
+pub(crate) fn proceed(sent: &mut ArrayVec<Out, 8>, now: Moment) -> Stage
+    requires { array_vec_len sent.old ≤ 6 }
+    ensures stage { result ≡ Stage.Ended }
+    ensures items { sent.new.items ≡ send_all sent.old.items now (item.Proceed ∷ item.Msg message.Ended ∷ []) }
+    ensures room { array_vec_len sent.new ≡ array_vec_len sent.old + 2 }
+{
+    send(sent, now, Item::Proceed);
+    end(sent, now)
+}
+
+/// Reports an event.
+pub(crate) fn tell(
+    sent: &mut ArrayVec<Out, 8>,
+    now: Moment,
+    event: Event,
+    leg: Option<Leg>,
+    mode: Mode,
+)
+    requires { array_vec_len sent.old < 8 }
+    ensures items { sent.new.items ≡ send_all sent.old.items now (item.Msg (message.EventReport event leg mode) ∷ []) }
+    ensures room { array_vec_len sent.new ≡ array_vec_len sent.old + 1 }
+{
+    send(
+        sent,
+        now,
+        Item::Msg(SsfMsg::EventReport { event, leg, mode }),
+    );
+}
+
+/// Reports an event where its mode is NotifyAndContinue.
+pub(crate) fn notify(sent: &mut ArrayVec<Out, 8>, now: Moment, event: Event, mode: Mode)
+    requires { array_vec_len sent.old < 8 }
+    ensures items { sent.new.items ≡ send_all sent.old.items now (notified event mode) }
+    ensures room { array_vec_len sent.new ≤ array_vec_len sent.old + 1 }
+{
+    match mode {
+        Mode::NotifyAndContinue => tell(sent, now, event, None, mode),
+        Mode::Interrupted | Mode::Transparent => {}
+    }
+}
+
+/// An event that ends or interrupts the call, by its mode. Transparent: ends. NotifyAndContinue:
+/// reported, ends. Interrupted: reported, and the service is asked.
+pub(crate) fn by_mode(
+    config: &SsfConfig,
+    sent: &mut ArrayVec<Out, 8>,
+    now: Moment,
+    event: Event,
+    leg: Option<Leg>,
+    mode: Mode,
+) -> Stage
+    requires moment { now ≤ 2000000000000 }
+    requires room { array_vec_len sent.old ≤ 6 }
+    ensures stage { result ≡ (met_by config.now.tssf now event leg mode).stage }
+    ensures items { sent.new.items ≡ send_all sent.old.items now (met_by config.now.tssf now event leg mode).sent }
+    ensures room { array_vec_len sent.new ≤ array_vec_len sent.old + 2 }
+{
+    match mode {
+        Mode::Interrupted => {
+            tell(sent, now, event, leg, mode);
+            Stage::Down {
+                due: now + u64::from(config.tssf),
+            }
+        }
+        Mode::NotifyAndContinue => {
+            tell(sent, now, event, leg, mode);
+            end(sent, now)
+        }
+        Mode::Transparent => end(sent, now),
+    }
+}

@@ -1,0 +1,161 @@
+//! The gsmSSF of one call.
+
+use crate::expiries::next_moment;
+use crate::input::Input;
+use crate::inputs::take;
+use crate::stage::{Stage, state_of};
+use crate::timers::run_timers;
+use crate::{BcsmEvent, Moment, SsfConfig, SsfFault, State, Step};
+use arrayvec::ArrayVec;
+use cap_values::{Number, ScfOp};
+use std::marker::Model;
+
+/// The gsmSSF of one call. Once its dialogue has ended it stays Idle and refuses every input but
+/// `advance`.
+///
+/// Every call first compares its moment with the last one: a lesser one is `TimeBackwards` and
+/// changes nothing. Then all timers due by it expire, each as of its due moment, and then the input
+/// is taken or refused by the table.
+#[derive(Drop)]
+pub struct Ssf {
+    config: SsfConfig,
+    last: Moment,
+    stage: Stage,
+}
+
+impl Model for Ssf {
+    ghost use Rattle.std.specs.Prelude.{◌≤◌};
+    ghost use Rattle.ssf_core.specs.Calls.{View};
+    ghost use Rattle.ssf_core.specs.Stages.{IsTimely};
+
+    ghost Value = { View };
+
+    ghost view = { λ s. record { config = s.config; last = s.last; stage = s.stage } };
+
+    ghost invariant = { λ s. (s.last ≤ 2000000000000) × IsTimely s.last s.stage };
+}
+
+impl Ssf {
+    ghost use Rattle.std.specs.Prelude.{◌≡◌, ◌≤◌, ◌<◌, List, [], Some, None};
+    ghost use Rattle.ssf_core.specs.Calls.{Advances, IsNextDue, Stands, Takes};
+    ghost use Rattle.ssf_core.specs.Phases.{state_in};
+    ghost use Rattle.ssf_core.specs.Traces.{phase_after};
+    ghost use Rattle.ssf_core.specs.Happenings.{Happening};
+    ghost use Rattle.ssf_core.specs.declared.input.Input.TheVariants as taken;
+
+    /// A gsmSSF that was never invoked.
+    pub fn new(config: SsfConfig) -> Ssf
+        ensures stands { Stands result [] }
+        ensures config { result.config ≡ config }
+        ensures last { result.last ≡ 0 }
+    {
+        Ssf {
+            config,
+            last: 0,
+            stage: Stage::Unused,
+        }
+    }
+
+    /// The state of the call.
+    pub fn state(&self) -> State
+        ensures { (t : List Happening) → Stands self.now t → result ≡ state_in (phase_after self.now.config t) }
+    {
+        state_of(&self.stage)
+    }
+
+    /// The least moment at which a timer is due, or none where no timer runs.
+    pub fn next_due(&self) -> Option<Moment>
+        ensures { (t : List Happening) → Stands self.now t → IsNextDue self.now.config t result }
+    {
+        next_moment(&self.stage)
+    }
+
+    /// The switch invokes it.
+    pub fn invoke(&mut self, now: Moment) -> Step
+        requires { now ≤ 2000000000000 }
+        ensures backwards { now < self.old.last → (self.new ≡ self.old) × (result.fault ≡ Some SsfFault.TimeBackwards) × (result.sent.items ≡ []) }
+        ensures moment { self.old.last ≤ now → (self.new.last ≡ now) × (self.new.config ≡ self.old.config) }
+        ensures trace { self.old.last ≤ now → (t : List Happening) → Stands self.old t → Takes self.old self.new now taken.Invoke t result.sent.items result.fault }
+    {
+        self.input(now, Input::Invoke)
+    }
+
+    /// A call triggers it: InitialDp is sent.
+    pub fn trigger(&mut self, now: Moment, call: u64, calling: Number, called: Number) -> Step
+        requires { now ≤ 2000000000000 }
+        ensures backwards { now < self.old.last → (self.new ≡ self.old) × (result.fault ≡ Some SsfFault.TimeBackwards) × (result.sent.items ≡ []) }
+        ensures moment { self.old.last ≤ now → (self.new.last ≡ now) × (self.new.config ≡ self.old.config) }
+        ensures trace { self.old.last ≤ now → (t : List Happening) → Stands self.old t → Takes self.old self.new now (taken.Trigger call calling called) t result.sent.items result.fault }
+    {
+        self.input(
+            now,
+            Input::Trigger {
+                call,
+                calling,
+                called,
+            },
+        )
+    }
+
+    /// The service sends an operation.
+    pub fn operation(&mut self, now: Moment, op: ScfOp) -> Step
+        requires { now ≤ 2000000000000 }
+        ensures backwards { now < self.old.last → (self.new ≡ self.old) × (result.fault ≡ Some SsfFault.TimeBackwards) × (result.sent.items ≡ []) }
+        ensures moment { self.old.last ≤ now → (self.new.last ≡ now) × (self.new.config ≡ self.old.config) }
+        ensures trace { self.old.last ≤ now → (t : List Happening) → Stands self.old t → Takes self.old self.new now (taken.Operate op) t result.sent.items result.fault }
+    {
+        self.input(now, Input::Operate(op))
+    }
+
+    /// The call meets an event.
+    pub fn event(&mut self, now: Moment, event: BcsmEvent) -> Step
+        requires { now ≤ 2000000000000 }
+        ensures backwards { now < self.old.last → (self.new ≡ self.old) × (result.fault ≡ Some SsfFault.TimeBackwards) × (result.sent.items ≡ []) }
+        ensures moment { self.old.last ≤ now → (self.new.last ≡ now) × (self.new.config ≡ self.old.config) }
+        ensures trace { self.old.last ≤ now → (t : List Happening) → Stands self.old t → Takes self.old self.new now (taken.Meet event) t result.sent.items result.fault }
+    {
+        self.input(now, Input::Meet(event))
+    }
+
+    /// Time passes.
+    pub fn advance(&mut self, now: Moment) -> Step
+        requires { now ≤ 2000000000000 }
+        ensures backwards { now < self.old.last → (self.new ≡ self.old) × (result.fault ≡ Some SsfFault.TimeBackwards) × (result.sent.items ≡ []) }
+        ensures moment { self.old.last ≤ now → (self.new.last ≡ now) × (self.new.config ≡ self.old.config) × (result.fault ≡ None) }
+        ensures trace { self.old.last ≤ now → (t : List Happening) → Stands self.old t → Advances self.old self.new now t result.sent.items }
+    {
+        let mut sent = ArrayVec::new();
+        if now < self.last {
+            return Step {
+                sent,
+                fault: Some(SsfFault::TimeBackwards),
+            };
+        }
+        self.stage = run_timers(&self.config, self.stage, &mut sent, self.last, now);
+        self.last = now;
+        Step { sent, fault: None }
+    }
+
+    fn input(&mut self, now: Moment, input: Input) -> Step
+        requires { now ≤ 2000000000000 }
+        ensures backwards { now < self.old.last → (self.new ≡ self.old) × (result.fault ≡ Some SsfFault.TimeBackwards) × (result.sent.items ≡ []) }
+        ensures moment { self.old.last ≤ now → (self.new.last ≡ now) × (self.new.config ≡ self.old.config) }
+        ensures trace { self.old.last ≤ now → (t : List Happening) → Stands self.old t → Takes self.old self.new now input t result.sent.items result.fault }
+    {
+        let mut sent = ArrayVec::new();
+        if now < self.last {
+            return Step {
+                sent,
+                fault: Some(SsfFault::TimeBackwards),
+            };
+        }
+        let stage = run_timers(&self.config, self.stage, &mut sent, self.last, now);
+        let outcome = take(&self.config, stage, &mut sent, now, input);
+        self.stage = outcome.unwrap_or(stage);
+        self.last = now;
+        Step {
+            sent,
+            fault: outcome.err(),
+        }
+    }
+}
