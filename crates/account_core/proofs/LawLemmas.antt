@@ -24,7 +24,7 @@ use Rattle.account_core.proofs.SoundPasts.{answered_deed, entry_allowed, legal_i
 use Rattle.account_core.proofs.Soundness.{IsAllowed, IsReport, accepted, open_parts, taken_open, takes_within}
 
 -- what came first in a legal history is legal
-prefix_legal : (opening : ℕ) (later h : List Event) → IsLegalPast opening (later ++ h) → IsLegalPast opening h
+pub prefix_legal : (opening : ℕ) (later h : List Event) → IsLegalPast opening (later ++ h) → IsLegalPast opening h
 prefix_legal opening [] h legal = legal
 prefix_legal opening (event ∷ later) h legal = prefix_legal opening later h legal.0
 

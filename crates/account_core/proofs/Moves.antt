@@ -92,7 +92,7 @@ sum_cases true false G F g f n is none once old new = omega (arith, none is, old
 sum_cases false true G F g f n is none once old new = once is
 sum_cases false false G F g f n is none once old new = omega (arith, none is, old refl, new refl refl)
 
-sum_if : (begins : Bool) (g : ℕ → ℕ) (c : ℕ) (cs : List ℕ) → sum_by g (if begins then c ∷ cs else cs) ≡ (if begins then g c + sum_by g cs else sum_by g cs)
+pub sum_if : (begins : Bool) (g : ℕ → ℕ) (c : ℕ) (cs : List ℕ) → sum_by g (if begins then c ∷ cs else cs) ≡ (if begins then g c + sum_by g cs else sum_by g cs)
 sum_if true g c cs = sum_by-cons g c cs
 sum_if false g c cs = refl
 
