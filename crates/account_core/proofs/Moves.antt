@@ -5,7 +5,7 @@ use Rattle.std.proofs.lemmas.Bool.{eqb-true, eq-eqb}
 use Rattle.std.proofs.lemmas.Bool.Decides.{nat_tests}
 use Rattle.std.proofs.lemmas.List.Sums.{sum_by-cons}
 use Rattle.tariff_core.specs.Rates.{Rates}
-use Rattle.account_core.specs.Asked.{Asked, call_of}
+use Rattle.account_core.specs.Asked.{call_of}
 use Rattle.account_core.specs.Available.{begins_call, calls, is_grant}
 use Rattle.account_core.specs.Events.{Event}
 use Rattle.account_core.specs.Known.{Deed, Ends, Forfeits, Grants, Known, Reports, Rests, deed, deed_of, known, known_after}

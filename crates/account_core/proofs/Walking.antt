@@ -1,19 +1,16 @@
 -- Walks through a legal history.
-use Rattle.std.proofs.Common.{◌≡◌, ℕ, ◌+◌, ◌≤◌, ◌<◌, Bool, true, false, Option, Some, None, List, [], ◌∷◌, ◌++◌, drop, get_or, length, take, refl, sym, ap, ◌∙◌, arith, subst, add-one}
+use Rattle.std.proofs.Common.{◌≡◌, ℕ, ◌+◌, ◌≤◌, ◌<◌, Bool, true, false, List, [], ◌∷◌, ◌++◌, drop, get_or, length, take, sym, ap, ◌∙◌, arith, subst, add-one}
 use Rattle.std.specs.Prelude.{◌==◌, if◌then◌else◌, map, reverse, sum_by}
 use Rattle.std.proofs.Math.Seq.{take-length, take-suc}
-use Rattle.std.proofs.lemmas.Bool.{eqb-true}
 use Rattle.std.proofs.lemmas.Bool.Decides.{nat_tests}
 use Rattle.std.proofs.lemmas.List.{map-append, reverse-append, take-append-drop}
-use Rattle.std.proofs.lemmas.List.Sums.{sum_by-cons}
-use Rattle.account_core.specs.Answers.{IsAnswered, IsLegal, IsLegalPast}
-use Rattle.account_core.specs.Asked.{call_of}
+use Rattle.account_core.specs.Answers.{IsAnswered, IsLegalPast}
 use Rattle.account_core.specs.Available.{begins_call, calls, credited, credits, taken_by_all}
 use Rattle.account_core.specs.Events.{Event, asked_of, event_of}
-use Rattle.account_core.specs.Known.{Deed, Known, deed_of, known, known_after, taken_of}
+use Rattle.account_core.specs.Known.{Deed, Known, known, known_after, taken_of}
 use Rattle.account_core.specs.Listed.{HasOpening}
 use Rattle.account_core.specs.Places.{owed, owed_to}
-use Rattle.account_core.specs.Sound.{AnswersFit, HasRoom, IsSound, IsSoundPast, LegalPastsAreSound, SoundPastsAnswer}
+use Rattle.account_core.specs.Sound.{HasRoom, IsSound, LegalPastsAreSound, SoundPastsAnswer}
 use Rattle.account_core.specs.declared.entry.Entry.{Entry}
 use Rattle.account_core.proofs.Entering.{past_pushed}
 use Rattle.account_core.proofs.LawLemmas.{prefix_legal}

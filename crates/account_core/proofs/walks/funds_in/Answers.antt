@@ -1,6 +1,5 @@
-use Rattle.std.proofs.Common.{arith, ◌+◌, ap, ◌∙◌}
-use Rattle.account_core.specs.Available.{credits}
-use Rattle.account_core.proofs.Walking.{credits_more, funds_within, past_whole}
+use Rattle.std.proofs.Common.{arith, ◌+◌}
+use Rattle.account_core.proofs.Walking.{credits_more, funds_within}
 use Rattle.account_core.proofs.walks.funds_in.Goals as goal
 
 pub overflow_add-funds : goal.overflow_add-funds

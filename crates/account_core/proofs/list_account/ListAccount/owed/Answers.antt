@@ -1,4 +1,4 @@
-use Rattle.std.proofs.Common.{arith, ap, ◌∙◌}
+use Rattle.std.proofs.Common.{arith, ap}
 use Rattle.account_core.specs.Places.{owed}
 use Rattle.account_core.proofs.Listing.{listed_of, opening_of, past_of}
 use Rattle.account_core.proofs.list_account.ListAccount.owed.Goals as goal
