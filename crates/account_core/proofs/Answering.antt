@@ -1,5 +1,5 @@
 -- The replies that an account gives by what it keeps are the answers of its history.
-use Rattle.std.proofs.Common.{◌≡◌, ℕ, ◌+◌, ◌≤◌, Option, None, List, sym, ◌∙◌, arith, subst}
+use Rattle.std.proofs.Common.{◌≡◌, ℕ, ◌+◌, ◌≤◌, None, List, sym, ◌∙◌, arith, subst}
 use Rattle.account_core.specs.Answers.{answer, inadmissible}
 use Rattle.account_core.specs.Asked.{Asked, call_of}
 use Rattle.account_core.specs.Available.{available, credits}

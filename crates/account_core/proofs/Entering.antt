@@ -1,6 +1,6 @@
 -- An account keeps what its type says when an answered operation is entered.
-use Rattle.std.proofs.Common.{◌≡◌, ℕ, ◌+◌, ◌-◌, ◌≤◌, ◌<◌, Bool, true, false, Option, Some, None, List, [], ◌∷◌, ◌++◌, length, refl, sym, ap, ◌∙◌, arith, subst}
-use Rattle.std.specs.Prelude.{◌==◌, ◌&&◌, ◌||◌, if◌then◌else◌, not, is_some, map, nat_le, nat_lt, reverse, unwrap_or}
+use Rattle.std.proofs.Common.{◌≡◌, ℕ, ◌+◌, ◌-◌, ◌≤◌, Bool, true, false, Option, Some, None, List, [], ◌∷◌, ◌++◌, length, refl, sym, ap, ◌∙◌, arith, subst}
+use Rattle.std.specs.Prelude.{◌==◌, ◌&&◌, if◌then◌else◌, not, is_some, map, nat_lt, reverse, unwrap_or}
 use Rattle.std.specs.Vec.{vec_capacity}
 use Rattle.std.specs.BTreeMap.{BTreeMap, IsEmpty, Updates, get, is_at}
 use Rattle.std.specs.declared.vec.Vec.{Vec}
@@ -12,12 +12,12 @@ use Rattle.std.proofs.lemmas.List.{length-map, length-reverse, map-append, rever
 use Rattle.tariff_core.specs.Rates.{Rates}
 use Rattle.tariff_core.specs.Times.{Elapsed}
 use Rattle.tariff_core.specs.declared.time_info.TimeInfo.{TimeInfo}
-use Rattle.account_core.specs.Answers.{IsAnswered, IsLegalPast, answer, inadmissible, misplaced, settle_verdict, shown_by, accepted_times, units_offered, verdict}
+use Rattle.account_core.specs.Answers.{IsAnswered, answer, inadmissible, misplaced, settle_verdict, shown_by, accepted_times, units_offered, verdict}
 use Rattle.account_core.specs.Asked.{Asked, Credits, IsCredit, IsOfCall, Reserves, Returns, Settles, call_of, is_in_range}
-use Rattle.account_core.specs.Available.{available, calls, credited, credits, taken_by_all}
+use Rattle.account_core.specs.Available.{available, credited, credits, taken_by_all}
 use Rattle.account_core.specs.Events.{Event, asked_of, event_of}
 use Rattle.account_core.specs.Kept.{IsKept, TellsEach, known_of, unknown}
-use Rattle.account_core.specs.Known.{Deed, Ends, Forfeits, Grants, Known, Reports, Rests, deed_of, is_open, known, known_after, paid_of}
+use Rattle.account_core.specs.Known.{Deed, Ends, Known, Rests, deed_of, is_open, known, known_after, paid_of}
 use Rattle.account_core.specs.Ledger.{Ledger, answer_of, refusal_of}
 use Rattle.account_core.specs.Places.{needed, needed_by, or_else, over_limit, owed, owed_to, places_needed, places_owed, refusal}
 use Rattle.account_core.specs.Sound.{AnswersFit, HasRoom, IsSoundPast}

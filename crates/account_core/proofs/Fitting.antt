@@ -1,23 +1,23 @@
 -- The answers of a sound history fit it, and what they show.
-use Rattle.std.proofs.Common.{◌≡◌, ℕ, ◌+◌, ◌-◌, ◌≤◌, Bool, true, false, Option, Some, None, List, [], ◌∷◌, refl, sym, ap, ◌∙◌, arith, subst}
-use Rattle.std.specs.Prelude.{◌==◌, ◌&&◌, ◌||◌, if◌then◌else◌, nat_le, nat_lt}
+use Rattle.std.proofs.Common.{◌≡◌, ℕ, ◌+◌, ◌-◌, ◌≤◌, Bool, true, false, Option, Some, None, List, ◌∷◌, refl, sym, ap, ◌∙◌, arith, subst}
+use Rattle.std.specs.Prelude.{if◌then◌else◌, nat_le}
 use Rattle.tariff_core.specs.Ceiling.{ceiling_of}
 use Rattle.tariff_core.specs.Rates.{Rates}
 use Rattle.tariff_core.specs.Times.{Elapsed}
 use Rattle.tariff_core.specs.declared.time_info.TimeInfo.{TimeInfo}
-use Rattle.account_core.specs.Answers.{accepted_times, answer, credit_verdict, inadmissible, reserve_verdict, settle_verdict, showing, shown_by, units_offered, verdict}
+use Rattle.account_core.specs.Answers.{accepted_times, answer, inadmissible, settle_verdict, showing, shown_by, units_offered, verdict}
 use Rattle.account_core.specs.Asked.{Asked, Credits, Reserves, Returns, Settles, call_of}
 use Rattle.account_core.specs.Available.{available, credited, credits, taken_by_all}
 use Rattle.account_core.specs.Events.{Event}
 use Rattle.account_core.specs.Known.{Deed, Ends, Forfeits, Grants, Known, Reports, Rests, deed, deed_of, is_open, known, known_after, paid_of, plan_in_force, price_under, taken_of}
 use Rattle.account_core.specs.Replies.{credit_reply, reply_for, reserve_reply, return_reply, settle_reply}
-use Rattle.account_core.specs.Sound.{AnswersFit, HasRoom, IsFitting, IsSound, IsSoundPast}
+use Rattle.account_core.specs.Sound.{AnswersFit, HasRoom, IsFitting, IsSoundPast}
 use Rattle.account_core.specs.declared.entry.Reply.{Reply}
 use Rattle.account_core.specs.declared.entry.Reply.TheVariants as reply
 use Rattle.account_core.specs.declared.fault.AccountFault.TheVariants as fault
 use Rattle.account_core.proofs.Moves.{at_most_all, its_call, its_deed}
 use Rattle.account_core.proofs.SoundPasts.{available_is, nothing_taken, taken_moves}
-use Rattle.account_core.proofs.Soundness.{IsAllowed, sound_after, taken_ended, taken_granted, taken_open, takes_within}
+use Rattle.account_core.proofs.Soundness.{IsAllowed, taken_ended, taken_granted, taken_open, takes_within}
 use Rattle.account_core.specs.TariffLaws.{TariffLaws}
 use Rattle.account_core.proofs.Verdicts.{in_place, none_else, none_if, verdict_allowed}
 

@@ -1,30 +1,28 @@
 -- The laws of legal histories.
-use Rattle.std.proofs.Common.{◌≡◌, ℕ, ◌+◌, ◌≤◌, Bool, true, false, Option, Some, None, List, [], ◌∷◌, ◌++◌, refl, sym, ap, ◌∙◌, arith, subst}
-use Rattle.std.specs.Prelude.{◌==◌, if◌then◌else◌, reverse, unwrap_or}
+use Rattle.std.proofs.Common.{◌≡◌, ℕ, ◌≤◌, Bool, true, false, Option, Some, None, List, [], ◌∷◌, ◌++◌, refl, sym, ap, ◌∙◌, arith, subst}
+use Rattle.std.specs.Prelude.{◌==◌, reverse, unwrap_or}
 use Rattle.std.proofs.lemmas.Bool.{eq-eqb, eqb-true}
 use Rattle.std.proofs.lemmas.List.{reverse-append}
-use Rattle.tariff_core.specs.Price.{price_at}
 use Rattle.tariff_core.specs.Rates.{Rates}
 use Rattle.tariff_core.specs.Reading.{times_read}
 use Rattle.tariff_core.specs.Times.{Elapsed}
 use Rattle.tariff_core.specs.declared.time_info.TimeInfo.{TimeInfo}
-use Rattle.account_core.specs.Answers.{IsAnswered, IsLegalPast, accepted_times, answer, settle_verdict, verdict}
+use Rattle.account_core.specs.Answers.{IsAnswered, IsLegalPast, accepted_times, settle_verdict, verdict}
 use Rattle.account_core.specs.Asked.{Asked, Credits, Reserves, Returns, Settles, call_of}
 use Rattle.account_core.specs.Available.{available, credited}
 use Rattle.account_core.specs.Events.{Event}
-use Rattle.account_core.specs.Known.{Deed, Ends, Forfeits, Grants, Known, Reports, Rests, deed, deed_of, is_open, known, known_after, paid_of, price_under, taken_of}
-use Rattle.account_core.specs.Laws.{AreReported, ClosedCallsPayTheTariff, IsClosed, IsSettle, NoBalanceIsNegative, SettlesKeepTheCredit, TimesAreReported, last_report, report_after, told, told_after}
-use Rattle.account_core.specs.Sound.{IsSoundPast}
+use Rattle.account_core.specs.Known.{Deed, Ends, Forfeits, Grants, Known, Reports, Rests, deed_of, is_open, known, known_after, paid_of, taken_of}
+use Rattle.account_core.specs.Laws.{AreReported, ClosedCallsPayTheTariff, IsSettle, NoBalanceIsNegative, SettlesKeepTheCredit, TimesAreReported, last_report, report_after, told, told_after}
 use Rattle.account_core.specs.TariffLaws.{TariffLaws}
 use Rattle.account_core.specs.declared.entry.Reply.{Reply}
 use Rattle.account_core.specs.declared.entry.Reply.TheVariants as reply
 use Rattle.account_core.proofs.Fitting.{available_moves}
 use Rattle.account_core.proofs.Moves.{deed_apart, deed_here, its_call, its_deed, known_apart, known_here}
 use Rattle.account_core.proofs.SoundPasts.{answered_deed, entry_allowed, legal_is_sound}
-use Rattle.account_core.proofs.Soundness.{IsAllowed, IsReport, accepted, open_parts, taken_open, takes_within}
+use Rattle.account_core.proofs.Soundness.{IsAllowed, accepted, open_parts, taken_open}
 
 -- what came first in a legal history is legal
-prefix_legal : (opening : ℕ) (later h : List Event) → IsLegalPast opening (later ++ h) → IsLegalPast opening h
+pub prefix_legal : (opening : ℕ) (later h : List Event) → IsLegalPast opening (later ++ h) → IsLegalPast opening h
 prefix_legal opening [] h legal = legal
 prefix_legal opening (event ∷ later) h legal = prefix_legal opening later h legal.0
 

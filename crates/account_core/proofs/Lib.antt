@@ -2,9 +2,11 @@ pub mod Answering
 pub mod Entering
 pub mod Fitting
 pub mod LawLemmas
+pub mod Listing
 pub mod Moves
 pub mod SoundPasts
 pub mod Soundness
 pub mod StandingLemmas
 pub mod Sums
 pub mod Verdicts
+pub mod Walking

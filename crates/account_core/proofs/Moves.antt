@@ -5,7 +5,7 @@ use Rattle.std.proofs.lemmas.Bool.{eqb-true, eq-eqb}
 use Rattle.std.proofs.lemmas.Bool.Decides.{nat_tests}
 use Rattle.std.proofs.lemmas.List.Sums.{sum_by-cons}
 use Rattle.tariff_core.specs.Rates.{Rates}
-use Rattle.account_core.specs.Asked.{Asked, call_of}
+use Rattle.account_core.specs.Asked.{call_of}
 use Rattle.account_core.specs.Available.{begins_call, calls, is_grant}
 use Rattle.account_core.specs.Events.{Event}
 use Rattle.account_core.specs.Known.{Deed, Ends, Forfeits, Grants, Known, Reports, Rests, deed, deed_of, known, known_after}
@@ -92,7 +92,7 @@ sum_cases true false G F g f n is none once old new = omega (arith, none is, old
 sum_cases false true G F g f n is none once old new = once is
 sum_cases false false G F g f n is none once old new = omega (arith, none is, old refl, new refl refl)
 
-sum_if : (begins : Bool) (g : ℕ → ℕ) (c : ℕ) (cs : List ℕ) → sum_by g (if begins then c ∷ cs else cs) ≡ (if begins then g c + sum_by g cs else sum_by g cs)
+pub sum_if : (begins : Bool) (g : ℕ → ℕ) (c : ℕ) (cs : List ℕ) → sum_by g (if begins then c ∷ cs else cs) ≡ (if begins then g c + sum_by g cs else sum_by g cs)
 sum_if true g c cs = sum_by-cons g c cs
 sum_if false g c cs = refl
 

@@ -1,13 +1,12 @@
 -- Every legal history is sound.
-use Rattle.std.proofs.Common.{◌≡◌, ℕ, ◌+◌, ◌-◌, ◌≤◌, Bool, true, false, Option, Some, None, List, [], ◌∷◌, refl, sym, ap, ◌∙◌, arith, subst}
-use Rattle.std.specs.Prelude.{◌==◌, sum_by}
+use Rattle.std.proofs.Common.{◌≡◌, ℕ, ◌+◌, ◌-◌, ◌≤◌, Bool, true, false, None, List, [], ◌∷◌, refl, ap, ◌∙◌, arith, subst}
+use Rattle.std.specs.Prelude.{◌==◌}
 use Rattle.std.proofs.lemmas.Bool.{eqb-true}
-use Rattle.account_core.specs.Answers.{IsAnswered, IsLegalPast, answer, showing, verdict}
-use Rattle.account_core.specs.Asked.{Asked, call_of}
-use Rattle.account_core.specs.Available.{available, calls, credited, credits, taken_by_all}
+use Rattle.account_core.specs.Answers.{IsAnswered, IsLegalPast, answer, verdict}
+use Rattle.account_core.specs.Available.{available, credited, credits, taken_by_all}
 use Rattle.account_core.specs.Events.{Event}
-use Rattle.account_core.specs.Known.{Known, deed_of, known, known_after, taken_of, taken_under}
-use Rattle.account_core.specs.Sound.{IsSound, IsSoundPast, LegalPastsAreSound}
+use Rattle.account_core.specs.Known.{Known, deed_of, known, known_after, taken_of}
+use Rattle.account_core.specs.Sound.{IsSound, IsSoundPast}
 use Rattle.account_core.proofs.Moves.{its_call, its_deed, known_apart, known_here, sum_moves}
 use Rattle.account_core.proofs.Soundness.{IsAllowed, sound_after, takes_within}
 use Rattle.account_core.specs.TariffLaws.{TariffLaws}

@@ -1,7 +1,7 @@
 -- What an answered entry may do to its call, and that the call stays sound under it.
 use Rattle.std.proofs.Common.{◌≡◌, ℕ, ◌+◌, ◌≤◌, Bool, true, false, Option, Some, None, refl, sym, ap, ◌∙◌, arith, subst}
-use Rattle.std.specs.Prelude.{◌==◌, ◌&&◌, ◌||◌, if◌then◌else◌, not, is_some, unwrap_or, nat_le, nat_lt}
-use Rattle.tariff_core.specs.Ceiling.{are_times, ceiling_of, may_come}
+use Rattle.std.specs.Prelude.{◌&&◌, if◌then◌else◌, not, is_some, unwrap_or}
+use Rattle.tariff_core.specs.Ceiling.{ceiling_of}
 use Rattle.tariff_core.specs.Laws.{MayStand}
 use Rattle.tariff_core.specs.Lawful.{is_lawful}
 use Rattle.tariff_core.specs.Rates.{Rates}
@@ -9,7 +9,7 @@ use Rattle.tariff_core.specs.Reading.{times_read}
 use Rattle.tariff_core.specs.Times.{Elapsed}
 use Rattle.tariff_core.specs.declared.time_info.TimeInfo.{TimeInfo}
 use Rattle.account_core.specs.Answers.{accepted_times, lawful_times}
-use Rattle.account_core.specs.Known.{Deed, Ends, Forfeits, Grants, Known, Reports, Rests, is_open, known_after, nothing_known, paid_of, plan_in_force, taken_of, taken_under}
+use Rattle.account_core.specs.Known.{Deed, Ends, Forfeits, Grants, Known, Reports, Rests, is_open, known_after, paid_of, plan_in_force, taken_of, taken_under}
 use Rattle.account_core.specs.Sound.{IsHeld, IsSound, IsSoundUnder}
 use Rattle.account_core.proofs.StandingLemmas.{paid_within}
 use Rattle.account_core.specs.TariffLaws.{TariffLaws}

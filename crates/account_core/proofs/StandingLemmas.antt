@@ -1,14 +1,13 @@
 -- What a sound call has paid, and what is held for it.
-use Rattle.std.proofs.Common.{◌≡◌, ℕ, ◌+◌, ◌≤◌, Bool, true, false, Option, Some, None, refl, sym, ap, ◌∙◌, arith, subst}
-use Rattle.std.specs.Prelude.{◌==◌, ◌&&◌, ◌||◌, if◌then◌else◌, nat_le, nat_lt}
-use Rattle.std.proofs.lemmas.Bool.Decides.{nat_tests}
+use Rattle.std.proofs.Common.{◌≡◌, ℕ, ◌≤◌, Bool, true, false, Option, Some, None, refl, sym, arith, subst}
+use Rattle.std.specs.Prelude.{if◌then◌else◌}
 use Rattle.tariff_core.specs.Afford.{units_afforded}
-use Rattle.tariff_core.specs.Ceiling.{ceiling_of, may_come}
+use Rattle.tariff_core.specs.Ceiling.{ceiling_of}
 use Rattle.tariff_core.specs.Laws.{AffordedAreCovered, CeilingIsNotPassed}
 use Rattle.tariff_core.specs.Price.{price_at}
 use Rattle.tariff_core.specs.Rates.{Rates}
 use Rattle.tariff_core.specs.Times.{Elapsed}
-use Rattle.account_core.specs.Known.{Known, nothing_known, paid_of, price_under, taken_of, taken_under}
+use Rattle.account_core.specs.Known.{Known, paid_of, price_under, taken_of, taken_under}
 use Rattle.account_core.specs.Sound.{IsHeld, IsSound, IsSoundUnder}
 
 -- the price of its times is at most its top

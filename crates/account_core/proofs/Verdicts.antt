@@ -1,25 +1,21 @@
 -- The answers do only what is allowed.
-use Rattle.std.proofs.Common.{◌≡◌, ℕ, ◌+◌, ◌≤◌, Bool, true, false, Option, Some, None, List, [], ◌∷◌, refl, sym, ap, ◌∙◌, arith, subst}
-use Rattle.std.specs.Prelude.{◌==◌, ◌&&◌, ◌||◌, if◌then◌else◌, not, is_some, nat_le, nat_lt}
-use Rattle.std.proofs.lemmas.Bool.{eq-eqb}
+use Rattle.std.proofs.Common.{◌≡◌, ℕ, ◌+◌, ◌≤◌, Bool, true, false, Option, Some, None, List, refl, arith, subst}
+use Rattle.std.specs.Prelude.{◌==◌, ◌||◌, if◌then◌else◌, nat_le, nat_lt}
 use Rattle.std.proofs.lemmas.Bool.Decides.{nat_tests}
-use Rattle.tariff_core.specs.Afford.{units_afforded}
-use Rattle.tariff_core.specs.Ceiling.{ceiling_of}
 use Rattle.tariff_core.specs.Rates.{Rates}
 use Rattle.tariff_core.specs.Times.{Elapsed}
 use Rattle.tariff_core.specs.declared.time_info.TimeInfo.{TimeInfo}
-use Rattle.account_core.specs.Answers.{IsAnswered, IsLegalPast, accepted_times, answer, credit_verdict, inadmissible, misplaced, reserve_verdict, settle_verdict, showing, units_offered, verdict}
+use Rattle.account_core.specs.Answers.{accepted_times, inadmissible, misplaced, settle_verdict, showing, units_offered, verdict}
 use Rattle.account_core.specs.Asked.{Asked, Credits, Reserves, Returns, Settles, call_of, is_in_range}
-use Rattle.account_core.specs.Available.{available, calls, credited, credits, taken_by_all}
+use Rattle.account_core.specs.Available.{available, credited, credits}
 use Rattle.account_core.specs.Events.{Event}
-use Rattle.account_core.specs.Known.{Deed, Grants, Known, Rests, deed_of, is_open, known, plan_in_force, taken_of, taken_under}
-use Rattle.account_core.specs.Sound.{IsSound, IsSoundPast}
+use Rattle.account_core.specs.Known.{Known, deed_of, is_open, known, plan_in_force, taken_of}
+use Rattle.account_core.specs.Sound.{IsSound}
 use Rattle.account_core.specs.declared.entry.Reply.{Reply}
 use Rattle.account_core.specs.declared.entry.Reply.TheVariants as reply
 use Rattle.account_core.specs.declared.fault.AccountFault.{AccountFault}
 use Rattle.account_core.specs.declared.fault.AccountFault.TheVariants as fault
-use Rattle.account_core.proofs.Moves.{its_call, its_deed, known_apart, known_here, sum_moves}
-use Rattle.account_core.proofs.Soundness.{IsAllowed, IsEnd, IsGrant, IsReport, sound_after, stands, takes_within}
+use Rattle.account_core.proofs.Soundness.{IsAllowed, IsGrant, stands}
 use Rattle.account_core.specs.TariffLaws.{TariffLaws}
 
 -- ---- what a reply shows changes nothing else

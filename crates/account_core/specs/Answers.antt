@@ -1,5 +1,5 @@
 -- The sequential account: which operations it takes, and the one right reply to each.
-use Rattle.std.specs.Prelude.{◌≡◌, ◌+◌, ◌==◌, ◌&&◌, ◌||◌, ℕ, Bool, Option, Some, None, List, [], ◌∷◌, if◌then◌else◌, nat_le, nat_lt, reverse}
+use Rattle.std.specs.Prelude.{◌≡◌, ◌+◌, ◌==◌, ◌||◌, ℕ, Bool, Option, Some, None, List, [], ◌∷◌, if◌then◌else◌, nat_le, nat_lt, reverse}
 use Rattle.tariff_core.specs.Afford.{units_afforded}
 use Rattle.tariff_core.specs.Lawful.{is_lawful}
 use Rattle.tariff_core.specs.Rates.{Rates}

@@ -6,7 +6,7 @@ use Rattle.tariff_core.specs.Reading.{times_read}
 use Rattle.tariff_core.specs.Times.{Elapsed, no_times}
 use Rattle.tariff_core.specs.declared.time_info.TimeInfo.{TimeInfo}
 use Rattle.account_core.specs.Answers.{IsLegal}
-use Rattle.account_core.specs.Asked.{Asked, Credits, Reserves, Returns, Settles, call_of}
+use Rattle.account_core.specs.Asked.{Asked, Settles, call_of}
 use Rattle.account_core.specs.Available.{available, credits, taken_by_all}
 use Rattle.account_core.specs.Events.{Event}
 use Rattle.account_core.specs.Known.{Deed, Ends, deed, known}

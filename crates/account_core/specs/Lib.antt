@@ -7,6 +7,7 @@ pub mod Kept
 pub mod Known
 pub mod Laws
 pub mod Ledger
+pub mod Listed
 pub mod Places
 pub mod Replies
 pub mod Sound

@@ -1,5 +1,5 @@
 -- The replies in closed form, from what an account keeps: the credit, and what it knows of the call.
-use Rattle.std.specs.Prelude.{◌+◌, ◌-◌, ◌==◌, ◌||◌, ℕ, Bool, Option, Some, None, if◌then◌else◌, nat_le, nat_lt}
+use Rattle.std.specs.Prelude.{◌+◌, ◌-◌, ◌==◌, ◌||◌, ℕ, Option, Some, None, if◌then◌else◌, nat_le, nat_lt}
 use Rattle.tariff_core.specs.Ceiling.{ceiling_of}
 use Rattle.tariff_core.specs.Rates.{Rates}
 use Rattle.tariff_core.specs.Times.{Elapsed}

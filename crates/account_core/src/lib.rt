@@ -7,13 +7,16 @@ mod entry;
 mod fault;
 mod judging;
 mod laws;
+mod list_account;
 mod money;
 mod standing;
 #[cfg(test)]
 mod tests;
+mod walks;
 
 pub use account::Account;
 pub use entry::{Entry, Op, Reply};
 pub use fault::AccountFault;
 pub use laws::{closed_calls_pay_the_tariff, no_balance_is_negative, settles_keep_the_credit};
+pub use list_account::ListAccount;
 pub use money::MAX_MONEY;

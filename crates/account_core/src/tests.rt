@@ -2,7 +2,7 @@
 
 ghost use Rattle.std.specs.Prelude.{◌≤◌};
 
-use crate::{Account, AccountFault, Entry, Op, Reply};
+use crate::{Account, AccountFault, Entry, ListAccount, Op, Reply};
 use std::process::Abort;
 use std::test::Fail;
 use tariff_core::{Plan, PlanRange, TimeInfo};
@@ -59,12 +59,17 @@ fn returned(paid: u64, available: u64) -> Answer {
     Ok(Reply::Returned { paid, available })
 }
 
-/// Asks an account each operation in turn, and looks at its answers and its entries.
-fn answers(rt: &impl Abort, account: Account, rows: &[(Op, Answer)]) {
-    let mut account = account;
+/// Asks an account each operation in turn, and looks at its answers and its entries; and one that
+/// walks its list beside it.
+fn answers<R: Abort + AllocGlobal>(rt: &R, opening: u64, limit: u32, rows: &[(Op, Answer)])
+    requires { opening ≤ 1000000000000000 }
+{
+    let mut account = Account::new(rt.alloc(), opening, limit);
+    let mut walking = ListAccount::new(rt.alloc(), opening, limit);
     for (op, want) in rows {
         let before = account.history().len();
         assert_eq!(rt; account.apply(3, *op), *want, "at {op:?}");
+        assert_eq!(rt; walking.apply(3, *op), *want, "at {op:?}");
         let mut entered = 0;
         if let Ok(reply) = *want {
             let last = account.history().last().copied();
@@ -77,12 +82,19 @@ fn answers(rt: &impl Abort, account: Account, rows: &[(Op, Answer)]) {
                 }),
                 "at {op:?}"
             );
+            assert_eq!(rt; walking.history().last().copied(), last, "at {op:?}");
             assert_eq!(rt; account.available(), reply.available(), "at {op:?}");
             entered = 1;
         }
         assert_eq!(rt;
             account.history().len(),
             before.wrapping_add(entered),
+            "at {op:?}"
+        );
+        assert_eq!(rt; walking.available(), account.available(), "at {op:?}");
+        assert_eq!(rt;
+            walking.paid(op.call()),
+            account.paid(op.call()),
             "at {op:?}"
         );
     }
@@ -109,11 +121,7 @@ fn holds_settles_and_gives_back(rt: HostRuntime) -> Result<(), Fail> {
             (reserve(1, x, 600), Err(AccountFault::CallUsed)),
             (Op::Return { call: 1 }, Err(AccountFault::NotOpen)),
         ];
-        answers(
-            &rt,
-            Account::new(rt.alloc(), 1500, 1_000_000),
-            rows.as_slice(),
-        );
+        answers(&rt, 1500, 1_000_000, rows.as_slice());
     }
     Ok(())
 }
@@ -125,11 +133,7 @@ fn shares_the_credit_among_calls(rt: HostRuntime) -> Result<(), Fail> {
         (reserve(1, x, 600), granted(600, false, 450)),
         (reserve(2, x, 600), granted(240, true, 0)),
     ];
-    answers(
-        &rt,
-        Account::new(rt.alloc(), 1500, 1_000_000),
-        two.as_slice(),
-    );
+    answers(&rt, 1500, 1_000_000, two.as_slice());
 
     let credit = Op::Credit { amount: 600 };
     let credited = [
@@ -137,22 +141,14 @@ fn shares_the_credit_among_calls(rt: HostRuntime) -> Result<(), Fail> {
         (credit, Ok(Reply::Credited { available: 1050 })),
         (reserve(2, x, 600), granted(600, false, 0)),
     ];
-    answers(
-        &rt,
-        Account::new(rt.alloc(), 1500, 1_000_000),
-        credited.as_slice(),
-    );
+    answers(&rt, 1500, 1_000_000, credited.as_slice());
 
     let whole_day = [
         (reserve(1, y, 864_000), granted(864_000, false, 560_000)),
         (no_switch(1, 864_000), settled(1_440_000, 560_000)),
         (reserve(1, y, 600), Ok(Reply::Denied { available: 560_000 })),
     ];
-    answers(
-        &rt,
-        Account::new(rt.alloc(), 2_000_000, 1_000_000),
-        whole_day.as_slice(),
-    );
+    answers(&rt, 2_000_000, 1_000_000, whole_day.as_slice());
     Ok(())
 }
 
@@ -166,31 +162,19 @@ fn forfeits_what_a_report_does_not_keep_to(rt: HostRuntime) -> Result<(), Fail> 
         (reserve(1, x, 600), Ok(Reply::Denied { available: 450 })),
         (Op::Return { call: 1 }, returned(1050, 450)),
     ];
-    answers(
-        &rt,
-        Account::new(rt.alloc(), 1500, 1_000_000),
-        past_grant.as_slice(),
-    );
+    answers(&rt, 1500, 1_000_000, past_grant.as_slice());
 
     let no_second_rate = [
         (reserve(1, y, 600), granted(600, false, 500)),
         (switch(1, 100, Some(100)), forfeit(1000, 500)),
     ];
-    answers(
-        &rt,
-        Account::new(rt.alloc(), 1500, 1_000_000),
-        no_second_rate.as_slice(),
-    );
+    answers(&rt, 1500, 1_000_000, no_second_rate.as_slice());
 
     let out_of_range = [
         (reserve(1, x, 600), granted(600, false, 450)),
         (switch(1, 100, Some(0)), forfeit(1050, 450)),
     ];
-    answers(
-        &rt,
-        Account::new(rt.alloc(), 1500, 1_000_000),
-        out_of_range.as_slice(),
-    );
+    answers(&rt, 1500, 1_000_000, out_of_range.as_slice());
     Ok(())
 }
 
@@ -210,22 +194,14 @@ fn refuses_what_is_not_admissible(rt: HostRuntime) -> Result<(), Fail> {
         (reserve(1, x, 0), Err(AccountFault::OutOfRange)),
         (reserve(1, x, 864_001), Err(AccountFault::OutOfRange)),
     ];
-    answers(
-        &rt,
-        Account::new(rt.alloc(), 1500, 1_000_000),
-        refused.as_slice(),
-    );
+    answers(&rt, 1500, 1_000_000, refused.as_slice());
 
     let most = 1_000_000_000_000_000;
     let over = [(
         Op::Credit { amount: 1 },
         Ok(Reply::CreditOver { available: most }),
     )];
-    answers(
-        &rt,
-        Account::new(rt.alloc(), most, 1_000_000),
-        over.as_slice(),
-    );
+    answers(&rt, most, 1_000_000, over.as_slice());
     Ok(())
 }
 
@@ -241,7 +217,7 @@ fn keeps_places_for_closing(rt: HostRuntime) -> Result<(), Fail> {
         (Op::Return { call: 1 }, returned(550, 950)),
         (credit, Err(AccountFault::HistoryFull)),
     ];
-    answers(&rt, Account::new(rt.alloc(), 1500, 3), rows.as_slice());
+    answers(&rt, 1500, 3, rows.as_slice());
     Ok(())
 }
 

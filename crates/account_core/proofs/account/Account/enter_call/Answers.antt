@@ -1,6 +1,6 @@
 use Rattle.std.proofs.Common.{arith, ◌≤◌, ◌+◌, ◌-◌, ◌++◌, ◌∷◌, [], ap, length, refl, reverse, ◌∙◌}
 use Rattle.std.specs.Vec.{vec_capacity}
-use Rattle.account_core.specs.Events.{asked_of, event_of}
+use Rattle.account_core.specs.Events.{event_of}
 use Rattle.account_core.specs.Kept.{known_of}
 use Rattle.account_core.proofs.Entering.{call_entered, entered_inside, kept_of, length_past, owed_enough, room_known, some_place}
 use Rattle.account_core.proofs.account.Account.enter_call.Goals as goal

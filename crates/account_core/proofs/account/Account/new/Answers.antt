@@ -1,4 +1,3 @@
-use Rattle.std.proofs.Common.{arith}
 use Rattle.account_core.proofs.Entering.{kept_new}
 use Rattle.account_core.proofs.account.Account.new.Goals as goal
 

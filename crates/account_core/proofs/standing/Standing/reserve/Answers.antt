@@ -1,4 +1,4 @@
-use Rattle.std.proofs.Common.{◌+◌, arith}
+use Rattle.std.proofs.Common.{◌+◌}
 use Rattle.tariff_core.specs.RatesOf.{rates_of}
 use Rattle.account_core.proofs.StandingLemmas.{afforded_covered}
 use Rattle.account_core.proofs.standing.Standing.reserve.Goals as goal

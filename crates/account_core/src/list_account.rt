@@ -1,0 +1,151 @@
+//! The sequential account as its definition is read.
+
+ghost use Rattle.std.specs.Prelude.{◌≡◌, ◌+◌, ◌≤◌, ◌++◌, ◌∷◌, [], None, map, reverse, OnOk, OnErr, IfOk, IfErr};
+ghost use Rattle.account_core.specs.Answers.{IsLegal};
+ghost use Rattle.account_core.specs.Available.{available, credits};
+ghost use Rattle.account_core.specs.Events.{asked_of, event_of};
+ghost use Rattle.account_core.specs.Kept.{known_of};
+ghost use Rattle.account_core.specs.Known.{known, paid_if_granted};
+ghost use Rattle.account_core.specs.Ledger.{IsRefusal, answer_of, event_by, refusal_of};
+ghost use Rattle.account_core.specs.Places.{owed};
+ghost use Rattle.account_core.specs.Sound.{AnswersFit, IsSoundPast};
+
+use crate::judging::{judge, reply};
+use crate::laws::legal_pasts_are_sound;
+use crate::standing::Standing;
+use crate::walks::{funds_in, owed_in, standing_in, taken_in};
+use crate::{AccountFault, Entry, Op, Reply};
+use std::alloc::Global;
+use std::marker::Model;
+
+/// An account that keeps its entries alone, and walks them for every answer. It answers as
+/// `Account` does, in a time that grows with its history, and keeps no room for closing.
+#[derive(Drop)]
+pub struct ListAccount {
+    entries: Vec<Entry>,
+    opening: u64,
+    limit: u32,
+}
+
+impl Model for ListAccount {
+    ghost use Rattle.std.specs.Prelude.{map, reverse};
+    ghost use Rattle.account_core.specs.Events.{event_of};
+    ghost use Rattle.account_core.specs.Ledger.{Ledger};
+    ghost use Rattle.account_core.specs.Listed.{IsListed};
+
+    ghost Value = { Ledger };
+
+    ghost view = { λ a. record { opening = a.opening; limit = a.limit; history = map event_of a.entries.items } };
+
+    ghost invariant = { λ a. IsListed a.opening a.limit (reverse (map event_of a.entries.items)) };
+}
+
+impl ListAccount {
+    /// An account with an opening credit of 0 to `MAX_MONEY`, an empty history, and the number of
+    /// entries that this may grow to. It takes no memory yet.
+    pub fn new(alloc: Global, opening: u64, limit: u32) -> ListAccount
+        requires { opening ≤ 1000000000000000 }
+        ensures { result ≡ record { opening = opening; limit = limit; history = [] } }
+    {
+        ListAccount {
+            entries: Vec::new(alloc),
+            opening,
+            limit,
+        }
+    }
+
+    /// Asks the account for a seat, and enters the operation with its answer. Faults come as in
+    /// `Account::apply`, and any operation may find no memory. A fault changes nothing.
+    pub fn apply(&mut self, seat: u32, op: Op) -> Result<Reply, AccountFault>
+        ensures answered { IfOk result (λ reply. reply ≡ answer_of self.old (asked_of op)) }
+        ensures entered { IfOk result (λ reply. self.new ≡
+            record self.old { history = self.old.history ++ event_by seat (asked_of op) reply ∷ [] }) }
+        ensures admitted { OnOk result (refusal_of self.old (asked_of op) ≡ None) }
+        ensures kept { OnErr result (self.new ≡ self.old) }
+        ensures refused { IfErr result (λ fault. IsRefusal self.old (asked_of op) fault) }
+    {
+        if let Some(fault) = self.refusal(&op) {
+            return Err(fault);
+        }
+        let reply = self.answer(op);
+        self.entries.push(Entry { seat, op, reply })?;
+        Ok(reply)
+    }
+
+    /// The entries, oldest first.
+    pub fn history(&self) -> &[Entry]
+        ensures { map event_of result.now ≡ self.now.history }
+    {
+        self.entries.as_slice()
+    }
+
+    /// The credit that is left.
+    pub fn available(&self) -> u64
+        ensures { result ≡ available self.now.opening (reverse self.now.history) }
+    {
+        self.history_is_sound();
+        self.funds() - taken_in(self.entries.as_slice())
+    }
+
+    /// What a call has paid so far, or none where it was never granted anything.
+    pub fn paid(&self, call: u64) -> Option<u64>
+        ensures { result ≡ paid_if_granted (known call (reverse self.now.history)) }
+    {
+        let standing = self.standing(call);
+        if standing.plan.is_some() {
+            Some(standing.paid())
+        } else {
+            None
+        }
+    }
+
+    /// Why an operation would be refused, if it would be for any reason but want of memory.
+    #[tactic(auto, unfolding(crate::specs::Places::refusal))]
+    fn refusal(&self, op: &Op) -> Option<AccountFault>
+        ensures { result ≡ refusal_of self.now (asked_of op.now) }
+    {
+        let standing = self.standing(op.call());
+        judge(op, &standing, self.entries.len(), self.owed(), self.limit)
+    }
+
+    /// The answer to an admissible operation.
+    fn answer(&self, op: Op) -> Reply
+        requires { refusal_of self.now (asked_of op) ≡ None }
+        ensures { result ≡ answer_of self.now (asked_of op) }
+    {
+        self.history_is_sound();
+        let standing = self.standing(op.call());
+        reply(op, &standing, self.funds(), self.available())
+    }
+
+    /// What the history says of a call.
+    fn standing(&self, call: u64) -> Standing
+        ensures { known_of result ≡ known call (reverse self.now.history) }
+    {
+        standing_in(self.entries.as_slice(), call)
+    }
+
+    /// The opening and the accepted credits.
+    fn funds(&self) -> u64
+        ensures { result ≡ self.now.opening + credits (reverse self.now.history) }
+    {
+        funds_in(self.entries.as_slice(), self.opening)
+    }
+
+    /// The places that are owed.
+    fn owed(&self) -> usize
+        ensures { result ≡ owed (reverse self.now.history) }
+    {
+        let _bound = self.limit;
+        owed_in(self.entries.as_slice())
+    }
+
+    /// What the type keeps.
+    fn history_is_sound(&self)
+        ensures sound { IsSoundPast self.now.opening (reverse self.now.history) }
+        ensures fitting { AnswersFit self.now.opening (reverse self.now.history) }
+    {
+        let _ = &self.opening;
+        legal_pasts_are_sound();
+    }
+}

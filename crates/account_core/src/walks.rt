@@ -1,0 +1,86 @@
+//! Walks through a history, as its definitions are read.
+
+ghost use Rattle.std.specs.Prelude.{◌≡◌, ◌+◌, ◌≤◌, map, reverse};
+ghost use Rattle.account_core.specs.Answers.{IsLegal};
+ghost use Rattle.account_core.specs.Available.{begins_call, credits, taken_by_all};
+ghost use Rattle.account_core.specs.Events.{event_of};
+ghost use Rattle.account_core.specs.Kept.{known_of};
+ghost use Rattle.account_core.specs.Known.{known};
+ghost use Rattle.account_core.specs.Listed.{HasOpening};
+ghost use Rattle.account_core.specs.Places.{owed};
+
+use crate::laws::legal_pasts_are_sound;
+use crate::standing::Standing;
+use crate::{Entry, Op, Reply};
+
+/// What a legal history says of a call.
+pub(crate) fn standing_in(history: &[Entry], call: u64) -> Standing
+    requires { HasOpening (map event_of history.now) }
+    ensures { known_of result ≡ known call (reverse (map event_of history.now)) }
+{
+    legal_pasts_are_sound();
+    let mut standing = Standing::UNKNOWN;
+    for entry in history {
+        if entry.op.call() == call {
+            standing = standing.after(entry.op, entry.reply);
+        }
+    }
+    standing
+}
+
+/// The opening and the credits that a legal history accepted.
+pub(crate) fn funds_in(history: &[Entry], opening: u64) -> u64
+    requires small { opening ≤ 1000000000000000 }
+    requires legal { IsLegal opening (map event_of history.now) }
+    ensures { result ≡ opening + credits (reverse (map event_of history.now)) }
+{
+    legal_pasts_are_sound();
+    let mut funds = opening;
+    for entry in history {
+        funds += entry.credited();
+    }
+    funds
+}
+
+/// What all calls of a legal history take.
+pub(crate) fn taken_in(history: &[Entry]) -> u64
+    requires { HasOpening (map event_of history.now) }
+    ensures { result ≡ taken_by_all (reverse (map event_of history.now)) }
+{
+    legal_pasts_are_sound();
+    let mut taken = 0;
+    for at in 0..history.len() {
+        let entry = history[at];
+        if begins_call(&history[..at], entry) {
+            taken += standing_in(history, entry.op.call()).taken();
+        }
+    }
+    taken
+}
+
+/// The places that a legal history owes to its calls, which are not too many.
+pub(crate) fn owed_in(history: &[Entry]) -> usize
+    requires opening { HasOpening (map event_of history.now) }
+    requires few { owed (reverse (map event_of history.now)) ≤ 4294967295 }
+    ensures { result ≡ owed (reverse (map event_of history.now)) }
+{
+    let mut owed = 0;
+    for at in 0..history.len() {
+        let entry = history[at];
+        if begins_call(&history[..at], entry) {
+            owed += standing_in(history, entry.op.call()).owed();
+        }
+    }
+    owed
+}
+
+/// Whether an entry is the first grant of its call.
+fn begins_call(past: &[Entry], entry: Entry) -> bool
+    requires { HasOpening (map event_of past.now) }
+    ensures { result ≡ begins_call (event_of entry) (reverse (map event_of past.now)) }
+{
+    match (entry.op, entry.reply) {
+        (Op::Reserve { call, .. }, Reply::Granted { .. }) => standing_in(past, call).plan.is_none(),
+        _ => false,
+    }
+}
