@@ -1,5 +1,5 @@
 -- A reply of the kind that an account gives has its place in the table.
-use Rattle.std.proofs.Common.{◌≡◌, ℕ, ◌≤◌, Bool, true, false, List, [], ◌∷◌, Option, Some, None, Result, Ok, Err, refl, arith}
+use Rattle.std.proofs.Common.{◌≡◌, ℕ, ◌≤◌, Bool, true, false, List, [], ◌∷◌, Option, Some, None, Ok, Err, refl, arith}
 use Rattle.std.specs.Prelude.{if◌then◌else◌, IsOk, ⊤}
 use Rattle.std.proofs.lemmas.Bool.Decides.{nat_tests}
 use Rattle.account_core.specs.Asked.{Asked, Credits, Reserves, Settles, Returns}
@@ -11,12 +11,10 @@ use Rattle.cap_values.specs.declared.event.Event.TheVariants as event
 use Rattle.cap_values.specs.declared.message.SsfMsg.{SsfMsg}
 use Rattle.cap_values.specs.declared.message.SsfMsg.TheVariants as msg
 use Rattle.cap_values.specs.declared.mode.Mode.{Mode}
-use Rattle.cap_values.specs.declared.mode.Mode.TheVariants as mode
 use Rattle.dialogue_core.specs.Phases.{Conditions, Phase, Says, Sequel, FirstAsk, Running, Settling, MoreAsk, Returning, Ending, Closed, Asks, Sends, Finished}
 use Rattle.dialogue_core.specs.Phases as phase
 use Rattle.dialogue_core.specs.Runs.{Exchange, Input, IsHonest, IsRun, Message, Answer, Refusal, last_said, step}
-use Rattle.dialogue_core.specs.Table.{Step, are_units, begun, ending, first_period, first_reply, going_on, more_reply, replied, reported, running, sequel}
-use Rattle.dialogue_core.specs.declared.fault.DialogueFault.{DialogueFault}
+use Rattle.dialogue_core.specs.Table.{Step, are_units, begun, ending, first_period, going_on, replied, reported, running, sequel}
 use Rattle.dialogue_core.specs.declared.fault.DialogueFault.TheVariants.{Unexpected}
 use Rattle.tariff_core.specs.declared.route.Route.{Route}
 

@@ -1,10 +1,10 @@
 -- Runs of a dialogue: what it was handed and what it said to that, by the table of the service.
-use Rattle.std.specs.Prelude.{◌≡◌, ◌+◌, ◌≤◌, ◌||◌, ℕ, Bool, true, false, Option, Result, Ok, IsOk, List, [], ◌∷◌, ⊤, if◌then◌else◌}
-use Rattle.account_core.specs.Asked.{Asked, Credits, Reserves, Settles, Returns}
+use Rattle.std.specs.Prelude.{◌≡◌, ◌+◌, ◌≤◌, ◌||◌, ℕ, Bool, true, false, Option, Ok, IsOk, List, [], ◌∷◌, ⊤, if◌then◌else◌}
+use Rattle.account_core.specs.Asked.{Asked, Reserves, Settles, Returns}
 use Rattle.account_core.specs.declared.entry.Reply.{Reply}
 use Rattle.account_core.specs.declared.entry.Reply.TheVariants.{Granted, Denied, Settled, Forfeit, Returned}
 use Rattle.cap_values.specs.declared.message.SsfMsg.{SsfMsg}
-use Rattle.dialogue_core.specs.Phases.{Phase, Says, Ending, Closed, Asks, Sends, Finished}
+use Rattle.dialogue_core.specs.Phases.{Phase, Says, Ending, Closed, Asks}
 use Rattle.dialogue_core.specs.Table.{Step, begun, replied, told, unanswered}
 use Rattle.tariff_core.specs.declared.route.Route.{Route}
 

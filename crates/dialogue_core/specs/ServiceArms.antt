@@ -1,5 +1,5 @@
 -- The points that the service watches.
-use Rattle.std.specs.Prelude.{Option, Some, None, List, [], ◌∷◌}
+use Rattle.std.specs.Prelude.{Some, None, List, [], ◌∷◌}
 use Rattle.cap_values.specs.Arms.{arms_of}
 use Rattle.cap_values.specs.declared.arming.Arming.{Arming}
 use Rattle.cap_values.specs.declared.arms.Arms.{Arms}

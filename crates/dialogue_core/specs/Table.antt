@@ -1,10 +1,10 @@
 -- The table of the service: the turn and the next state for each input.
-use Rattle.std.specs.Prelude.{◌+◌, ◌-◌, ◌&&◌, ℕ, Bool, true, false, Option, Some, None, Result, Ok, Err, List, [], ◌∷◌, if◌then◌else◌, nat_le, option_map}
+use Rattle.std.specs.Prelude.{◌-◌, ◌&&◌, ℕ, Bool, true, false, Option, Some, None, Result, Ok, Err, [], ◌∷◌, if◌then◌else◌, nat_le}
 use Rattle.std.specs.Int.{div_ceil}
 use Rattle.account_core.specs.Asked.{Asked, Reserves, Settles, Returns}
 use Rattle.account_core.specs.declared.entry.Reply.{Reply}
-use Rattle.account_core.specs.declared.entry.Reply.TheVariants.{Credited, CreditOver, Granted, Denied, Settled, Forfeit, Returned}
-use Rattle.cap_values.specs.Orders.{Order, Watch, Pay, GoOn, Release}
+use Rattle.account_core.specs.declared.entry.Reply.TheVariants.{Granted, Denied, Settled, Forfeit, Returned}
+use Rattle.cap_values.specs.Orders.{Watch, Pay, GoOn, Release}
 use Rattle.cap_values.specs.declared.event.Event.{Event}
 use Rattle.cap_values.specs.declared.event.Event.TheVariants as event
 use Rattle.cap_values.specs.declared.message.SsfMsg.{SsfMsg}
@@ -26,11 +26,11 @@ Step = Result (Says × Phase) DialogueFault
 abbrev pub reserve : Conditions → Asked
 reserve t = Reserves t.call t.plan t.wanted t.least
 
--- the call is settled with, and what follows once it is returned
+-- what the call holds is returned, and then comes the sequel
 abbrev pub give_back : Conditions → Sequel → Step
 give_back t sequel = Ok (Asks (Returns t.call), Returning sequel)
 
--- the call goes on where it waits
+-- a call that waits at an event goes on
 abbrev pub going_on : Mode → Sequel
 going_on Interrupted = phase.Continues
 going_on NotifyAndContinue = phase.Nothing
