@@ -1,5 +1,7 @@
 //! Calls as the switch runs them, with `tssf` 100, `tccd` 50 and the default handling Release.
 
+ghost use Rattle.std.specs.Prelude.{◌≤◌};
+
 use super::*;
 use cap_values::{Arming, Arms, Cause, Charge, Event, Leg, Mode, Number, ScfOp, SsfMsg};
 use std::process::Abort;
@@ -80,7 +82,9 @@ fn triggered(rt: &impl Abort, default_handling: DefaultHandling) -> Result<Ssf, 
 }
 
 /// Armed, charged for 600 and continued at a moment.
-fn monitored(rt: &impl Abort, at: Moment, switch: Option<u32>, busy: Mode) -> Result<Ssf, Fail> {
+fn monitored(rt: &impl Abort, at: Moment, switch: Option<u32>, busy: Mode) -> Result<Ssf, Fail>
+    requires { at ≤ 2 }
+{
     let mut ssf = triggered(rt, DefaultHandling::Release)?;
     assert_eq!(rt; ssf.operation(at, arms(busy)?).fault, None);
     assert_eq!(rt; ssf.operation(at, charge(600, switch)?).fault, None);
@@ -91,7 +95,9 @@ fn monitored(rt: &impl Abort, at: Moment, switch: Option<u32>, busy: Mode) -> Re
 }
 
 /// Answered at 100.
-fn answered(rt: &impl Abort, at: Moment, switch: Option<u32>) -> Result<Ssf, Fail> {
+fn answered(rt: &impl Abort, at: Moment, switch: Option<u32>) -> Result<Ssf, Fail>
+    requires { at ≤ 2 }
+{
     let mut ssf = monitored(rt, at, switch, Mode::NotifyAndContinue)?;
     let step = ssf.event(100, BcsmEvent::Answer);
     let answer = told(100, Event::Answer, None, Mode::NotifyAndContinue);
@@ -116,12 +122,21 @@ fn a_period_ends(rt: HostRuntime) -> Result<(), Fail> {
 
 #[test]
 fn the_tariff_switches(rt: HostRuntime) -> Result<(), Fail> {
-    for (at, seconds, since, interval) in [(2, 5, 600, None), (0, 70, 0, Some(600))] {
-        let mut ssf = answered(&rt, at, Some(seconds))?;
-        let step = ssf.advance(700);
-        let info = TimeInfo::Switch { since, interval };
-        assert_eq!(rt; step.sent.as_slice(), [report(700, true, info)].as_slice());
-    }
+    let mut before_answer = answered(&rt, 2, Some(5))?;
+    let step = before_answer.advance(700);
+    let info = TimeInfo::Switch {
+        since: 600,
+        interval: None,
+    };
+    assert_eq!(rt; step.sent.as_slice(), [report(700, true, info)].as_slice());
+
+    let mut at_the_end = answered(&rt, 0, Some(70))?;
+    let step = at_the_end.advance(700);
+    let info = TimeInfo::Switch {
+        since: 0,
+        interval: Some(600),
+    };
+    assert_eq!(rt; step.sent.as_slice(), [report(700, true, info)].as_slice());
     Ok(())
 }
 
