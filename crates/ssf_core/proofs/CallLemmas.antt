@@ -1,7 +1,6 @@
 -- A call of the gsmSSF: its timers have run, and its input is taken.
-use Rattle.std.proofs.Common.{◌≡◌, ◌+◌, ◌*◌, ◌≤◌, ◌<◌, ◌++◌, ℕ, Bool, true, false, Option, Some, None, Result, Ok, Err, List, [], ◌∷◌, refl, sym, ap, ◌∙◌, arith}
+use Rattle.std.proofs.Common.{◌≡◌, ◌+◌, ◌≤◌, ◌<◌, ◌++◌, ℕ, Bool, true, false, Option, Some, None, List, refl, sym, ◌∙◌, arith}
 use Rattle.std.proofs.lemmas.Bool.Decides.{nat_tests}
-use Rattle.std.specs.Prelude.{◌&&◌, nat_le, nat_lt}
 use Rattle.std.specs.Result.{result_err, result_unwrap_or}
 use Rattle.cap_values.specs.declared.charge.Charge.{Charge}
 use Rattle.cap_values.specs.declared.event.Event.{Event}
@@ -11,22 +10,19 @@ use Rattle.cap_values.specs.declared.mode.Mode.{Mode}
 use Rattle.cap_values.specs.declared.mode.Mode.TheVariants.{Interrupted, NotifyAndContinue, Transparent}
 use Rattle.cap_values.specs.declared.operation.ScfOp.{ScfOp}
 use Rattle.cap_values.specs.declared.operation.ScfOp.TheVariants.{RequestReport, ApplyCharging, Continue, ReleaseCall}
-use Rattle.ssf_core.specs.Calls.{Advances, IsNextDue, RunsUntil, Stands, Takes, View}
+use Rattle.ssf_core.specs.Calls.{Advances, IsNextDue, RunsUntil, Takes}
 use Rattle.ssf_core.specs.Happenings.{Happening, sent_in}
-use Rattle.ssf_core.specs.Moves.{Move, active_from, charged_active, charged_setup, charging_of, initial_from, last_report_of, met_by, moved, outs_of, period_of, proceeded, reporting, setup_from, silently, stage_of}
+use Rattle.ssf_core.specs.Moves.{active_from, charged_active, charged_setup, charging_of, initial_from, met_by, moved, outs_of, period_of, proceeded, setup_from, silently, stage_of}
 use Rattle.ssf_core.specs.Running.{HasRun}
-use Rattle.ssf_core.specs.Stages.{IsActiveTimely, IsChargingTimely, IsQuiet, IsSwitchTimely, IsBounded, IsTimely, moment_of, next_of, stage_due, started}
+use Rattle.ssf_core.specs.Stages.{IsChargingTimely, IsQuiet, IsSwitchTimely, IsBounded, IsTimely, moment_of, next_of, stage_due, started}
 use Rattle.ssf_core.specs.Stands.{StageStands}
 use Rattle.ssf_core.specs.Table.{is_fitting}
-use Rattle.ssf_core.specs.Traces.{due}
 use Rattle.ssf_core.specs.declared.timer.Expiry.{Expiry}
-use Rattle.ssf_core.specs.declared.timer.Timer.{Timer}
 use Rattle.ssf_core.specs.declared.bcsm_event.BcsmEvent.{BcsmEvent}
 use Rattle.ssf_core.specs.declared.bcsm_event.BcsmEvent.TheVariants as met
 use Rattle.ssf_core.specs.declared.config.SsfConfig.{SsfConfig}
 use Rattle.ssf_core.specs.declared.input.Input.{Input}
 use Rattle.ssf_core.specs.declared.input.Input.TheVariants.{Invoke, Trigger, Operate, Meet}
-use Rattle.ssf_core.specs.declared.item.Item.{Item}
 use Rattle.ssf_core.specs.declared.item.Out.{Out}
 use Rattle.ssf_core.specs.declared.stage.Active.{Active}
 use Rattle.ssf_core.specs.declared.stage.Charging.{Charging}

@@ -1,15 +1,13 @@
 -- An expiry is the table's, and the trace goes on by it.
-use Rattle.std.proofs.Common.{◌≡◌, ◌+◌, ◌≤◌, ◌++◌, ℕ, Bool, true, false, Option, Some, None, List, [], ◌∷◌, inl, inr, length, refl, sym, ap, ◌∙◌, append_assoc, length-append, arith, unwrap_or}
-use Rattle.std.specs.Option.{option_map}
-use Rattle.ssf_core.specs.Calls.{AreExpiries}
+use Rattle.std.proofs.Common.{◌≡◌, ◌+◌, ◌≤◌, ◌++◌, ℕ, Bool, true, false, Option, Some, None, List, [], ◌∷◌, length, refl, sym, ap, ◌∙◌, append_assoc, length-append, arith, unwrap_or}
 use Rattle.ssf_core.specs.Happenings.{Happening, Expired, sent_at, sent_in}
-use Rattle.ssf_core.specs.Moves.{Move, cleared, defaulted, expired, period_over, report_of, send_all}
-use Rattle.ssf_core.specs.Quantities.{last_input, last_moment, pending}
+use Rattle.ssf_core.specs.Moves.{Move, defaulted, expired, period_over, report_of, send_all}
+use Rattle.ssf_core.specs.Quantities.{pending}
 use Rattle.ssf_core.specs.Running.{HasRun}
-use Rattle.ssf_core.specs.Stages.{IsChargingTimely, IsQuiet, IsSwitchTimely, IsTimely, due_by, next_of, stage_due, switch_due_of, tccd_due_of, tcp_due_of}
-use Rattle.ssf_core.specs.Stands.{ActiveMatches, SetupMatches, StageMatches, StageStands, phase_of, running}
-use Rattle.ssf_core.specs.Table.{Effect, ends, on_expiry, on_period_end, on_tssf, report}
-use Rattle.ssf_core.specs.Traces.{IsTrace, MayFollow, due, due_in, period_due, phase_after}
+use Rattle.ssf_core.specs.Stages.{IsChargingTimely, IsSwitchTimely, IsTimely, due_by, next_of, stage_due, switch_due_of, tccd_due_of, tcp_due_of}
+use Rattle.ssf_core.specs.Stands.{ActiveMatches, StageMatches, StageStands, phase_of, running}
+use Rattle.ssf_core.specs.Table.{Effect, on_expiry, on_period_end, on_tssf, report}
+use Rattle.ssf_core.specs.Traces.{MayFollow, due, due_in, period_due, phase_after}
 use Rattle.ssf_core.specs.declared.config.DefaultHandling.{DefaultHandling}
 use Rattle.ssf_core.specs.declared.config.DefaultHandling.TheVariants as handling
 use Rattle.ssf_core.specs.declared.config.SsfConfig.{SsfConfig}
@@ -18,7 +16,6 @@ use Rattle.ssf_core.specs.declared.item.Out.{Out}
 use Rattle.ssf_core.specs.declared.stage.Active.{Active}
 use Rattle.ssf_core.specs.declared.stage.Charging.{Charging}
 use Rattle.ssf_core.specs.declared.stage.Charging.TheVariants as charging
-use Rattle.ssf_core.specs.declared.stage.Setup.{Setup}
 use Rattle.ssf_core.specs.declared.stage.Stage.{Stage}
 use Rattle.ssf_core.specs.declared.stage.Stage.TheVariants as stage
 use Rattle.ssf_core.specs.declared.stage.Switch.{Switch}

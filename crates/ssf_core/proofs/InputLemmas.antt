@@ -1,7 +1,6 @@
 -- An input is taken or refused as the table says.
-use Rattle.std.proofs.Common.{◌≡◌, ◌+◌, ◌*◌, ◌≤◌, ◌<◌, ◌++◌, ℕ, Bool, true, false, Option, Some, None, Result, Ok, Err, List, [], ◌∷◌, refl, sym, ap, subst, ◌∙◌, append_assoc, arith, unwrap_or}
-use Rattle.std.proofs.lemmas.Bool.Decides.{nat_tests}
-use Rattle.std.specs.Prelude.{◌||◌, ◌&&◌, if◌then◌else◌, is_some, nat_le, nat_lt}
+use Rattle.std.proofs.Common.{◌≡◌, ◌+◌, ◌++◌, ℕ, Bool, true, false, Option, Some, None, Result, Ok, Err, List, [], ◌∷◌, refl, sym, ap, subst, ◌∙◌, append_assoc, arith, unwrap_or}
+use Rattle.std.specs.Prelude.{◌||◌, if◌then◌else◌, is_some}
 use Rattle.std.specs.Option.{option_map}
 use Rattle.std.specs.Result.{result_err, result_unwrap_or}
 use Rattle.cap_values.specs.Arms.{arm_at}
@@ -21,14 +20,14 @@ use Rattle.cap_values.specs.declared.message.SsfMsg.TheVariants as message
 use Rattle.ssf_core.specs.Calls.{fault_in, with_input}
 use Rattle.ssf_core.specs.Happenings.{Happening, Took, sent_at, sent_in}
 use Rattle.ssf_core.specs.Modes.{armed_modes, modes_at}
-use Rattle.ssf_core.specs.Moves.{Move, charged_active, charged_setup, charging_of, active_from, gave_up, initial_from, last_report_of, met_by, moved, outs_of, period_of, proceeded, report_in, report_of, reporting, send_all, setup_from, silently, stage_of}
-use Rattle.ssf_core.specs.Quantities.{granted, last_moment, mode_at, pending, period_end, switch_due, switched}
-use Rattle.ssf_core.specs.Stages.{IsActiveTimely, IsQuiet, IsSwitchTimely, IsTimely, passed, started, switch_due_of, tccd_due_of}
+use Rattle.ssf_core.specs.Moves.{Move, charged_active, charged_setup, charging_of, active_from, initial_from, last_report_of, met_by, moved, outs_of, period_of, proceeded, report_in, report_of, reporting, send_all, setup_from, silently, stage_of}
+use Rattle.ssf_core.specs.Quantities.{granted, mode_at, pending, period_end, switch_due, switched}
+use Rattle.ssf_core.specs.Stages.{IsQuiet, passed, started, switch_due_of, tccd_due_of}
 use Rattle.ssf_core.specs.Quantities.{started_switch}
-use Rattle.ssf_core.specs.Stands.{ActiveHas, ActiveMatches, SetupHas, SetupMatches, StageMatches, StageStands, phase_of, release_of, running}
-use Rattle.ssf_core.specs.Table.{Effect, after, any_watched, by_mode, ends, first_period, further_period, goes, is_fitting, is_watched, last_report, notified, on_input, report}
+use Rattle.ssf_core.specs.Stands.{ActiveMatches, SetupMatches, StageMatches, StageStands, phase_of, release_of, running}
+use Rattle.ssf_core.specs.Table.{Effect, after, any_watched, by_mode, ends, first_period, further_period, goes, is_fitting, last_report, notified, on_input, report}
 use Rattle.ssf_core.specs.Phases.{Initial, Setup as InSetup}
-use Rattle.ssf_core.specs.Traces.{IsTrace, MayFollow, awaited_switch, due, next_in, phase_after}
+use Rattle.ssf_core.specs.Traces.{awaited_switch, due, next_in, phase_after}
 use Rattle.ssf_core.specs.declared.bcsm_event.BcsmEvent.{BcsmEvent}
 use Rattle.ssf_core.specs.declared.bcsm_event.BcsmEvent.TheVariants as met
 use Rattle.ssf_core.specs.declared.config.SsfConfig.{SsfConfig}

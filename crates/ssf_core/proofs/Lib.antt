@@ -1,4 +1,5 @@
 pub mod CallLemmas
 pub mod ExpiryLemmas
 pub mod InputLemmas
+pub mod LawLemmas
 pub mod TimerLemmas

@@ -1,11 +1,10 @@
 -- The next expiry, and what it leaves.
-use Rattle.std.proofs.Common.{◌≡◌, ◌+◌, ◌<◌, ◌≤◌, ℕ, Bool, true, false, Option, Some, None, List, [], ◌∷◌, ◌⊎◌, inl, inr, length, refl, sym, ap, subst, ◌∙◌, arith}
+use Rattle.std.proofs.Common.{◌≡◌, ◌+◌, ◌<◌, ◌≤◌, ℕ, Bool, true, false, Option, Some, None, [], ◌⊎◌, inl, inr, length, refl, subst, arith}
 use Rattle.std.proofs.lemmas.Bool.Decides.{nat_tests}
 use Rattle.std.proofs.lemmas.Bool.{cases_lt}
 use Rattle.std.specs.Prelude.{if◌then◌else◌, nat_lt, nat_le}
-use Rattle.cap_values.specs.declared.charge.Charge.{Charge}
-use Rattle.ssf_core.specs.Moves.{Move, cleared, defaulted, expired, period_over, quietly}
-use Rattle.ssf_core.specs.Stages.{IsActiveTimely, IsBounded, IsChargingTimely, IsQuiet, IsSwitchTimely, IsTimely, due_by, expiries_left, expiry_of, items_after_period, items_left, next_of, periods_left, sooner_of, stage_due, switch_due_of, switches_left, tccd_due_of, tcp_due_of}
+use Rattle.ssf_core.specs.Moves.{Move, defaulted, expired, period_over}
+use Rattle.ssf_core.specs.Stages.{IsActiveTimely, IsChargingTimely, IsQuiet, IsSwitchTimely, IsTimely, due_by, expiries_left, expiry_of, items_after_period, items_left, next_of, sooner_of, stage_due, switch_due_of, switches_left, tccd_due_of, tcp_due_of}
 use Rattle.ssf_core.specs.Traces.{rank}
 use Rattle.ssf_core.specs.declared.config.DefaultHandling.{DefaultHandling}
 use Rattle.ssf_core.specs.declared.config.DefaultHandling.TheVariants as handling
@@ -13,7 +12,6 @@ use Rattle.ssf_core.specs.declared.config.SsfConfig.{SsfConfig}
 use Rattle.ssf_core.specs.declared.stage.Active.{Active}
 use Rattle.ssf_core.specs.declared.stage.Charging.{Charging}
 use Rattle.ssf_core.specs.declared.stage.Charging.TheVariants as charging
-use Rattle.ssf_core.specs.declared.stage.Setup.{Setup}
 use Rattle.ssf_core.specs.declared.stage.Stage.{Stage}
 use Rattle.ssf_core.specs.declared.stage.Stage.TheVariants as stage
 use Rattle.ssf_core.specs.declared.stage.Switch.{Switch}

@@ -1,8 +1,7 @@
 -- What a call of the gsmSSF does to the traces that it stands for.
 use Rattle.std.specs.Prelude.{◌≡◌, ◌++◌, ◌<◌, ◌≤◌, ℕ, Option, Some, None, Result, Ok, Err, List, [], ◌∷◌}
 use Rattle.ssf_core.specs.Happenings.{Happening, What, Took, Expired, sent_in}
-use Rattle.ssf_core.specs.Phases.{Phase, state_in}
-use Rattle.ssf_core.specs.Stands.{StageStands, phase_of}
+use Rattle.ssf_core.specs.Stands.{StageStands}
 use Rattle.ssf_core.specs.Table.{Effect, on_input}
 use Rattle.ssf_core.specs.Traces.{IsTrace, due, phase_after}
 use Rattle.ssf_core.specs.declared.config.SsfConfig.{SsfConfig}

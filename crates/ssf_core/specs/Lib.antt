@@ -1,6 +1,7 @@
 pub mod Calls
 pub mod Configs
 pub mod Happenings
+pub mod Laws
 pub mod Modes
 pub mod Moves
 pub mod Phases

@@ -1,5 +1,5 @@
 -- How the code's stages move. Contracts of private functions alone cite these: the table and the traces are what a call is judged by.
-use Rattle.std.specs.Prelude.{◌+◌, ◌++◌, ◌||◌, ℕ, Bool, true, false, Option, Some, None, Result, Ok, Err, List, [], ◌∷◌, if◌then◌else◌, is_some, nat_lt}
+use Rattle.std.specs.Prelude.{◌+◌, ◌++◌, ◌||◌, ℕ, Bool, true, false, Option, Some, None, Result, Ok, Err, List, [], ◌∷◌, is_some}
 use Rattle.cap_values.specs.CauseValues.{normal_call_clearing, temporary_failure}
 use Rattle.cap_values.specs.declared.arming.Point.{Point}
 use Rattle.cap_values.specs.declared.arming.Point.TheVariants as point
@@ -37,7 +37,6 @@ use Rattle.ssf_core.specs.declared.stage.Charging.TheVariants as charging
 use Rattle.ssf_core.specs.declared.stage.Setup.{Setup}
 use Rattle.ssf_core.specs.declared.stage.Stage.{Stage}
 use Rattle.ssf_core.specs.declared.stage.Stage.TheVariants as stage
-use Rattle.ssf_core.specs.declared.stage.Switch.{Switch}
 use Rattle.ssf_core.specs.declared.stage.Switch.TheVariants as switch
 use Rattle.ssf_core.specs.declared.timer.Timer.{Timer}
 use Rattle.ssf_core.specs.declared.timer.Timer.TheVariants.{Tsw, Tcp, Tccd, Tssf}

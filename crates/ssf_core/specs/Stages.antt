@@ -1,7 +1,6 @@
 -- The stages of the code: where a call stands, with its data.
-use Rattle.std.specs.Prelude.{◌≡◌, ◌+◌, ◌*◌, ◌≤◌, ◌<◌, ℕ, Bool, true, false, Option, Some, None, if◌then◌else◌, nat_le, nat_lt}
+use Rattle.std.specs.Prelude.{◌≡◌, ◌+◌, ◌*◌, ◌≤◌, ◌<◌, ℕ, Option, Some, None, if◌then◌else◌, nat_le, nat_lt}
 use Rattle.cap_values.specs.declared.mode.Mode.TheVariants.{Transparent}
-use Rattle.cap_values.specs.declared.charge.Charge.{Charge}
 use Rattle.ssf_core.specs.declared.stage.Active.{Active}
 use Rattle.ssf_core.specs.declared.stage.Charging.{Charging}
 use Rattle.ssf_core.specs.declared.stage.Charging.TheVariants as charging

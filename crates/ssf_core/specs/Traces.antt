@@ -1,9 +1,8 @@
 -- The traces of a gsmSSF: lists of happenings, the newest first, whose moments never fall, in which no due timer is missing, each with what the table sends. A refused input is no happening.
-use Rattle.std.specs.Prelude.{◌≡◌, ◌≤◌, ◌<◌, ◌⊎◌, ◌+◌, ℕ, Bool, true, false, Option, Some, None, Result, Ok, Err, List, [], ◌∷◌, is_some, if◌then◌else◌}
+use Rattle.std.specs.Prelude.{◌≡◌, ◌≤◌, ◌<◌, ◌⊎◌, ◌+◌, ℕ, Bool, Option, Some, None, Result, Ok, Err, List, [], ◌∷◌}
 use Rattle.std.specs.Option.{option_map}
 use Rattle.ssf_core.specs.Happenings.{Happening, What, Took, Expired}
-use Rattle.ssf_core.specs.declared.input.Input.{Input}
-use Rattle.ssf_core.specs.Phases.{Phase, Unused, Requested, Initial, Setup, Active, Down, Ended}
+use Rattle.ssf_core.specs.Phases.{Phase, Unused, Initial, Setup, Active, Down}
 use Rattle.ssf_core.specs.Quantities.{answered, granted, last_input, last_moment, pending, period_end, switch_due, switched}
 use Rattle.ssf_core.specs.Table.{Effect, on_input, on_expiry}
 use Rattle.ssf_core.specs.declared.config.SsfConfig.{SsfConfig}

@@ -1,4 +1,4 @@
-use Rattle.std.proofs.Common.{◌≡◌, ◌≤◌, ◌+◌, ℕ, List, length}
+use Rattle.std.proofs.Common.{◌≤◌, ◌+◌, ℕ, List, length}
 use Rattle.ssf_core.specs.Happenings.{Happening}
 use Rattle.ssf_core.specs.Running.{Runs}
 use Rattle.ssf_core.specs.Stages.{IsTimely, expiries_left, items_left}

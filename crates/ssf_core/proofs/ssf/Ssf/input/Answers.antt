@@ -1,5 +1,3 @@
-use Rattle.std.proofs.Common.{◌∙◌, ap}
-use Rattle.std.specs.Result.{result_err, result_unwrap_or}
 use Rattle.ssf_core.proofs.CallLemmas.{takes_run, timely_moved}
 use Rattle.ssf_core.proofs.ssf.Ssf.input.Goals as goal
 

@@ -1,0 +1,75 @@
+-- The laws of traces: what each charging report says, and what never changes.
+use Rattle.std.specs.Prelude.{◌≡◌, ◌+◌, ◌++◌, ◌≤◌, ℕ, Bool, true, Some, List, [], ◌∷◌, ⊤, is_some}
+use Rattle.cap_values.specs.declared.message.SsfMsg.TheVariants.{ChargingReport}
+use Rattle.cap_values.specs.declared.operation.ScfOp.TheVariants.{ApplyCharging}
+use Rattle.tariff_core.specs.declared.time_info.TimeInfo.{TimeInfo}
+use Rattle.ssf_core.specs.Happenings.{Happening, What, Took}
+use Rattle.ssf_core.specs.Quantities.{answered, granted, pending, switched}
+use Rattle.ssf_core.specs.Split.{split}
+use Rattle.ssf_core.specs.Traces.{IsTrace}
+use Rattle.ssf_core.specs.declared.config.SsfConfig.{SsfConfig}
+use Rattle.ssf_core.specs.declared.input.Input.TheVariants.{Operate}
+use Rattle.ssf_core.specs.declared.item.Item.{Item}
+use Rattle.ssf_core.specs.declared.item.Item.TheVariants.{Msg}
+
+-- one more at an order of a period
+abbrev pub periods_after : What → ℕ → ℕ
+periods_after (Took (Operate (ApplyCharging charge))) before = 1 + before
+periods_after _ before = before
+
+-- how many periods were accepted
+abbrev pub periods : List Happening → ℕ
+periods [] = 0
+periods (e ∷ trace) = periods_after e.what (periods trace)
+
+abbrev pub report_after : Item → ℕ → ℕ
+report_after (Msg (ChargingReport active info)) before = 1 + before
+report_after _ before = before
+
+-- one more for each charging report among these items
+abbrev pub reports_after : List Item → ℕ → ℕ
+reports_after [] before = before
+reports_after (item ∷ items) before = report_after item (reports_after items before)
+
+-- how many charging reports were sent
+abbrev pub reports : List Happening → ℕ
+reports [] = 0
+reports (e ∷ trace) = reports_after e.sent (reports trace)
+
+-- a report after a trace, as of a moment: the exact split, while a period is pending, within the sum of the periods, where the call goes on just that sum; and of as many periods as were accepted it is the last one's
+pub record Fits (trace : List Happening) (now : ℕ) (active : Bool) (info : TimeInfo) : Type 0 where
+  pub answer : ℕ
+  pub was_answered : answered trace ≡ Some answer
+  pub exact : info ≡ split answer (switched trace) now
+  pub within : now ≤ answer + granted trace
+  pub whole : active ≡ true → now ≡ answer + granted trace
+  pub was_pending : is_some (pending trace) ≡ true
+  pub in_turn : periods trace ≡ 1 + reports trace
+
+abbrev pub ItemFits : List Happening → ℕ → Item → Type 0
+ItemFits trace now (Msg (ChargingReport active info)) = Fits trace now active info
+ItemFits trace now _ = ⊤
+
+abbrev pub AllFit : List Happening → ℕ → List Item → Type 0
+AllFit trace now [] = ⊤
+AllFit trace now (item ∷ items) = ItemFits trace now item × AllFit trace now items
+
+abbrev pub ReportsFit : List Happening → Type 0
+ReportsFit [] = ⊤
+ReportsFit (e ∷ trace) = ReportsFit trace × AllFit trace e.at e.sent
+
+-- each charging report is the exact split of what was talked, and the k-th stands after the k-th accepted period and before the next
+abbrev pub EachReportFits : Type 0
+EachReportFits = (config : SsfConfig) (trace : List Happening) → IsTrace config trace → ReportsFit trace
+
+-- the answer never changes once it is there
+abbrev pub TheAnswerStays : Type 0
+TheAnswerStays =
+    (config : SsfConfig) (later trace : List Happening) (moment : ℕ) → IsTrace config (later ++ trace) → answered trace ≡ Some moment
+    → answered (later ++ trace) ≡ Some moment
+
+-- nor does the switch
+abbrev pub TheSwitchStays : Type 0
+TheSwitchStays =
+    (config : SsfConfig) (later trace : List Happening) (moment : ℕ) → IsTrace config (later ++ trace) → switched trace ≡ Some moment
+    → switched (later ++ trace) ≡ Some moment
