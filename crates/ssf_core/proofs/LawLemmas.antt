@@ -14,7 +14,7 @@ use Rattle.cap_values.specs.declared.mode.Mode.TheVariants.{Interrupted, NotifyA
 use Rattle.cap_values.specs.declared.number.Number.{Number}
 use Rattle.cap_values.specs.declared.operation.ScfOp.TheVariants.{RequestReport, ApplyCharging, Continue, ReleaseCall}
 use Rattle.ssf_core.specs.Happenings.{Happening, What, Took, Expired}
-use Rattle.ssf_core.specs.Laws.{AllFit, EachReportFits, Fits, TheAnswerStays, TheSwitchStays, periods, periods_after, reports, reports_after}
+use Rattle.ssf_core.specs.Laws.{AllFit, EachReportFits, ItemFits, Fits, TheAnswerStays, TheSwitchStays, periods, periods_after, reports, reports_after}
 use Rattle.ssf_core.specs.Phases.{Phase, Unused, Requested, Initial, Setup, Active, Down, Ended}
 use Rattle.ssf_core.specs.Quantities.{answered, answered_after, granted, mode_at, pending, pending_after, period_end, period_end_after, switch_due, switched, switched_after}
 use Rattle.ssf_core.specs.Split.{split}
@@ -38,7 +38,7 @@ owing None n = n
 owing (Some release) n = 1 + n
 
 -- before the answer, while it is active, and afterwards: the answer, and the periods accepted, of which each was reported but the pending one
-abbrev Known : Phase → Option ℕ → Option Bool → ℕ → ℕ → Type 0
+abbrev pub Known : Phase → Option ℕ → Option Bool → ℕ → ℕ → Type 0
 Known Unused answer wish n r = (answer ≡ None) × (n ≡ owing wish r)
 Known Requested answer wish n r = (answer ≡ None) × (n ≡ owing wish r)
 Known Initial answer wish n r = (answer ≡ None) × (n ≡ owing wish r)
@@ -47,7 +47,7 @@ Known Active answer wish n r = ((moment : ℕ) × (answer ≡ Some moment)) × (
 Known Down answer wish n r = ⊤
 Known Ended answer wish n r = ⊤
 
-abbrev KnownOf : Phase → List Happening → Type 0
+abbrev pub KnownOf : Phase → List Happening → Type 0
 KnownOf phase t = Known phase (answered t) (pending t) (periods t) (reports t)
 
 -- the end of the pending period lies ahead
@@ -60,9 +60,37 @@ Keeps t now what effect =
     Known effect.next (answered_after what now (answered t)) (pending_after what (pending t)) (periods_after what (periods t)) (reports_after effect.sent (reports t))
     × AllFit t now effect.sent
 
--- so does an input, if it is taken
+-- the items of an input: a report says that the call doesn't go on
+abbrev ItemIsLast : List Happening → ℕ → Item → Type 0
+ItemIsLast t now (Msg (message.ChargingReport active info)) = Fits t now active info × (active ≡ false)
+ItemIsLast t now (Msg (message.InitialDp call calling called)) = ⊤
+ItemIsLast t now (Msg (message.EventReport e leg mode)) = ⊤
+ItemIsLast t now (Msg message.Ended) = ⊤
+ItemIsLast t now Proceed = ⊤
+ItemIsLast t now (Clear cause) = ⊤
+
+abbrev pub AllLast : List Happening → ℕ → List Item → Type 0
+AllLast t now [] = ⊤
+AllLast t now (item ∷ items) = ItemIsLast t now item × AllLast t now items
+
+item_last : (t : List Happening) (now : ℕ) (item : Item) → ItemIsLast t now item → ItemFits t now item
+item_last t now (Msg (message.ChargingReport active info)) last = last.0
+item_last t now (Msg (message.InitialDp call calling called)) last = tt
+item_last t now (Msg (message.EventReport e leg mode)) last = tt
+item_last t now (Msg message.Ended) last = tt
+item_last t now Proceed last = tt
+item_last t now (Clear cause) last = tt
+
+last_fit : (t : List Happening) (now : ℕ) (items : List Item) → AllLast t now items → AllFit t now items
+last_fit t now [] last = tt
+last_fit t now (item ∷ items) last = (item_last t now item last.0, last_fit t now items last.1)
+
+-- an input that is taken leaves what is known, and its reports are last ones
 abbrev Takes : List Happening → ℕ → Input → Result Effect SsfFault → Type 0
-Takes t now input (Ok effect) = Keeps t now (Took input) effect
+Takes t now input (Ok effect) =
+    Known effect.next (answered_after (Took input) now (answered t)) (pending_after (Took input) (pending t)) (periods_after (Took input) (periods t))
+    (reports_after effect.sent (reports t))
+    × AllLast t now effect.sent
 Takes t now input (Err fault) = ⊤
 
 ended_next : (t : List Happening) (now : ℕ) (what : What) (d : ℕ) → ((x : ℕ) → period_end t ≡ Some x → pending t ≡ None)
@@ -100,14 +128,14 @@ fits t now moment release goes_on answer wish counted within whole = record {
 
 -- the last report, and what is sent after it
 last_fits : (t : List Happening) (now moment : ℕ) (wish : Option Bool) (items : List Item) → pending t ≡ wish → answered t ≡ Some moment
-    → periods t ≡ owing (pending t) (reports t) → IsAhead Active t now → AllFit t now items → AllFit t now (last_report t now ++ items)
+    → periods t ≡ owing (pending t) (reports t) → IsAhead Active t now → AllLast t now items → AllLast t now (last_report t now ++ items)
 last_fits t now moment None items is answer counted quiet rest =
-    subst (λ (p : Option Bool). AllFit t now ((if is_some p then report t now false ∷ [] else []) ++ items)) (sym is) rest
+    subst (λ (p : Option Bool). AllLast t now ((if is_some p then report t now false ∷ [] else []) ++ items)) (sym is) rest
 last_fits t now moment (Some release) items is answer counted quiet rest =
     let runs : tcp_due t Active ≡ Some (moment + granted t) = rw (is, answer) refl in
     let ahead = quiet (moment + granted t) runs in
-    subst (λ (p : Option Bool). AllFit t now ((if is_some p then report t now false ∷ [] else []) ++ items)) (sym is)
-    (fits t now moment release false answer is counted (omega arith) (λ same. absurd (cc)), rest)
+    subst (λ (p : Option Bool). AllLast t now ((if is_some p then report t now false ∷ [] else []) ++ items)) (sym is)
+    ((fits t now moment release false answer is counted (omega arith) (λ same. absurd (cc)), refl), rest)
 
 takes_by_mode : (t : List Happening) (now : ℕ) (input : Input) (e : Event) (leg : Option Leg) (mode : Mode) → Takes t now input (Ok (by_mode e leg mode))
 takes_by_mode t now input e leg Interrupted = (tt, (tt, tt))
@@ -265,7 +293,7 @@ keeps_period t now (Some false) (Some moment) is at runs k =
     let same : moment + granted t ≡ now = cc in
     ((k.0, k.1 ∙ ap (λ (p : Option Bool). owing p (reports t)) is), (fits t now moment false true at is k.1 (omega arith) (λ goes_on. sym same), tt))
 
-keeps_tcp : (t : List Happening) (now : ℕ) (phase : Phase) → KnownOf phase t → tcp_due t phase ≡ Some now
+pub keeps_tcp : (t : List Happening) (now : ℕ) (phase : Phase) → KnownOf phase t → tcp_due t phase ≡ Some now
     → Keeps t now (Expired Tcp) (on_period_end t now (unwrap_or (pending t) false))
 keeps_tcp t now Unused k runs = absurd (cc)
 keeps_tcp t now Requested k runs = absurd (cc)
@@ -293,15 +321,22 @@ Follows config t now what sent =
     (reports_after sent (reports t))
     × AllFit t now sent
 
-follows : (config : SsfConfig) (t : List Happening) (now : ℕ) (what : What) (sent : List Item) → KnownOf (phase_after config t) t
-    → ((timer : Timer) (d : ℕ) → due config t timer ≡ Some d → ComesBefore now what d timer) → HasEffect config t now what sent → Follows config t now what sent
-follows config t now (Took input) sent k ahead has =
+pub taken : (config : SsfConfig) (t : List Happening) (now : ℕ) (input : Input) (sent : List Item) → KnownOf (phase_after config t) t
+    → ((timer : Timer) (d : ℕ) → due config t timer ≡ Some d → now < d) → HasEffect config t now (Took input) sent
+    → Known (next_phase config t (phase_after config t) now (Took input)) (answered_after (Took input) now (answered t)) (pending_after (Took input) (pending t))
+    (periods_after (Took input) (periods t)) (reports_after sent (reports t))
+    × AllLast t now sent
+taken config t now input sent k ahead has =
     let (effect, takes, same) = has in
     let kept : Takes t now input (Ok effect) = subst (λ (r : Result Effect SsfFault). Takes t now input r) takes (takes_input t now (phase_after config t) input k (ahead Tcp)) in
     rw (takes, same) kept
+
+follows : (config : SsfConfig) (t : List Happening) (now : ℕ) (what : What) (sent : List Item) → KnownOf (phase_after config t) t
+    → ((timer : Timer) (d : ℕ) → due config t timer ≡ Some d → ComesBefore now what d timer) → HasEffect config t now what sent → Follows config t now what sent
+follows config t now (Took input) sent k ahead has = let kept = taken config t now input sent k ahead has in (kept.0, last_fit t now sent kept.1)
 follows config t now (Expired timer) sent k ahead has = let (runs, same) = has in rw same (keeps_expiry config t now (phase_after config t) timer k runs)
 
-known : (config : SsfConfig) (t : List Happening) → IsTrace config t → KnownOf (phase_after config t) t
+pub known : (config : SsfConfig) (t : List Happening) → IsTrace config t → KnownOf (phase_after config t) t
 known config [] is = (refl, refl)
 known config (e ∷ t) is = (follows config t e.at e.what e.sent (known config t is.0) is.1.none_missed is.1.has_effect).0
 
@@ -319,7 +354,7 @@ answer_first t now mode Active effect k takes = absurd (cc)
 answer_first t now mode Down effect k takes = absurd (cc)
 answer_first t now mode Ended effect k takes = absurd (cc)
 
-answer_next : (config : SsfConfig) (t : List Happening) (now : ℕ) (what : What) (sent : List Item) (moment : ℕ) → KnownOf (phase_after config t) t
+pub answer_next : (config : SsfConfig) (t : List Happening) (now : ℕ) (what : What) (sent : List Item) (moment : ℕ) → KnownOf (phase_after config t) t
     → HasEffect config t now what sent → answered t ≡ Some moment → answered_after what now (answered t) ≡ Some moment
 answer_next config t now (Took Invoke) sent moment k has is = is
 answer_next config t now (Took (Trigger call calling called)) sent moment k has is = is
@@ -345,7 +380,7 @@ switch_first : (t : List Happening) (came : Option ℕ) (set : Option ℕ) (d : 
 switch_first t None set d runs = refl
 switch_first t (Some moment) set d runs = absurd (cc)
 
-tsw_first : (t : List Happening) (phase : Phase) (d : ℕ) → tsw_due t phase ≡ Some d → switched t ≡ None
+pub tsw_first : (t : List Happening) (phase : Phase) (d : ℕ) → tsw_due t phase ≡ Some d → switched t ≡ None
 tsw_first t Unused d runs = absurd (cc)
 tsw_first t Requested d runs = absurd (cc)
 tsw_first t Initial d runs = switch_first t (switched t) (switch_due t) d runs
@@ -354,7 +389,7 @@ tsw_first t Active d runs = switch_first t (switched t) (switch_due t) d runs
 tsw_first t Down d runs = absurd (cc)
 tsw_first t Ended d runs = absurd (cc)
 
-switch_next : (config : SsfConfig) (t : List Happening) (now : ℕ) (what : What) (sent : List Item) (moment : ℕ) → HasEffect config t now what sent → switched t ≡ Some moment
+pub switch_next : (config : SsfConfig) (t : List Happening) (now : ℕ) (what : What) (sent : List Item) (moment : ℕ) → HasEffect config t now what sent → switched t ≡ Some moment
     → switched_after what now (switched t) ≡ Some moment
 switch_next config t now (Took input) sent moment has is = is
 switch_next config t now (Expired Tsw) sent moment has is =

@@ -2,4 +2,5 @@ pub mod CallLemmas
 pub mod ExpiryLemmas
 pub mod InputLemmas
 pub mod LawLemmas
+pub mod MeterLemmas
 pub mod TimerLemmas

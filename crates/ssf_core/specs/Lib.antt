@@ -2,6 +2,7 @@ pub mod Calls
 pub mod Configs
 pub mod Happenings
 pub mod Laws
+pub mod Meters
 pub mod Modes
 pub mod Moves
 pub mod Phases

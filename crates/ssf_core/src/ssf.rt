@@ -36,8 +36,10 @@ impl Model for Ssf {
 }
 
 impl Ssf {
-    ghost use Rattle.std.specs.Prelude.{◌≡◌, ◌≤◌, ◌<◌, List, [], Some, None};
+    ghost use Rattle.std.specs.Prelude.{◌≡◌, ◌≤◌, ◌<◌, ◌∷◌, List, [], Some, None};
     ghost use Rattle.ssf_core.specs.Calls.{Advances, IsNextDue, Stands, Takes};
+    ghost use Rattle.cap_values.specs.Orders.{order_of, paid_by};
+    ghost use Rattle.ssf_core.specs.Meters.{Metered};
     ghost use Rattle.ssf_core.specs.Phases.{state_in};
     ghost use Rattle.ssf_core.specs.Traces.{phase_after};
     ghost use Rattle.ssf_core.specs.Happenings.{Happening};
@@ -76,6 +78,7 @@ impl Ssf {
         ensures backwards { now < self.old.last → (self.new ≡ self.old) × (result.fault ≡ Some SsfFault.TimeBackwards) × (result.sent.items ≡ []) }
         ensures moment { self.old.last ≤ now → (self.new.last ≡ now) × (self.new.config ≡ self.old.config) }
         ensures trace { self.old.last ≤ now → (t : List Happening) → Stands self.old t → Takes self.old self.new now taken.Invoke t result.sent.items result.fault }
+        ensures metered { Metered [] self.old result.sent.items self.new }
     {
         self.input(now, Input::Invoke)
     }
@@ -86,6 +89,7 @@ impl Ssf {
         ensures backwards { now < self.old.last → (self.new ≡ self.old) × (result.fault ≡ Some SsfFault.TimeBackwards) × (result.sent.items ≡ []) }
         ensures moment { self.old.last ≤ now → (self.new.last ≡ now) × (self.new.config ≡ self.old.config) }
         ensures trace { self.old.last ≤ now → (t : List Happening) → Stands self.old t → Takes self.old self.new now (taken.Trigger call calling called) t result.sent.items result.fault }
+        ensures metered { Metered [] self.old result.sent.items self.new }
     {
         self.input(
             now,
@@ -103,6 +107,7 @@ impl Ssf {
         ensures backwards { now < self.old.last → (self.new ≡ self.old) × (result.fault ≡ Some SsfFault.TimeBackwards) × (result.sent.items ≡ []) }
         ensures moment { self.old.last ≤ now → (self.new.last ≡ now) × (self.new.config ≡ self.old.config) }
         ensures trace { self.old.last ≤ now → (t : List Happening) → Stands self.old t → Takes self.old self.new now (taken.Operate op) t result.sent.items result.fault }
+        ensures metered { Metered (paid_by (order_of op ∷ [])) self.old result.sent.items self.new }
     {
         self.input(now, Input::Operate(op))
     }
@@ -113,6 +118,7 @@ impl Ssf {
         ensures backwards { now < self.old.last → (self.new ≡ self.old) × (result.fault ≡ Some SsfFault.TimeBackwards) × (result.sent.items ≡ []) }
         ensures moment { self.old.last ≤ now → (self.new.last ≡ now) × (self.new.config ≡ self.old.config) }
         ensures trace { self.old.last ≤ now → (t : List Happening) → Stands self.old t → Takes self.old self.new now (taken.Meet event) t result.sent.items result.fault }
+        ensures metered { Metered [] self.old result.sent.items self.new }
     {
         self.input(now, Input::Meet(event))
     }
@@ -123,6 +129,7 @@ impl Ssf {
         ensures backwards { now < self.old.last → (self.new ≡ self.old) × (result.fault ≡ Some SsfFault.TimeBackwards) × (result.sent.items ≡ []) }
         ensures moment { self.old.last ≤ now → (self.new.last ≡ now) × (self.new.config ≡ self.old.config) × (result.fault ≡ None) }
         ensures trace { self.old.last ≤ now → (t : List Happening) → Stands self.old t → Advances self.old self.new now t result.sent.items }
+        ensures metered { Metered [] self.old result.sent.items self.new }
     {
         let mut sent = ArrayVec::new();
         if now < self.last {

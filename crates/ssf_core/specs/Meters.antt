@@ -1,0 +1,102 @@
+-- The meter of a call: all that charging needs of a trace, and how it moves with each item that is sent.
+use Rattle.std.specs.Prelude.{◌≡◌, ◌+◌, ◌≤◌, ◌⊎◌, ℕ, Bool, true, false, Option, Some, List, [], ◌∷◌, is_some}
+use Rattle.cap_values.specs.Orders.{Paid, order_of, paid_by}
+use Rattle.cap_values.specs.declared.message.SsfMsg.TheVariants.{ChargingReport}
+use Rattle.tariff_core.specs.declared.time_info.TimeInfo.{TimeInfo}
+use Rattle.ssf_core.specs.Calls.{Stands, View}
+use Rattle.ssf_core.specs.Happenings.{Happening, What, Took}
+use Rattle.ssf_core.specs.Quantities.{answered, granted, last_moment, pending, switch_due, switched}
+use Rattle.ssf_core.specs.Split.{split}
+use Rattle.ssf_core.specs.declared.input.Input.TheVariants.{Operate}
+use Rattle.ssf_core.specs.declared.item.Item.{Item}
+use Rattle.ssf_core.specs.declared.item.Item.TheVariants.{Msg}
+use Rattle.ssf_core.specs.declared.item.Out.{Out}
+
+-- the sum of the accepted periods, whether one is pending, the moments of the answer and of the switch, whether a switch was ordered, and the last moment
+pub record Meter : Type 0 where
+  pub granted : ℕ
+  pub pending : Bool
+  pub answered : Option ℕ
+  pub switched : Option ℕ
+  pub awaited : Bool
+  pub last : ℕ
+
+-- the meter of a trace as of a moment
+abbrev pub meter_at : List Happening → ℕ → Meter
+meter_at trace now = record {
+  granted = granted trace;
+  pending = is_some (pending trace);
+  answered = answered trace;
+  switched = switched trace;
+  awaited = is_some (switch_due trace);
+  last = now;
+}
+
+-- the meter of a trace
+abbrev pub meter_of : List Happening → Meter
+meter_of trace = meter_at trace (last_moment trace)
+
+-- time passes, and no period is taken: the sum stays, nothing becomes pending, answer and switch stay once they are there, and a switch that comes was ordered and isn't behind
+pub record Later (before after : Meter) : Type 0 where
+  pub same_granted : after.granted ≡ before.granted
+  pub none_pending : before.pending ≡ false → after.pending ≡ false
+  pub same_awaited : after.awaited ≡ before.awaited
+  pub keeps_answer : (moment : ℕ) → before.answered ≡ Some moment → after.answered ≡ Some moment
+  pub keeps_switch : (moment : ℕ) → before.switched ≡ Some moment → after.switched ≡ Some moment
+  pub comes : (moment : ℕ) → after.switched ≡ Some moment → (before.switched ≡ Some moment) ⊎ (before.last ≤ moment)
+  pub came : (moment : ℕ) → after.switched ≡ Some moment → (moment ≤ after.last) × (after.awaited ≡ true)
+  pub no_fall : before.last ≤ after.last
+
+-- a charging report as of a moment: the exact split, while a period is pending and within the sum of the periods; where the call goes on just that sum, and then none is pending
+pub record Reports (before : Meter) (now : ℕ) (active : Bool) (info : TimeInfo) (after : Meter) : Type 0 where
+  pub answer : ℕ
+  pub was_answered : before.answered ≡ Some answer
+  pub exact : info ≡ split answer before.switched now
+  pub within : now ≤ answer + before.granted
+  pub whole : active ≡ true → now ≡ answer + before.granted
+  pub was_pending : before.pending ≡ true
+  pub last : before.last ≤ now
+  pub behind : (moment : ℕ) → before.switched ≡ Some moment → moment ≤ now
+  pub ends : active ≡ true → after.pending ≡ false
+  pub later : Later before after
+  pub same_switch : after.switched ≡ before.switched
+  pub moment : now ≤ after.last
+
+-- an item is sent as of a moment
+abbrev pub Sends : Meter → ℕ → Item → Meter → Type 0
+Sends before now (Msg (ChargingReport active info)) after = Reports before now active info after
+Sends before now _ after = Later before after
+
+-- a period is taken: it adds to the sum; a switch is awaited from now on only if it was, or if the order has one
+pub record TakesPeriod (paid : Paid) (before after : Meter) : Type 0 where
+  pub more_granted : after.granted ≡ before.granted + paid.period
+  pub ordered : after.awaited ≡ true → (before.awaited ≡ true) ⊎ (is_some paid.switch ≡ true)
+  pub same_answer : after.answered ≡ before.answered
+  pub same_switch : after.switched ≡ before.switched
+  pub came : (moment : ℕ) → after.switched ≡ Some moment → (moment ≤ after.last) × (after.awaited ≡ true)
+  pub no_fall : before.last ≤ after.last
+
+-- after all items: an order of a period is refused or taken
+abbrev pub EndsWith : List Paid → Meter → Meter → Type 0
+EndsWith [] before after = Later before after
+EndsWith (paid ∷ orders) before after = Later before after ⊎ TakesPeriod paid before after
+
+-- the items are sent one after the other, and time passes between them
+abbrev pub RunsThrough : List Paid → Meter → List Out → Meter → Type 0
+RunsThrough orders before [] after = (ready : Meter) × (Later before ready × EndsWith orders ready after)
+RunsThrough orders before (out ∷ outs) after =
+    (ready : Meter) × (Later before ready × ((sent : Meter) × (Sends ready out.at out.item sent × RunsThrough orders sent outs after)))
+
+-- what an input pays for
+abbrev pub paid_in : What → List Paid
+paid_in (Took (Operate op)) = paid_by (order_of op ∷ [])
+paid_in _ = []
+
+-- the gsmSSF shows a meter: that of a trace that it stands for
+abbrev pub Shows : View → Meter → Type 0
+Shows view meter = (trace : List Happening) × (Stands view trace × (meter ≡ meter_of trace))
+
+-- from each meter that was shown a call's items lead to one that is shown now
+abbrev pub Metered : List Paid → View → List Out → View → Type 0
+Metered orders before sent after =
+    (meter : Meter) → Shows before meter → (later : Meter) × (Shows after later × RunsThrough orders meter sent later)
