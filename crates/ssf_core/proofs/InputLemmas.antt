@@ -1,9 +1,8 @@
 -- An input is taken or refused as the table says.
-use Rattle.std.proofs.Common.{◌≡◌, ◌+◌, ◌++◌, ℕ, Bool, true, false, Option, Some, None, Result, Ok, Err, List, [], ◌∷◌, refl, sym, ap, subst, ◌∙◌, append_assoc, arith, unwrap_or}
+use Rattle.std.proofs.Common.{◌≡◌, ◌+◌, ◌++◌, ℕ, Bool, true, false, Option, Some, None, Result, Ok, Err, List, [], ◌∷◌, refl, sym, ap, subst, ◌∙◌, append_assoc, arith}
 use Rattle.std.specs.Prelude.{◌||◌, if◌then◌else◌, is_some}
 use Rattle.std.specs.Option.{option_map}
 use Rattle.std.specs.Result.{result_err, result_unwrap_or}
-use Rattle.cap_values.specs.Arms.{arm_at}
 use Rattle.cap_values.specs.declared.arming.Point.{Point}
 use Rattle.cap_values.specs.declared.arming.Point.TheVariants as point
 use Rattle.cap_values.specs.declared.arms.Arms.{Arms}
@@ -45,6 +44,7 @@ use Rattle.ssf_core.specs.declared.stage.Stage.{Stage}
 use Rattle.ssf_core.specs.declared.stage.Stage.TheVariants as stage
 use Rattle.ssf_core.specs.declared.stage.Switch.{Switch}
 use Rattle.ssf_core.specs.declared.stage.Switch.TheVariants as switch
+use Rattle.ssf_core.proofs.ModeLemmas.{modes-armed}
 use Rattle.ssf_core.proofs.ExpiryLemmas.{due-stage, report-active, send_all-append}
 
 -- an effect of the table and a move of the code are alike
@@ -59,16 +59,6 @@ TakesAlike config t now input (Ok effect) (Ok move) = Alike config t now input e
 TakesAlike config t now input (Ok effect) (Err fault) = ⊥
 TakesAlike config t now input (Err fault) (Ok move) = ⊥
 TakesAlike config t now input (Err fault) (Err other) = fault ≡ other
-
-modes-armed : (arms : Arms) (f : Point → Mode) (setup : Setup) → ((p : Point) → f p ≡ modes_at setup.modes p)
-    → (p : Point) → unwrap_or (arm_at arms p) (f p) ≡ modes_at (armed_modes setup.modes arms) p
-modes-armed arms f setup same point.RouteSelectFailure = ap (unwrap_or arms.route_select_failure) (same point.RouteSelectFailure)
-modes-armed arms f setup same point.CalledPartyBusy = ap (unwrap_or arms.called_party_busy) (same point.CalledPartyBusy)
-modes-armed arms f setup same point.NoAnswer = ap (unwrap_or arms.no_answer) (same point.NoAnswer)
-modes-armed arms f setup same point.Answer = ap (unwrap_or arms.answer) (same point.Answer)
-modes-armed arms f setup same (point.Disconnect One) = ap (unwrap_or arms.disconnect_one) (same (point.Disconnect One))
-modes-armed arms f setup same (point.Disconnect Two) = ap (unwrap_or arms.disconnect_two) (same (point.Disconnect Two))
-modes-armed arms f setup same point.Abandon = ap (unwrap_or arms.abandon) (same point.Abandon)
 
 armed_setup : (config : SsfConfig) (t : List Happening) (now : ℕ) (arms : Arms) (setup : Setup) (items : List Item) → SetupMatches setup t
     → SetupMatches (record setup { modes = armed_modes setup.modes arms }) (record { at = now; what = Took (Operate (RequestReport arms)); sent = items } ∷ t)

@@ -14,12 +14,12 @@ use Rattle.cap_values.specs.declared.mode.Mode.TheVariants.{Interrupted, NotifyA
 use Rattle.cap_values.specs.declared.number.Number.{Number}
 use Rattle.cap_values.specs.declared.operation.ScfOp.TheVariants.{RequestReport, ApplyCharging, Continue, ReleaseCall}
 use Rattle.ssf_core.specs.Happenings.{Happening, What, Took, Expired}
-use Rattle.ssf_core.specs.Laws.{AllFit, EachReportFits, ItemFits, Fits, TheAnswerStays, TheSwitchStays, periods, periods_after, reports, reports_after}
+use Rattle.ssf_core.specs.Laws.{AllFit, EachReportFits, ItemFits, Fits, periods, periods_after, reports, reports_after}
 use Rattle.ssf_core.specs.Phases.{Phase, Unused, Requested, Initial, Setup, Active, Down, Ended}
-use Rattle.ssf_core.specs.Quantities.{answered, answered_after, granted, mode_at, pending, pending_after, period_end, period_end_after, switch_due, switched, switched_after}
+use Rattle.ssf_core.specs.Quantities.{answered, answered_after, granted, mode_at, pending, pending_after, period_end, period_end_after, switched}
 use Rattle.ssf_core.specs.Split.{split}
 use Rattle.ssf_core.specs.Table.{Effect, after, any_watched, by_mode, ends, first_period, further_period, goes, is_fitting, last_report, notified, on_abandon, on_answer, on_apply_charging, on_continue, on_disconnect, on_expiry, on_failure, on_input, on_invoke, on_period_end, on_release_call, on_request_report, on_trigger, on_tssf, report}
-use Rattle.ssf_core.specs.Traces.{ComesBefore, HasEffect, IsTrace, awaited_switch, due, due_in, next_phase, period_due, phase_after, tcp_due, tsw_due}
+use Rattle.ssf_core.specs.Traces.{ComesBefore, HasEffect, IsTrace, due, due_in, next_phase, period_due, phase_after, tcp_due}
 use Rattle.ssf_core.specs.declared.bcsm_event.BcsmEvent.TheVariants as met
 use Rattle.ssf_core.specs.declared.config.DefaultHandling.{DefaultHandling}
 use Rattle.ssf_core.specs.declared.config.DefaultHandling.TheVariants as handling
@@ -343,64 +343,3 @@ known config (e ∷ t) is = (follows config t e.at e.what e.sent (known config t
 pub reports_fit : EachReportFits
 reports_fit config [] is = tt
 reports_fit config (e ∷ t) is = (reports_fit config t is.0, (follows config t e.at e.what e.sent (known config t is.0) is.1.none_missed is.1.has_effect).1)
-
--- an answer is taken before there is one
-answer_first : (t : List Happening) (now : ℕ) (mode : Mode) (phase : Phase) (effect : Effect) → KnownOf phase t → on_answer mode phase ≡ Ok effect → answered t ≡ None
-answer_first t now mode Unused effect k takes = absurd (cc)
-answer_first t now mode Requested effect k takes = absurd (cc)
-answer_first t now mode Initial effect k takes = absurd (cc)
-answer_first t now mode Setup effect k takes = k.0
-answer_first t now mode Active effect k takes = absurd (cc)
-answer_first t now mode Down effect k takes = absurd (cc)
-answer_first t now mode Ended effect k takes = absurd (cc)
-
-pub answer_next : (config : SsfConfig) (t : List Happening) (now : ℕ) (what : What) (sent : List Item) (moment : ℕ) → KnownOf (phase_after config t) t
-    → HasEffect config t now what sent → answered t ≡ Some moment → answered_after what now (answered t) ≡ Some moment
-answer_next config t now (Took Invoke) sent moment k has is = is
-answer_next config t now (Took (Trigger call calling called)) sent moment k has is = is
-answer_next config t now (Took (Operate op)) sent moment k has is = is
-answer_next config t now (Took (Meet met.RouteSelectFailure)) sent moment k has is = is
-answer_next config t now (Took (Meet met.Busy)) sent moment k has is = is
-answer_next config t now (Took (Meet met.NoAnswer)) sent moment k has is = is
-answer_next config t now (Took (Meet met.Answer)) sent moment k has is =
-    let (effect, takes, same) = has in
-    let none = answer_first t now (mode_at t point.Answer) (phase_after config t) effect k takes in
-    absurd (cc)
-answer_next config t now (Took (Meet (met.Disconnect leg))) sent moment k has is = is
-answer_next config t now (Took (Meet met.Abandon)) sent moment k has is = is
-answer_next config t now (Expired timer) sent moment k has is = is
-
-pub answer_stays : TheAnswerStays
-answer_stays config [] t moment is there = there
-answer_stays config (e ∷ later) t moment is there =
-    answer_next config (later ++ t) e.at e.what e.sent moment (known config (later ++ t) is.0) is.1.has_effect (answer_stays config later t moment is.0 there)
-
--- Tsw runs only before the switch
-switch_first : (t : List Happening) (came : Option ℕ) (set : Option ℕ) (d : ℕ) → awaited_switch came set ≡ Some d → came ≡ None
-switch_first t None set d runs = refl
-switch_first t (Some moment) set d runs = absurd (cc)
-
-pub tsw_first : (t : List Happening) (phase : Phase) (d : ℕ) → tsw_due t phase ≡ Some d → switched t ≡ None
-tsw_first t Unused d runs = absurd (cc)
-tsw_first t Requested d runs = absurd (cc)
-tsw_first t Initial d runs = switch_first t (switched t) (switch_due t) d runs
-tsw_first t Setup d runs = switch_first t (switched t) (switch_due t) d runs
-tsw_first t Active d runs = switch_first t (switched t) (switch_due t) d runs
-tsw_first t Down d runs = absurd (cc)
-tsw_first t Ended d runs = absurd (cc)
-
-pub switch_next : (config : SsfConfig) (t : List Happening) (now : ℕ) (what : What) (sent : List Item) (moment : ℕ) → HasEffect config t now what sent → switched t ≡ Some moment
-    → switched_after what now (switched t) ≡ Some moment
-switch_next config t now (Took input) sent moment has is = is
-switch_next config t now (Expired Tsw) sent moment has is =
-    let (runs, same) = has in
-    let none = tsw_first t (phase_after config t) now runs in
-    absurd (cc)
-switch_next config t now (Expired Tcp) sent moment has is = is
-switch_next config t now (Expired Tccd) sent moment has is = is
-switch_next config t now (Expired Tssf) sent moment has is = is
-
-pub switch_stays : TheSwitchStays
-switch_stays config [] t moment is there = there
-switch_stays config (e ∷ later) t moment is there =
-    switch_next config (later ++ t) e.at e.what e.sent moment is.1.has_effect (switch_stays config later t moment is.0 there)

@@ -3,4 +3,6 @@ pub mod ExpiryLemmas
 pub mod InputLemmas
 pub mod LawLemmas
 pub mod MeterLemmas
+pub mod ModeLemmas
+pub mod StayLemmas
 pub mod TimerLemmas

@@ -28,7 +28,8 @@ use Rattle.ssf_core.specs.declared.item.Item.TheVariants.{Msg, Proceed, Clear}
 use Rattle.ssf_core.specs.declared.item.Out.{Out}
 use Rattle.ssf_core.specs.declared.timer.Timer.{Timer}
 use Rattle.ssf_core.specs.declared.timer.Timer.TheVariants.{Tsw, Tcp, Tccd, Tssf}
-use Rattle.ssf_core.proofs.LawLemmas.{AllLast, KnownOf, answer_next, keeps_tcp, known, switch_next, taken}
+use Rattle.ssf_core.proofs.LawLemmas.{AllLast, KnownOf, keeps_tcp, known, taken}
+use Rattle.ssf_core.proofs.StayLemmas.{answer_next, switch_next}
 
 -- a switch that came lies no later than a moment, and was set
 abbrev Sound : List Happening → ℕ → Type 0

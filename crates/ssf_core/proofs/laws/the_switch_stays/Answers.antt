@@ -1,4 +1,4 @@
-use Rattle.ssf_core.proofs.LawLemmas.{switch_stays}
+use Rattle.ssf_core.proofs.StayLemmas.{switch_stays}
 use Rattle.ssf_core.proofs.laws.the_switch_stays.Goals as goal
 
 pub returns : goal.returns
