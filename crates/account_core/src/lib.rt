@@ -9,6 +9,7 @@ mod judging;
 mod laws;
 mod list_account;
 mod money;
+mod port;
 mod standing;
 #[cfg(test)]
 mod tests;
@@ -20,3 +21,4 @@ pub use fault::AccountFault;
 pub use laws::{closed_calls_pay_the_tariff, no_balance_is_negative, settles_keep_the_credit};
 pub use list_account::ListAccount;
 pub use money::MAX_MONEY;
+pub use port::Port;
