@@ -7,6 +7,7 @@ pub mod Moves
 pub mod SoundPasts
 pub mod Soundness
 pub mod StandingLemmas
+pub mod SumLemmas
 pub mod Sums
 pub mod Verdicts
 pub mod Walking

@@ -3,6 +3,7 @@
 #![tactic(auto)]
 
 mod account;
+mod call_sum;
 mod entry;
 mod fault;
 mod judging;
@@ -10,15 +11,18 @@ mod laws;
 mod list_account;
 mod money;
 mod port;
+mod sharing_laws;
 mod standing;
 #[cfg(test)]
 mod tests;
 mod walks;
 
 pub use account::Account;
+pub use call_sum::{CallSum, Fate};
 pub use entry::{Entry, Op, Reply};
 pub use fault::AccountFault;
 pub use laws::{closed_calls_pay_the_tariff, no_balance_is_negative, settles_keep_the_credit};
 pub use list_account::ListAccount;
 pub use money::MAX_MONEY;
 pub use port::Port;
+pub use sharing_laws::{accounts_have_no_gate, places_go_with_entries};
