@@ -1,0 +1,4 @@
+pub mod Answering
+pub mod Knowing
+pub mod Owning
+pub mod Roominess

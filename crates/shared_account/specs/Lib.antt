@@ -1,0 +1,6 @@
+pub mod Kinds
+pub mod Own
+pub mod Places
+pub mod Room
+pub mod Seats
+pub mod Terms
