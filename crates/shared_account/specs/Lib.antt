@@ -1,3 +1,5 @@
+pub mod Closed
+pub mod Faults
 pub mod Kinds
 pub mod Own
 pub mod Places

@@ -1,5 +1,5 @@
 -- Seats as their callers see them.
-use Rattle.std.specs.Prelude.{◌+◌, ◌==◌, ◌&&◌, ℕ, Bool, true, List, [], ◌∷◌, ◌++◌, length, map}
+use Rattle.std.specs.Prelude.{◌+◌, ◌==◌, ◌&&◌, ℕ, Bool, true, List, [], ◌∷◌, ◌++◌, length}
 use Rattle.std.proofs.Common.{zero, suc}
 use Rattle.account_core.specs.Events.{Event}
 
@@ -14,15 +14,11 @@ abbrev pub fresh_seats : ℕ → ℕ → List Place
 fresh_seats account zero = []
 fresh_seats account (suc seats) = fresh_seats account seats ++ record { account = account; number = seats; mine = [] } ∷ []
 
--- whether the numbers of seats go on from the first by ones
-abbrev pub are_numbered : ℕ → List Place → Bool
+-- whether numbers go on from the first by ones
+abbrev pub are_numbered : ℕ → List ℕ → Bool
 are_numbered first [] = true
-are_numbered first (seat ∷ seats) = (seat.number == first) && are_numbered (first + 1) seats
+are_numbered first (number ∷ numbers) = (number == first) && are_numbered (first + 1) numbers
 
--- whether all seats of an account are there, in the order of their numbers
-abbrev pub are_all : ℕ → List Place → Bool
-are_all count seats = (length seats == count) && are_numbered 0 seats
-
--- what each seat has entered
-abbrev pub lists_of : List Place → List (List Event)
-lists_of seats = map (λ seat. seat.mine) seats
+-- whether these are the numbers of all seats of an account, in order
+abbrev pub are_all : ℕ → List ℕ → Bool
+are_all seats numbers = (length numbers == seats) && are_numbered 0 numbers

@@ -2,7 +2,17 @@
 //! at the end a book tells its history and what each seat has entered.
 #![tactic(auto)]
 
+mod book;
+mod closing;
+mod fault;
+mod gate;
 mod places;
+mod sameness;
 mod seat;
+mod shared_account;
 
+pub use book::{Book, Summary};
+pub use fault::CloseFault;
+pub use gate::{Gate, OpenGate};
 pub use seat::Seat;
+pub use shared_account::SharedAccount;
