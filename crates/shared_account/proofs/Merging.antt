@@ -9,7 +9,7 @@ use Rattle.account_core.specs.declared.entry.Entry.{Entry}
 use Rattle.shared_account.specs.Own.{IsMerged, own}
 use Rattle.shared_account.specs.Seats.{Place, are_numbered}
 
-first_by : (here rest : Bool) → here && rest ≡ true → (here ≡ true) × (rest ≡ true)
+pub first_by : (here rest : Bool) → here && rest ≡ true → (here ≡ true) × (rest ≡ true)
 first_by true rest is = (refl, is)
 first_by false rest is = cc
 

@@ -9,10 +9,13 @@ mod gate;
 mod places;
 mod sameness;
 mod seat;
+mod shared;
 mod shared_account;
+mod sharing;
 
 pub use book::{Book, Summary};
 pub use fault::CloseFault;
 pub use gate::{Gate, OpenGate};
 pub use seat::Seat;
+pub use shared::Shared;
 pub use shared_account::SharedAccount;
