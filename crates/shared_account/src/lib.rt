@@ -11,6 +11,7 @@ mod sameness;
 mod seat;
 mod shared;
 mod shared_account;
+mod shared_port;
 mod sharing;
 
 pub use book::{Book, Summary};
@@ -19,3 +20,4 @@ pub use gate::{Gate, OpenGate};
 pub use seat::Seat;
 pub use shared::Shared;
 pub use shared_account::SharedAccount;
+pub use shared_port::SharedPort;

@@ -20,6 +20,7 @@ use std::sync::Wait;
 /// its seats by.
 pub trait Shared: Sync + Drop {
     ghost use Rattle.std.specs.Prelude.{◌≡◌, ◌≤◌, ◌↔◌, ◌++◌, ◌∷◌, [], ℕ, List, true, false, map, All, OnErr, IfOk, IfErr};
+    ghost use Rattle.std.specs.Coded.{Coded};
     ghost use Rattle.account_core.specs.Answers.{IsLegal};
     ghost use Rattle.account_core.specs.Asked.{is_in_range};
     ghost use Rattle.account_core.specs.Events.{Event, asked_of};
@@ -35,6 +36,8 @@ pub trait Shared: Sync + Drop {
     type Seat: Send + Drop;
 
     ghost Key: { Type 0 };
+
+    ghost key_code: { Coded Key };
 
     ghost key: { Self → Key };
 

@@ -12,11 +12,14 @@ use std::alloc::Global;
 use std::sync::Wait;
 
 impl Shared for SharedAccount {
+    ghost use Rattle.std.specs.Coded.{coded_ℕ};
     ghost use Rattle.std.specs.Prelude.{ℕ};
 
     type Seat = Seat;
 
     ghost Key = { ℕ };
+
+    ghost key_code = { coded_ℕ };
 
     ghost key = { λ account. account.number };
 
