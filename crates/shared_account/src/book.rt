@@ -102,10 +102,10 @@ impl Book {
     {
         let calls = self.account.sums(alloc)?;
         Ok(Summary {
-            account: self.number,
-            opening: self.account.opening(),
+            account: self.account(),
+            opening: self.opening(),
             available: self.account.available(),
-            entries: self.account.history().len(),
+            entries: self.history().len(),
             calls,
         })
     }

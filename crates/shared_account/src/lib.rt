@@ -13,6 +13,8 @@ mod shared;
 mod shared_account;
 mod shared_port;
 mod sharing;
+#[cfg(test)]
+mod tests;
 
 pub use book::{Book, Summary};
 pub use fault::CloseFault;

@@ -84,7 +84,8 @@ impl Seat {
     pub fn into_mine(self) -> Vec<Entry>
         ensures { map event_of result.items ≡ self.mine }
     {
-        self.mine
+        let Seat { mine, .. } = self;
+        mine
     }
 
     /// Asks an account under the seat's number, and keeps the same entry in the seat's list.
