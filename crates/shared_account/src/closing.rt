@@ -29,7 +29,8 @@ pub(crate) fn close_book(
     ensures legal { IfOk result (λ book. IsLegal book.opening book.history) }
     ensures own { IfOk result (λ book. book.own ≡ map (λ seat. seat.mine) seats.items) }
     ensures merged { IfOk result (λ book. IsMerged book.history book.own) }
-    ensures seats { (result ≡ Err close.Seats) ↔ (are_all count (map (λ seat. seat.number) seats.items) ≡ false) }
+    ensures seats { (result ≡ Err close.Seats)
+        ↔ (are_all count (map (λ seat. seat.number) seats.items) ≡ false) }
 {
     if !are_all(count, seats.as_slice()) {
         return Err(CloseFault::Seats);
@@ -110,7 +111,8 @@ fn are_of_seats(history: &[Entry], seats: usize) -> bool
 
 /// The lists of seats that are needed no more.
 fn lists_of(alloc: Global, seats: Vec<Seat>) -> Result<Vec<Vec<Entry>>, AllocError>
-    ensures { IfOk result (λ lists. map (λ list. map event_of list.items) lists.items ≡ map (λ seat. seat.mine) seats.items) }
+    ensures { IfOk result (λ lists. map (λ list. map event_of list.items) lists.items
+        ≡ map (λ seat. seat.mine) seats.items) }
 {
     let mut lists = Vec::new(alloc);
     for seat in seats {

@@ -47,7 +47,7 @@ impl Model for Seat {
 
 impl Seat {
     /// A seat of this account, with this number and no entries. It takes no memory yet.
-    pub fn new(alloc: Global, account: u32, number: u32) -> Seat
+    pub(crate) fn new(alloc: Global, account: u32, number: u32) -> Seat
         ensures { result ≡ record { account = account; number = number; mine = [] } }
     {
         Seat {
@@ -110,7 +110,8 @@ impl Seat {
         ensures closing { IsClosing (reverse account.old.history) (asked_of op)
             → IsClosing (reverse self.old.mine) (asked_of op) → IsOk result }
         ensures own { IsClosing (reverse account.old.history) (asked_of op)
-            → of_call (call_of (asked_of op)) account.old.history ≡ of_call (call_of (asked_of op)) self.old.mine
+            → of_call (call_of (asked_of op)) account.old.history
+            ≡ of_call (call_of (asked_of op)) self.old.mine
             → IsOk result }
     {
         accounts_have_no_gate();

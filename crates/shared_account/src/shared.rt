@@ -63,7 +63,12 @@ pub trait Shared: Sync + Drop {
         requires opening { opening ≤ 1000000000000000 }
         requires some_seats { 1 ≤ seats }
         requires few_seats { seats ≤ 16 }
-        ensures terms { IfOk result (λ made. terms made.0 ≡ record { number = number; opening = opening; limit = limit; seats = seats }) }
+        ensures terms { IfOk result (λ made. terms made.0 ≡ record {
+          number = number;
+          opening = opening;
+          limit = limit;
+          seats = seats;
+        }) }
         ensures keys { IfOk result (λ made. All (λ seat. key_of seat ≡ key made.0) made.1.items) }
         ensures numbers { IfOk result (λ made. are_all seats (map number_of made.1.items) ≡ true) }
         ensures empty { IfOk result (λ made. All (λ seat. mine_of seat ≡ []) made.1.items) }
@@ -82,7 +87,8 @@ pub trait Shared: Sync + Drop {
         requires { key_of seat.old ≡ key self.now }
         ensures same_key { key_of seat.new ≡ key_of seat.old }
         ensures same_number { number_of seat.new ≡ number_of seat.old }
-        ensures mine { IfOk result (λ reply. mine_of seat.new ≡ mine_of seat.old ++ event_by (number_of seat.old) (asked_of op) reply ∷ []) }
+        ensures mine { IfOk result (λ reply. mine_of seat.new
+            ≡ mine_of seat.old ++ event_by (number_of seat.old) (asked_of op) reply ∷ []) }
         ensures kind { IfOk result (λ reply. IsReplyTo (asked_of op) reply) }
         ensures kept { OnErr result (mine_of seat.new ≡ mine_of seat.old) }
         ensures range { result ≡ Err out.OutOfRange → is_in_range (asked_of op) ≡ false }
@@ -98,5 +104,6 @@ pub trait Shared: Sync + Drop {
         ensures legal { IfOk result (λ book. IsLegal book.opening book.history) }
         ensures own { IfOk result (λ book. book.own ≡ map mine_of seats.items) }
         ensures merged { IfOk result (λ book. IsMerged book.history book.own) }
-        ensures seats { (result ≡ Err close.Seats) ↔ (are_all (terms self).seats (map number_of seats.items) ≡ false) };
+        ensures seats { (result ≡ Err close.Seats)
+            ↔ (are_all (terms self).seats (map number_of seats.items) ≡ false) };
 }

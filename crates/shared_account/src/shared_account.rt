@@ -56,7 +56,12 @@ impl SharedAccount {
         requires opening { opening ≤ 1000000000000000 }
         requires some_seats { 1 ≤ seats }
         requires few_seats { seats ≤ 16 }
-        ensures terms { IfOk result (λ made. made.0 ≡ record { number = number; opening = opening; limit = limit; seats = seats }) }
+        ensures terms { IfOk result (λ made. made.0 ≡ record {
+          number = number;
+          opening = opening;
+          limit = limit;
+          seats = seats;
+        }) }
         ensures seats { IfOk result (λ made. made.1.items ≡ fresh_seats number seats) }
         ensures refused { IfErr result (λ fault. fault ≡ AccountFault.OutOfMemory) }
     {
@@ -95,7 +100,8 @@ impl SharedAccount {
         ensures range { result ≡ Err AccountFault.OutOfRange → is_in_range (asked_of op) ≡ false }
         ensures gate { result ≡ Err AccountFault.GateClosed → G.may_shut gate.now }
         ensures returning { IsReturn (asked_of op) → IsClosing (reverse seat.old.mine) (asked_of op)
-            → IfErr result (λ fault. (fault ≡ AccountFault.NotOpen) ⊎ (fault ≡ AccountFault.GateClosed)) }
+            → IfErr result (λ fault.
+            (fault ≡ AccountFault.NotOpen) ⊎ (fault ≡ AccountFault.GateClosed)) }
     {
         let mut account = self.locked.lock(rt);
         if !gate.inside(self.number) {
@@ -114,7 +120,8 @@ impl SharedAccount {
         ensures legal { IfOk result (λ book. IsLegal book.opening book.history) }
         ensures own { IfOk result (λ book. book.own ≡ map (λ seat. seat.mine) seats.items) }
         ensures merged { IfOk result (λ book. IsMerged book.history book.own) }
-        ensures seats { (result ≡ Err close.Seats) ↔ (are_all self.seats (map (λ seat. seat.number) seats.items) ≡ false) }
+        ensures seats { (result ≡ Err close.Seats)
+            ↔ (are_all self.seats (map (λ seat. seat.number) seats.items) ≡ false) }
     {
         let SharedAccount {
             number,

@@ -46,7 +46,9 @@ impl<'a, S: Shared, R: Wait, G: Gate> SharedPort<'a, S, R, G> {
 
 impl<S: Shared, R: Wait, G: Gate> Port for SharedPort<'_, S, R, G> {
     fn ask(&mut self, op: Op) -> Result<Reply, AccountFault>
-        ensures mine { IfOk result (λ reply. S.mine_of self.new.seat.now ≡ S.mine_of self.old.seat.now ++ event_by (S.number_of self.old.seat.now) (asked_of op) reply ∷ []) }
+        ensures mine { IfOk result (λ reply. S.mine_of self.new.seat.now
+            ≡ S.mine_of self.old.seat.now
+            ++ event_by (S.number_of self.old.seat.now) (asked_of op) reply ∷ []) }
         ensures kind { IfOk result (λ reply. IsReplyTo (asked_of op) reply) }
         ensures kept { OnErr result (S.mine_of self.new.seat.now ≡ S.mine_of self.old.seat.now) }
         ensures gate { result ≡ Err AccountFault.GateClosed → G.may_shut self.old.gate.now }

@@ -60,7 +60,8 @@ impl Shared for SharedAccount {
         ensures legal { IfOk result (λ book. IsLegal book.opening book.history) }
         ensures own { IfOk result (λ book. book.own ≡ map (λ seat. seat.mine) seats.items) }
         ensures merged { IfOk result (λ book. IsMerged book.history book.own) }
-        ensures seats { (result ≡ Err close.Seats) ↔ (are_all self.seats (map (λ seat. seat.number) seats.items) ≡ false) }
+        ensures seats { (result ≡ Err close.Seats)
+            ↔ (are_all self.seats (map (λ seat. seat.number) seats.items) ≡ false) }
     {
         self.close(alloc, seats)
     }
