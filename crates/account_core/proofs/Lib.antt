@@ -1,6 +1,7 @@
 pub mod Answering
 pub mod Entering
 pub mod Fitting
+pub mod Kindly
 pub mod LawLemmas
 pub mod Listing
 pub mod Moves
