@@ -9,5 +9,6 @@ pub mod SoundPasts
 pub mod Soundness
 pub mod StandingLemmas
 pub mod Sums
+pub mod Tallying
 pub mod Verdicts
 pub mod Walking

@@ -12,4 +12,5 @@ pub mod Places
 pub mod Replies
 pub mod Sound
 pub mod Standing
+pub mod Tallied
 pub mod TariffLaws

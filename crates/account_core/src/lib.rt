@@ -4,6 +4,7 @@
 
 mod account;
 mod account_port;
+mod check;
 mod entry;
 mod fault;
 mod judging;
@@ -12,6 +13,7 @@ mod list_account;
 mod money;
 mod port;
 mod standing;
+mod tally;
 #[cfg(test)]
 mod tests;
 mod walks;
