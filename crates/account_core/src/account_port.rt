@@ -48,6 +48,7 @@ impl Port for AccountPort {
             (Some (known call (reverse self.new.account.history))) }
     {
         answers_are_kindly();
+        // For its clauses: the history is legal.
         let _entries = self.account.history();
         self.account.apply(self.seat, op)
     }
