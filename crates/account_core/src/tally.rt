@@ -50,7 +50,8 @@ impl Tally {
         inadmissible(&entry.op, &standing).is_none() && self.answer(past, entry.op) == entry.reply
     }
 
-    /// Adds a legal entry to those so far. It takes memory where its call is new, which is 0 at a Credit.
+    /// Adds a legal entry to those so far. It takes memory where its call is new, which is 0 at a
+    /// Credit.
     pub fn add(&mut self, past: &[Entry], entry: Entry) -> Result<(), AllocError>
         requires tallied { IsTallied (reverse (map event_of past.now)) self.old }
         requires answered { IsAnswered self.old.opening (reverse (map event_of past.now)) (event_of entry) }
