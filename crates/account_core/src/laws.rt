@@ -30,9 +30,9 @@ pub fn settles_keep_the_credit()
     tariff_laws();
 }
 
-/// The answer to an admissible operation is of its kind: a grant is of some units, at least the least
-/// and at most those wanted, within a day with the times of its call; and a report is settled exactly
-/// where it is accepted, else a forfeit.
+/// The answer to an admissible operation is of its kind: a grant is of some units, at least the
+/// least and at most those wanted, within a day with the times of its call; and a report is settled
+/// exactly where it is accepted, else a forfeit.
 pub fn answers_are_kindly()
     ensures { AnswersAreKindly }
 {

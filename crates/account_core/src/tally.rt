@@ -15,8 +15,8 @@ use std::alloc::{AllocError, Global};
 use std::collections::BTreeMap;
 
 /// What a legal history comes to: the standing of each call, the opening with the accepted credits,
-/// and the credit that is left. The history itself stands in the caller's list, whose first entries,
-/// those so far, each function takes beside it.
+/// and the credit that is left. The history itself stands in the caller's list, whose first
+/// entries, those so far, each function takes beside it.
 #[derive(Drop)]
 pub(crate) struct Tally {
     pub opening: u64,
