@@ -11,4 +11,6 @@ pub mod Listed
 pub mod Places
 pub mod Replies
 pub mod Sound
+pub mod Standing
+pub mod Tallied
 pub mod TariffLaws
