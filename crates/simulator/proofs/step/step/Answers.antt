@@ -1,0 +1,16 @@
+use Rattle.std.proofs.Common.{◌∷◌, [], ap, ◌∙◌}
+use Rattle.cap_values.specs.Orders.{order_of, paid_by}
+use Rattle.simulator.specs.Deliveries.{queued_in}
+use Rattle.simulator.proofs.Orders.{handed-first}
+use Rattle.simulator.proofs.step.step.Goals as goal
+
+pub returns-in-Some : goal.returns-in-Some
+returns-in-Some c = record {
+  metered = (
+    paid_by (order_of c.in-Some.op ∷ []),
+    (
+      ap queued_in c.in-Some.ensures.1.1 ∙ handed-first c.in-Some.op (queued_in c.take_due.new.deliveries.items),
+      c.operation.ensures.metered,
+    ),
+  );
+}

@@ -1,0 +1,9 @@
+pub mod Asks
+pub mod Covered
+pub mod Deliveries
+pub mod Drives
+pub mod Moments
+pub mod Scripts
+pub mod Starts
+pub mod Tallies
+pub mod Turns
