@@ -1,5 +1,5 @@
 -- The port answers, and the dialogue goes on.
-use Rattle.std.proofs.Common.{◌≡◌, ◌≤◌, ℕ, Bool, true, false, Option, Some, None, Result, Ok, Err, List, [], ◌∷◌, ap, ◌∙◌, arith}
+use Rattle.std.proofs.Common.{refl, subst, ◌≡◌, ◌≤◌, ℕ, Bool, true, false, Option, Some, None, Result, Ok, Err, List, [], ◌∷◌, ap, ◌∙◌, arith}
 use Rattle.std.specs.Prelude.{IfSome, IfOk, IfErr}
 use Rattle.std.specs.Result.{result_unwrap_or}
 use Rattle.account_core.specs.Asked.{Asked, IsOfCall}
@@ -19,61 +19,70 @@ use Rattle.dialogue_core.specs.declared.fault.DialogueFault.{DialogueFault}
 use Rattle.dialogue_core.specs.declared.turn.Turn.{Turn}
 use Rattle.dialogue_core.specs.declared.turn.Turn.TheVariants as turn
 use Rattle.ssf_core.specs.Meters.{Meter}
-use Rattle.simulator.specs.Asks.{asks_after, asks_left}
+use Rattle.simulator.specs.Asks.{IsAsked, after_answer, asks_after, asks_left, or_done}
 use Rattle.simulator.specs.Covered.{Fits, IsReady}
-use Rattle.simulator.specs.Tallies.{with_reply}
+use Rattle.simulator.specs.Tallies.{with_answer}
 use Rattle.simulator.specs.declared.tally.Tally.{Tally}
 use Rattle.simulator.proofs.Asking.{FitsThen, answered_fits, deed_is, given, its_call, no_forfeit, of_call, refused_fits}
 
--- ---- no forfeit
+-- ---- a dialogue that is handed an answer
 
-pub none_more : (call : ℕ) (meter : Meter) (queued : List Paid) (before after : Option Known) (phase : Phase) (asked : Asked) (reply : Reply) (tally : Tally)
-    → IfSome before (λ kept. Moves call kept asked (Ok reply) after) → IsReady call meter queued before phase (Asks asked)
-    → (with_reply tally reply).forfeits ≡ tally.forfeits
-none_more call meter queued before after phase asked reply tally moves ready =
+-- it goes on as the table says, or refuses the answer and is unchanged
+pub done : (was is : Dialogue) (step : Step) (result : Result Turn DialogueFault) → IfOk result (λ said. step ≡ Ok (says_of said, phase_of is))
+    → IfErr result (λ fault. step ≡ Err fault) → IfErr result (λ fault. is ≡ was)
+    → or_done (phase_of was) step ≡ (says_of (result_unwrap_or result turn.Done), phase_of is)
+done was is step (Ok said) ok err same = rw ok refl
+done was is step (Err fault) ok err same = rw (err, same) refl
+
+-- ---- what it says fits
+
+fits_done : (call : ℕ) (meter : Meter) (queued : List Paid) (kept : Known) (phase : Phase) (step : Step) → FitsThen call meter queued kept phase step
+    → Fits call meter queued kept (or_done phase step).1 (or_done phase step).0
+fits_done call meter queued kept phase (Ok next) fits = fits
+fits_done call meter queued kept phase (Err fault) fits = fits
+
+-- a port that moved what it keeps of this call, and a dialogue that went on
+ready_by : (call : ℕ) (meter : Meter) (queued : List Paid) (before after : Option Known) (phase : Phase) (asked : Asked) (answer : Result Reply AccountFault)
+    → IfSome before (λ kept. Moves call kept asked answer after) → IsReady call meter queued before phase (Asks asked)
+    → IsReady call meter queued after (after_answer phase answer).1 (after_answer phase answer).0
+ready_by call meter queued before after phase asked (Ok reply) moves ready =
     let moved = rw ready.stands at moves in
-    no_forfeit call meter queued ready.kept phase asked reply tally ready.fits (moved.1 (of_call call meter queued ready.kept phase asked ready.fits)).1
-
--- ---- what the dialogue says fits
-
--- a dialogue that is unchanged stands where it stood
-pub same_phase : (was is : Dialogue) (result : Result Turn DialogueFault) → IfErr result (λ fault. is ≡ was) → IfErr result (λ fault. phase_of is ≡ phase_of was)
-same_phase was is (Ok said) same = tt
-same_phase was is (Err fault) same = ap phase_of same
-
--- the turn of a dialogue that follows the table, or none where it refuses
-turn_fits : (call : ℕ) (meter : Meter) (queued : List Paid) (kept : Known) (old new : Phase) (step : Step) (result : Result Turn DialogueFault)
-    → IfOk result (λ said. step ≡ Ok (says_of said, new)) → IfErr result (λ fault. step ≡ Err fault) → IfErr result (λ fault. new ≡ old)
-    → FitsThen call meter queued kept old step → Fits call meter queued kept new (says_of (result_unwrap_or result turn.Done))
-turn_fits call meter queued kept old new step (Ok said) ok err same fits = rw ok at fits
-turn_fits call meter queued kept old new step (Err fault) ok err same fits = rw same (rw err at fits)
-
-pub answered_ready : (call : ℕ) (meter : Meter) (queued : List Paid) (before after : Option Known) (old new : Phase) (asked : Asked) (reply : Reply)
-    (result : Result Turn DialogueFault) → IfSome before (λ kept. Moves call kept asked (Ok reply) after)
-    → IfOk result (λ said. replied old reply ≡ Ok (says_of said, new)) → IfErr result (λ fault. replied old reply ≡ Err fault) → IfErr result (λ fault. new ≡ old)
-    → IsReady call meter queued before old (Asks asked) → IsReady call meter queued after new (says_of (result_unwrap_or result turn.Done))
-answered_ready call meter queued before after old new asked reply result moves ok err same ready =
-    let moved = rw ready.stands at moves in
-    let of : IsOfCall call asked = of_call call meter queued ready.kept old asked ready.fits in
+    let of : IsOfCall call asked = of_call call meter queued ready.kept phase asked ready.fits in
     let deed_here : deed call (event_by 0 asked reply) ≡ deed_of asked reply = deed_is call asked reply (its_call call asked of) in
     record {
       kept = known_after ready.kept (deed_of asked reply);
       stands = moved.0 ∙ ap (λ d. Some (known_after ready.kept d)) deed_here;
-      fits = turn_fits call meter queued (known_after ready.kept (deed_of asked reply)) old new (replied old reply) result ok err same
-          (answered_fits call meter queued ready.kept old asked reply ready.fits (moved.1 of).1);
+      fits = fits_done call meter queued (known_after ready.kept (deed_of asked reply)) phase (replied phase reply)
+          (answered_fits call meter queued ready.kept phase asked reply ready.fits (moved.1 of).1);
     }
-
-pub refused_ready : (call : ℕ) (meter : Meter) (queued : List Paid) (before after : Option Known) (old new : Phase) (asked : Asked) (fault : AccountFault)
-    (result : Result Turn DialogueFault) → IfSome before (λ kept. Moves call kept asked (Err fault) after)
-    → IfOk result (λ said. unanswered old ≡ Ok (says_of said, new)) → IfErr result (λ fault. unanswered old ≡ Err fault) → IfErr result (λ fault. new ≡ old)
-    → IsReady call meter queued before old (Asks asked) → IsReady call meter queued after new (says_of (result_unwrap_or result turn.Done))
-refused_ready call meter queued before after old new asked fault result moves ok err same ready =
+ready_by call meter queued before after phase asked (Err fault) moves ready =
     let moved = rw ready.stands at moves in
     record {
       kept = ready.kept;
       stands = moved;
-      fits = turn_fits call meter queued ready.kept old new (unanswered old) result ok err same (refused_fits call meter queued ready.kept old asked ready.fits);
+      fits = fits_done call meter queued ready.kept phase (unanswered phase) (refused_fits call meter queued ready.kept phase asked ready.fits);
     }
+
+pub asked_ready : (call : ℕ) (meter : Meter) (queued : List Paid) (before after : ℕ → Option Known) (asked : Asked) (old new : Tally) (from to : Phase) (said : Says)
+    → IsAsked before after asked old new from to said → IsReady call meter queued (before call) from (Asks asked) → IsReady call meter queued (after call) to said
+asked_ready call meter queued before after asked old new from to said is ready =
+    let P : (Says × Phase) → Type 0 = λ p. IsReady call meter queued (after call) p.1 p.0 in
+    subst P is.says (ready_by call meter queued (before call) (after call) from asked is.answer (is.moves call) ready)
+
+-- ---- no forfeit
+
+none_by : (call : ℕ) (meter : Meter) (queued : List Paid) (before after : Option Known) (phase : Phase) (asked : Asked) (answer : Result Reply AccountFault) (tally : Tally)
+    → IfSome before (λ kept. Moves call kept asked answer after) → IsReady call meter queued before phase (Asks asked)
+    → (with_answer tally answer).forfeits ≡ tally.forfeits
+none_by call meter queued before after phase asked (Ok reply) tally moves ready =
+    let moved = rw ready.stands at moves in
+    no_forfeit call meter queued ready.kept phase asked reply tally ready.fits (moved.1 (of_call call meter queued ready.kept phase asked ready.fits)).1
+none_by call meter queued before after phase asked (Err fault) tally moves ready = refl
+
+pub asked_kept : (call : ℕ) (meter : Meter) (queued : List Paid) (before after : ℕ → Option Known) (asked : Asked) (old new : Tally) (from to : Phase) (said : Says)
+    → IsAsked before after asked old new from to said → IsReady call meter queued (before call) from (Asks asked) → new.forfeits ≡ old.forfeits
+asked_kept call meter queued before after asked old new from to said is ready =
+    ap (λ (t : Tally). t.forfeits) is.counts ∙ none_by call meter queued (before call) (after call) from asked is.answer old (is.moves call) ready
 
 -- ---- fewer asks are left
 
@@ -142,15 +151,15 @@ fewer_refused (Returning after) = fewer_sequel after after
 fewer_refused Ending = omega arith
 fewer_refused Closed = omega arith
 
-turn_fewer : (old new : Phase) (step : Step) (result : Result Turn DialogueFault) → IfOk result (λ said. step ≡ Ok (says_of said, new)) → FewerThen old step
-    → asks_left (says_of (result_unwrap_or result turn.Done)) new ≤ asks_after old
-turn_fewer old new step (Ok said) ok fewer = rw ok at fewer
-turn_fewer old new step (Err fault) ok fewer = omega arith
+fewer_done : (phase : Phase) (step : Step) → FewerThen phase step → asks_left (or_done phase step).0 (or_done phase step).1 ≤ asks_after phase
+fewer_done phase (Ok next) fewer = fewer
+fewer_done phase (Err fault) fewer = fewer
 
-pub answered_fewer : (old new : Phase) (reply : Reply) (result : Result Turn DialogueFault) → IfOk result (λ said. replied old reply ≡ Ok (says_of said, new))
-    → asks_left (says_of (result_unwrap_or result turn.Done)) new ≤ asks_after old
-answered_fewer old new reply result ok = turn_fewer old new (replied old reply) result ok (fewer_answered old reply)
+fewer_by : (phase : Phase) (answer : Result Reply AccountFault) → asks_left (after_answer phase answer).0 (after_answer phase answer).1 ≤ asks_after phase
+fewer_by phase (Ok reply) = fewer_done phase (replied phase reply) (fewer_answered phase reply)
+fewer_by phase (Err fault) = fewer_done phase (unanswered phase) (fewer_refused phase)
 
-pub refused_fewer : (old new : Phase) (result : Result Turn DialogueFault) → IfOk result (λ said. unanswered old ≡ Ok (says_of said, new))
-    → asks_left (says_of (result_unwrap_or result turn.Done)) new ≤ asks_after old
-refused_fewer old new result ok = turn_fewer old new (unanswered old) result ok (fewer_refused old)
+pub asked_fewer : (before after : ℕ → Option Known) (asked : Asked) (old new : Tally) (from to : Phase) (said : Says) → IsAsked before after asked old new from to said
+    → asks_left said to ≤ asks_after from
+asked_fewer before after asked old new from to said is =
+    let P : (Says × Phase) → Type 0 = λ p. asks_left p.0 p.1 ≤ asks_after from in subst P is.says (fewer_by from is.answer)

@@ -19,7 +19,7 @@ use Rattle.ssf_core.specs.Meters.{Meter}
 use Rattle.tariff_core.specs.Rates.{Rates}
 use Rattle.tariff_core.specs.declared.time_info.TimeInfo.{TimeInfo}
 use Rattle.simulator.specs.Covered.{Fits, IsAsking, IsCovered, IsFresh, IsMore, IsUsedUp}
-use Rattle.simulator.specs.Tallies.{with_reply}
+use Rattle.simulator.specs.Tallies.{with_answer}
 use Rattle.simulator.specs.declared.tally.Tally.{Tally}
 
 -- ---- what an entry does to a call that it is of
@@ -221,7 +221,7 @@ accepted_in call meter queued kept Closed of number info asks = absurd asks
 
 -- no reply of the port's kind is a forfeit
 pub no_forfeit : (call : ℕ) (meter : Meter) (queued : List Paid) (kept : Known) (phase : Phase) (asked : Asked) (reply : Reply) (tally : Tally)
-    → IsAsking call meter queued kept phase asked → IsReplyTo kept asked reply → (with_reply tally reply).forfeits ≡ tally.forfeits
+    → IsAsking call meter queued kept phase asked → IsReplyTo kept asked reply → (with_answer tally (Ok reply)).forfeits ≡ tally.forfeits
 no_forfeit call meter queued kept phase asked (Credited a) tally asks kind = refl
 no_forfeit call meter queued kept phase asked (CreditOver a) tally asks kind = refl
 no_forfeit call meter queued kept phase asked (Granted units last a) tally asks kind = refl

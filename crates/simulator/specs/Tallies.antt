@@ -1,7 +1,8 @@
 -- What is counted of a call.
-use Rattle.std.specs.Prelude.{◌+◌, ℕ, Option, Some, None, min}
+use Rattle.std.specs.Prelude.{◌+◌, ℕ, Option, Some, None, Result, Ok, min}
 use Rattle.account_core.specs.declared.entry.Reply.{Reply}
 use Rattle.account_core.specs.declared.entry.Reply.TheVariants.{Forfeit}
+use Rattle.account_core.specs.declared.fault.AccountFault.{AccountFault}
 use Rattle.cap_values.specs.declared.message.SsfMsg.{SsfMsg}
 use Rattle.cap_values.specs.declared.message.SsfMsg.TheVariants.{ChargingReport}
 use Rattle.ssf_core.specs.declared.fault.SsfFault.{SsfFault}
@@ -20,10 +21,10 @@ with_message tally (ChargingReport active info) =
     record tally { messages = counted tally.messages; reports = counted tally.reports; last = Some info }
 with_message tally message = record tally { messages = counted tally.messages }
 
--- of the replies a forfeit counts
-abbrev pub with_reply : Tally → Reply → Tally
-with_reply tally (Forfeit paid available) = record tally { forfeits = counted tally.forfeits }
-with_reply tally reply = tally
+-- of the port's answers a forfeit counts
+abbrev pub with_answer : Tally → Result Reply AccountFault → Tally
+with_answer tally (Ok (Forfeit paid available)) = record tally { forfeits = counted tally.forfeits }
+with_answer tally answer = tally
 
 -- an input counts where it was refused
 abbrev pub with_fault : Tally → Option SsfFault → Tally

@@ -14,6 +14,8 @@ mod rounds;
 mod script;
 mod step;
 mod tally;
+#[cfg(test)]
+mod tests;
 
 pub use call_end::CallEnd;
 pub use driving::drive_call;

@@ -1,9 +1,9 @@
 //! What is counted as a call is driven.
 
 ghost use Rattle.std.specs.Prelude.{◌≡◌};
-ghost use Rattle.simulator.specs.Tallies.{counted, no_tally, with_fault, with_message, with_reply};
+ghost use Rattle.simulator.specs.Tallies.{counted, no_tally, with_answer, with_fault, with_message};
 
-use account_core::Reply;
+use account_core::{AccountFault, Reply};
 use cap_values::SsfMsg;
 use ssf_core::SsfFault;
 use tariff_core::TimeInfo;
@@ -15,7 +15,7 @@ pub(crate) struct Tally {
     pub messages: u64,
     /// The charging reports among them.
     pub reports: u64,
-    /// The forfeits among the replies of the port.
+    /// The forfeits among the answers of the port.
     pub forfeits: u64,
     /// The times of the last charging report.
     pub last: Option<TimeInfo>,
@@ -53,12 +53,12 @@ impl Tally {
         }
     }
 
-    /// The tally with a reply of the port.
-    pub fn with_reply(self, reply: &Reply) -> Tally
-        ensures { result ≡ with_reply self reply.now }
+    /// The tally with an answer of the port.
+    pub fn with_answer(self, answer: &Result<Reply, AccountFault>) -> Tally
+        ensures { result ≡ with_answer self answer.now }
     {
-        match *reply {
-            Reply::Forfeit { .. } => Tally {
+        match *answer {
+            Ok(Reply::Forfeit { .. }) => Tally {
                 forfeits: counted(self.forfeits),
                 ..self
             },
