@@ -1,5 +1,5 @@
 -- The operations of the service on their way to the gsmSSF.
-use Rattle.std.specs.Prelude.{◌≡◌, ◌<◌, ◌≤◌, ℕ, Option, Some, None, List, [], ◌∷◌}
+use Rattle.std.specs.Prelude.{◌≡◌, ◌<◌, ◌≤◌, ℕ, Option, Some, None, List, [], ◌∷◌, ◌++◌}
 use Rattle.std.specs.Option.{ForSome}
 use Rattle.cap_values.specs.Orders.{Paid, order_of, with_paid}
 use Rattle.cap_values.specs.declared.operation.ScfOp.{ScfOp}
@@ -9,6 +9,10 @@ use Rattle.simulator.specs.declared.deliveries.Delivery.{Delivery}
 abbrev pub deliveries_at : ℕ → List ScfOp → List Delivery
 deliveries_at at [] = []
 deliveries_at at (op ∷ ops) = record { at = at; op = op } ∷ deliveries_at at ops
+
+-- some operations were sent on their way, all to be delivered at this moment
+abbrev pub AreSent : ℕ → List Delivery → List Delivery → Type 0
+AreSent at before after = (ops : List ScfOp) × (after ≡ before ++ deliveries_at at ops)
 
 -- when the first delivery is
 abbrev pub next_delivery : List Delivery → Option ℕ

@@ -5,5 +5,6 @@ pub mod Drives
 pub mod Moments
 pub mod Scripts
 pub mod Starts
+pub mod Steps
 pub mod Tallies
 pub mod Turns

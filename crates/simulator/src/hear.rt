@@ -6,7 +6,7 @@ ghost use Rattle.dialogue_core.specs.Views.{phase_of};
 ghost use Rattle.ssf_core.specs.Meters.{Meter, RunsThrough, Sends};
 ghost use Rattle.ssf_core.specs.declared.item.Item.TheVariants as sent;
 ghost use Rattle.simulator.specs.Covered.{IsAtRest};
-ghost use Rattle.simulator.specs.Deliveries.{queued_in};
+ghost use Rattle.simulator.specs.Deliveries.{AreSent, queued_in};
 
 use crate::DriveFault;
 use crate::converse::converse;
@@ -61,6 +61,7 @@ fn hear_one<P: Port>(
         → IsAtRest call meter (handed ++ queued_in deliveries.old.items) (P.standing port.old call) (phase_of dialogue.old)
         → Sends meter now item after
         → IfOk result (λ _. IsAtRest call after (handed ++ queued_in deliveries.new.items) (P.standing port.new call) (phase_of dialogue.new)) }
+    ensures sent { IfOk result (λ _. AreSent due deliveries.old.items deliveries.new.items) }
     ensures fault { IfErr result (λ fault. fault ≡ DriveFault.OutOfMemory) }
 {
     match item {
@@ -90,6 +91,7 @@ pub(crate) fn hear_all<P: Port>(
         → IsAtRest call meter (handed ++ queued_in deliveries.old.items) (P.standing port.old call) (phase_of dialogue.old)
         → RunsThrough handed meter sent.now after
         → IfOk result (λ _. IsAtRest call after (queued_in deliveries.new.items) (P.standing port.new call) (phase_of dialogue.new)) }
+    ensures sent { IfOk result (λ _. AreSent due deliveries.old.items deliveries.new.items) }
     ensures fault { IfErr result (λ fault. fault ≡ DriveFault.OutOfMemory) }
 {
     for out in sent {

@@ -1,9 +1,10 @@
 //! One input of the gsmSSF.
 
-ghost use Rattle.std.specs.Prelude.{◌≡◌, ◌≤◌, ◌++◌, List};
+ghost use Rattle.std.specs.Prelude.{◌≡◌, ◌≤◌, ◌++◌, List, drop};
 ghost use Rattle.cap_values.specs.Orders.{Paid};
 ghost use Rattle.ssf_core.specs.Meters.{Metered};
 ghost use Rattle.simulator.specs.Deliveries.{queued_in};
+ghost use Rattle.simulator.specs.Steps.{Given, IsNext};
 
 use crate::deliveries::{Delivery, take_due};
 use crate::script::take_event;
@@ -20,6 +21,8 @@ pub(crate) fn step(
     now: Moment,
 ) -> Step
     requires { now ≤ 2000000000000 }
+    ensures next { (given : Given)
+        × IsNext now deliveries.old.items (drop played.old script.now) given deliveries.new.items (drop played.new script.now) }
     ensures metered { (handed : List Paid)
         × ((queued_in deliveries.old.items ≡ handed ++ queued_in deliveries.new.items)
         × Metered handed ssf.old result.sent.items ssf.new) }

@@ -3,6 +3,7 @@ use Rattle.std.proofs.Math.Seq.{drop-length}
 use Rattle.dialogue_core.specs.Views.{phase_of}
 use Rattle.simulator.specs.Deliveries.{queued_in}
 use Rattle.simulator.proofs.Hearing.{rest_ends, rest_later, run_next}
+use Rattle.simulator.proofs.Orders.{both_sent}
 use Rattle.simulator.proofs.hear.hear_all.Goals as goal
 
 pub loop-out-preserved : goal.loop-out-preserved
@@ -25,6 +26,7 @@ loop-out-preserved g c = record {
           next.1.1.1.1,
         ),
       );
+  sent = both_sent c.args.due c.args.deliveries.now.items c.loop-out.deliveries.items c.hear_one.new.deliveries.items c.loop-out.invariant.sent c.in_ok-hear_one.ensures.sent;
 }
 
 pub returns-clause-rests : goal.returns-clause-rests
