@@ -23,7 +23,8 @@ pub(crate) fn ask<P: Port>(port: &mut P, dialogue: &mut Dialogue, tally: &mut Ta
 /// ends its turns.
 #[tactic(auto, using(crate::proofs::Answering::done))]
 fn go_on(dialogue: &mut Dialogue, answer: Result<Reply, AccountFault>) -> Turn
-    ensures { after_answer (phase_of dialogue.old) answer ≡ (says_of result, phase_of dialogue.new) }
+    ensures { after_answer (phase_of dialogue.old) answer
+        ≡ (says_of result, phase_of dialogue.new) }
 {
     match answer {
         Ok(reply) => dialogue.answer(reply).unwrap_or(Turn::Done),

@@ -45,7 +45,8 @@ pub(crate) fn send(
     at: Moment,
     ops: &[ScfOp],
 ) -> Result<(), DriveFault>
-    ensures sent { IfOk result (λ _. deliveries.new.items ≡ deliveries.old.items ++ deliveries_at at ops.now) }
+    ensures sent { IfOk result (λ _.
+        deliveries.new.items ≡ deliveries.old.items ++ deliveries_at at ops.now) }
     ensures fault { IfErr result (λ fault. fault ≡ DriveFault.OutOfMemory) }
 {
     for op in ops {

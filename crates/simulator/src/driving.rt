@@ -32,8 +32,8 @@ use tariff_core::Route;
 /// the delay isn't 1 to the gsmSSF's `tccd`: then nothing is done. `OutOfMemory` where the queue of
 /// deliveries can't grow: what the port was asked by then stands.
 ///
-/// The start and the events lie at 0 to 1,000,000,000,000, and a switch of the route 1 to 864000
-/// after the start.
+/// Both configurations have the same `tccd`. The start and the events lie at 0 to 1,000,000,000,000,
+/// and a switch of the route 1 to 864000 units after the start.
 pub fn drive_call<P: Port>(
     alloc: Global,
     config: SsfConfig,
@@ -48,11 +48,16 @@ pub fn drive_call<P: Port>(
     requires tccd { config.tccd ≡ service.now.tccd }
     requires start { start ≤ 1000000000000 }
     requires script { All (λ next. next.0 ≤ 1000000000000) script.now }
-    requires route { ForSome route (λ route. ForSome route.switch_at (λ at. (start < at) × (at ≤ start + 864000))) }
-    ensures forfeits { P.standing port.old call.0 ≡ Some nothing_known → IfOk result (λ end. end.forfeits ≡ 0) }
-    ensures backwards { IsErrOf result DriveFault.Backwards ↔ (are_in_order start script.now ≡ false) }
-    ensures delay { IsErrOf result DriveFault.Delay ↔ ((are_in_order start script.now ≡ true) × (¬ IsDelay delay config.tccd)) }
-    ensures memory { IsErrOf result DriveFault.OutOfMemory → (are_in_order start script.now ≡ true) × IsDelay delay config.tccd }
+    requires route { ForSome route (λ route.
+        ForSome route.switch_at (λ at. (start < at) × (at ≤ start + 864000))) }
+    ensures forfeits { P.standing port.old call.0 ≡ Some nothing_known
+        → IfOk result (λ end. end.forfeits ≡ 0) }
+    ensures backwards { IsErrOf result DriveFault.Backwards
+        ↔ (are_in_order start script.now ≡ false) }
+    ensures delay { IsErrOf result DriveFault.Delay
+        ↔ ((are_in_order start script.now ≡ true) × (¬ IsDelay delay config.tccd)) }
+    ensures memory { IsErrOf result DriveFault.OutOfMemory
+        → (are_in_order start script.now ≡ true) × IsDelay delay config.tccd }
     ensures backwards_asks_nothing { IsErrOf result DriveFault.Backwards → port.new ≡ port.old }
     ensures delay_asks_nothing { IsErrOf result DriveFault.Delay → port.new ≡ port.old }
 {

@@ -34,7 +34,8 @@ fn hear<P: Port>(
     ensures rests { (call now : ℕ) (meter after : Meter) (queued : List Paid)
         → IsAtRest call meter queued (P.standing port.old call) (phase_of dialogue.old)
         → Sends meter now (sent.Msg message) after
-        → IsAtRest call after (queued ++ paid_by (orders_of result.items)) (P.standing port.new call) (phase_of dialogue.new) }
+        → IsAtRest call after (queued ++ paid_by (orders_of result.items))
+        (P.standing port.new call) (phase_of dialogue.new) }
 {
     let number = tally.messages;
     *tally = tally.with_message(&message);
@@ -54,13 +55,16 @@ fn hear_one<P: Port>(
     item: Item,
 ) -> Result<(), DriveFault>
     ensures kept { (call now : ℕ) (meter after : Meter) (handed : List Paid)
-        → IsAtRest call meter (handed ++ queued_in deliveries.old.items) (P.standing port.old call) (phase_of dialogue.old)
+        → IsAtRest call meter (handed ++ queued_in deliveries.old.items)
+        (P.standing port.old call) (phase_of dialogue.old)
         → Sends meter now item after
         → tally.new.forfeits ≡ tally.old.forfeits }
     ensures rests { (call now : ℕ) (meter after : Meter) (handed : List Paid)
-        → IsAtRest call meter (handed ++ queued_in deliveries.old.items) (P.standing port.old call) (phase_of dialogue.old)
+        → IsAtRest call meter (handed ++ queued_in deliveries.old.items)
+        (P.standing port.old call) (phase_of dialogue.old)
         → Sends meter now item after
-        → IfOk result (λ _. IsAtRest call after (handed ++ queued_in deliveries.new.items) (P.standing port.new call) (phase_of dialogue.new)) }
+        → IfOk result (λ _. IsAtRest call after (handed ++ queued_in deliveries.new.items)
+        (P.standing port.new call) (phase_of dialogue.new)) }
     ensures sent { IfOk result (λ _. AreSent due deliveries.old.items deliveries.new.items) }
     ensures fault { IfErr result (λ fault. fault ≡ DriveFault.OutOfMemory) }
 {
@@ -84,13 +88,16 @@ pub(crate) fn hear_all<P: Port>(
     sent: &[Out],
 ) -> Result<(), DriveFault>
     ensures kept { (call : ℕ) (meter after : Meter) (handed : List Paid)
-        → IsAtRest call meter (handed ++ queued_in deliveries.old.items) (P.standing port.old call) (phase_of dialogue.old)
+        → IsAtRest call meter (handed ++ queued_in deliveries.old.items)
+        (P.standing port.old call) (phase_of dialogue.old)
         → RunsThrough handed meter sent.now after
         → IfOk result (λ _. tally.new.forfeits ≡ tally.old.forfeits) }
     ensures rests { (call : ℕ) (meter after : Meter) (handed : List Paid)
-        → IsAtRest call meter (handed ++ queued_in deliveries.old.items) (P.standing port.old call) (phase_of dialogue.old)
+        → IsAtRest call meter (handed ++ queued_in deliveries.old.items)
+        (P.standing port.old call) (phase_of dialogue.old)
         → RunsThrough handed meter sent.now after
-        → IfOk result (λ _. IsAtRest call after (queued_in deliveries.new.items) (P.standing port.new call) (phase_of dialogue.new)) }
+        → IfOk result (λ _. IsAtRest call after (queued_in deliveries.new.items)
+        (P.standing port.new call) (phase_of dialogue.new)) }
     ensures sent { IfOk result (λ _. AreSent due deliveries.old.items deliveries.new.items) }
     ensures fault { IfErr result (λ fault. fault ≡ DriveFault.OutOfMemory) }
 {

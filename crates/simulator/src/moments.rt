@@ -14,8 +14,8 @@ use ssf_core::{BcsmEvent, Moment, Ssf};
 use std::collections::VecDeque;
 
 /// The last moment that a gsmSSF takes: a call would break off there. The last event lies at half of
-/// it at most, and what follows that one takes a few days: the periods of a call, a day together, and
-/// its timers.
+/// it at most, and what follows that one takes a few days: the periods of a call, a day together,
+/// and its timers.
 const HORIZON: Moment = 2_000_000_000_000;
 
 /// The moment of the next input: the least of the next delivery's, the next event's and that at
@@ -27,8 +27,11 @@ pub(crate) fn next_moment(
     played: usize,
 ) -> Option<Moment>
     ensures in_range { ForSome result (λ moment. moment ≤ 2000000000000) }
-    ensures least { (t : List Happening) → Stands ssf.now t → (due : Option ℕ) × (IsNextDue ssf.now.config t due
-        × (result ≡ in_reach (sooner (sooner (next_delivery deliveries.now.items) (next_event (drop played script.now))) due))) }
+    ensures least { (t : List Happening) → Stands ssf.now t → (due : Option ℕ)
+        × (IsNextDue ssf.now.config t due
+        × (result ≡ in_reach (sooner
+        (sooner (next_delivery deliveries.now.items) (next_event (drop played script.now)))
+        due))) }
 {
     let given = sooner(next_delivery(deliveries), next_event(script, played));
     let next = sooner(given, ssf.next_due())?;

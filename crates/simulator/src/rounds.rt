@@ -34,8 +34,10 @@ pub(crate) fn play<P: Port>(
     port: &mut P,
 ) -> Result<CallEnd, DriveFault>
     requires start { start ≤ 1000000000000 }
-    requires route { ForSome route (λ route. ForSome route.switch_at (λ at. (start < at) × (at ≤ start + 864000))) }
-    ensures forfeits { P.standing port.old call.0 ≡ Some nothing_known → IfOk result (λ end. end.forfeits ≡ 0) }
+    requires route { ForSome route (λ route.
+        ForSome route.switch_at (λ at. (start < at) × (at ≤ start + 864000))) }
+    ensures forfeits { P.standing port.old call.0 ≡ Some nothing_known
+        → IfOk result (λ end. end.forfeits ≡ 0) }
     ensures fault { IfErr result (λ fault. fault ≡ DriveFault.OutOfMemory) }
 {
     let delay = u64::from(delay);

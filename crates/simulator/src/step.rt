@@ -22,7 +22,8 @@ pub(crate) fn step(
 ) -> Step
     requires { now ≤ 2000000000000 }
     ensures next { (given : Given)
-        × IsNext now deliveries.old.items (drop played.old script.now) given deliveries.new.items (drop played.new script.now) }
+        × IsNext now deliveries.old.items (drop played.old script.now)
+        given deliveries.new.items (drop played.new script.now) }
     ensures metered { (handed : List Paid)
         × ((queued_in deliveries.old.items ≡ handed ++ queued_in deliveries.new.items)
         × Metered handed ssf.old result.sent.items ssf.new) }

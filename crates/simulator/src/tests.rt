@@ -233,3 +233,15 @@ fn a_call_is_not_driven(rt: HostRuntime) -> Result<(), Fail> {
     }
     Ok(())
 }
+
+#[test]
+fn faults_have_their_numbers(rt: HostRuntime) {
+    assert_eq!(rt;
+        [
+            DriveFault::Backwards as u8,
+            DriveFault::Delay as u8,
+            DriveFault::OutOfMemory as u8,
+        ],
+        [1, 2, 3]
+    );
+}
