@@ -11,7 +11,7 @@ use thiserror::Error;
 #[derive(Clone, Copy, Debug, PartialEq, Eq, Error)]
 pub enum DriveFault {
     /// An event's moment lies below the start, or below that of the event before it.
-    #[error("an event before the one before it")]
+    #[error("an event before the last one")]
     Backwards = 1,
     /// The delay is 0, or above the time that the gsmSSF waits for a further period.
     #[error("a delay out of its range")]
