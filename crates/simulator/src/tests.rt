@@ -71,7 +71,15 @@ fn driven<R: AllocGlobal, P: Port>(
     let call = (1, Number::new("491700001")?, Number::new("4930123456")?);
     let alloc = rt.alloc();
     Ok(drive_call(
-        alloc, config, &service, delay, 0, call, Some(route), script, port,
+        alloc,
+        config,
+        &service,
+        delay,
+        0,
+        call,
+        Some(route),
+        script,
+        port,
     ))
 }
 
@@ -173,7 +181,13 @@ fn a_call_is_not_driven(rt: HostRuntime) -> Result<(), Fail> {
     }
     let script = [(100, BcsmEvent::Answer), (50, BcsmEvent::Busy)];
     for delay in [2, 0] {
-        drives(&rt, 1500, delay, &script, (Err(DriveFault::Backwards), unasked))?;
+        drives(
+            &rt,
+            1500,
+            delay,
+            &script,
+            (Err(DriveFault::Backwards), unasked),
+        )?;
     }
     Ok(())
 }
