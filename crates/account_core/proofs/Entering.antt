@@ -329,7 +329,7 @@ nothing_owed_yet : owed [] ≡ 0
 unfolding owed
 nothing_owed_yet = refl
 
-nothing_taken_yet : (opening : ℕ) → available opening [] ≡ opening
+pub nothing_taken_yet : (opening : ℕ) → available opening [] ≡ opening
 unfolding available taken_by_all
 nothing_taken_yet opening = omega arith
 

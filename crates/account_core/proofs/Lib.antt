@@ -1,6 +1,7 @@
 pub mod Answering
 pub mod Entering
 pub mod Fitting
+pub mod Kindly
 pub mod LawLemmas
 pub mod Listing
 pub mod Moves
@@ -9,5 +10,6 @@ pub mod Soundness
 pub mod StandingLemmas
 pub mod SumLemmas
 pub mod Sums
+pub mod Tallying
 pub mod Verdicts
 pub mod Walking

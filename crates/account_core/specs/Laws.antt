@@ -5,11 +5,12 @@ use Rattle.tariff_core.specs.Rates.{Rates}
 use Rattle.tariff_core.specs.Reading.{times_read}
 use Rattle.tariff_core.specs.Times.{Elapsed, no_times}
 use Rattle.tariff_core.specs.declared.time_info.TimeInfo.{TimeInfo}
-use Rattle.account_core.specs.Answers.{IsLegal}
+use Rattle.account_core.specs.Answers.{IsLegal, answer, inadmissible}
 use Rattle.account_core.specs.Asked.{Asked, Settles, call_of}
 use Rattle.account_core.specs.Available.{available, credits, taken_by_all}
 use Rattle.account_core.specs.Events.{Event}
 use Rattle.account_core.specs.Known.{Deed, Ends, deed, known}
+use Rattle.account_core.specs.Standing.{IsKindly}
 
 -- no balance is negative: at no place of a legal history do all calls take more than the opening and the credits accepted so far
 abbrev pub NoBalanceIsNegative : Type 0
@@ -62,3 +63,8 @@ IsSettle asked = ⊥
 abbrev pub SettlesKeepTheCredit : Type 0
 SettlesKeepTheCredit = (opening : ℕ) (history : List Event) (event : Event) → opening ≤ 1000000000000000 → IsLegal opening (history ++ event ∷ []) → IsSettle event.asked
     → available opening (reverse (history ++ event ∷ [])) ≡ available opening (reverse history)
+
+-- the answer to an admissible operation is of its kind, whatever its call
+abbrev pub AnswersAreKindly : Type 0
+AnswersAreKindly = (opening : ℕ) (history : List Event) (call : ℕ) (asked : Asked) → opening ≤ 1000000000000000 → IsLegal opening history
+    → inadmissible (reverse history) asked ≡ None → IsKindly call (known call (reverse history)) asked (answer opening (reverse history) asked)

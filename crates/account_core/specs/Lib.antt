@@ -14,4 +14,5 @@ pub mod SharingLaws
 pub mod Sound
 pub mod Standing
 pub mod Sums
+pub mod Tallied
 pub mod TariffLaws

@@ -36,7 +36,7 @@ pub(crate) fn judge(
 }
 
 /// Whether an operation is out of range, or out of place.
-fn inadmissible(op: &Op, standing: &Standing) -> Option<AccountFault>
+pub(crate) fn inadmissible(op: &Op, standing: &Standing) -> Option<AccountFault>
     ensures { result ≡ inadmissible_for (known_of standing.now) (asked_of op.now) }
 {
     if !is_in_range(op) {

@@ -1,7 +1,7 @@
 //! Laws of legal histories, each the contract of a function that does nothing: what the sequential
 //! account comes to, in words that know nothing of how it answers.
 
-ghost use Rattle.account_core.specs.Laws.{ClosedCallsPayTheTariff, NoBalanceIsNegative, SettlesKeepTheCredit, TimesAreReported};
+ghost use Rattle.account_core.specs.Laws.{AnswersAreKindly, ClosedCallsPayTheTariff, NoBalanceIsNegative, SettlesKeepTheCredit, TimesAreReported};
 ghost use Rattle.account_core.specs.Sound.{LegalPastsAreSound, SoundPastsAnswer};
 ghost use Rattle.account_core.specs.TariffLaws.{TariffLaws};
 
@@ -26,6 +26,15 @@ pub fn closed_calls_pay_the_tariff()
 /// A Settle never changes what is available.
 pub fn settles_keep_the_credit()
     ensures { SettlesKeepTheCredit }
+{
+    tariff_laws();
+}
+
+/// The answer to an admissible operation is of its kind: a grant is of some units, at least the
+/// least and at most those wanted, within a day with the times of its call; and a report is settled
+/// exactly where it is accepted, else a forfeit.
+pub fn answers_are_kindly()
+    ensures { AnswersAreKindly }
 {
     tariff_laws();
 }

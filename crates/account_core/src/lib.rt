@@ -3,7 +3,9 @@
 #![tactic(auto)]
 
 mod account;
+mod account_port;
 mod call_sum;
+mod check;
 mod entry;
 mod fault;
 mod judging;
@@ -13,15 +15,20 @@ mod money;
 mod port;
 mod sharing_laws;
 mod standing;
+mod tally;
 #[cfg(test)]
 mod tests;
 mod walks;
 
 pub use account::Account;
+pub use account_port::AccountPort;
 pub use call_sum::{CallSum, Fate};
 pub use entry::{Entry, Op, Reply};
 pub use fault::AccountFault;
-pub use laws::{closed_calls_pay_the_tariff, no_balance_is_negative, settles_keep_the_credit};
+pub use laws::{
+    answers_are_kindly, closed_calls_pay_the_tariff, no_balance_is_negative,
+    settles_keep_the_credit,
+};
 pub use list_account::ListAccount;
 pub use money::MAX_MONEY;
 pub use port::Port;

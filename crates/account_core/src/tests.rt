@@ -2,7 +2,7 @@
 
 ghost use Rattle.std.specs.Prelude.{◌≤◌};
 
-use crate::{Account, AccountFault, Entry, ListAccount, Op, Reply};
+use crate::{Account, AccountFault, AccountPort, Entry, ListAccount, Op, Port, Reply};
 use std::process::Abort;
 use std::test::Fail;
 use tariff_core::{Plan, PlanRange, TimeInfo};
@@ -222,6 +222,86 @@ fn keeps_places_for_closing(rt: HostRuntime) -> Result<(), Fail> {
 }
 
 #[test]
+fn checks_entries_in_their_places(rt: HostRuntime) -> Result<(), Fail> {
+    let [x, _] = plans()?;
+    let whole = Reply::Granted {
+        units: 600,
+        last: false,
+        available: 450,
+    };
+    let rest = Reply::Granted {
+        units: 240,
+        last: true,
+        available: 0,
+    };
+    let first = Entry {
+        seat: 1,
+        op: reserve(1, x, 600),
+        reply: whole,
+    };
+    let second = Entry {
+        seat: 0,
+        op: reserve(2, x, 600),
+        reply: rest,
+    };
+    let right = [first, second];
+    assert!(rt; Account::check(rt.alloc(), 1500, right.as_slice())?);
+    assert!(rt; Account::check(rt.alloc(), 1500, &right.as_slice()[..1])?);
+    assert!(rt; Account::check(rt.alloc(), 1500, [].as_slice())?);
+
+    let exchanged = [
+        Entry {
+            reply: rest,
+            ..first
+        },
+        Entry {
+            reply: whole,
+            ..second
+        },
+    ];
+    assert!(rt; !Account::check(rt.alloc(), 1500, exchanged.as_slice())?);
+    let last_wrong = [
+        first,
+        Entry {
+            reply: whole,
+            ..second
+        },
+    ];
+    assert!(rt; !Account::check(rt.alloc(), 1500, last_wrong.as_slice())?);
+    let unasked = [Entry {
+        op: Op::Return { call: 1 },
+        ..first
+    }];
+    assert!(rt; !Account::check(rt.alloc(), 1500, unasked.as_slice())?);
+    Ok(())
+}
+
+#[test]
+fn a_port_asks_its_account(rt: HostRuntime) -> Result<(), Fail> {
+    let [x, _] = plans()?;
+    let rows = [
+        (reserve(1, x, 600), granted(600, false, 450)),
+        (no_switch(1, 600), settled(1050, 450)),
+        (Op::Return { call: 1 }, returned(1050, 450)),
+        (Op::Return { call: 1 }, Err(AccountFault::NotOpen)),
+    ];
+    answers(&rt, 1500, 1_000_000, rows.as_slice());
+
+    let mut port = AccountPort::new(Account::new(rt.alloc(), 1500, 1_000_000), 3);
+    for (op, want) in rows {
+        assert_eq!(rt; port.ask(op), want, "at {op:?}");
+    }
+    assert_eq!(rt; port.account.history().len(), 3);
+    assert_eq!(rt;
+        port.account.history().last().map(|entry| entry.seat),
+        Some(3)
+    );
+    assert!(rt; Account::check(rt.alloc(), 1500, port.account.history())?);
+    assert!(rt; !Account::check(rt.alloc(), 1499, port.account.history())?);
+    Ok(())
+}
+
+#[test]
 fn runs_five_thousand_calls(rt: HostRuntime) -> Result<(), Fail> {
     let [x, _] = plans()?;
     let mut account = Account::new(rt.alloc(), 0, 20_000);
@@ -237,6 +317,7 @@ fn runs_five_thousand_calls(rt: HostRuntime) -> Result<(), Fail> {
         assert_eq!(rt; account.paid(call), Some(1050), "call {call}");
     }
     assert_eq!(rt; account.paid(5001), None);
+    assert!(rt; Account::check(rt.alloc(), 0, account.history())?);
     Ok(())
 }
 

@@ -25,6 +25,12 @@ name_of kind.Unknown = codes "Unknown"
 abbrev pub text_of : RowFault → List ℕ
 text_of fault = codes "row " ++ (decimal fault.row ++ (codes ": " ++ name_of fault.kind))
 
+-- what is told of a table that was not read
+abbrev pub told_of : TableFault → List ℕ
+told_of (fault.Row refused) = text_of refused
+told_of fault.Device = codes "the reader failed"
+told_of fault.OutOfMemory = codes "out of memory"
+
 -- what a table answers where its rows can't be read
 abbrev pub fault_of_read : ReadFault → TableFault
 fault_of_read read.Device = fault.Device

@@ -1,7 +1,7 @@
 //! The faults of a table and of its rows.
 
 ghost use Rattle.std.specs.Prelude.{◌≡◌, Some};
-ghost use Rattle.table_core.specs.Faults.{fault_of_read, name_of, text_of};
+ghost use Rattle.table_core.specs.Faults.{fault_of_read, name_of, text_of, told_of};
 ghost use Rattle.table_core.specs.declared.fault.TableFault.TheVariants as out;
 
 use crate::ReadFault;
@@ -83,6 +83,8 @@ pub enum TableFault {
 }
 
 impl fmt::Display for TableFault {
+    ghost output = { λ fault. Some (told_of fault) };
+
     fn fmt<W: fmt::Write>(&self, f: &mut fmt::Formatter<W>) -> fmt::Result {
         match self {
             TableFault::Row(fault) => write!(f, "{fault}"),

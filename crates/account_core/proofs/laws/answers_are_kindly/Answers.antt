@@ -1,0 +1,5 @@
+use Rattle.account_core.proofs.Kindly.{kindly}
+use Rattle.account_core.proofs.laws.answers_are_kindly.Goals as goal
+
+pub returns : goal.returns
+returns c = kindly c.tariff_laws.ensures

@@ -1,0 +1,15 @@
+-- What is kept of a legal history while its entries are judged one after another.
+use Rattle.std.specs.Prelude.{◌≡◌, ◌+◌, ◌≤◌, List}
+use Rattle.account_core.specs.Answers.{IsLegalPast}
+use Rattle.account_core.specs.Available.{available, credits}
+use Rattle.account_core.specs.Events.{Event}
+use Rattle.account_core.specs.Kept.{TellsEach}
+use Rattle.account_core.specs.declared.tally.Tally.{Tally}
+
+-- the history is legal from this opening, and the map and the totals are those of the history
+pub record IsTallied (h : List Event) (tally : Tally) : Type 0 where
+  pub small : tally.opening ≤ 1000000000000000
+  pub legal : IsLegalPast tally.opening h
+  pub tells : TellsEach tally.calls h
+  pub funds_are : tally.funds ≡ tally.opening + credits h
+  pub credit_is : tally.available ≡ available tally.opening h

@@ -1,0 +1,55 @@
+//! A port to an account.
+
+ghost use Rattle.std.specs.Prelude.{◌≡◌, ◌≢◌, ◌++◌, ◌∷◌, ℕ, [], None, Some, reverse, IfOk, IfErr, IsOk, OnErr, OnOk};
+ghost use Rattle.account_core.specs.Events.{asked_of};
+ghost use Rattle.account_core.specs.Known.{known};
+ghost use Rattle.account_core.specs.Ledger.{IsRefusal, answer_of, event_by, refusal_of};
+ghost use Rattle.account_core.specs.Places.{IsClosing};
+ghost use Rattle.account_core.specs.Standing.{Moves};
+
+use crate::laws::answers_are_kindly;
+use crate::{Account, AccountFault, Op, Port, Reply};
+
+/// An account with the number of the seat that asks it. Nobody else asks it, so that it states
+/// what it keeps of each call.
+#[derive(Drop)]
+pub struct AccountPort {
+    /// The account.
+    pub account: Account,
+    /// The seat that its entries name.
+    pub seat: u32,
+}
+
+impl AccountPort {
+    /// A port to this account, for this seat.
+    pub fn new(account: Account, seat: u32) -> AccountPort
+        ensures account { result.account ≡ account }
+        ensures seat { result.seat ≡ seat }
+    {
+        AccountPort { account, seat }
+    }
+}
+
+impl Port for AccountPort {
+    ghost standing = { λ port call. Some (known call (reverse port.account.history)) };
+
+    /// Asks the account, as `Account::apply` with the seat's number.
+    fn ask(&mut self, op: Op) -> Result<Reply, AccountFault>
+        ensures answered { IfOk result (λ reply. reply ≡ answer_of self.old.account (asked_of op)) }
+        ensures entered { IfOk result (λ reply. self.new.account ≡
+            record self.old.account { history = self.old.account.history ++ event_by self.old.seat (asked_of op) reply ∷ [] }) }
+        ensures admitted { OnOk result (refusal_of self.old.account (asked_of op) ≡ None) }
+        ensures kept { OnErr result (self.new.account ≡ self.old.account) }
+        ensures refused { IfErr result (λ fault. IsRefusal self.old.account (asked_of op) fault) }
+        ensures ungated { result ≢ Err AccountFault.GateClosed }
+        ensures closing { IsClosing (reverse self.old.account.history) (asked_of op) → IsOk result }
+        ensures seat { self.new.seat ≡ self.old.seat }
+        ensures moves { (call : ℕ) → Moves call (known call (reverse self.old.account.history)) (asked_of op) result
+            (Some (known call (reverse self.new.account.history))) }
+    {
+        answers_are_kindly();
+        // For its clauses: the history is legal.
+        let _entries = self.account.history();
+        self.account.apply(self.seat, op)
+    }
+}

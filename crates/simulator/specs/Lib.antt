@@ -1,0 +1,10 @@
+pub mod Asks
+pub mod Covered
+pub mod Deliveries
+pub mod Drives
+pub mod Moments
+pub mod Scripts
+pub mod Starts
+pub mod Steps
+pub mod Tallies
+pub mod Turns

@@ -1,0 +1,19 @@
+//! What a driven call came to.
+
+use ssf_core::State;
+use tariff_core::TimeInfo;
+
+/// What a driven call came to.
+#[derive(Clone, Copy, Debug, PartialEq, Eq)]
+pub struct CallEnd {
+    /// The state of the gsmSSF at the end.
+    pub state: State,
+    /// How many charging reports were sent.
+    pub reports: u64,
+    /// How many settles the port answered by a forfeit.
+    pub forfeits: u64,
+    /// The times of the last charging report, or none where none was sent.
+    pub last: Option<TimeInfo>,
+    /// How many inputs the gsmSSF refused.
+    pub refused: u64,
+}

@@ -1,0 +1,13 @@
+use Rattle.std.proofs.Common.{ap}
+use Rattle.crossbeam_channel.specs.Claims.{view}
+use Rattle.workers_core.specs.declared.log.Log.{Log}
+use Rattle.workers_core.proofs.Orders.{begins, parts}
+use Rattle.workers_core.proofs.opening.mailbox.Goals as goal
+
+pub bounded_with-requires-clause-rule : goal.bounded_with-requires-clause-rule
+bounded_with-requires-clause-rule c = begins
+
+pub another-taking-requires-clause-rule : goal.another-taking-requires-clause-rule
+another-taking-requires-clause-rule c =
+    let first = c.in_ok-sender.ensures.3 in
+    parts c.in_ok-sender.sending.id (view c.in_ok-sender.sending) (ap (λ (v : Log). v.sends) first) (ap (λ (v : Log). v.takes) first)

@@ -1,0 +1,26 @@
+-- The two ends of a mailbox, as their callers see them.
+use Rattle.std.specs.Prelude.{◌≡◌, List}
+use Rattle.crossbeam_channel.specs.Claims.{view}
+use Rattle.crossbeam_channel.specs.Ends.{receives_on, sends_on}
+use Rattle.workers_core.specs.declared.inbox.Inbox.{Inbox}
+use Rattle.workers_core.specs.declared.outbox.Outbox.{Outbox}
+use Rattle.workers_core.specs.declared.post.Mail.{Mail}
+
+-- all that was sent, in order
+abbrev pub sent : Outbox → List Mail
+sent outbox = (view outbox.pass).sent
+
+-- all that was taken, in order
+abbrev pub taken : Inbox → List Mail
+taken inbox = (view inbox.pass).taken
+
+-- the two ends of one mailbox
+abbrev pub ArePaired : Outbox → Inbox → Type 0
+ArePaired outbox inbox = receives_on inbox.receiver ≡ sends_on outbox.sender
+
+-- an end of the same mailbox
+abbrev pub IsSameOutbox : Outbox → Outbox → Type 0
+IsSameOutbox old new = sends_on new.sender ≡ sends_on old.sender
+
+abbrev pub IsSameInbox : Inbox → Inbox → Type 0
+IsSameInbox old new = receives_on new.receiver ≡ receives_on old.receiver

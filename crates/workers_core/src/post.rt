@@ -1,0 +1,42 @@
+//! What is sent to a worker.
+
+use cap_values::SsfMsg;
+
+/// What a post is about.
+#[derive(Clone, Copy, Debug, PartialEq, Eq)]
+pub enum Body {
+    /// A message of the gsmSSF of a call.
+    Ssf {
+        /// The call.
+        call: u64,
+        /// The message.
+        msg: SsfMsg,
+    },
+    /// Money for an account.
+    Recharge {
+        /// The account's number.
+        account: u32,
+        /// How much.
+        amount: u64,
+    },
+}
+
+/// A message or a recharge with its number in the run and its moment.
+#[derive(Clone, Copy, Debug, PartialEq, Eq)]
+pub struct Post {
+    /// Counted from 0 in the order in which the driver gave them.
+    pub number: u64,
+    /// The moment, in units of 100 ms: 0 to 2,000,000,000,000.
+    pub at: u64,
+    /// What it is about.
+    pub body: Body,
+}
+
+/// What a mailbox carries.
+#[derive(Clone, Copy, Debug, PartialEq, Eq)]
+pub enum Mail {
+    /// A post to be handled.
+    Work(Post),
+    /// The last mail: nothing follows it.
+    Close,
+}
