@@ -8,9 +8,11 @@ SOURCES := crates.txt $(shell find crates -path '*/out' -prune -o -name '*.rt' -
 run: bin/prepaid
 	bin/prepaid price --fee 50 --before 1000 --after 400 < examples/reports.csv
 
-# Proves everything from nothing, tries the edits that must fail, and runs the tests and the program.
+# Proves everything from nothing, tries the edits that must fail, and runs the tests and the programs;
+# then closes calls while memory is refused.
 test:
 	rt ci
+	tests/refused_growths.sh
 
 install: bin/prepaid
 	install -D -m 755 bin/prepaid $(DESTDIR)$(PREFIX)/bin/prepaid

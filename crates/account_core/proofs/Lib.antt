@@ -8,6 +8,7 @@ pub mod Moves
 pub mod SoundPasts
 pub mod Soundness
 pub mod StandingLemmas
+pub mod SumLemmas
 pub mod Sums
 pub mod Tallying
 pub mod Verdicts

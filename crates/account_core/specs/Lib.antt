@@ -10,7 +10,9 @@ pub mod Ledger
 pub mod Listed
 pub mod Places
 pub mod Replies
+pub mod SharingLaws
 pub mod Sound
 pub mod Standing
+pub mod Sums
 pub mod Tallied
 pub mod TariffLaws

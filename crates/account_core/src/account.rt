@@ -11,6 +11,8 @@ ghost use Rattle.account_core.specs.Places.{IsClosing};
 ghost use Rattle.account_core.specs.Sound.{AnswersFit, IsSoundPast};
 
 mod entering;
+mod parts;
+mod sums;
 
 use crate::judging::{judge, reply};
 use crate::laws::legal_pasts_are_sound;

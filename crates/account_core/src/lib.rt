@@ -4,6 +4,7 @@
 
 mod account;
 mod account_port;
+mod call_sum;
 mod check;
 mod entry;
 mod fault;
@@ -12,6 +13,7 @@ mod laws;
 mod list_account;
 mod money;
 mod port;
+mod sharing_laws;
 mod standing;
 mod tally;
 #[cfg(test)]
@@ -20,6 +22,7 @@ mod walks;
 
 pub use account::Account;
 pub use account_port::AccountPort;
+pub use call_sum::{CallSum, Fate};
 pub use entry::{Entry, Op, Reply};
 pub use fault::AccountFault;
 pub use laws::{
@@ -29,3 +32,4 @@ pub use laws::{
 pub use list_account::ListAccount;
 pub use money::MAX_MONEY;
 pub use port::Port;
+pub use sharing_laws::{accounts_have_no_gate, places_go_with_entries};

@@ -1,0 +1,117 @@
+-- The sums that an account's map tells are those of its history.
+use Rattle.std.proofs.Common.{◌≡◌, ℕ, Bool, true, false, Option, Some, None, List, [], ◌∷◌, ◌++◌, refl, sym, ap, ◌∙◌, arith, subst}
+use Rattle.std.specs.Prelude.{◌==◌, if◌then◌else◌, map, option_to_list, reverse, unwrap_or}
+use Rattle.std.specs.BTreeMap.{IsOrdered, get, is_at}
+use Rattle.std.specs.List.{AllByRecursion}
+use Rattle.std.specs.List.Sorted.{IsStrictlySortedBy}
+use Rattle.std.specs.Map.{lookup}
+use Rattle.std.specs.Ordering.{nat_cmp}
+use Rattle.std.specs.Vec.{vec_capacity}
+use Rattle.std.specs.declared.cmp.Ordering.TheVariants.{Less}
+use Rattle.std.proofs.lemmas.Bool.Decides.{nat_tests}
+use Rattle.tariff_core.specs.Rates.{Rates}
+use Rattle.account_core.specs.Events.{event_of}
+use Rattle.account_core.specs.Kept.{IsKept, known_of, unknown}
+use Rattle.account_core.specs.Known.{Known, known}
+use Rattle.account_core.specs.Ledger.{Ledger}
+use Rattle.account_core.specs.Sums.{AreSums, sum_in, sum_of, sum_under, sums_told}
+use Rattle.account_core.specs.declared.account.Account.TheInside.{Inside}
+use Rattle.account_core.specs.declared.standing.Standing.{Standing}
+use Rattle.account_core.specs.declared.call_sum.CallSum.{CallSum}
+use Rattle.account_core.proofs.Entering.{kept_of}
+
+-- a number lies below all of a list
+abbrev IsBelow : ℕ → List ℕ → Type 0
+IsBelow call others = AllByRecursion (λ other. nat_cmp call other ≡ Less) others
+
+-- ---- one standing more
+
+below_by : (plan : Option Rates) (known : Known) (least call : ℕ) (sums : List CallSum) → nat_cmp least call ≡ Less → IsBelow least (map (λ sum. sum.call) sums)
+    → IsBelow least (map (λ sum. sum.call) (option_to_list (sum_under plan call known) ++ sums))
+below_by None known least call sums less below = below
+below_by (Some plan) known least call sums less below = (less, below)
+
+rising_by : (plan : Option Rates) (known : Known) (call : ℕ) (sums : List CallSum) → IsBelow call (map (λ sum. sum.call) sums)
+    → IsStrictlySortedBy nat_cmp (map (λ sum. sum.call) sums) → IsStrictlySortedBy nat_cmp (map (λ sum. sum.call) (option_to_list (sum_under plan call known) ++ sums))
+unfolding IsStrictlySortedBy
+rising_by None known call sums below rising = rising
+rising_by (Some plan) known call sums below rising = (below, rising)
+
+apart_by : (plan : Option Rates) (known : Known) (q call : ℕ) (sums : List CallSum) → (q == call) ≡ false
+    → sum_in q (option_to_list (sum_under plan call known) ++ sums) ≡ sum_in q sums
+apart_by None known q call sums apart = refl
+apart_by (Some plan) known q call sums apart = rw apart refl
+
+here_by : (plan : Option Rates) (known : Known) (q : ℕ) (sums : List CallSum) → (q == q) ≡ true → sum_in q sums ≡ None
+    → sum_in q (option_to_list (sum_under plan q known) ++ sums) ≡ sum_under plan q known
+here_by None known q sums same absent = absent
+here_by (Some plan) known q sums same absent = rw same refl
+
+-- ---- all of them
+
+less_apart : (q call : ℕ) → nat_cmp q call ≡ Less → (q == call) ≡ false
+less_apart q call less = grind (arith, nat_tests)
+
+at_true : (q call : ℕ) → is_at (nat_cmp q) call ≡ true → q ≡ call
+at_true q call is = grind (arith, nat_tests)
+
+at_false : (q call : ℕ) → is_at (nat_cmp q) call ≡ false → (q == call) ≡ false
+at_false q call is = grind (arith, nat_tests)
+
+same_true : (q : ℕ) → (q == q) ≡ true
+same_true q = grind (arith, nat_tests)
+
+below_all : (least : ℕ) (entries : List (ℕ × Standing)) → IsBelow least (map (λ e. e.0) entries) → IsBelow least (map (λ sum. sum.call) (sums_told entries))
+below_all least [] below = tt
+below_all least ((call, standing) ∷ entries) below =
+    below_by (known_of standing).plan (known_of standing) least call (sums_told entries) below.0 (below_all least entries below.1)
+
+rising_all : (entries : List (ℕ × Standing)) → IsStrictlySortedBy nat_cmp (map (λ e. e.0) entries)
+    → IsStrictlySortedBy nat_cmp (map (λ sum. sum.call) (sums_told entries))
+unfolding IsStrictlySortedBy
+rising_all [] rising = tt
+rising_all ((call, standing) ∷ entries) rising =
+    rising_by (known_of standing).plan (known_of standing) call (sums_told entries) (below_all call entries rising.0) (rising_all entries rising.1)
+
+absent_all : (q : ℕ) (entries : List (ℕ × Standing)) → IsBelow q (map (λ e. e.0) entries) → sum_in q (sums_told entries) ≡ None
+absent_all q [] below = refl
+absent_all q ((call, standing) ∷ entries) below =
+    apart_by (known_of standing).plan (known_of standing) q call (sums_told entries) (less_apart q call below.0) ∙ absent_all q entries below.1
+
+-- the sum of the standing that a search finds
+abbrev sum_found : ℕ → Option Standing → Option CallSum
+sum_found q None = None
+sum_found q (Some standing) = sum_of q (known_of standing)
+
+found_by : (here : Bool) (q call : ℕ) (standing : Standing) (entries : List (ℕ × Standing)) → is_at (nat_cmp q) call ≡ here
+    → IsBelow call (map (λ e. e.0) entries) → sum_in q (sums_told entries) ≡ sum_found q (lookup (is_at (nat_cmp q)) entries)
+    → sum_in q (option_to_list (sum_of call (known_of standing)) ++ sums_told entries) ≡ sum_found q (if here then Some standing else lookup (is_at (nat_cmp q)) entries)
+found_by true q call standing entries is below rest =
+    let P : ℕ → Type 0 = λ n. IsBelow n (map (λ e. e.0) entries)
+    → sum_in q (option_to_list (sum_of n (known_of standing)) ++ sums_told entries) ≡ sum_of q (known_of standing) in
+    subst P (at_true q call is) (λ b. here_by (known_of standing).plan (known_of standing) q (sums_told entries) (same_true q) (absent_all q entries b)) below
+found_by false q call standing entries is below rest =
+    apart_by (known_of standing).plan (known_of standing) q call (sums_told entries) (at_false q call is) ∙ rest
+
+found_all : (q : ℕ) (entries : List (ℕ × Standing)) → IsStrictlySortedBy nat_cmp (map (λ e. e.0) entries)
+    → sum_in q (sums_told entries) ≡ sum_found q (lookup (is_at (nat_cmp q)) entries)
+unfolding IsStrictlySortedBy
+found_all q [] rising = refl
+found_all q ((call, standing) ∷ entries) rising =
+    found_by (is_at (nat_cmp q) call) q call standing entries refl rising.0 (found_all q entries rising.1)
+
+found_told : (q : ℕ) (found : Option Standing) (call : Known) → known_of (unwrap_or found unknown) ≡ call → sum_found q found ≡ sum_of q call
+found_told q None call is = ap (sum_of q) is
+found_told q (Some standing) call is = ap (sum_of q) is
+
+-- ---- an account's
+
+pub listed_sums : (a : Inside) (ledger : Ledger) → record { opening = a.opening; limit = a.limit; history = map event_of a.entries.items } ≡ ledger
+    → IsKept a.opening a.limit (reverse (map event_of a.entries.items)) a.calls a.funds a.available a.owed (vec_capacity a.entries)
+    → IsOrdered nat_cmp a.calls → (sums : List CallSum) → sums ≡ sums_told a.calls.entries → AreSums (reverse ledger.history) sums
+listed_sums a ledger view_is kept ordered sums is =
+    let P : List CallSum → Type 0 = AreSums (reverse ledger.history) in
+    subst P (sym is) (record {
+      rising = rising_all a.calls.entries ordered;
+      each = λ q. found_all q a.calls.entries ordered ∙ found_told q (get nat_cmp a.calls q) (known q (reverse ledger.history)) ((kept_of a ledger view_is kept).tells q);
+    })

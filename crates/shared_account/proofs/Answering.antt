@@ -1,0 +1,67 @@
+-- An account's answers are of the kinds that operations have.
+use Rattle.std.proofs.Common.{◌≡◌, ℕ, ◌≤◌, Bool, true, false, Option, Some, None, List, refl, arith, zero, suc}
+use Rattle.std.specs.Prelude.{◌==◌, ◌||◌, ◌+◌, ◌-◌, if◌then◌else◌, min, nat_le, nat_lt}
+use Rattle.std.proofs.lemmas.Bool.Decides.{nat_tests}
+use Rattle.tariff_core.specs.Afford.{units_covered}
+use Rattle.tariff_core.specs.Ceiling.{ceiling_of}
+use Rattle.tariff_core.specs.Rates.{Rates}
+use Rattle.tariff_core.specs.Times.{Elapsed}
+use Rattle.tariff_core.specs.declared.time_info.TimeInfo.{TimeInfo}
+use Rattle.account_core.specs.Answers.{accepted_times, answer, settle_verdict, showing, units_offered, verdict}
+use Rattle.account_core.specs.Asked.{Asked, Credits, Reserves, Returns, Settles}
+use Rattle.account_core.specs.Available.{available, credits}
+use Rattle.account_core.specs.Events.{Event}
+use Rattle.account_core.specs.Known.{Known, known, plan_in_force, taken_of}
+use Rattle.account_core.specs.declared.entry.Reply.TheVariants as reply
+use Rattle.shared_account.specs.Kinds.{IsReplyTo}
+
+covered_if : (enough : Bool) (n less : ℕ) → less ≤ n → (if enough then suc n else less) ≤ suc n
+covered_if true n less within = omega arith
+covered_if false n less within = omega (arith, within)
+
+covered_within : (plan : Rates) (old : Elapsed) (money n : ℕ) → units_covered plan old money n ≤ n
+unfolding units_covered
+covered_within plan old money zero = omega arith
+covered_within plan old money (suc n) =
+    covered_if (nat_le (ceiling_of plan old (suc n)) money) n (units_covered plan old money n) (covered_within plan old money n)
+
+offered_within : (credit : ℕ) (call : Known) (plan : Rates) (wanted : ℕ) → units_offered credit call plan wanted ≤ wanted
+unfolding units_offered
+offered_within credit call plan wanted =
+    let most = min wanted (864000 - (call.times.before + call.times.after)) in
+    let within : units_covered (plan_in_force call plan) call.times (credit + taken_of call) most ≤ most =
+    covered_within (plan_in_force call plan) call.times (credit + taken_of call) most in
+    omega (arith, within)
+
+fits_credit : (within : Bool) (credit amount : ℕ) → IsReplyTo (Credits amount) (showing credit (if within then reply.Credited 0 else reply.CreditOver 0))
+fits_credit true credit amount = tt
+fits_credit false credit amount = tt
+
+fits_reserve : (short nothing forfeited : Bool) (credit call : ℕ) (plan : Rates) (units wanted least : ℕ) (last : Bool) → nat_lt units least ≡ short
+    → (units == 0) ≡ nothing → units ≤ wanted
+    → IsReplyTo (Reserves call plan wanted least) (showing credit (if short || nothing || forfeited then reply.Denied 0 else reply.Granted units last 0))
+fits_reserve true nothing forfeited credit call plan units wanted least last short_is nothing_is within = tt
+fits_reserve false true forfeited credit call plan units wanted least last short_is nothing_is within = tt
+fits_reserve false false true credit call plan units wanted least last short_is nothing_is within = tt
+fits_reserve false false false credit call plan units wanted least last short_is nothing_is within =
+    let some : 1 ≤ units = grind (arith, nat_tests) in
+    let enough : least ≤ units = grind (arith, nat_tests) in
+    (some, enough, within)
+
+fits_settle : (times : Option Elapsed) (known : Known) (credit call number : ℕ) (info : TimeInfo)
+    → IsReplyTo (Settles call number info) (showing credit (settle_verdict known times))
+fits_settle (Some times) known credit call number info = tt
+fits_settle None known credit call number info = tt
+
+fits_showing : (opening credit : ℕ) (h : List Event) (asked : Asked) → IsReplyTo asked (showing credit (verdict opening h asked))
+fits_showing opening credit h (Credits amount) = fits_credit (nat_le (opening + credits h + amount) 1000000000000000) credit amount
+fits_showing opening credit h (Reserves call plan wanted least) =
+    let units = units_offered (available opening h) (known call h) plan wanted in
+    fits_reserve (nat_lt units least) (units == 0) (known call h).forfeited credit call plan units wanted least (nat_lt units wanted) refl refl
+    (offered_within (available opening h) (known call h) plan wanted)
+fits_showing opening credit h (Settles call number info) = fits_settle (accepted_times (known call h) info) (known call h) credit call number info
+fits_showing opening credit h (Returns call) = tt
+
+pub answer_fits : (opening : ℕ) (h : List Event) (asked : Asked) → IsReplyTo asked (answer opening h asked)
+unfolding answer
+answer_fits opening h asked = fits_showing opening _ h asked

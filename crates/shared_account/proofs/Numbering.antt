@@ -1,0 +1,55 @@
+-- The first seats of an account are all of its seats.
+use Rattle.std.proofs.Common.{◌≡◌, ℕ, ◌+◌, Bool, true, false, List, [], ◌∷◌, ◌++◌, length, length-append, map, refl, ap, ◌∙◌, arith, zero, suc}
+use Rattle.std.specs.Prelude.{◌==◌, ◌&&◌, All, Err, IfOk, Ok, Result}
+use Rattle.std.proofs.lemmas.Bool.{eq-eqb}
+use Rattle.std.proofs.lemmas.List.{length-map, map-append}
+use Rattle.std.proofs.lemmas.List.Elements.{All-nil, All-push}
+use Rattle.shared_account.specs.Seats.{Place, are_all, are_numbered, fresh_seats}
+use Rattle.shared_account.proofs.Merging.{first_by}
+
+both : (here rest : Bool) → here ≡ true → rest ≡ true → here && rest ≡ true
+both true rest here_is rest_is = rest_is
+both false rest here_is rest_is = cc
+
+numbered_push : (first : ℕ) (numbers : List ℕ) (last : ℕ) → are_numbered first numbers ≡ true → last ≡ first + length numbers
+    → are_numbered first (numbers ++ last ∷ []) ≡ true
+numbered_push first [] last are is =
+    let same : last ≡ first = omega (arith, is) in
+    both (last == first) true (eq-eqb last first same) refl
+numbered_push first (number ∷ numbers) last are is =
+    let parts = first_by (number == first) (are_numbered (first + 1) numbers) are in
+    let next : last ≡ first + 1 + length numbers = omega (arith, is) in
+    both (number == first) (are_numbered (first + 1) (numbers ++ last ∷ [])) parts.0 (numbered_push (first + 1) numbers last parts.1 next)
+
+fresh_length : (account seats : ℕ) → length (fresh_seats account seats) ≡ seats
+fresh_length account zero = refl
+fresh_length account (suc seats) =
+    omega (arith, fresh_length account seats, length-append (fresh_seats account seats) (record { account = account; number = seats; mine = [] } ∷ []))
+
+fresh_numbered : (account seats : ℕ) → are_numbered 0 (map (λ seat. seat.number) (fresh_seats account seats)) ≡ true
+fresh_numbered account zero = refl
+fresh_numbered account (suc seats) =
+    let seat : Place = record { account = account; number = seats; mine = [] } in
+    let number = λ (place : Place). place.number in
+    let count : seats ≡ 0 + length (map number (fresh_seats account seats)) =
+    omega (arith, length-map (fresh_seats account seats) number, fresh_length account seats) in
+    ap (are_numbered 0) (map-append number (fresh_seats account seats) (seat ∷ []))
+    ∙ numbered_push 0 (map number (fresh_seats account seats)) seats (fresh_numbered account seats) count
+
+pub fresh_are_all : (account seats : ℕ) → are_all seats (map (λ seat. seat.number) (fresh_seats account seats)) ≡ true
+fresh_are_all account seats =
+    let number = λ (place : Place). place.number in
+    let count : length (map number (fresh_seats account seats)) ≡ seats = length-map (fresh_seats account seats) number ∙ fresh_length account seats in
+    both (length (map number (fresh_seats account seats)) == seats) (are_numbered 0 (map number (fresh_seats account seats))) (eq-eqb _ seats count) (fresh_numbered account seats)
+
+-- what is true of each of them
+pub fresh_each : (P : Place → Type 0) (account : ℕ) → ((seat : ℕ) → P (record { account = account; number = seat; mine = [] })) → (seats : ℕ)
+    → All P (fresh_seats account seats)
+fresh_each P account each zero = All-nil P
+fresh_each P account each (suc seats) =
+    All-push P (fresh_seats account seats) (record { account = account; number = seats; mine = [] }) (fresh_each P account each seats) (each seats)
+
+-- what two clauses of a success give together
+pub both_ok : {T E : Type 0} (r : Result T E) (P Q R : T → Type 0) → ((x : T) → P x → Q x → R x) → IfOk r P → IfOk r Q → IfOk r R
+both_ok (Ok x) P Q R gives p q = gives x p q
+both_ok (Err e) P Q R gives p q = tt

@@ -1,0 +1,56 @@
+-- What a history says of a call it says by the call's entries alone.
+use Rattle.std.proofs.Common.{◌≡◌, ℕ, Bool, true, false, List, [], ◌∷◌, ◌++◌, append-nil, refl, sym, ap, ◌∙◌}
+use Rattle.std.specs.Prelude.{◌==◌, if◌then◌else◌, filter, reverse}
+use Rattle.std.proofs.lemmas.List.{reverse-append}
+use Rattle.std.proofs.lemmas.List.Elements.{filter-append}
+use Rattle.account_core.specs.Asked.{Asked, Credits, Reserves, Returns, Settles, call_of}
+use Rattle.account_core.specs.Events.{Event}
+use Rattle.account_core.specs.Known.{deed, deed_of, is_open, known, known_after}
+use Rattle.account_core.specs.Places.{IsClosing}
+use Rattle.shared_account.specs.Own.{is_of, of_call}
+use Rattle.shared_account.proofs.Knowing.{known_apart, known_resting}
+
+-- ---- reversed
+
+filtered_if : {X : Type 0} (kept : Bool) (x : X) (ys : List X) → reverse (if kept then x ∷ ys else ys) ≡ reverse ys ++ (if kept then x ∷ [] else [])
+filtered_if true x ys = reverse-append (x ∷ []) ys
+filtered_if false x ys = sym (append-nil (reverse ys))
+
+pub filter_reverse : {X : Type 0} (p : X → Bool) (xs : List X) → filter p (reverse xs) ≡ reverse (filter p xs)
+filter_reverse p [] = refl
+filter_reverse p (x ∷ xs) =
+    ap (filter p) (reverse-append (x ∷ []) xs) ∙ (filter-append p (reverse xs) (x ∷ []) ∙ (ap (λ ys. ys ++ filter p (x ∷ [])) (filter_reverse p xs)
+    ∙ sym (filtered_if (p x) x (filter p xs))))
+
+-- ---- the entries of a call
+
+rests_apart : (h : List Event) (event : Event) (call : ℕ) (asked : Asked) → event.asked ≡ asked → is_of call asked ≡ false → known call (event ∷ h) ≡ known call h
+rests_apart h event call (Credits amount) same apart =
+    known_resting h event call (ap (λ a. deed_of a event.reply) same)
+rests_apart h event call (Reserves other plan wanted least) same apart = known_apart h event call (ap (λ a. call_of a == call) same ∙ apart)
+rests_apart h event call (Settles other number info) same apart = known_apart h event call (ap (λ a. call_of a == call) same ∙ apart)
+rests_apart h event call (Returns other) same apart = known_apart h event call (ap (λ a. call_of a == call) same ∙ apart)
+
+known_if : (here : Bool) (h : List Event) (event : Event) (call : ℕ) → is_of call event.asked ≡ here → known call h ≡ known call (of_call call h)
+    → known call (event ∷ h) ≡ known call (if here then event ∷ of_call call h else of_call call h)
+known_if true h event call is same = ap (λ k. known_after k (deed call event)) same
+known_if false h event call is same = rests_apart h event call event.asked refl is ∙ same
+
+pub known_of_call : (call : ℕ) (h : List Event) → known call h ≡ known call (of_call call h)
+known_of_call call [] = refl
+known_of_call call (event ∷ h) = known_if (is_of call event.asked) h event call refl (known_of_call call h)
+
+pub known_alike : (call : ℕ) (history mine : List Event) → of_call call history ≡ of_call call mine → known call (reverse history) ≡ known call (reverse mine)
+known_alike call history mine same =
+    known_of_call call (reverse history) ∙ (ap (known call) (filter_reverse (λ event. is_of call event.asked) history ∙ (ap reverse same
+    ∙ sym (filter_reverse (λ event. is_of call event.asked) mine))) ∙ sym (known_of_call call (reverse mine)))
+
+-- what closes a call by one history closes it by another with the same entries of the call
+pub closing_alike : (history mine : List Event) (asked : Asked) → IsClosing (reverse history) asked
+    → of_call (call_of asked) history ≡ of_call (call_of asked) mine → IsClosing (reverse mine) asked
+closing_alike history mine (Credits amount) closing same = closing
+closing_alike history mine (Reserves call plan wanted least) closing same = closing
+closing_alike history mine (Settles call number info) closing same =
+    let alike = known_alike call history mine same in
+    (ap is_open (sym alike) ∙ closing.0, ap (λ k. k.awaits) (sym alike) ∙ closing.1)
+closing_alike history mine (Returns call) closing same = ap is_open (sym (known_alike call history mine same)) ∙ closing

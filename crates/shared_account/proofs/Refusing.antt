@@ -1,0 +1,84 @@
+-- What the refusals of a held account come to for a caller who can't see it.
+use Rattle.std.proofs.Common.{◌≡◌, ℕ, Bool, true, false, Option, Some, None, List, Result, Ok, Err, inl, inr, refl, sym, subst}
+use Rattle.std.specs.Prelude.{◌+◌, if◌then◌else◌, length, nat_lt, reverse, IfErr, IsOk}
+use Rattle.account_core.specs.Answers.{misplaced}
+use Rattle.account_core.specs.Asked.{Asked, Credits, Reserves, Returns, Settles, call_of, is_in_range}
+use Rattle.account_core.specs.Events.{Event}
+use Rattle.account_core.specs.Known.{Known, is_open, known}
+use Rattle.account_core.specs.Ledger.{IsRefusal, Ledger, answer_of}
+use Rattle.account_core.specs.Places.{IsClosing, needed_by, or_else, over_limit, owed, refusal}
+use Rattle.account_core.specs.declared.entry.Reply.{Reply}
+use Rattle.account_core.specs.declared.fault.AccountFault.{AccountFault}
+use Rattle.account_core.specs.declared.fault.AccountFault.TheVariants as fault
+use Rattle.shared_account.specs.Kinds.{IsReplyTo, IsReturn}
+use Rattle.shared_account.proofs.Answering.{answer_fits}
+
+pub fits_of : (account : Ledger) (asked : Asked) (told : Reply) → told ≡ answer_of account asked → IsReplyTo asked told
+fits_of account asked told is =
+    let R : Reply → Type 0 = IsReplyTo asked in
+    subst R (sym is) (answer_fits account.opening (reverse account.history) asked)
+
+-- ---- out of range
+
+either : (b : Bool) (first second : Option AccountFault) → (first ≡ Some fault.OutOfRange → ⊥) → (second ≡ Some fault.OutOfRange → ⊥)
+    → (if b then first else second) ≡ Some fault.OutOfRange → ⊥
+either true first second x y is = x is
+either false first second x y is = y is
+
+first_or : (first second : Option AccountFault) → (first ≡ Some fault.OutOfRange → ⊥) → (second ≡ Some fault.OutOfRange → ⊥)
+    → or_else first second ≡ Some fault.OutOfRange → ⊥
+first_or None second x y is = y is
+first_or (Some why) second x y is = x is
+
+misplaced_ranged : (call : Known) (asked : Asked) → misplaced call asked ≡ Some fault.OutOfRange → ⊥
+misplaced_ranged call (Credits amount) is = cc
+misplaced_ranged call (Reserves number plan wanted least) is = either call.returned (Some fault.CallUsed) None (λ e. cc) (λ e. cc) is
+misplaced_ranged call (Settles number mail info) is = either (is_open call) None (Some fault.NotOpen) (λ e. cc) (λ e. cc) is
+misplaced_ranged call (Returns number) is = either (is_open call) None (Some fault.NotOpen) (λ e. cc) (λ e. cc) is
+
+out_of_range : (ranged : Bool) (call : Known) (asked : Asked) (over : Option AccountFault) → (over ≡ Some fault.OutOfRange → ⊥)
+    → or_else (if ranged then misplaced call asked else Some fault.OutOfRange) over ≡ Some fault.OutOfRange → ranged ≡ false
+out_of_range true call asked over not_over is = absurd (first_or (misplaced call asked) over (misplaced_ranged call asked) not_over is)
+out_of_range false call asked over not_over is = refl
+
+range_refusal : (limit : ℕ) (h : List Event) (asked : Asked) → refusal limit h asked ≡ Some fault.OutOfRange → is_in_range asked ≡ false
+unfolding refusal
+range_refusal limit h asked is =
+    let needs = needed_by (known (call_of asked) h) asked in
+    out_of_range (is_in_range asked) (known (call_of asked) h) asked (over_limit limit (length h + owed h) needs)
+    (either (nat_lt limit (length h + owed h + needs)) (Some fault.HistoryFull) None (λ e. cc) (λ e. cc)) is
+
+range_told : (account : Ledger) (asked : Asked) → IsRefusal account asked fault.OutOfRange → is_in_range asked ≡ false
+range_told account asked (inl is) = range_refusal account.limit (reverse account.history) asked is
+range_told account asked (inr is) = cc is.1
+
+pub range_of : (account : Ledger) (asked : Asked) (told : Result Reply AccountFault) → IfErr told (IsRefusal account asked) → told ≡ Err fault.OutOfRange → is_in_range asked ≡ false
+range_of account asked (Ok answered) refused is = cc
+range_of account asked (Err why) refused is =
+    let same : why ≡ fault.OutOfRange = cc is in
+    let R : AccountFault → Type 0 = IsRefusal account asked in
+    range_told account asked (subst R same refused)
+
+-- ---- a Return of a call that is open by the seat's own entries
+
+return_closed : (open_yet : Bool) (account : Ledger) (call : ℕ) (why : AccountFault) → is_open (known call (reverse account.history)) ≡ open_yet
+    → (open_yet ≡ true → ⊥) → IsRefusal account (Returns call) why → why ≡ fault.NotOpen
+unfolding refusal
+return_closed true account call why is never refused = absurd (never refl)
+return_closed false account call why is never (inl told) =
+    let first : Some fault.NotOpen ≡ Some why = rw is at told in cc first
+return_closed false account call why is never (inr told) =
+    let first : Some fault.NotOpen ≡ None = rw is at told.0 in cc first
+
+fails : (why : AccountFault) → IsOk {T = Reply} {E = AccountFault} (Err why) → ⊥
+fails why is = cc
+
+pub returning_of : (account : Ledger) (mine : List Event) (asked : Asked) (told : Result Reply AccountFault) → IfErr told (IsRefusal account asked)
+    → (IsClosing (reverse account.history) asked → IsClosing (reverse mine) asked → IsOk told) → IsReturn asked → IsClosing (reverse mine) asked
+    → IfErr told (λ why. why ≡ fault.NotOpen)
+returning_of account mine asked (Ok answered) refused closing return own = tt
+returning_of account mine (Credits amount) (Err why) refused closing return own = absurd return
+returning_of account mine (Reserves call plan wanted least) (Err why) refused closing return own = absurd return
+returning_of account mine (Settles call number info) (Err why) refused closing return own = absurd return
+returning_of account mine (Returns call) (Err why) refused closing return own =
+    return_closed (is_open (known call (reverse account.history))) account call why refl (λ is. fails why (closing is own)) refused

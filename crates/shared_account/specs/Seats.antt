@@ -1,0 +1,24 @@
+-- Seats as their callers see them.
+use Rattle.std.specs.Prelude.{◌+◌, ◌==◌, ◌&&◌, ℕ, Bool, true, List, [], ◌∷◌, ◌++◌, length}
+use Rattle.std.proofs.Common.{zero, suc}
+use Rattle.account_core.specs.Events.{Event}
+
+-- the account that a seat is of, its number there, and its own entries, oldest first
+pub record Place : Type 0 where
+  pub account : ℕ
+  pub number : ℕ
+  pub mine : List Event
+
+-- the first seats of an account: numbered from 0, without entries
+abbrev pub fresh_seats : ℕ → ℕ → List Place
+fresh_seats account zero = []
+fresh_seats account (suc seats) = fresh_seats account seats ++ record { account = account; number = seats; mine = [] } ∷ []
+
+-- whether numbers go on from the first by ones
+abbrev pub are_numbered : ℕ → List ℕ → Bool
+are_numbered first [] = true
+are_numbered first (number ∷ numbers) = (number == first) && are_numbered (first + 1) numbers
+
+-- whether these are the numbers of all seats of an account, in order
+abbrev pub are_all : ℕ → List ℕ → Bool
+are_all seats numbers = (length numbers == seats) && are_numbered 0 numbers

@@ -1,0 +1,9 @@
+-- What a shared account was made with.
+use Rattle.std.specs.Prelude.{ℕ}
+
+-- its number, the credit that it was opened with, how many entries it may have, and how many seats it has
+pub record Terms : Type 0 where
+  pub number : ℕ
+  pub opening : ℕ
+  pub limit : ℕ
+  pub seats : ℕ

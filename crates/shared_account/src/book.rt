@@ -1,0 +1,127 @@
+//! Books of accounts that were closed.
+
+ghost use Rattle.std.specs.Prelude.{◌≡◌, map, reverse, length, IfOk};
+ghost use Rattle.account_core.specs.Answers.{IsLegal};
+ghost use Rattle.account_core.specs.Available.{available};
+ghost use Rattle.account_core.specs.Events.{event_of};
+ghost use Rattle.account_core.specs.Sums.{AreSums};
+
+use account_core::{Account, CallSum, Entry};
+use std::alloc::{AllocError, Global};
+use std::marker::Model;
+
+/// The book of an account that was closed: its history, which is legal, and what each of its seats
+/// has entered. Only closing makes one.
+#[derive(Drop)]
+pub struct Book {
+    number: u32,
+    limit: u32,
+    account: Account,
+    own: Vec<Vec<Entry>>,
+}
+
+impl Model for Book {
+    ghost use Rattle.std.specs.Prelude.{map};
+    ghost use Rattle.account_core.specs.Events.{event_of};
+    ghost use Rattle.shared_account.specs.Closed.{Closed};
+
+    ghost Value = { Closed };
+
+    ghost view = { λ b. record {
+      account = b.number;
+      opening = b.account.opening;
+      limit = b.limit;
+      history = b.account.history;
+      own = map (λ list. map event_of list.items) b.own.items;
+    } };
+}
+
+impl Book {
+    /// The book of an account, with what each of its seats has entered.
+    pub(crate) fn new(number: u32, limit: u32, account: Account, own: Vec<Vec<Entry>>) -> Book
+        ensures { result ≡ record {
+          account = number;
+          opening = account.opening;
+          limit = limit;
+          history = account.history;
+          own = map (λ list. map event_of list.items) own.items;
+        } }
+    {
+        Book {
+            number,
+            limit,
+            account,
+            own,
+        }
+    }
+
+    /// The account's number.
+    pub fn account(&self) -> u32
+        ensures { result ≡ self.now.account }
+    {
+        self.number
+    }
+
+    /// The credit that it was opened with.
+    pub fn opening(&self) -> u64
+        ensures { result ≡ self.now.opening }
+    {
+        self.account.opening()
+    }
+
+    /// How many entries its history might have grown to.
+    pub fn limit(&self) -> u32
+        ensures { result ≡ self.now.limit }
+    {
+        self.limit
+    }
+
+    /// The entries, oldest first. They are a legal history.
+    pub fn history(&self) -> &[Entry]
+        ensures value { map event_of result.now ≡ self.now.history }
+        ensures legal { IsLegal self.now.opening self.now.history }
+    {
+        self.account.history()
+    }
+
+    /// What each seat has entered, oldest first.
+    pub fn own(&self) -> &[Vec<Entry>]
+        ensures { map (λ list. map event_of list.items) result.now ≡ self.now.own }
+    {
+        self.own.as_slice()
+    }
+
+    /// What the account came to, and each call that it granted anything.
+    pub fn summary(&self, alloc: Global) -> Result<Summary, AllocError>
+        ensures account { IfOk result (λ summary. summary.account ≡ self.now.account) }
+        ensures opening { IfOk result (λ summary. summary.opening ≡ self.now.opening) }
+        ensures available { IfOk result (λ summary.
+            summary.available ≡ available self.now.opening (reverse self.now.history)) }
+        ensures entries { IfOk result (λ summary. summary.entries ≡ length self.now.history) }
+        ensures calls { IfOk result (λ summary. AreSums (reverse self.now.history) summary.calls.items) }
+    {
+        let calls = self.account.sums(alloc)?;
+        Ok(Summary {
+            account: self.account(),
+            opening: self.opening(),
+            available: self.account.available(),
+            entries: self.history().len(),
+            calls,
+        })
+    }
+}
+
+/// What an account came to. Amounts are in units of money.
+#[derive(Debug, Drop)]
+pub struct Summary {
+    /// The account's number.
+    pub account: u32,
+    /// The credit that it was opened with.
+    pub opening: u64,
+    /// The credit that is left.
+    pub available: u64,
+    /// How many entries its history has.
+    pub entries: usize,
+    /// The calls that were granted anything, by rising number.
+    pub calls: Vec<CallSum>,
+}

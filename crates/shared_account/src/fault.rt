@@ -1,0 +1,48 @@
+//! Why a shared account isn't closed with a book.
+
+ghost use Rattle.std.specs.Prelude.{◌≡◌};
+ghost use Rattle.shared_account.specs.Faults.{code_of};
+ghost use Rattle.shared_account.specs.declared.fault.CloseFault.TheVariants as out;
+
+use std::alloc::{AllocError, AllocFailed};
+use thiserror::Error;
+
+/// Why a shared account isn't closed with a book. It is given up then.
+#[derive(Clone, Copy, Debug, PartialEq, Eq, Error)]
+pub enum CloseFault {
+    /// Not all of its seats are there, in the order of their numbers.
+    #[error("the seats aren't all there in order")]
+    Seats = 1,
+    /// A seat's list isn't the seat's entries in the history, or the opening isn't the one that was
+    /// given.
+    #[error("the history isn't what the seats have entered")]
+    Mismatch = 2,
+    /// Memory ran out.
+    #[error("out of memory")]
+    OutOfMemory = 3,
+}
+
+impl CloseFault {
+    /// The number of the fault.
+    pub fn code(self) -> u8
+        ensures { result ≡ code_of self }
+    {
+        self as u8
+    }
+}
+
+impl From<AllocError> for CloseFault {
+    ghost from_gives = { λ _ fault. fault ≡ out.OutOfMemory };
+
+    fn from(_error: AllocError) -> CloseFault {
+        CloseFault::OutOfMemory
+    }
+}
+
+impl<T: Drop> From<AllocFailed<T>> for CloseFault {
+    ghost from_gives = { λ _ fault. fault ≡ out.OutOfMemory };
+
+    fn from(_error: AllocFailed<T>) -> CloseFault {
+        CloseFault::OutOfMemory
+    }
+}

@@ -1,0 +1,25 @@
+//! An account that is shared among seats: each call of it is one step of a sequential account, and
+//! at the end a book tells its history and what each seat has entered.
+#![tactic(auto)]
+
+mod book;
+mod closing;
+mod fault;
+mod gate;
+mod places;
+mod sameness;
+mod seat;
+mod shared;
+mod shared_account;
+mod shared_port;
+mod sharing;
+#[cfg(test)]
+mod tests;
+
+pub use book::{Book, Summary};
+pub use fault::CloseFault;
+pub use gate::{Gate, OpenGate};
+pub use seat::Seat;
+pub use shared::Shared;
+pub use shared_account::SharedAccount;
+pub use shared_port::SharedPort;

@@ -1,0 +1,133 @@
+//! Seats, from which an account is asked.
+
+ghost use Rattle.std.specs.Prelude.{◌≡◌, ◌≢◌, ◌≤◌, ◌++◌, ◌∷◌, [], None, map, reverse, IsOk, OnOk, OnErr, IfOk, IfErr};
+ghost use Rattle.account_core.specs.Asked.{call_of};
+ghost use Rattle.account_core.specs.Events.{asked_of, event_of};
+ghost use Rattle.account_core.specs.Known.{known};
+ghost use Rattle.account_core.specs.Ledger.{IsRefusal, answer_of, event_by, refusal_of};
+ghost use Rattle.account_core.specs.Places.{IsClosing};
+ghost use Rattle.shared_account.specs.Own.{of_call};
+ghost use Rattle.shared_account.specs.Places.{places_of};
+
+mod entering;
+
+use crate::places::Places;
+use account_core::{Account, AccountFault, Entry, Op, Reply, accounts_have_no_gate};
+use std::alloc::Global;
+use std::collections::BTreeMap;
+use std::marker::Model;
+
+/// A seat of an account: it asks under its number, and keeps the list of its own entries.
+///
+/// Beside them it keeps room in memory for the places that they owe to the calls they have opened,
+/// so that it can enter the Return of such a call, and its first Settle since its last grant,
+/// without asking for memory.
+#[derive(Drop)]
+pub struct Seat {
+    account: u32,
+    number: u32,
+    mine: Vec<Entry>,
+    places: BTreeMap<u64, Places>,
+    owed: usize,
+}
+
+impl Model for Seat {
+    ghost use Rattle.std.specs.Prelude.{map, reverse};
+    ghost use Rattle.std.specs.Vec.{vec_capacity};
+    ghost use Rattle.account_core.specs.Events.{event_of};
+    ghost use Rattle.shared_account.specs.Room.{IsRoomy};
+    ghost use Rattle.shared_account.specs.Seats.{Place};
+
+    ghost Value = { Place };
+
+    ghost view = { λ s. record { account = s.account; number = s.number; mine = map event_of s.mine.items } };
+
+    ghost invariant = { λ s. IsRoomy (reverse (map event_of s.mine.items)) s.places s.owed (vec_capacity s.mine) };
+}
+
+impl Seat {
+    /// A seat of this account, with this number and no entries. It takes no memory yet.
+    pub(crate) fn new(alloc: Global, account: u32, number: u32) -> Seat
+        ensures { result ≡ record { account = account; number = number; mine = [] } }
+    {
+        Seat {
+            account,
+            number,
+            mine: Vec::new(alloc),
+            places: BTreeMap::new(alloc),
+            owed: 0,
+        }
+    }
+
+    /// The number of its account.
+    pub fn account(&self) -> u32
+        ensures { result ≡ self.now.account }
+    {
+        self.account
+    }
+
+    /// Its own number.
+    pub fn number(&self) -> u32
+        ensures { result ≡ self.now.number }
+    {
+        self.number
+    }
+
+    /// Its own entries, oldest first.
+    pub fn mine(&self) -> &[Entry]
+        ensures { map event_of result.now ≡ self.now.mine }
+    {
+        self.mine.as_slice()
+    }
+
+    /// Its own entries, oldest first, for whoever needs the seat no more.
+    pub fn into_mine(self) -> Vec<Entry>
+        ensures { map event_of result.items ≡ self.mine }
+    {
+        let Seat { mine, .. } = self;
+        mine
+    }
+
+    /// Asks an account under the seat's number, and keeps the same entry in the seat's list.
+    ///
+    /// A fault changes neither the account nor the seat, and faults come as in `Account::apply`:
+    /// want of memory, be it the account's or the seat's, comes last. A Return of an open call, and
+    /// its first Settle since its last grant, always succeed where the seat's own entries show the
+    /// same, and so where the call's entries in the account are those in the seat's list.
+    pub fn apply_to(&mut self, account: &mut Account, op: Op) -> Result<Reply, AccountFault>
+        ensures answered { IfOk result (λ reply. reply ≡ answer_of account.old (asked_of op)) }
+        ensures entered { IfOk result (λ reply. account.new ≡ record account.old {
+          history = account.old.history ++ event_by self.old.number (asked_of op) reply ∷ [];
+        }) }
+        ensures mine { IfOk result (λ reply. self.new ≡ record self.old {
+          mine = self.old.mine ++ event_by self.old.number (asked_of op) reply ∷ [];
+        }) }
+        ensures admitted { OnOk result (refusal_of account.old (asked_of op) ≡ None) }
+        ensures account_kept { OnErr result (account.new ≡ account.old) }
+        ensures kept { OnErr result (self.new ≡ self.old) }
+        ensures refused { IfErr result (λ fault. IsRefusal account.old (asked_of op) fault) }
+        ensures ungated { result ≢ Err AccountFault.GateClosed }
+        ensures closing { IsClosing (reverse account.old.history) (asked_of op)
+            → IsClosing (reverse self.old.mine) (asked_of op) → IsOk result }
+        ensures own { IsClosing (reverse account.old.history) (asked_of op)
+            → of_call (call_of (asked_of op)) account.old.history
+            ≡ of_call (call_of (asked_of op)) self.old.mine
+            → IsOk result }
+    {
+        accounts_have_no_gate();
+        if let Some(fault) = account.refusal(&op) {
+            return Err(fault);
+        }
+        self.enter(account, op)
+    }
+
+    /// What the seat's own entries say of a call.
+    fn places(&self, call: u64) -> Places
+        ensures { result ≡ places_of (known call (reverse self.now.mine)) }
+    {
+        match self.places.get(&call) {
+            Some(places) => *places,
+            None => Places::NONE,
+        }
+    }
+}

@@ -1,0 +1,109 @@
+//! What every form of a shared account promises.
+
+use crate::{Book, CloseFault, Gate};
+use account_core::{AccountFault, Op, Reply};
+use std::alloc::Global;
+use std::sync::Wait;
+
+/// An account that is asked from several seats, each in a thread of its own.
+///
+/// A form of it promises what each call comes to for the seat that makes it: a reply of a kind that
+/// the operation has, and the same entry at the end of the seat's own list, or a fault and no entry.
+/// When it is closed with a book, the history is legal, that is each reply was the one right answer
+/// in its place, and it has each seat's own entries, in order, and nothing else.
+///
+/// It can't promise, before it is closed, where in the history an entry stands, nor, where others
+/// are asking too, that `NotOpen`, `CallUsed` or `HistoryFull` was right; and nothing of who comes
+/// first, nor that a call returns.
+///
+/// A seat is of the account whose key it has: the account's number, or whatever else a form tells
+/// its seats by.
+pub trait Shared: Sync + Drop {
+    ghost use Rattle.std.specs.Prelude.{◌≡◌, ◌≤◌, ◌↔◌, ◌++◌, ◌∷◌, [], ℕ, List, true, false, map, All, OnErr, IfOk, IfErr};
+    ghost use Rattle.std.specs.Coded.{Coded};
+    ghost use Rattle.account_core.specs.Answers.{IsLegal};
+    ghost use Rattle.account_core.specs.Asked.{is_in_range};
+    ghost use Rattle.account_core.specs.Events.{Event, asked_of};
+    ghost use Rattle.account_core.specs.Ledger.{event_by};
+    ghost use Rattle.account_core.specs.declared.fault.AccountFault.TheVariants as out;
+    ghost use Rattle.shared_account.specs.Kinds.{IsReplyTo};
+    ghost use Rattle.shared_account.specs.Own.{IsMerged};
+    ghost use Rattle.shared_account.specs.Seats.{are_all};
+    ghost use Rattle.shared_account.specs.Terms.{Terms};
+    ghost use Rattle.shared_account.specs.declared.fault.CloseFault.TheVariants as close;
+
+    /// A seat of the account.
+    type Seat: Send + Drop;
+
+    ghost Key: { Type 0 };
+
+    ghost key_code: { Coded Key };
+
+    ghost key: { Self → Key };
+
+    ghost terms: { Self → Terms };
+
+    ghost key_of: { Self.Seat → Key };
+
+    ghost number_of: { Self.Seat → ℕ };
+
+    ghost mine_of: { Self.Seat → List Event };
+
+    /// An account with this number, an opening credit of 0 to `MAX_MONEY`, an empty history and the
+    /// number of entries that this may grow to; and its seats, 1 to 16 of them, numbered from 0,
+    /// without entries. A fault is `OutOfMemory`.
+    fn new<R>(
+        rt: &R,
+        alloc: Global,
+        number: u32,
+        opening: u64,
+        limit: u32,
+        seats: u32,
+    ) -> Result<(Self, Vec<Self::Seat>), AccountFault>
+        requires opening { opening ≤ 1000000000000000 }
+        requires some_seats { 1 ≤ seats }
+        requires few_seats { seats ≤ 16 }
+        ensures terms { IfOk result (λ made. terms made.0 ≡ record {
+          number = number;
+          opening = opening;
+          limit = limit;
+          seats = seats;
+        }) }
+        ensures keys { IfOk result (λ made. All (λ seat. key_of seat ≡ key made.0) made.1.items) }
+        ensures numbers { IfOk result (λ made. are_all seats (map number_of made.1.items) ≡ true) }
+        ensures empty { IfOk result (λ made. All (λ seat. mine_of seat ≡ []) made.1.items) }
+        ensures refused { IfErr result (λ fault. fault ≡ out.OutOfMemory) };
+
+    /// Asks the account from one of its seats, once it is this call's turn. A fault makes no entry.
+    /// `GateClosed` comes first, where the gate, asked while the account is held, answers false;
+    /// then the faults of `Account::apply`.
+    fn call<R: Wait, G: Gate>(
+        &self,
+        rt: &R,
+        seat: &mut Self::Seat,
+        op: Op,
+        gate: &G,
+    ) -> Result<Reply, AccountFault>
+        requires { key_of seat.old ≡ key self.now }
+        ensures same_key { key_of seat.new ≡ key_of seat.old }
+        ensures same_number { number_of seat.new ≡ number_of seat.old }
+        ensures mine { IfOk result (λ reply. mine_of seat.new
+            ≡ mine_of seat.old ++ event_by (number_of seat.old) (asked_of op) reply ∷ []) }
+        ensures kind { IfOk result (λ reply. IsReplyTo (asked_of op) reply) }
+        ensures kept { OnErr result (mine_of seat.new ≡ mine_of seat.old) }
+        ensures range { result ≡ Err out.OutOfRange → is_in_range (asked_of op) ≡ false }
+        ensures gate { result ≡ Err out.GateClosed → G.may_shut gate.now };
+
+    /// Ends the sharing: the account's book, where all of its seats are handed in, in the order of
+    /// their numbers.
+    fn close(self, alloc: Global, seats: Vec<Self::Seat>) -> Result<Book, CloseFault>
+        requires { All (λ seat. key_of seat ≡ key self) seats.items }
+        ensures account { IfOk result (λ book. book.account ≡ (terms self).number) }
+        ensures opening { IfOk result (λ book. book.opening ≡ (terms self).opening) }
+        ensures limit { IfOk result (λ book. book.limit ≡ (terms self).limit) }
+        ensures legal { IfOk result (λ book. IsLegal book.opening book.history) }
+        ensures own { IfOk result (λ book. book.own ≡ map mine_of seats.items) }
+        ensures merged { IfOk result (λ book. IsMerged book.history book.own) }
+        ensures seats { (result ≡ Err close.Seats)
+            ↔ (are_all (terms self).seats (map number_of seats.items) ≡ false) };
+}

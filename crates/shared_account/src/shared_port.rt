@@ -1,0 +1,58 @@
+//! The port of a shared account.
+
+ghost use Rattle.std.specs.Prelude.{◌≡◌, ◌++◌, ◌∷◌, [], IfOk, OnErr};
+ghost use Rattle.account_core.specs.Events.{asked_of};
+ghost use Rattle.account_core.specs.Ledger.{event_by};
+ghost use Rattle.shared_account.specs.Kinds.{IsReplyTo};
+ghost use Rattle.std.specs.Coded.{Coded-set};
+
+use crate::{Gate, Shared};
+use account_core::{AccountFault, Op, Port, Reply};
+use std::sync::Wait;
+
+/// The port of a shared account: it asks from a seat, past a gate.
+///
+/// It can't state what it keeps of a call, since others ask the account too.
+#[derive(Drop)]
+pub struct SharedPort<'a, S: Shared, R: Wait, G: Gate> {
+    account: &'a S,
+    seat: &'a mut S::Seat,
+    rt: &'a R,
+    gate: &'a G,
+    ghost of_account: { S.key_of seat.now ≡ S.key account.now } by { Coded-set S.key_code (S.key_of seat.now) (S.key account.now) },
+}
+
+impl<'a, S: Shared, R: Wait, G: Gate> SharedPort<'a, S, R, G> {
+    /// The port of an account by one of its seats.
+    pub fn new(
+        account: &'a S,
+        seat: &'a mut S::Seat,
+        rt: &'a R,
+        gate: &'a G,
+    ) -> SharedPort<'a, S, R, G>
+        requires { S.key_of seat.old ≡ S.key account.now }
+        ensures account { result.account.now ≡ account.now }
+        ensures seat { result.seat.now ≡ seat.old }
+        ensures gate { result.gate.now ≡ gate.now }
+    {
+        SharedPort {
+            account,
+            seat,
+            rt,
+            gate,
+        }
+    }
+}
+
+impl<S: Shared, R: Wait, G: Gate> Port for SharedPort<'_, S, R, G> {
+    fn ask(&mut self, op: Op) -> Result<Reply, AccountFault>
+        ensures mine { IfOk result (λ reply. S.mine_of self.new.seat.now
+            ≡ S.mine_of self.old.seat.now
+            ++ event_by (S.number_of self.old.seat.now) (asked_of op) reply ∷ []) }
+        ensures kind { IfOk result (λ reply. IsReplyTo (asked_of op) reply) }
+        ensures kept { OnErr result (S.mine_of self.new.seat.now ≡ S.mine_of self.old.seat.now) }
+        ensures gate { result ≡ Err AccountFault.GateClosed → G.may_shut self.old.gate.now }
+    {
+        self.account.call(self.rt, self.seat, op, self.gate)
+    }
+}
