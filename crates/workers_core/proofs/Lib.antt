@@ -1,2 +1,4 @@
 pub mod Closes
+pub mod Indexing
+pub mod Judging
 pub mod Orders
