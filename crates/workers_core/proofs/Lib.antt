@@ -2,3 +2,4 @@ pub mod Closes
 pub mod Indexing
 pub mod Judging
 pub mod Orders
+pub mod Placing

@@ -10,6 +10,8 @@ mod post;
 mod setup;
 mod setup_fault;
 #[cfg(test)]
+mod setup_tests;
+#[cfg(test)]
 mod tests;
 
 pub use inbox::{Gone, Inbox};

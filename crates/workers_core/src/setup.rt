@@ -1,6 +1,7 @@
 //! What a run is set up with.
 
-ghost use Rattle.std.specs.Prelude.{◌≡◌, ◌≢◌, ◌≤◌, ℕ, None, Some, length, is_some, if◌then◌else◌, IfOk, IfErr, OnOk};
+ghost use Rattle.std.specs.Prelude.{◌≡◌, ◌≢◌, ◌≤◌, ℕ, None, Some, length, is_some, if◌then◌else◌, IfOk, IfErr, IfNone, IfSome, OnOk, ◌<◌};
+ghost use Rattle.std.specs.List.{HoldsAt};
 ghost use Rattle.std.specs.List.Sorted.{IsStrictlySortedBy};
 ghost use Rattle.std.specs.Map.{keys_of};
 ghost use Rattle.std.specs.BTreeMap.{Updates, get};
@@ -108,6 +109,38 @@ impl RunSetup {
         ensures { result ≡ length self.now.accounts }
     {
         self.accounts.len()
+    }
+
+    /// The number of the account at a place of the ascending order.
+    pub fn number(&self, place: usize) -> u32
+        requires { place < length self.now.accounts }
+        ensures { HoldsAt (λ account. account.0 ≡ result) self.now.accounts place }
+    {
+        self.accounts[place].0
+    }
+
+    /// The opening credit of the account at a place of the ascending order.
+    pub fn opening(&self, place: usize) -> u64
+        requires { place < length self.now.accounts }
+        ensures { HoldsAt (λ account. account.1 ≡ result) self.now.accounts place }
+    {
+        self.accounts[place].1
+    }
+
+    /// The place of an account in the ascending order, none where there is no such account.
+    pub fn place_of(&self, account: u32) -> Option<usize>
+        ensures within { IfSome result (λ place. place < length self.now.accounts) }
+        ensures found { IfSome result
+            (HoldsAt (λ entry. entry.0 ≡ account) self.now.accounts) }
+        ensures missing { IfNone result (opening_of account self.now.accounts ≡ None) }
+    {
+        match self
+            .accounts
+            .binary_search_by_key(&account, |entry| entry.0)
+        {
+            Ok(place) => Some(place),
+            Err(_) => None,
+        }
     }
 
     /// What the service asks an account for.
