@@ -1,2 +1,5 @@
 pub mod Closes
+pub mod Indexing
+pub mod Judging
 pub mod Orders
+pub mod Placing

@@ -1,0 +1,14 @@
+use Rattle.std.proofs.Common.{rules}
+use Rattle.std.proofs.lemmas.List.Sorted.{answers_always}
+use Rattle.workers_core.proofs.Placing.{found_at, missing_from, never_fall}
+use Rattle.workers_core.proofs.setup.RunSetup.place_of.Goals as goal
+
+pub returns-in-Ok-clause-found : goal.returns-in-Ok-clause-found
+returns-in-Ok-clause-found c =
+    let position = c.in-Ok.ensures.position (λ entry. entry.0) (answers_always _ _ _ (λ f a r g called. search rules)) in
+    rw (← c.self.view_is, ← c.deref.ensures.value) (found_at _ c.args.account c.in-Ok.place position)
+
+pub returns-in-Err-clause-missing : goal.returns-in-Err-clause-missing
+returns-in-Err-clause-missing c =
+    let position = c.in-Err.ensures.position (λ entry. entry.0) (answers_always _ _ _ (λ f a r g called. search rules)) in
+    rw (← c.self.view_is, ← c.deref.ensures.value) (missing_from _ c.args.account c.in-Err.field-0 (never_fall _ (rw c.deref.ensures.value c.self.invariant)) position)

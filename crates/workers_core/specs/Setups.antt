@@ -1,0 +1,69 @@
+-- What a run is set up with, and what can be wrong with it.
+use Rattle.std.specs.Prelude.{◌≡◌, ◌==◌, ◌||◌, ◌∷◌, ◌++◌, ℕ, Bool, List, [], length, Option, None, Some, if◌then◌else◌, is_some, nat_lt}
+use Rattle.std.specs.List.Sorted.{IsStrictlySortedBy}
+use Rattle.std.specs.Map.{keys_of, lookup}
+use Rattle.std.specs.Option.{option_or}
+use Rattle.std.specs.Ordering.{nat_cmp}
+use Rattle.std.specs.Str.{bytes_eq}
+use Rattle.cap_values.specs.NumberDigits.{digits_of}
+use Rattle.cap_values.specs.declared.number.Number.{Number}
+use Rattle.dialogue_core.specs.declared.config.ServiceConfig.{ServiceConfig}
+use Rattle.tariff_core.specs.Bands.{Band}
+use Rattle.workers_core.specs.declared.setup_fault.SetupFault.{SetupFault}
+use Rattle.workers_core.specs.declared.setup_fault.SetupFault.TheVariants as fault
+
+-- the opening credit of an account, in a list of accounts with theirs
+abbrev pub opening_of : ℕ → List (ℕ × ℕ) → Option ℕ
+opening_of account = lookup (λ other. other == account)
+
+-- the account of a subscriber, in a list of subscribers with theirs
+abbrev pub account_of : Number → List (Number × ℕ) → Option ℕ
+account_of number = lookup (λ other. bytes_eq (digits_of other) (digits_of number))
+
+-- the first fault of the items of a list, each judged after the earlier ones
+unfoldable pub first_fault : {X : Type 0} → (List X → X → Option SetupFault) → List X → List X → Option SetupFault
+first_fault judge earlier [] = None
+first_fault judge earlier (item ∷ items) = option_or (judge earlier item) (first_fault judge (earlier ++ item ∷ []) items)
+
+-- the limit is 3 to 1,000,000, and there are at most 1,000 accounts and 10,000 subscribers
+abbrev pub counts_fault : ℕ → ℕ → ℕ → Option SetupFault
+counts_fault limit accounts subscribers =
+    if nat_lt limit 3 || nat_lt 1000000 limit || nat_lt 1000 accounts || nat_lt 10000 subscribers then Some fault.OutOfRange else None
+
+-- an account has an opening credit of 0 to 10^15, and a number that isn't named before
+abbrev pub account_fault : Bool → ℕ → Option SetupFault
+account_fault is_named opening = if nat_lt 1000000000000000 opening then Some fault.OutOfRange else if is_named then Some fault.Repeated else None
+
+abbrev pub judge_account : List (ℕ × ℕ) → ℕ × ℕ → Option SetupFault
+judge_account earlier account = account_fault (is_some (opening_of account.0 earlier)) account.1
+
+abbrev pub accounts_fault : List (ℕ × ℕ) → Option SetupFault
+accounts_fault = first_fault judge_account []
+
+-- a subscriber has a number that isn't named before, and an account that there is
+abbrev pub subscriber_fault : Bool → Bool → Option SetupFault
+subscriber_fault is_named has_account = if is_named then Some fault.Repeated else if has_account then None else Some fault.Unknown
+
+abbrev pub judge_subscriber : List (ℕ × ℕ) → List (Number × ℕ) → Number × ℕ → Option SetupFault
+judge_subscriber accounts earlier subscriber = subscriber_fault (is_some (account_of subscriber.0 earlier)) (is_some (opening_of subscriber.1 accounts))
+
+abbrev pub subscribers_fault : List (ℕ × ℕ) → List (Number × ℕ) → Option SetupFault
+subscribers_fault accounts = first_fault (judge_subscriber accounts) []
+
+-- what is wrong with a setup: first with the limit and the counts, then with the accounts, then with the subscribers
+abbrev pub setup_fault : ℕ → List (ℕ × ℕ) → List (Number × ℕ) → Option SetupFault
+setup_fault limit accounts subscribers =
+    option_or (counts_fault limit (length accounts) (length subscribers)) (option_or (accounts_fault accounts) (subscribers_fault accounts subscribers))
+
+-- what a run is set up with: the accounts in ascending order, each with its opening credit; the subscribers, each with its account
+pub record Setup : Type 0 where
+  pub accounts : List (ℕ × ℕ)
+  pub subscribers : List (Number × ℕ)
+  pub tariff : List Band
+  pub service : ServiceConfig
+  pub limit : ℕ
+
+-- the same accounts in ascending order of their numbers
+pub record AreAscending (given accounts : List (ℕ × ℕ)) : Type 0 where
+  pub ordered : IsStrictlySortedBy nat_cmp (keys_of accounts)
+  pub same : (account : ℕ) → opening_of account accounts ≡ opening_of account given
