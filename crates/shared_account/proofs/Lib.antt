@@ -1,7 +1,14 @@
 pub mod Answering
+pub mod Beginnings
+pub mod Keeping
 pub mod Knowing
+pub mod Longer
+pub mod Meetings
 pub mod Merging
 pub mod Numbering
 pub mod Owning
 pub mod Refusing
 pub mod Roominess
+pub mod Rosters
+pub mod Seating
+pub mod Turning

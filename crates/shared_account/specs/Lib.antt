@@ -3,6 +3,11 @@ pub mod Faults
 pub mod Kinds
 pub mod Own
 pub mod Places
+pub mod Plays
+pub mod Prefixes
 pub mod Room
 pub mod Seats
+pub mod Sights
 pub mod Terms
+pub mod Turns
+pub mod Views

@@ -2,17 +2,20 @@
 //! at the end a book tells its history and what each seat has entered.
 #![tactic(auto)]
 
+mod board;
 mod book;
 mod closing;
 mod fault;
 mod gate;
 mod places;
+mod plays;
 mod sameness;
 mod seat;
 mod shared;
 mod shared_account;
 mod shared_port;
 mod sharing;
+mod steps;
 #[cfg(test)]
 mod tests;
 
