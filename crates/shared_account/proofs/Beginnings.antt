@@ -1,6 +1,8 @@
 -- Histories that begin others.
-use Rattle.std.proofs.Common.{◌≡◌, ◌≢◌, ◌≤◌, ◌+◌, ℕ, Bool, true, false, List, [], ◌∷◌, ◌++◌, length, append-nil, append_assoc, length-append, refl, sym, ap, ◌∙◌, arith, eq-eqb, ne_eqb}
-use Rattle.std.specs.Prelude.{◌==◌, if◌then◌else◌}
+use Rattle.std.proofs.Common.{◌≡◌, ◌≢◌, ◌≤◌, ◌+◌, ℕ, Bool, true, false, List, [], ◌∷◌, ◌++◌, length, append-nil, append_assoc, length-append, refl, sym, ap, ◌∙◌, arith, subst, eq-eqb, ne_eqb}
+use Rattle.std.specs.Prelude.{◌==◌, if◌then◌else◌, reverse}
+use Rattle.std.proofs.lemmas.List.{reverse-append}
+use Rattle.account_core.specs.Answers.{IsLegal, IsLegalPast}
 use Rattle.std.proofs.lemmas.List.Elements.{filter-append}
 use Rattle.account_core.specs.Events.{Event}
 use Rattle.shared_account.specs.Own.{own}
@@ -36,6 +38,16 @@ both_begin (event ∷ first) (other ∷ second) more further same within =
 -- of two histories that begin a third, the shorter begins the longer
 pub shorter_begins : (first second third : List Event) → IsPrefix first third → IsPrefix second third → length first ≤ length second → IsPrefix first second
 shorter_begins first second third begins too within = both_begin first second begins.rest too.rest (sym begins.is ∙ too.is) within
+
+legal_past : (opening : ℕ) (later history : List Event) → IsLegalPast opening (later ++ history) → IsLegalPast opening history
+legal_past opening [] history legal = legal
+legal_past opening (event ∷ later) history legal = legal_past opening later history legal.0
+
+-- what begins a legal history is legal
+pub legal_begins : (opening : ℕ) (earlier later : List Event) → IsPrefix earlier later → IsLegal opening later → IsLegal opening earlier
+legal_begins opening earlier later begins legal =
+    let L : List Event → Type 0 = IsLegalPast opening in
+    legal_past opening (reverse begins.rest) (reverse earlier) (subst L (ap reverse begins.is ∙ reverse-append earlier begins.rest) legal)
 
 -- ---- own entries
 

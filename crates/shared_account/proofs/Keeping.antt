@@ -1,29 +1,19 @@
 -- What the steps of a turn leave of its rule.
-use Rattle.std.proofs.Common.{◌≡◌, ◌≢◌, ◌≤◌, ◌<◌, ◌+◌, ◌-◌, ◌%◌, ◌^◌, ℕ, Option, Some, None, List, [], ◌∷◌, ◌++◌, length, get_or, set, refl, sym, ap, ◌∙◌, arith, subst, inl, inr, length-append, length-set, get_or-set_other, get_or-set_same}
+use Rattle.std.proofs.Common.{◌≡◌, ◌≤◌, ◌<◌, ◌+◌, ◌-◌, ◌%◌, ◌^◌, ℕ, Option, None, List, length, get_or, set, refl, sym, ap, ◌∙◌, arith, subst, length-set, get_or-set_other, get_or-set_same}
 use Rattle.std.proofs.Math.Nat.{mod-add-mod, mod-eq_of_lt}
-use mathlib.Core.Logic.{dite}
-use mathlib.Core.Option.{none, some, some-injective}
-use mathlib.Core.Option as maybe
-use native.Mathlib.Decide.{ℕ_discrete, dec_le}
+use mathlib.Core.Option.{some}
 use lib.ListN.{get_elem?}
 use lib.Seq.{set-get_or}
-use Rattle.atomic_table.specs.Table.{Allows, Joins, Splits, State, gives, keeps, opening, put_back, step, takes}
-use Rattle.atomic_table.proofs.Lists.{one_turn, set_again, set_else, set_here}
-use Rattle.account_core.specs.Events.{Event}
-use Rattle.account_core.specs.Ledger.{Ledger, answer_of, refusal_of}
-use Rattle.account_core.specs.SharingLaws.{EachIsOwedItsShare}
-use Rattle.shared_account.specs.Own.{own}
-use Rattle.shared_account.specs.Plays.{HasCome, HasMet, IsLater, Sitter, appended, compared, drawn, handed, looked, with_entry}
-use Rattle.shared_account.specs.Prefixes.{IsPrefix}
-use Rattle.shared_account.specs.Turns.{Affairs, AllApart, AllKnow, AreApart, AreTotals, AreWords, HasTurn, IsNumbered, IsOut, IsPast, IsTaken, Kept, Knows, Lies}
-use Rattle.shared_account.specs.Views.{IsSeat, IsServing, at_stage, first_view, hearing, its_ticket, next_seat, note_of, one_more, seats_at, seeing, spent_note, ticket_of, tickets_at, total}
+use Rattle.atomic_table.specs.Table.{State}
+use Rattle.atomic_table.proofs.Lists.{set_again}
+use Rattle.account_core.specs.Ledger.{Ledger}
+use Rattle.shared_account.specs.Turns.{Affairs, AreWords, IsNumbered, Kept, Knows}
+use Rattle.shared_account.specs.Views.{IsSeat, IsServing, its_ticket, seats_at, ticket_of, tickets_at}
 use Rattle.shared_account.specs.declared.board.Stage.{Stage}
 use Rattle.shared_account.specs.declared.board.Stage.TheVariants.{Idles, Notes, Serves, Waits}
 use Rattle.shared_account.specs.declared.board.Start.{Start}
 use Rattle.shared_account.specs.declared.board.View.{View}
-use Rattle.shared_account.proofs.Beginnings.{begins_any, begins_further, begins_itself, begins_longer, begins_within, nothing, own_begins, own_between, own_other, shorter_begins}
-use Rattle.shared_account.proofs.Longer.{legal_with, short_with}
-use Rattle.shared_account.proofs.Rosters.{apart_alike, apart_end, apart_set, knows_again, lies_end, lies_set, note_apart, tickets_fewer, total_end, total_kept, total_set, views_grow, views_stay, within_views}
+use Rattle.shared_account.proofs.Rosters.{apart_alike, apart_set, lies_set, total_kept, views_stay}
 
 abbrev pub Table : Type 0
 Table = State (Option Ledger) View

@@ -1,5 +1,6 @@
 pub mod Answering
 pub mod Beginnings
+pub mod Calls
 pub mod Keeping
 pub mod Knowing
 pub mod Longer
@@ -10,5 +11,6 @@ pub mod Owning
 pub mod Refusing
 pub mod Roominess
 pub mod Rosters
+pub mod Seated
 pub mod Seating
 pub mod Turning

@@ -1,9 +1,9 @@
 -- A history with an entry that was admitted and answered.
-use Rattle.std.proofs.Common.{◌≡◌, ◌≤◌, ◌+◌, ℕ, Bool, true, false, Option, Some, None, List, [], ◌∷◌, ◌++◌, length, refl, sym, ap, ◌∙◌, arith, subst, zero, suc}
-use Rattle.std.specs.Prelude.{◌==◌, ◌&&◌, if◌then◌else◌, is_some, not, nat_lt, reverse}
+use Rattle.std.proofs.Common.{◌≡◌, ◌≤◌, ◌+◌, ℕ, Bool, true, false, Option, Some, None, List, [], ◌∷◌, length, refl, sym, arith, subst}
+use Rattle.std.specs.Prelude.{◌&&◌, if◌then◌else◌, nat_lt, reverse}
 use Rattle.std.proofs.lemmas.Bool.Decides.{nat_tests}
 use Rattle.std.proofs.lemmas.List.{length-reverse, reverse-append}
-use Rattle.account_core.specs.Answers.{IsLegal, IsLegalPast, inadmissible, inadmissible_for}
+use Rattle.account_core.specs.Answers.{IsLegal, IsLegalPast, inadmissible}
 use Rattle.account_core.specs.Asked.{Asked, Credits, Reserves, Returns, Settles, call_of}
 use Rattle.account_core.specs.Events.{Event}
 use Rattle.account_core.specs.Known.{Known, is_open, known}

@@ -1,30 +1,25 @@
 -- Two seats meet.
-use Rattle.std.proofs.Common.{◌≡◌, ◌≢◌, ◌≤◌, ◌<◌, ◌+◌, ◌-◌, ◌%◌, ◌^◌, ℕ, Option, Some, None, List, [], ◌∷◌, ◌++◌, length, get_or, set, refl, sym, ap, ◌∙◌, arith, subst, inl, inr, length-append, length-set, get_or-set_other, get_or-set_same}
-use Rattle.std.proofs.Math.Nat.{mod-add-mod, mod-eq_of_lt}
+use Rattle.std.proofs.Common.{◌≡◌, ◌≤◌, ℕ, List, [], ◌∷◌, ◌++◌, length, set, refl, sym, ◌∙◌, arith, subst, inl, inr}
 use mathlib.Core.Logic.{dite}
-use mathlib.Core.Option.{none, some, some-injective}
-use mathlib.Core.Option as maybe
-use native.Mathlib.Decide.{ℕ_discrete, dec_le}
+use mathlib.Core.Option.{none, some}
+use native.Mathlib.Decide.{dec_le}
 use lib.ListN.{get_elem?}
 use lib.Seq.{set-get_or}
-use Rattle.atomic_table.specs.Table.{Allows, Joins, Splits, State, gives, keeps, opening, put_back, step, takes}
-use Rattle.atomic_table.proofs.Lists.{one_turn, set_again, set_else, set_here}
+use Rattle.atomic_table.specs.Table.{Allows, Joins, Splits, keeps, step}
+use Rattle.atomic_table.proofs.Lists.{set_again, set_else}
+use Rattle.account_core.specs.Answers.{IsLegal}
 use Rattle.account_core.specs.Events.{Event}
-use Rattle.account_core.specs.Ledger.{Ledger, answer_of, refusal_of}
-use Rattle.account_core.specs.SharingLaws.{EachIsOwedItsShare}
 use Rattle.shared_account.specs.Own.{own}
-use Rattle.shared_account.specs.Plays.{HasCome, HasMet, IsLater, Sitter, appended, compared, drawn, handed, looked, with_entry}
+use Rattle.shared_account.specs.Plays.{HasMet, Sitter, compared}
 use Rattle.shared_account.specs.Prefixes.{IsPrefix}
-use Rattle.shared_account.specs.Turns.{Affairs, AllApart, AllKnow, AreApart, AreTotals, AreWords, HasTurn, IsNumbered, IsOut, IsPast, IsTaken, Kept, Knows, Lies}
-use Rattle.shared_account.specs.Views.{IsSeat, IsServing, at_stage, first_view, hearing, its_ticket, next_seat, note_of, one_more, seats_at, seeing, spent_note, ticket_of, tickets_at, total}
-use Rattle.shared_account.specs.declared.board.Stage.{Stage}
-use Rattle.shared_account.specs.declared.board.Stage.TheVariants.{Idles, Notes, Serves, Waits}
+use Rattle.shared_account.specs.Turns.{Kept, Knows}
+use Rattle.shared_account.specs.Views.{IsSeat, hearing, note_of, seats_at, seeing, spent_note, tickets_at}
+use Rattle.shared_account.specs.declared.board.Stage.TheVariants.{Idles, Notes, Serves}
 use Rattle.shared_account.specs.declared.board.Start.{Start}
 use Rattle.shared_account.specs.declared.board.View.{View}
-use Rattle.shared_account.proofs.Beginnings.{begins_any, begins_further, begins_itself, begins_longer, begins_within, nothing, own_begins, own_between, own_other, shorter_begins}
-use Rattle.shared_account.proofs.Longer.{legal_with, short_with}
-use Rattle.shared_account.proofs.Rosters.{apart_alike, apart_end, apart_set, knows_again, lies_end, lies_set, note_apart, tickets_fewer, total_end, total_kept, total_set, views_grow, views_stay, within_views}
-use Rattle.shared_account.proofs.Keeping.{Table, numbered_so, revises, serving_is, unchanged, words_count, words_draw, words_hand}
+use Rattle.shared_account.proofs.Beginnings.{begins_any, begins_itself, legal_begins, own_between, shorter_begins}
+use Rattle.shared_account.proofs.Rosters.{apart_end, lies_end, note_apart, total_end, views_grow}
+use Rattle.shared_account.proofs.Keeping.{Table, revises, unchanged}
 
 module _ (start : Start) where
   -- ---- a note is made
@@ -81,6 +76,12 @@ module _ (start : Start) where
 
   -- ---- what was heard is compared with what was seen
 
+  seen_legal : (s : Table) (id : ℕ) (v : View) (kept : Kept start s) → get_elem? s.views id ≡ some v → v.stage ≡ Idles → (history : List Event)
+      → IsPrefix history kept.now.account.history → IsLegal v.seen.opening history
+  seen_legal s id v kept there idle history begins =
+      let seated = (kept.each id v there).seated (subst IsSeat (sym idle) tt) in
+      subst (λ (n : ℕ). IsLegal n history) (sym seated.opening) (legal_begins kept.now.account.opening history kept.now.account.history begins kept.past.legal)
+
   met_longer : (s : Table) (id : ℕ) (v : View) (kept : Kept start s) → get_elem? s.views id ≡ some v → v.stage ≡ Idles → length v.seen.history ≤ length v.heard.history
       → let w : View = seeing v (record v.seen { history = v.heard.history }) in
       HasMet v.seen.history v.heard.history v w × Kept start (record { words = s.words; homes = s.homes; views = set s.views id w })
@@ -98,6 +99,7 @@ module _ (start : Start) where
           opening = refl;
           limit = refl;
           one = inl refl;
+          legal = seen_legal s id v kept there idle v.heard.history knew.heard;
           begins_seen = begins;
           begins_heard = begins_itself v.heard.history;
           own = same;
@@ -130,6 +132,7 @@ module _ (start : Start) where
         opening = refl;
         limit = refl;
         one = inr refl;
+        legal = seen_legal s id m.0 kept there idle seen knew.seen;
         begins_seen = begins_itself seen;
         begins_heard = shorter_begins heard seen kept.now.account.history knew.heard knew.seen less;
         own = refl;

@@ -1,6 +1,5 @@
 -- Lists of views, of which one changes or is new.
 use Rattle.std.proofs.Common.{◌≡◌, ◌≢◌, ◌≤◌, ◌+◌, ◌⊎◌, ℕ, Option, Some, None, List, [], ◌∷◌, ◌++◌, length, set, refl, sym, ap, ◌∙◌, arith, subst, zero, suc, ⊎_elim, inl, inr}
-use mathlib.Core.Logic.{dite}
 use mathlib.Core.Option.{some, some-injective, some-ne-none}
 use mathlib.Core.Option as maybe
 use native.Mathlib.Decide.{ℕ_discrete}
@@ -8,7 +7,7 @@ use lib.ListN.{get_elem?}
 use Rattle.atomic_table.proofs.Lists.{at_longer, at_set, set_else, set_here}
 use Rattle.account_core.specs.Ledger.{Ledger}
 use Rattle.shared_account.specs.Prefixes.{IsPrefix}
-use Rattle.shared_account.specs.Turns.{Affairs, AllApart, AllKnow, AreApart, HasTurn, IsNumbered, IsOut, IsTaken, Knows, Lies}
+use Rattle.shared_account.specs.Turns.{Affairs, AllApart, AreApart, HasTurn, IsNumbered, IsOut, IsTaken, Knows, Lies}
 use Rattle.shared_account.specs.Views.{IsSeat, seats_at, ticket_of, tickets_at, total}
 use Rattle.shared_account.specs.declared.board.Stage.{Stage}
 use Rattle.shared_account.specs.declared.board.Stage.TheVariants.{Idles, Notes, Serves, Waits}

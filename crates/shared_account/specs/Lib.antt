@@ -8,6 +8,7 @@ pub mod Prefixes
 pub mod Room
 pub mod Seats
 pub mod Sights
+pub mod Sitting
 pub mod Terms
 pub mod Turns
 pub mod Views

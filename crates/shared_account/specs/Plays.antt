@@ -1,5 +1,5 @@
 -- What each step of a turn tells whoever makes it.
-use Rattle.std.specs.Prelude.{◌≡◌, ◌≢◌, ◌⊎◌, ◌%◌, ◌^◌, ◌+◌, ◌≤◌, ◌<◌, ℕ, Option, Some, None, List, [], ◌∷◌, ◌++◌, length}
+use Rattle.std.specs.Prelude.{◌≡◌, ◌≢◌, ◌⊎◌, ◌%◌, ◌^◌, ℕ, Option, Some, List, [], ◌∷◌, ◌++◌}
 use Rattle.atomic_table.specs.Table.{Me, Step, rest}
 use Rattle.account_core.specs.Answers.{IsLegal}
 use Rattle.account_core.specs.Events.{Event}
@@ -60,6 +60,7 @@ pub record HasMet (seen heard : List Event) (before after : View) : Type 0 where
   pub opening : after.seen.opening ≡ before.seen.opening
   pub limit : after.seen.limit ≡ before.seen.limit
   pub one : (after.seen.history ≡ heard) ⊎ (after.seen.history ≡ seen)
+  pub legal : IsLegal after.seen.opening after.seen.history
   pub begins_seen : IsPrefix seen after.seen.history
   pub begins_heard : IsPrefix heard after.seen.history
   pub own : own before.number after.seen.history ≡ own before.number before.seen.history

@@ -1,8 +1,5 @@
-use Rattle.std.proofs.Common.{rules, sym, ap, ◌∙◌, ◌∷◌}
+use Rattle.std.proofs.Common.{sym, ap, ◌∙◌, ◌∷◌}
 use Rattle.atomic_table.specs.Table.{rest}
-use Rattle.shared_account.proofs.Beginnings.{begins_itself}
-use Rattle.shared_account.proofs.Longer.{short_with}
-use Rattle.shared_account.proofs.Rosters.{lies_end}
 use Rattle.shared_account.proofs.steps.exchange.Goals as goal
 
 pub exchange-requires : goal.exchange-requires

@@ -1,4 +1,4 @@
-use Rattle.std.proofs.Common.{rules, ap, ◌∙◌}
+use Rattle.std.proofs.Common.{rules, ap}
 use Rattle.shared_account.proofs.Meetings.{hears, notes}
 use Rattle.shared_account.proofs.steps.hear.Goals as goal
 
