@@ -101,7 +101,8 @@ fn append_as<E: Appended>(board: &Board, chair: &mut Chair, entry: &Entry)
     board.shared.fetch_add::<Append<E>>(chair, COUNT, 1);
 }
 
-/// Passes the turn on, with the account in the slot, and wakes those who wait for it.
+/// Passes the turn on, with the account in the slot, and wakes those who wait for it, if any do. Who
+/// draws a ticket only after that looks at the one that is served, and so needs no waking.
 pub(crate) fn hand_on(board: &Board, chair: &mut Chair)
     requires table { chair.old.table_id ≡ board.now.shared.table_id }
     requires words { board.now.shared.table_id.words ≡ 3 }
@@ -110,8 +111,10 @@ pub(crate) fn hand_on(board: &Board, chair: &mut Chair)
     ensures table { chair.new.table_id ≡ chair.old.table_id }
     ensures idle { chair.new.me ≡ (at_stage chair.old.me.0 Idles, []) }
 {
-    board.shared.fetch_add::<HandOn>(chair, SERVING, 1);
-    board.shared.wake_all(SERVING);
+    let served = board.shared.fetch_add::<HandOn>(chair, SERVING, 1);
+    if board.shared.peek(TICKET) != served.wrapping_add(1) {
+        board.shared.wake_all(SERVING);
+    }
 }
 
 /// Makes a note of what the first chair has seen, and the second chair hears it.

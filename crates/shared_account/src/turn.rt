@@ -14,7 +14,7 @@ use std::thread::yield_now;
 /// How often a thread looks whether its turn has come before it sleeps.
 const LOOKS: u32 = 64;
 
-/// The numbers that a thread can tell apart in its sleep are below this.
+/// A thread sleeps on the low half of a word, which is the rest of it by this.
 const HALF: u64 = 1 << 32;
 
 /// Draws a ticket, waits until it is served, and takes the account out of its slot.
