@@ -1,7 +1,16 @@
 pub mod Answering
+pub mod Beginnings
+pub mod Calls
+pub mod Keeping
 pub mod Knowing
+pub mod Longer
+pub mod Meetings
 pub mod Merging
 pub mod Numbering
 pub mod Owning
 pub mod Refusing
 pub mod Roominess
+pub mod Rosters
+pub mod Seated
+pub mod Seating
+pub mod Turning

@@ -3,6 +3,12 @@ pub mod Faults
 pub mod Kinds
 pub mod Own
 pub mod Places
+pub mod Plays
+pub mod Prefixes
 pub mod Room
 pub mod Seats
+pub mod Sights
+pub mod Sitting
 pub mod Terms
+pub mod Turns
+pub mod Views

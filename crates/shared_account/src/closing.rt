@@ -26,6 +26,7 @@ pub(crate) fn close_book(
     ensures account { IfOk result (λ book. book.account ≡ number) }
     ensures opening { IfOk result (λ book. book.opening ≡ opening) }
     ensures limit { IfOk result (λ book. book.limit ≡ limit) }
+    ensures history { IfOk result (λ book. book.history ≡ account.history) }
     ensures legal { IfOk result (λ book. IsLegal book.opening book.history) }
     ensures own { IfOk result (λ book. book.own ≡ map (λ seat. seat.mine) seats.items) }
     ensures merged { IfOk result (λ book. IsMerged book.history book.own) }

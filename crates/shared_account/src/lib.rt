@@ -2,19 +2,29 @@
 //! at the end a book tells its history and what each seat has entered.
 #![tactic(auto)]
 
+mod asking;
+mod board;
 mod book;
 mod closing;
 mod fault;
 mod gate;
+mod opening;
 mod places;
+mod plays;
 mod sameness;
 mod seat;
 mod shared;
 mod shared_account;
 mod shared_port;
 mod sharing;
+mod steps;
 #[cfg(test)]
 mod tests;
+mod turn;
+mod turn_account;
+mod turn_closing;
+mod turn_seat;
+mod turn_sharing;
 
 pub use book::{Book, Summary};
 pub use fault::CloseFault;
@@ -23,3 +33,5 @@ pub use seat::Seat;
 pub use shared::Shared;
 pub use shared_account::SharedAccount;
 pub use shared_port::SharedPort;
+pub use turn_account::TurnAccount;
+pub use turn_seat::TurnSeat;

@@ -11,6 +11,7 @@ ghost use Rattle.shared_account.specs.Own.{IsMerged};
 ghost use Rattle.shared_account.specs.Seats.{are_all, fresh_seats};
 ghost use Rattle.shared_account.specs.declared.fault.CloseFault.TheVariants as close;
 
+use crate::asking::ask;
 use crate::closing::close_book;
 use crate::{Book, CloseFault, Gate, Seat};
 use account_core::{Account, AccountFault, Op, Reply};
@@ -140,21 +141,6 @@ impl SharedAccount {
             seats,
         )
     }
-}
-
-/// Asks an account that is held, from a seat.
-fn ask(seat: &mut Seat, account: &mut Account, op: Op) -> Result<Reply, AccountFault>
-    ensures mine { IfOk result (λ reply. seat.new ≡ record seat.old {
-      mine = seat.old.mine ++ event_by seat.old.number (asked_of op) reply ∷ [];
-    }) }
-    ensures kind { IfOk result (λ reply. IsReplyTo (asked_of op) reply) }
-    ensures kept { OnErr result (seat.new ≡ seat.old) }
-    ensures range { result ≡ Err AccountFault.OutOfRange → is_in_range (asked_of op) ≡ false }
-    ensures ungated { result ≢ Err AccountFault.GateClosed }
-    ensures returning { IsReturn (asked_of op) → IsClosing (reverse seat.old.mine) (asked_of op)
-        → IfErr result (λ fault. fault ≡ AccountFault.NotOpen) }
-{
-    seat.apply_to(account, op)
 }
 
 /// The seats of an account, numbered from 0.

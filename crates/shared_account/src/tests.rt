@@ -3,6 +3,7 @@
 ghost use Rattle.std.specs.Prelude.{◌≡◌, ◌≤◌, ◌∷◌, [], IfOk};
 
 mod threads;
+mod turns;
 
 use crate::{Book, CloseFault, Gate, OpenGate, Seat, SharedAccount, SharedPort};
 use account_core::{Account, AccountFault, CallSum, Fate, Op, Port, Reply};

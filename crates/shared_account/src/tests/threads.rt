@@ -12,11 +12,11 @@ use std::test::Fail;
 use std::thread;
 use std::thread::{Promise, Threads};
 
-const CREDIT: Op = Op::Credit { amount: 600 };
+pub(super) const CREDIT: Op = Op::Credit { amount: 600 };
 
 /// Holds what it is asked before a call, or inside an account, until another call was answered.
 #[derive(Drop)]
-struct Holds {
+pub(super) struct Holds {
     before: u64,
     inside: u32,
     until: u64,
@@ -24,7 +24,7 @@ struct Holds {
 }
 
 impl Holds {
-    fn new(before: u64, inside: u32, until: u64) -> Holds {
+    pub(super) fn new(before: u64, inside: u32, until: u64) -> Holds {
         Holds {
             before,
             inside,
@@ -78,7 +78,7 @@ fn ask_more<S: Shared, R: Wait, G: Gate>(
 }
 
 /// Asks from a seat once or twice, past the gate, and gives the seat back with the answers.
-fn ask<S: Shared, R: Wait, G: Gate>(
+pub(super) fn ask<S: Shared, R: Wait, G: Gate>(
     rt: &R,
     account: &S,
     mut seat: S::Seat,

@@ -1,7 +1,7 @@
 use Rattle.std.proofs.lemmas.Result.{IfOk-weaker}
 use Rattle.account_core.specs.Events.{asked_of}
 use Rattle.shared_account.proofs.Refusing.{fits_of, range_of, returning_of}
-use Rattle.shared_account.proofs.shared_account.ask.Goals as goal
+use Rattle.shared_account.proofs.asking.ask.Goals as goal
 
 pub returns-clause-kind : goal.returns-clause-kind
 returns-clause-kind c = IfOk-weaker c.apply_to.result _ _ (fits_of c.args.account.now (asked_of c.args.op)) c.apply_to.ensures.answered

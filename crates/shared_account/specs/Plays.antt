@@ -1,0 +1,69 @@
+-- What each step of a turn tells whoever makes it.
+use Rattle.std.specs.Prelude.{◌≡◌, ◌≢◌, ◌⊎◌, ◌%◌, ◌^◌, ℕ, Option, Some, List, [], ◌∷◌, ◌++◌}
+use Rattle.atomic_table.specs.Table.{Me, Step, rest}
+use Rattle.account_core.specs.Answers.{IsLegal}
+use Rattle.account_core.specs.Events.{Event}
+use Rattle.account_core.specs.Ledger.{Ledger}
+use Rattle.shared_account.specs.Own.{own}
+use Rattle.shared_account.specs.Prefixes.{IsPrefix}
+use Rattle.shared_account.specs.Views.{at_stage, its_ticket, seeing}
+use Rattle.shared_account.specs.declared.board.Stage.TheVariants.{Idles, Serves, Waits}
+use Rattle.shared_account.specs.declared.board.View.{View}
+
+-- who makes a step: a view, and what was taken out of the slot
+abbrev pub Sitter : Type 0
+Sitter = Me (Option Ledger) View
+
+abbrev pub At : Type 0
+At = Step (Option Ledger)
+
+-- an account with one more entry
+abbrev pub with_entry : Ledger → Event → Ledger
+with_entry account event = record account { history = account.history ++ event ∷ [] }
+
+-- the same seat, later: it has seen a legal history that begins with what it had seen, and has no more entries of its own
+pub record IsLater (before after : View) : Type 0 where
+  pub number : after.number ≡ before.number
+  pub opening : after.seen.opening ≡ before.seen.opening
+  pub limit : after.seen.limit ≡ before.seen.limit
+  pub legal : IsLegal after.seen.opening after.seen.history
+  pub begins : IsPrefix before.seen.history after.seen.history
+  pub own : own before.number after.seen.history ≡ own before.number before.seen.history
+
+-- a ticket is drawn
+abbrev pub drawn : At → Sitter → ℕ → Sitter → Type 0
+drawn step before found after =
+    (found ≡ its_ticket after.0.stage % 2 ^ 64) × (after.0 ≡ at_stage before.0 (Waits (its_ticket after.0.stage))) × (after.1 ≡ before.1)
+
+-- where one's own ticket is served, the turn has come, and the account is in hand
+pub record HasCome (before after : Sitter) : Type 0 where
+  pub later : IsLater before.0 after.0
+  pub stage : after.0.stage ≡ Serves (its_ticket before.0.stage)
+  pub taken : after.1 ≡ (0, Some after.0.seen) ∷ before.1
+
+abbrev pub looked : At → Sitter → ℕ → Sitter → Type 0
+looked step before found after =
+    (found ≡ its_ticket before.0.stage % 2 ^ 64 → HasCome before after) × (found ≢ its_ticket before.0.stage % 2 ^ 64 → after ≡ before)
+
+-- an entry is counted
+abbrev pub appended : Event → At → Sitter → ℕ → Sitter → Type 0
+appended event step before found after = (after.0 ≡ seeing before.0 (with_entry before.0.seen event)) × (after.1 ≡ before.1)
+
+-- the turn is passed on, and what was taken lies in the slot again
+abbrev pub handed : At → Sitter → ℕ → Sitter → Type 0
+handed step before found after = (after.0 ≡ at_stage before.0 Idles) × (after.1 ≡ rest before.1)
+
+-- the longer of what was seen and what was heard, which the other begins
+pub record HasMet (seen heard : List Event) (before after : View) : Type 0 where
+  pub stage : after.stage ≡ before.stage
+  pub number : after.number ≡ before.number
+  pub opening : after.seen.opening ≡ before.seen.opening
+  pub limit : after.seen.limit ≡ before.seen.limit
+  pub one : (after.seen.history ≡ heard) ⊎ (after.seen.history ≡ seen)
+  pub legal : IsLegal after.seen.opening after.seen.history
+  pub begins_seen : IsPrefix seen after.seen.history
+  pub begins_heard : IsPrefix heard after.seen.history
+  pub own : own before.number after.seen.history ≡ own before.number before.seen.history
+
+abbrev pub compared : At → Sitter → ℕ → Sitter → Type 0
+compared step before found after = HasMet before.0.seen.history before.0.heard.history before.0 after.0 × (after.1 ≡ before.1)

@@ -1,0 +1,63 @@
+//! The board of a new turn account, and the seats at it.
+
+ghost use Rattle.std.specs.Prelude.{◌≡◌, ◌≤◌, [], IfOk, IfErr};
+ghost use Rattle.shared_account.specs.Sights.{fresh_sights};
+ghost use Rattle.shared_account.specs.Views.{first_view};
+
+use crate::TurnSeat;
+use crate::board::{Board, Chair, Start};
+use crate::steps::next_chair;
+use account_core::{Account, AccountFault};
+use atomic_table::Refused;
+use std::alloc::{AllocError, Global};
+
+/// A board with a new account in its slot, and its first chair.
+pub(crate) fn lay_board(
+    alloc: Global,
+    opening: u64,
+    limit: u32,
+) -> Result<(Board, Chair), AccountFault>
+    requires { opening ≤ 1000000000000000 }
+    ensures words { IfOk result (λ made. made.0.shared.table_id.words ≡ 3) }
+    ensures slots { IfOk result (λ made. made.0.shared.table_id.slots ≡ 1) }
+    ensures table { IfOk result (λ made. made.1.table_id ≡ made.0.shared.table_id) }
+    ensures first { IfOk result (λ made. made.1.me ≡ (first_view opening limit, [])) }
+    ensures refused { IfErr result (λ fault. fault ≡ AccountFault.OutOfMemory) }
+{
+    let mut slots = Vec::with_capacity(alloc, 1)?;
+    slots.push_reserved(Some(Account::new(alloc, opening, limit)));
+    let start = Start { opening, limit };
+    match Board::new(alloc, &[0, 0, 0], slots, &start) {
+        Ok(made) => Ok(made),
+        Err(Refused { slots: _ }) => Err(AccountFault::OutOfMemory),
+    }
+}
+
+/// The seats at a board, numbered from 0. The first chair makes the others.
+pub(crate) fn make_seats(
+    alloc: Global,
+    board: &Board,
+    mut first: Chair,
+    account: u32,
+    count: u32,
+) -> Result<Vec<TurnSeat>, AllocError>
+    requires words { board.now.shared.table_id.words ≡ 3 }
+    requires table { first.table_id ≡ board.now.shared.table_id }
+    requires first { first.me ≡ (first_view first.me.0.seen.opening first.me.0.seen.limit, []) }
+    requires some_seats { 1 ≤ count }
+    requires few_seats { count ≤ 16 }
+    ensures { IfOk result (λ made. made.items ≡ fresh_sights board.now.shared.table_id record {
+      number = account;
+      opening = first.me.0.seen.opening;
+      limit = first.me.0.seen.limit;
+      seats = count;
+    } count) }
+{
+    let mut made = Vec::with_capacity(alloc, count as usize)?;
+    for number in 1..count {
+        let chair = next_chair(board, &mut first);
+        made.push(TurnSeat::new(alloc, chair, account, number))?;
+    }
+    made.insert(0, TurnSeat::new(alloc, first, account, 0))?;
+    Ok(made)
+}

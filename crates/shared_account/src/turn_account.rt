@@ -1,0 +1,248 @@
+//! The account that is handed on by turns.
+
+ghost use Rattle.std.specs.Prelude.{◌≡◌, ◌≤◌, ◌↔◌, ◌⊎◌, ◌++◌, ◌∷◌, [], false, length, map, reverse, All, OnErr, IfOk, IfErr};
+ghost use Rattle.account_core.specs.Answers.{IsLegal};
+ghost use Rattle.account_core.specs.Asked.{call_of, is_in_range};
+ghost use Rattle.account_core.specs.Events.{asked_of};
+ghost use Rattle.account_core.specs.Ledger.{IsRefusal, event_by};
+ghost use Rattle.account_core.specs.Places.{IsClosing};
+ghost use Rattle.shared_account.specs.Kinds.{IsReplyTo, IsReturn};
+ghost use Rattle.shared_account.specs.Own.{IsMerged, of_call, own};
+ghost use Rattle.shared_account.specs.Seats.{are_all};
+ghost use Rattle.shared_account.specs.Plays.{with_entry};
+ghost use Rattle.shared_account.specs.Prefixes.{EndsWith, IsPrefix};
+ghost use Rattle.shared_account.specs.Sights.{IsSameAccount, fresh_sights};
+ghost use Rattle.shared_account.specs.Views.{IsServing, seeing};
+ghost use Rattle.shared_account.specs.declared.fault.CloseFault.TheVariants as close;
+
+use crate::asking::ask;
+use crate::board::{Board, Chair};
+use crate::opening::{lay_board, make_seats};
+use crate::steps::{append, compare, hear};
+use crate::turn::{give_turn, take_turn};
+use crate::turn_closing::close_board;
+use crate::{Book, CloseFault, Gate, Seat, TurnSeat};
+use account_core::{Account, AccountFault, Entry, Op, Reply};
+use std::alloc::Global;
+use std::marker::Model;
+use std::sync::Wait;
+
+/// An account that its seats hand on by turns.
+///
+/// Who asks draws a ticket and waits until it is served. Then the account is its own: it asks, counts
+/// the entry, puts the account back and serves the next ticket. So what a seat has seen begins what
+/// it sees next, at each step, and no comparison is needed to know it.
+#[derive(Drop)]
+pub struct TurnAccount {
+    number: u32,
+    opening: u64,
+    limit: u32,
+    seats: u32,
+    board: Board,
+}
+
+impl Model for TurnAccount {
+    ghost use Rattle.shared_account.specs.Sights.{Held};
+    ghost use Rattle.shared_account.specs.Sitting.{IsBoard};
+
+    ghost Value = { Held };
+
+    ghost view = { λ a. record {
+      table = a.board.shared.table_id;
+      terms = record { number = a.number; opening = a.opening; limit = a.limit; seats = a.seats };
+    } };
+
+    ghost invariant = { λ a. IsBoard a.board.shared.table_id a.seats };
+}
+
+impl TurnAccount {
+    /// An account with this number, an opening credit of 0 to `MAX_MONEY`, an empty history and the
+    /// number of entries that this may grow to; and its seats, 1 to 16 of them, numbered from 0, which
+    /// have seen nothing.
+    ///
+    /// A fault is `OutOfMemory`.
+    pub fn new<R>(
+        _rt: &R,
+        alloc: Global,
+        number: u32,
+        opening: u64,
+        limit: u32,
+        seats: u32,
+    ) -> Result<(TurnAccount, Vec<TurnSeat>), AccountFault>
+        requires opening { opening ≤ 1000000000000000 }
+        requires some_seats { 1 ≤ seats }
+        requires few_seats { seats ≤ 16 }
+        ensures terms { IfOk result (λ made. made.0.terms ≡ record {
+          number = number;
+          opening = opening;
+          limit = limit;
+          seats = seats;
+        }) }
+        ensures seats { IfOk result (λ made.
+            made.1.items ≡ fresh_sights made.0.table made.0.terms seats) }
+        ensures refused { IfErr result (λ fault. fault ≡ AccountFault.OutOfMemory) }
+    {
+        let (board, first) = lay_board(alloc, opening, limit)?;
+        let made = make_seats(alloc, &board, first, number, seats)?;
+        let account = TurnAccount {
+            number,
+            opening,
+            limit,
+            seats,
+            board,
+        };
+        Ok((account, made))
+    }
+
+    /// Asks the account from one of its seats, once it is this call's turn.
+    ///
+    /// The seat then has seen a legal history that begins with all that it had seen. With a reply,
+    /// that history ends with the entry of this call, which the seat's own list gains too. With a
+    /// fault, there is no entry: `GateClosed` comes first, where the gate, asked while the account is
+    /// held, answers false; then the faults of `Account::apply` for what was seen. A Return of an open
+    /// call, and its first Settle since its last grant, have no fault but `GateClosed` where the
+    /// call's entries are all of this seat.
+    pub fn call<R: Wait, G: Gate>(
+        &self,
+        rt: &R,
+        seat: &mut TurnSeat,
+        op: Op,
+        gate: &G,
+    ) -> Result<Reply, AccountFault>
+        requires { seat.old.table ≡ self.now.table }
+        ensures same { IsSameAccount seat.old seat.new }
+        ensures legal { IsLegal seat.new.view.opening seat.new.view.history }
+        ensures begins { IsPrefix seat.old.view.history seat.new.view.history }
+        ensures ends { IfOk result (λ reply. EndsWith seat.old.view.history
+            (event_by seat.old.place.number (asked_of op) reply) seat.new.view.history) }
+        ensures own { own seat.new.place.number seat.new.view.history ≡ seat.new.place.mine }
+        ensures mine { IfOk result (λ reply. seat.new.place ≡ record seat.old.place {
+          mine = seat.old.place.mine
+              ++ event_by seat.old.place.number (asked_of op) reply ∷ [];
+        }) }
+        ensures kind { IfOk result (λ reply. IsReplyTo (asked_of op) reply) }
+        ensures kept { OnErr result (seat.new.place ≡ seat.old.place) }
+        ensures refused { IfErr result (λ fault. (fault ≡ AccountFault.GateClosed)
+            ⊎ IsRefusal seat.new.view (asked_of op) fault) }
+        ensures range { result ≡ Err AccountFault.OutOfRange → is_in_range (asked_of op) ≡ false }
+        ensures gate { result ≡ Err AccountFault.GateClosed → G.may_shut gate.now }
+        ensures closing { IsClosing (reverse seat.new.view.history) (asked_of op)
+            → of_call (call_of (asked_of op)) seat.new.view.history
+            ≡ of_call (call_of (asked_of op)) seat.new.place.mine
+            → IfErr result (λ fault. fault ≡ AccountFault.GateClosed) }
+        ensures returning { IsReturn (asked_of op)
+            → IsClosing (reverse seat.old.place.mine) (asked_of op)
+            → IfErr result (λ fault.
+            (fault ≡ AccountFault.NotOpen) ⊎ (fault ≡ AccountFault.GateClosed)) }
+    {
+        let mut account = take_turn(rt, &self.board, &mut seat.chair);
+        let result = enter(
+            &self.board,
+            &mut seat.chair,
+            &mut seat.seat,
+            &mut account,
+            op,
+            gate,
+        );
+        seat.seen = account.history().len() as u64;
+        give_turn(&self.board, &mut seat.chair, account);
+        result
+    }
+
+    /// Two seats meet: the second has then seen the longer of what the two had seen, which the other
+    /// begins, and the first is unchanged. The answer is how many entries that has.
+    ///
+    /// It waits for nobody, takes no memory and always succeeds.
+    pub fn meet(&self, first: &mut TurnSeat, second: &mut TurnSeat) -> u64
+        requires first { first.old.table ≡ self.now.table }
+        requires second { second.old.table ≡ self.now.table }
+        ensures unchanged { first.new ≡ first.old }
+        ensures same { IsSameAccount second.old second.new }
+        ensures mine { second.new.place ≡ second.old.place }
+        ensures one { (second.new.view.history ≡ first.old.view.history)
+            ⊎ (second.new.view.history ≡ second.old.view.history) }
+        ensures begins_first { IsPrefix first.old.view.history second.new.view.history }
+        ensures begins_second { IsPrefix second.old.view.history second.new.view.history }
+        ensures own { own second.new.place.number second.new.view.history
+            ≡ second.new.place.mine }
+        ensures length { result ≡ length second.new.view.history }
+    {
+        hear(&self.board, &mut first.chair, &mut second.chair);
+        compare(&self.board, &mut second.chair);
+        second.seen = first.seen.max(second.seen);
+        second.seen
+    }
+
+    /// Ends the sharing: the account's book, where all of its seats are handed in, in the order of
+    /// their numbers. Its history begins with all that any of them has seen.
+    ///
+    /// For the lists of the seats it compares, as the account under its lock does.
+    pub fn close(self, alloc: Global, seats: Vec<TurnSeat>) -> Result<Book, CloseFault>
+        requires { All (λ seat. seat.table ≡ self.table) seats.items }
+        ensures account { IfOk result (λ book. book.account ≡ self.terms.number) }
+        ensures opening { IfOk result (λ book. book.opening ≡ self.terms.opening) }
+        ensures limit { IfOk result (λ book. book.limit ≡ self.terms.limit) }
+        ensures legal { IfOk result (λ book. IsLegal book.opening book.history) }
+        ensures seen { IfOk result (λ book.
+            All (λ seat. IsPrefix seat.view.history book.history) seats.items) }
+        ensures own { IfOk result (λ book. book.own ≡ map (λ seat. seat.place.mine) seats.items) }
+        ensures merged { IfOk result (λ book. IsMerged book.history book.own) }
+        ensures seats { (result ≡ Err close.Seats)
+            ↔ (are_all self.terms.seats (map (λ seat. seat.place.number) seats.items) ≡ false) }
+    {
+        let TurnAccount {
+            number,
+            opening,
+            limit,
+            seats: count,
+            board,
+        } = self;
+        close_board(alloc, number, opening, limit, count, board, seats)
+    }
+}
+
+/// Asks an account that is held in a turn, where the gate lets it, and counts the entry.
+fn enter<G: Gate>(
+    board: &Board,
+    chair: &mut Chair,
+    seat: &mut Seat,
+    account: &mut Account,
+    op: Op,
+    gate: &G,
+) -> Result<Reply, AccountFault>
+    requires table { chair.old.table_id ≡ board.now.shared.table_id }
+    requires words { board.now.shared.table_id.words ≡ 3 }
+    requires serving { IsServing chair.old.me.0.stage }
+    requires number { chair.old.me.0.number ≡ seat.old.number }
+    requires account { account.old ≡ chair.old.me.0.seen }
+    ensures table { chair.new.table_id ≡ chair.old.table_id }
+    ensures hands { chair.new.me.1 ≡ chair.old.me.1 }
+    ensures account { account.new ≡ chair.new.me.0.seen }
+    ensures entered { IfOk result (λ reply. chair.new.me.0 ≡ seeing chair.old.me.0
+        (with_entry account.old (event_by seat.old.number (asked_of op) reply))) }
+    ensures mine { IfOk result (λ reply. seat.new ≡ record seat.old {
+      mine = seat.old.mine ++ event_by seat.old.number (asked_of op) reply ∷ [];
+    }) }
+    ensures kind { IfOk result (λ reply. IsReplyTo (asked_of op) reply) }
+    ensures unseen { OnErr result (chair.new.me.0 ≡ chair.old.me.0) }
+    ensures kept { OnErr result (seat.new ≡ seat.old) }
+    ensures refused { IfErr result (λ fault.
+        (fault ≡ AccountFault.GateClosed) ⊎ IsRefusal account.old (asked_of op) fault) }
+    ensures range { result ≡ Err AccountFault.OutOfRange → is_in_range (asked_of op) ≡ false }
+    ensures gate { result ≡ Err AccountFault.GateClosed → G.may_shut gate.now }
+    ensures closing { IsClosing (reverse account.old.history) (asked_of op)
+        → of_call (call_of (asked_of op)) account.old.history
+        ≡ of_call (call_of (asked_of op)) seat.old.mine
+        → IfErr result (λ fault. fault ≡ AccountFault.GateClosed) }
+    ensures returning { IsReturn (asked_of op) → IsClosing (reverse seat.old.mine) (asked_of op)
+        → IfErr result (λ fault.
+        (fault ≡ AccountFault.NotOpen) ⊎ (fault ≡ AccountFault.GateClosed)) }
+{
+    if !gate.inside(seat.account()) {
+        return Err(AccountFault::GateClosed);
+    }
+    let reply = ask(seat, account, op)?;
+    let seat = seat.number();
+    append(board, chair, &Entry { seat, op, reply });
+    Ok(reply)
+}
