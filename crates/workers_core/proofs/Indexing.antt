@@ -1,7 +1,12 @@
 -- The indexes of a setup, as accounts and subscribers come into them.
-use Rattle.std.proofs.Common.{◌≡◌, ◌≤◌, ◌<◌, ℕ, ◌+◌, Bool, true, false, List, [], ◌∷◌, ◌++◌, length, Some, None, refl, sym, ◌∙◌, arith}
+use Rattle.std.proofs.Common.{◌≡◌, ◌≤◌, ◌<◌, ℕ, ◌+◌, Bool, true, false, List, [], ◌∷◌, ◌++◌, length, Option, Some, None, refl, sym, subst, ◌∙◌, arith}
+use Rattle.std.specs.Option.{ForSome}
 use Rattle.std.specs.Prelude.{◌==◌, if◌then◌else◌, is_some, take, drop}
-use Rattle.std.specs.BTreeMap.{BTreeMap, Updates, get, is_at}
+use Rattle.std.specs.BTreeMap.{BTreeMap, IsOrdered, Updates, get, is_at}
+use Rattle.std.proofs.lemmas.Cmp.{nat_cmp_total}
+use Rattle.std.proofs.lemmas.List.Elements.{All-same, All-weaker}
+use Rattle.std.proofs.lemmas.Map.Views.{All-found}
+use Rattle.std.specs.Prelude.{All}
 use Rattle.std.specs.Map.{lookup}
 use Rattle.std.specs.Ordering.{is_eq, nat_cmp}
 use Rattle.std.specs.Str.{bytes_eq}
@@ -16,7 +21,7 @@ use Rattle.cap_values.specs.NumberDigits.{digits_of}
 use Rattle.cap_values.specs.declared.number.Number.{Number}
 use Rattle.workers_core.proofs.Judging.{ends, lookup-alike, lookup-append, one_more, passes, stops}
 use Rattle.workers_core.specs.Callings.{by_digits}
-use Rattle.workers_core.specs.Indexes.{FindsAccounts, FindsSubscribers, listed}
+use Rattle.workers_core.specs.Indexes.{AreInRange, FindsAccounts, FindsSubscribers, listed}
 use Rattle.workers_core.specs.Setups.{account_fault, account_of, accounts_fault, first_fault, judge_account, judge_subscriber, opening_of, subscriber_fault, subscribers_fault}
 use Rattle.workers_core.specs.declared.calling.Calling.{Calling}
 use Rattle.workers_core.specs.declared.setup_fault.SetupFault.{SetupFault}
@@ -80,6 +85,28 @@ accounts_done accounts i index past indexed = indexed.so_far ∙ ends judge_acco
 -- all of them are in the index
 pub all_found : (accounts : List (ℕ × ℕ)) (i : ℕ) (index : BTreeMap ℕ ℕ) → length accounts ≤ i → AreIndexed accounts i index → FindsAccounts index accounts
 all_found accounts i index past indexed = rw (take_all i accounts past) at indexed.finds
+
+-- ---- openings
+
+pub opening_in_range : (named : Bool) (opening : ℕ) → account_fault named opening ≡ None → opening ≤ 1000000000000000
+opening_in_range named opening fine = grind (arith, nat_tests, fine)
+
+updated_in_range : (same : Bool) (opening : ℕ) (before : Option ℕ) → opening ≤ 1000000000000000 → ForSome before (λ o. o ≤ 1000000000000000)
+    → ForSome (if same then Some opening else before) (λ o. o ≤ 1000000000000000)
+updated_in_range true opening before small others = λ o is. let same : opening ≡ o = cc in subst (λ n. n ≤ 1000000000000000) same small
+updated_in_range false opening before small others = others
+
+pub in_range_more : (before after : BTreeMap ℕ ℕ) (account opening : ℕ) → AreInRange before → Updates nat_cmp before after account (Some opening)
+    → opening ≤ 1000000000000000 → AreInRange after
+in_range_more before after account opening range updates small q =
+    rw (updates.0 q) (updated_in_range (is_eq (nat_cmp account q)) opening (get nat_cmp before q) small (range q))
+
+pub entries_in_range : (index : BTreeMap ℕ ℕ) (accounts : List (ℕ × ℕ)) → IsOrdered nat_cmp index → AreInRange index → accounts ≡ index.entries
+    → All (λ account. account.1 ≤ 1000000000000000) accounts
+entries_in_range index accounts ordered range same =
+    All-same (λ account. account.1 ≤ 1000000000000000) accounts index.entries same
+    (All-weaker (λ account. get nat_cmp index account.0 ≡ Some account.1) (λ account. account.1 ≤ 1000000000000000)
+    (λ account found. range account.0 account.1 found) index.entries (All-found nat_cmp_total index ordered))
 
 -- ---- subscribers
 

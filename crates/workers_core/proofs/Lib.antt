@@ -1,5 +1,11 @@
+pub mod Abouts
 pub mod Closes
+pub mod Doings
+pub mod Handling
 pub mod Indexing
 pub mod Judging
 pub mod Orders
+pub mod Parts
 pub mod Placing
+pub mod Talking
+pub mod Verdicts

@@ -1,5 +1,6 @@
 -- What the indexes of a setup find.
-use Rattle.std.specs.Prelude.{◌≡◌, ℕ, List, map}
+use Rattle.std.specs.Prelude.{◌≡◌, ◌≤◌, ℕ, List, map}
+use Rattle.std.specs.Option.{ForSome}
 use Rattle.std.specs.BTreeMap.{BTreeMap, get}
 use Rattle.std.specs.Ordering.{nat_cmp}
 use Rattle.cap_values.specs.declared.number.Number.{Number}
@@ -10,6 +11,10 @@ use Rattle.workers_core.specs.declared.calling.Calling.{Calling}
 -- the index finds the opening credit of each account in a list
 abbrev pub FindsAccounts : BTreeMap ℕ ℕ → List (ℕ × ℕ) → Type 0
 FindsAccounts index accounts = (account : ℕ) → get nat_cmp index account ≡ opening_of account accounts
+
+-- each opening credit that the index finds is 0 to 10^15
+abbrev pub AreInRange : BTreeMap ℕ ℕ → Type 0
+AreInRange index = (account : ℕ) → ForSome (get nat_cmp index account) (λ opening. opening ≤ 1000000000000000)
 
 -- the index finds the account of each subscriber in a list
 abbrev pub FindsSubscribers : BTreeMap Calling ℕ → List (Number × ℕ) → Type 0

@@ -1,6 +1,13 @@
 pub mod Callings
+pub mod Cases
 pub mod Ends
+pub mod Handled
 pub mod Indexes
 pub mod Logs
+pub mod Served
 pub mod SetupFaults
 pub mod Setups
+pub mod Talks
+pub mod Verdicts
+pub mod WorkerFaults
+pub mod Workers

@@ -1,7 +1,11 @@
 //! The workers of the service: each handles the posts of its calls, which come by a mailbox.
 #![tactic(auto)]
 
+mod acting;
+mod answer;
 mod calling;
+mod case;
+mod converse;
 mod inbox;
 mod log;
 mod opening;
@@ -11,12 +15,20 @@ mod setup;
 mod setup_fault;
 #[cfg(test)]
 mod setup_tests;
+mod talk;
 #[cfg(test)]
 mod tests;
+mod worker;
+mod worker_fault;
+#[cfg(test)]
+mod worker_tests;
 
+pub use answer::Answer;
 pub use inbox::{Gone, Inbox};
 pub use opening::{compare, mailbox};
 pub use outbox::Outbox;
 pub use post::{Body, Mail, Post};
 pub use setup::RunSetup;
 pub use setup_fault::SetupFault;
+pub use worker::Worker;
+pub use worker_fault::WorkerFault;

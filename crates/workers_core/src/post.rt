@@ -1,5 +1,7 @@
 //! What is sent to a worker.
 
+ghost use Rattle.std.specs.Prelude.{◌≤◌};
+
 use cap_values::SsfMsg;
 
 /// What a post is about.
@@ -30,6 +32,7 @@ pub struct Post {
     pub at: u64,
     /// What it is about.
     pub body: Body,
+    pub ghost in_range: { at ≤ 2000000000000 },
 }
 
 /// What a mailbox carries.

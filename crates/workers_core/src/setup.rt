@@ -1,13 +1,14 @@
 //! What a run is set up with.
 
-ghost use Rattle.std.specs.Prelude.{◌≡◌, ◌≢◌, ◌≤◌, ℕ, None, Some, length, is_some, if◌then◌else◌, IfOk, IfErr, IfNone, IfSome, OnOk, ◌<◌};
+ghost use Rattle.std.specs.Prelude.{◌≡◌, ◌≢◌, ◌≤◌, ℕ, None, Some, length, is_some, if◌then◌else◌, All, IfOk, IfErr, IfNone, IfSome, OnOk, ◌<◌};
 ghost use Rattle.std.specs.List.{HoldsAt};
 ghost use Rattle.std.specs.List.Sorted.{IsStrictlySortedBy};
 ghost use Rattle.std.specs.Map.{keys_of};
 ghost use Rattle.std.specs.BTreeMap.{Updates, get};
 ghost use Rattle.std.specs.Ordering.{nat_cmp};
 ghost use Rattle.workers_core.specs.Callings.{by_digits};
-ghost use Rattle.workers_core.specs.Indexes.{FindsAccounts, FindsSubscribers};
+ghost use Rattle.workers_core.specs.Indexes.{AreInRange, FindsAccounts, FindsSubscribers};
+ghost use Rattle.workers_core.specs.Verdicts.{place_of};
 ghost use Rattle.workers_core.specs.Setups.{AreAscending, account_fault, account_of, accounts_fault, counts_fault, opening_of, setup_fault, subscriber_fault, subscribers_fault};
 
 use crate::SetupFault;
@@ -42,7 +43,7 @@ pub struct RunSetup {
 }
 
 impl Model for RunSetup {
-    ghost use Rattle.std.specs.Prelude.{map};
+    ghost use Rattle.std.specs.Prelude.{◌≤◌, All, map};
     ghost use Rattle.std.specs.List.Sorted.{IsStrictlySortedBy};
     ghost use Rattle.std.specs.Map.{keys_of};
     ghost use Rattle.std.specs.Ordering.{nat_cmp};
@@ -53,7 +54,8 @@ impl Model for RunSetup {
 
     ghost view = { λ s. record { accounts = s.accounts.items; subscribers = listed s.subscribers.entries; tariff = s.tariff; service = s.service; limit = s.limit } };
 
-    ghost invariant = { λ s. IsStrictlySortedBy nat_cmp (keys_of s.accounts.items) };
+    ghost invariant = { λ s. IsStrictlySortedBy nat_cmp (keys_of s.accounts.items)
+        × All (λ account. account.1 ≤ 1000000000000000) s.accounts.items };
 }
 
 impl RunSetup {
@@ -121,7 +123,8 @@ impl RunSetup {
     /// The opening credit of the account at a place of the ascending order.
     pub fn opening(&self, place: usize) -> u64
         requires { place < length self.now.accounts }
-        ensures { HoldsAt (λ account. account.1 ≡ result) self.now.accounts place }
+        ensures value { HoldsAt (λ account. account.1 ≡ result) self.now.accounts place }
+        ensures range { result ≤ 1000000000000000 }
     {
         self.accounts[place].1
     }
@@ -132,6 +135,7 @@ impl RunSetup {
         ensures found { IfSome result
             (HoldsAt (λ entry. entry.0 ≡ account) self.now.accounts) }
         ensures missing { IfNone result (opening_of account self.now.accounts ≡ None) }
+        ensures place { result ≡ place_of account self.now }
     {
         match self
             .accounts
@@ -178,6 +182,7 @@ fn are_in_range(limit: u32, accounts: usize, subscribers: usize) -> bool
 fn openings_of(alloc: Global, accounts: &[(u32, u64)]) -> Result<BTreeMap<u32, u64>, SetupFault>
     ensures made { OnOk result (accounts_fault accounts.now ≡ None) }
     ensures finds { IfOk result (λ openings. FindsAccounts openings accounts.now) }
+    ensures range { IfOk result AreInRange }
     ensures fault { IfErr result (λ fault. fault ≢ SetupFault.OutOfMemory
         → accounts_fault accounts.now ≡ Some fault) }
 {
@@ -258,9 +263,12 @@ fn add_subscriber(
 
 /// The accounts of the index, in ascending order.
 fn ascending(alloc: Global, openings: &BTreeMap<u32, u64>) -> Result<Vec<(u32, u64)>, AllocError>
+    requires range { AreInRange openings.now }
     ensures items { IfOk result (λ accounts. accounts.items ≡ openings.now.entries) }
     ensures ordered { IfOk result
         (λ accounts. IsStrictlySortedBy nat_cmp (keys_of accounts.items)) }
+    ensures in_range { IfOk result
+        (λ accounts. All (λ account. account.1 ≤ 1000000000000000) accounts.items) }
 {
     let mut accounts = Vec::new(alloc);
     for (number, opening) in openings {

@@ -1,0 +1,93 @@
+-- What acting on a case does to the seats and the dialogues.
+use Rattle.std.proofs.Common.{◌≡◌, ◌<◌, ◌++◌, ◌∙◌, ℕ, Bool, true, false, Option, Some, Result, Ok, Err, List, [], length, map, refl, sym, ap, OnOk, get_or}
+use Rattle.std.specs.Prelude.{◌==◌, if◌then◌else◌, option_map, slice_set, slice_index_or}
+use Rattle.std.specs.BTreeMap.{BTreeMap, get}
+use Rattle.std.specs.Ordering.{nat_cmp}
+use Rattle.std.proofs.Math.Seq.{map-set_same}
+use Rattle.std.proofs.lemmas.List.{get_or-map, length-map, map-set}
+use Rattle.account_core.specs.Asked.{Credits}
+use Rattle.account_core.specs.Events.{Event}
+use Rattle.account_core.specs.declared.fault.AccountFault.{AccountFault}
+use Rattle.cap_values.specs.Orders.{Order}
+use Rattle.dialogue_core.specs.Phases.{Phase, Says, Asks}
+use Rattle.workers_core.proofs.Talking.{fault_after}
+use Rattle.workers_core.specs.Cases.{IsCredited}
+use Rattle.workers_core.specs.Handled.{IsRecharged, IsTalked, StandsNow, Told, grown}
+use Rattle.workers_core.specs.Talks.{IsTalk, entries_of, entry_of}
+use Rattle.workers_core.specs.Verdicts.{Standing}
+use Rattle.workers_core.specs.Workers.{standing_of, standings_in}
+use Rattle.workers_core.specs.declared.talk.Talk.{Talk}
+
+pub on_ok : {X E : Type 0} (r : Result X E) (P : Type 0) → P → OnOk r P
+on_ok (Ok x) P p = p
+on_ok (Err e) P p = tt
+
+-- ---- one seat of several
+
+pub as_many : {S T K : Type 0} (key_of : T → K) (key : S → K) (seats : List T) (accounts : List S) → map key_of seats ≡ map key accounts → length seats ≡ length accounts
+as_many key_of key seats accounts keys = sym (length-map seats key_of) ∙ ap length keys ∙ length-map accounts key
+
+pub own_account : {S T K : Type 0} (key_of : T → K) (key : S → K) (seats : List T) (accounts : List S) (place : ℕ) (seat : T) (account : S)
+    → map key_of seats ≡ map key accounts → place < length accounts → seat ≡ get_or seats place seat → account ≡ get_or accounts place account → key_of seat ≡ key account
+own_account key_of key seats accounts place seat account keys within is_seat is_account =
+    let there : place < length seats = rw (as_many key_of key seats accounts keys) within in
+    ap key_of is_seat ∙ sym (get_or-map key_of seats place seat (key account) there) ∙ ap (λ l. get_or l place (key account)) keys
+    ∙ get_or-map key accounts place account (key account) within ∙ ap key (sym is_account)
+
+pub same_seats : {T K : Type 0} (key_of : T → K) (seats : List T) (place : ℕ) (before after : T) → before ≡ get_or seats place before → key_of after ≡ key_of before
+    → map key_of (slice_set seats place after) ≡ map key_of seats
+same_seats key_of seats place before after is same = map-set_same key_of seats place after before (same ∙ ap key_of is)
+
+pub grown_at : {T : Type 0} (mine_of : T → List Event) (seats : List T) (place : ℕ) (before after : T) (entries : List Event) → place < length seats → before ≡ get_or seats place before
+    → mine_of after ≡ mine_of before ++ entries → map mine_of (slice_set seats place after) ≡ grown (map mine_of seats) place entries
+grown_at mine_of seats place before after entries within is enters =
+    let was : get_or (map mine_of seats) place [] ≡ mine_of before = get_or-map mine_of seats place before [] within ∙ ap mine_of (sym is) in
+    map-set mine_of seats place after ∙ ap (λ mine. slice_set (map mine_of seats) place mine) (enters ∙ ap (λ mine. mine ++ entries) (sym was))
+
+pub numbered_at : {T : Type 0} (number_of : T → ℕ) (seats : List T) (place : ℕ) (seat : T) → place < length seats → seat ≡ get_or seats place seat
+    → number_of seat ≡ slice_index_or (map number_of seats) place 0
+numbered_at number_of seats place seat within is = ap number_of is ∙ sym (get_or-map number_of seats place seat 0 within)
+
+-- ---- the dialogues
+
+mapped : (b : Bool) (talk : Talk) (other : Option Talk) → option_map standing_of (if b then Some talk else other) ≡ (if b then Some (standing_of talk) else option_map standing_of other)
+mapped true talk other = refl
+mapped false talk other = refl
+
+pub stands_now : (old new : BTreeMap ℕ Talk) (call : ℕ) (talk : Talk) → ((other : ℕ) → get nat_cmp new other ≡ (if other == call then Some talk else get nat_cmp old other))
+    → StandsNow call (standing_of talk) (standings_in old) (standings_in new)
+stands_now old new call talk kept other = ap (option_map standing_of) (kept other) ∙ mapped (other == call) talk (get nat_cmp old other)
+
+-- ---- what is done
+
+pub recharged_by : (numbers : List ℕ) (place amount seat : ℕ) (lists grew : List (List Event)) (talks : ℕ → Option Standing) (before after : List Event) (told : Told)
+    → IsCredited seat (Credits amount) before after told → seat ≡ slice_index_or numbers place 0
+    → ((entries : List Event) → after ≡ before ++ entries → grew ≡ grown lists place entries)
+    → IsRecharged numbers place amount (record { lists = lists; talks = talks }) (record { lists = grew; talks = talks }) told
+recharged_by numbers place amount seat lists grew talks before after told is number grows = record {
+  got = is.got;
+  orders = is.orders;
+  stray = is.stray;
+  refused = is.refuses ∙ fault_after [] is.got;
+  lists = rw (← number) (grows (entry_of seat (Asks (Credits amount)) is.got) is.enters);
+  talks = λ call. refl;
+}
+
+pub talked_by : (numbers : List ℕ) (call place seat : ℕ) (first : Says × Phase) (phase : Phase) (lists grew : List (List Event)) (talks now : ℕ → Option Standing)
+    (before after : List Event) (orders : List Order) (refused : Option AccountFault) (told : Told)
+    → IsTalk seat first before after phase orders refused → seat ≡ slice_index_or numbers place 0
+    → ((entries : List Event) → after ≡ before ++ entries → grew ≡ grown lists place entries)
+    → StandsNow call (record { phase = phase; place = place }) talks now → told.orders ≡ orders → told.stray ≡ false → told.refused ≡ refused
+    → IsTalked numbers call place first (record { lists = lists; talks = talks }) (record { lists = grew; talks = now }) told
+talked_by numbers call place seat first phase lists grew talks now before after orders refused told is number grows stands ordered stray why = record {
+  gots = is.gots;
+  last = is.last;
+  phase = phase;
+  talk = is.talks;
+  rests = is.rests;
+  orders = ordered ∙ is.sends;
+  stray = stray;
+  refused = why ∙ is.refuses;
+  lists = rw (← number) (grows (entries_of seat first is.gots) is.enters);
+  talks = stands;
+}

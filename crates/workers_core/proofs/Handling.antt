@@ -1,0 +1,312 @@
+-- What the handling of a post keeps.
+use Rattle.std.proofs.Common.{◌≡◌, ◌<◌, ◌++◌, ◌∙◌, ℕ, Bool, true, false, Option, Some, None, Ok, Err, List, [], ◌∷◌, length, refl, sym, ap, subst, arith, inl, inr, get_or}
+use Rattle.std.specs.Prelude.{◌==◌, Contains, IfSome, if◌then◌else◌, option_and_then, slice_index_or}
+use Rattle.std.specs.Map.{keys_of}
+use Rattle.std.proofs.lemmas.Bool.Decides.{nat_tests}
+use Rattle.std.proofs.lemmas.List.{flat_map_more, get_or-map, length-map}
+use Rattle.std.proofs.lemmas.List.Elements.{All-nil, Contains-push}
+use Rattle.std.proofs.lemmas.List.Quantifiers.{position-Some}
+use Rattle.account_core.specs.Asked.{Credits}
+use Rattle.account_core.specs.Events.{Event}
+use Rattle.cap_values.specs.Orders.{Release}
+use Rattle.cap_values.specs.declared.message.SsfMsg.{SsfMsg}
+use Rattle.cap_values.specs.declared.message.SsfMsg.TheVariants as msg
+use Rattle.cap_values.specs.declared.number.Number.{Number}
+use Rattle.dialogue_core.specs.Phases.{Phase, Says, Asks}
+use Rattle.dialogue_core.specs.Table.{Step, begun, told}
+use Rattle.dialogue_core.specs.Views.{phase_of, says_of}
+use Rattle.workers_core.proofs.Abouts.{SaysOf, TakesTo, begun_about, begun_says, begun_settles, settled_by, takes_told, talk_credits, talk_held, talk_settles, talked_about}
+use Rattle.workers_core.proofs.Parts.{IsEntered, all_served_grown, all_served_more, begun_more, part_through}
+use Rattle.workers_core.specs.Cases.{IsActed, IsCase, IsWithin, with_room}
+use Rattle.workers_core.specs.Handled.{Holding, IsDone, IsRecharged, IsTalked, IsUnasked, Stay, Told}
+use Rattle.workers_core.specs.Served.{IsPart, Report, begun_by, begun_of, recharged_in, reported_in, settles_of}
+use Rattle.workers_core.specs.Setups.{Setup, account_of}
+use Rattle.workers_core.specs.Talks.{Got, entries_of, entry_of}
+use Rattle.workers_core.specs.Verdicts.{Standing, Verdict, Strays, Rejects, Recharges, Begins, GoesOn, begins, fresh, goes_on, home_of, place_of, recharged, spoken, strays, verdict, verdict_on}
+use Rattle.workers_core.specs.Workers.{IsAbout, IsOwn, IsSound, standing_of}
+use Rattle.workers_core.specs.declared.case.Case.{Case}
+use Rattle.workers_core.specs.declared.case.Case.TheVariants as case
+use Rattle.workers_core.specs.declared.post.Body.{Body}
+use Rattle.workers_core.specs.declared.post.Body.TheVariants.{Ssf, Recharge}
+use Rattle.workers_core.specs.declared.post.Post.{Post}
+
+-- ---- what a verdict says of its post
+
+record IsOfAccount (setup : Setup) (body : Body) (place amount : ℕ) : Type 0 where
+  account : ℕ
+  is : body ≡ Recharge account amount
+  at : place_of account setup ≡ Some place
+
+record IsOfBeginning (setup : Setup) (body : Body) (call place : ℕ) : Type 0 where
+  begins : begun_by body ≡ call ∷ []
+  within : place < length setup.accounts
+
+record IsOfDialogue (talks : ℕ → Option Standing) (number : ℕ) (body : Body) (call place : ℕ) (said : Says) (phase : Phase) : Type 0 where
+  standing : Standing
+  message : SsfMsg
+  stands : talks call ≡ Some standing
+  same : standing.place ≡ place
+  is : body ≡ Ssf call message
+  takes : told standing.phase number message ≡ Ok (said, phase)
+
+abbrev Means : Setup → (ℕ → Option Standing) → ℕ → Body → Verdict → Type 0
+Means setup talks number body Strays = Unit {0}
+Means setup talks number body Rejects = Unit {0}
+Means setup talks number body (Recharges place amount) = IsOfAccount setup body place amount
+Means setup talks number body (Begins call place called) = IsOfBeginning setup body call place
+Means setup talks number body (GoesOn call place said phase) = IsOfDialogue talks number body call place said phase
+
+at_place : (setup : Setup) (account place : ℕ) → place_of account setup ≡ Some place → (place < length setup.accounts) × (((get_or setup.accounts place (0, 0)).0 == account) ≡ true)
+at_place setup account place at =
+    let found = position-Some (λ (other : ℕ × ℕ). other.0 == account) setup.accounts place (0, 0) at in (found.0, found.1)
+
+home_within : (setup : Setup) (account : Option ℕ) (place : ℕ) → option_and_then (λ a. place_of a setup) account ≡ Some place → place < length setup.accounts
+home_within setup None place at = cc
+home_within setup (Some account) place at = (at_place setup account place at).0
+
+means_recharged : (setup : Setup) (talks : ℕ → Option Standing) (number account amount : ℕ) (place : Option ℕ) → place_of account setup ≡ place
+    → Means setup talks number (Recharge account amount) (recharged amount place)
+means_recharged setup talks number account amount None at = tt
+means_recharged setup talks number account amount (Some place) at = record { account = account; is = refl; at = at }
+
+means_begins : (setup : Setup) (talks : ℕ → Option Standing) (number call other : ℕ) (calling called : Number) (place : Option ℕ) → home_of calling setup ≡ place
+    → Means setup talks number (Ssf call (msg.InitialDp other calling called)) (begins call called place)
+means_begins setup talks number call other calling called None at = tt
+means_begins setup talks number call other calling called (Some place) at =
+    record { begins = refl; within = home_within setup (account_of calling setup.subscribers) place at }
+
+means_fresh : (setup : Setup) (talks : ℕ → Option Standing) (number call : ℕ) (message : SsfMsg) → Means setup talks number (Ssf call message) (fresh setup call message)
+means_fresh setup talks number call (msg.InitialDp other calling called) = means_begins setup talks number call other calling called (home_of calling setup) refl
+means_fresh setup talks number call (msg.EventReport event leg mode) = tt
+means_fresh setup talks number call (msg.ChargingReport active info) = tt
+means_fresh setup talks number call msg.Ended = tt
+
+means_goes_on : (setup : Setup) (talks : ℕ → Option Standing) (number call : ℕ) (message : SsfMsg) (standing : Standing) (step : Step) → talks call ≡ Some standing
+    → told standing.phase number message ≡ step → Means setup talks number (Ssf call message) (goes_on call standing.place step)
+means_goes_on setup talks number call message standing (Ok next) stands takes =
+    record { standing = standing; message = message; stands = stands; same = refl; is = refl; takes = takes }
+means_goes_on setup talks number call message standing (Err fault) stands takes = tt
+
+means_spoken : (setup : Setup) (talks : ℕ → Option Standing) (number call : ℕ) (message : SsfMsg) (standing : Option Standing) → talks call ≡ standing
+    → Means setup talks number (Ssf call message) (spoken setup number call message standing)
+means_spoken setup talks number call message None stands = means_fresh setup talks number call message
+means_spoken setup talks number call message (Some standing) stands = means_goes_on setup talks number call message standing (told standing.phase number message) stands refl
+
+means_on : (setup : Setup) (talks : ℕ → Option Standing) (number : ℕ) (body : Body) → Means setup talks number body (verdict_on setup talks number body)
+means_on setup talks number (Ssf call message) = means_spoken setup talks number call message (talks call) refl
+means_on setup talks number (Recharge account amount) = means_recharged setup talks number account amount (place_of account setup) refl
+
+-- ---- the place of a case
+
+own_of : (count : ℕ) (posts : List Post) (call : ℕ) (standing : Standing) (found : Option Standing) → found ≡ Some standing → IfSome found (λ s. IsOwn count posts call s)
+    → IsOwn count posts call standing
+own_of count posts call standing None is own = cc
+own_of count posts call standing (Some other) is own = let same : other ≡ standing = cc in let P : Standing → Type 0 = λ s. IsOwn count posts call s in subst P same own
+
+many_keys : (setup : Setup) → length (keys_of setup.accounts) ≡ length setup.accounts
+many_keys setup = length-map setup.accounts (λ (e : ℕ × ℕ). e.0)
+
+within_by : (setup : Setup) (at : ℕ) (posts : List Post) (old : Holding) (number : ℕ) (body : Body) (v : Verdict) (case : Case) → IsSound (keys_of setup.accounts) posts old
+    → Means setup old.talks number body v → IsCase setup at v case → IsWithin (length setup.accounts) case
+within_by setup at posts old number body v case.Stray sound means is = tt
+within_by setup at posts old number body v case.Rejected sound means is = tt
+within_by setup at posts old number body v (case.Recharge place amount) sound means is =
+    let P : Verdict → Type 0 = λ w. Means setup old.talks number body w in
+    let m : IsOfAccount setup body place amount = subst P is means in (at_place setup m.account place m.at).0
+within_by setup at posts old number body v (case.Talk call talk turn) sound means is =
+    let P : Verdict → Type 0 = λ w. Means setup old.talks number body w in
+    elim is [
+      | inl goes ↦
+          (let m : IsOfDialogue old.talks number body call talk.place (says_of turn) (phase_of talk.dialogue) = subst P goes means in
+          let own = own_of (length (keys_of setup.accounts)) posts call m.standing (old.talks call) m.stands (sound.talks call) in
+          rw (← m.same, ← many_keys setup) own.placed)
+      | inr first ↦ (let m : IsOfBeginning setup body call talk.place = subst P first.is means in m.within)
+    ]
+
+pub case_within : (setup : Setup) (posts : List Post) (old : Holding) (post : Post) (case : Case) → IsSound (keys_of setup.accounts) posts old
+    → IsCase setup post.at (verdict setup old.talks post) case → IsWithin (length setup.accounts) case
+case_within setup posts old post case sound is =
+    within_by setup post.at posts old post.number post.body (verdict setup old.talks post) case sound (means_on setup old.talks post.number post.body) is
+
+-- ---- what is done, by the verdict
+
+both_so : (b : Bool) (last first other : Option Standing) → (if b then last else (if b then first else other)) ≡ (if b then last else other)
+both_so true last first other = refl
+both_so false last first other = refl
+
+unasked_past : (orders : List _) (stray : Bool) (lists : List (List Event)) (talks between : ℕ → Option Standing) (new : Holding) (t : Told) → ((call : ℕ) → between call ≡ talks call)
+    → IsUnasked orders stray (record { lists = lists; talks = between }) new t → IsUnasked orders stray (record { lists = lists; talks = talks }) new t
+unasked_past orders stray lists talks between new t same is =
+    record { orders_are = is.orders_are; stray_is = is.stray_is; refused = is.refused; lists = is.lists; talks = λ call. is.talks call ∙ same call }
+
+talked_past : (numbers : List ℕ) (call place : ℕ) (first : Says × Phase) (standing : Standing) (lists : List (List Event)) (talks between : ℕ → Option Standing) (new : Holding) (t : Told)
+    → ((other : ℕ) → between other ≡ (if other == call then Some standing else talks other))
+    → IsTalked numbers call place first (record { lists = lists; talks = between }) new t → IsTalked numbers call place first (record { lists = lists; talks = talks }) new t
+talked_past numbers call place first standing lists talks between new t same is = record {
+  gots = is.gots;
+  last = is.last;
+  phase = is.phase;
+  talk = is.talk;
+  rests = is.rests;
+  orders = is.orders;
+  stray = is.stray;
+  refused = is.refused;
+  lists = is.lists;
+  talks = λ other.
+      is.talks other ∙ ap (λ s. if other == call then Some (record { phase = is.phase; place = place }) else s) (same other)
+      ∙ both_so (other == call) (Some (record { phase = is.phase; place = place })) (Some standing) (talks other);
+}
+
+pub done_by : (setup : Setup) (numbers : List ℕ) (at : ℕ) (v : Verdict) (case : Case) (lists : List (List Event)) (talks between : ℕ → Option Standing) (new : Holding) (t : Told)
+    → IsCase setup at v case → ((call : ℕ) → between call ≡ with_room case talks call) → IsActed numbers case (record { lists = lists; talks = between }) new t
+    → IsDone setup numbers at v (record { lists = lists; talks = talks }) new t
+done_by setup numbers at v case.Stray lists talks between new t is room acted = rw is (unasked_past [] true lists talks between new t room acted)
+done_by setup numbers at v case.Rejected lists talks between new t is room acted = rw is (unasked_past (Release 21 ∷ []) false lists talks between new t room acted)
+done_by setup numbers at v (case.Recharge place amount) lists talks between new t is room acted =
+    rw is
+    (record {
+      got = acted.got;
+      orders = acted.orders;
+      stray = acted.stray;
+      refused = acted.refused;
+      lists = acted.lists;
+      talks = λ call. acted.talks call ∙ room call;
+    })
+done_by setup numbers at v (case.Talk call talk turn) lists talks between new t is room acted =
+    let past = talked_past numbers call talk.place (says_of turn, phase_of talk.dialogue) (standing_of talk) lists talks between new t room acted in
+    elim is [
+      | inl goes ↦ rw goes past
+      | inr first ↦ rw first.is (record { route = first.route; routed = first.routed; talked = rw first.begins past })
+    ]
+
+-- ---- what follows for the clauses of their own
+
+pub stray_is : (setup : Setup) (numbers : List ℕ) (at : ℕ) (v : Verdict) (old new : Holding) (t : Told) → IsDone setup numbers at v old new t → t.stray ≡ strays v
+stray_is setup numbers at Strays old new t done = done.stray_is
+stray_is setup numbers at Rejects old new t done = done.stray_is
+stray_is setup numbers at (Recharges place amount) old new t done = done.stray
+stray_is setup numbers at (Begins call place called) old new t done = done.talked.stray
+stray_is setup numbers at (GoesOn call place said phase) old new t done = done.stray
+
+pub stray_lists : (setup : Setup) (numbers : List ℕ) (at : ℕ) (v : Verdict) (old new : Holding) (t : Told) → IsDone setup numbers at v old new t → t.stray ≡ true → new.lists ≡ old.lists
+stray_lists setup numbers at Strays old new t done is = done.lists
+stray_lists setup numbers at Rejects old new t done is = done.lists
+stray_lists setup numbers at (Recharges place amount) old new t done is = let not = done.stray in cc
+stray_lists setup numbers at (Begins call place called) old new t done is = let not = done.talked.stray in cc
+stray_lists setup numbers at (GoesOn call place said phase) old new t done is = let not = done.stray in cc
+
+pub rejected_so : (setup : Setup) (numbers : List ℕ) (at : ℕ) (v : Verdict) (old new : Holding) (t : Told) → IsDone setup numbers at v old new t → v ≡ Rejects
+    → (t.orders ≡ Release 21 ∷ []) × (new.lists ≡ old.lists)
+rejected_so setup numbers at v old new t done is =
+    let P : Verdict → Type 0 = λ w. IsDone setup numbers at w old new t in let u : IsUnasked (Release 21 ∷ []) false old new t = subst P is done in (u.orders_are, u.lists)
+
+pub recharged_so : (setup : Setup) (numbers : List ℕ) (at : ℕ) (v : Verdict) (old new : Holding) (t : Told) (place amount : ℕ) → IsDone setup numbers at v old new t → v ≡ Recharges place amount
+    → IsRecharged numbers place amount old new t
+recharged_so setup numbers at v old new t place amount done is = let P : Verdict → Type 0 = λ w. IsDone setup numbers at w old new t in subst P is done
+
+-- ---- what a worker holds stays in order
+
+own_more : (count : ℕ) (posts : List Post) (post : Post) (call : ℕ) (found : Option Standing) → IfSome found (λ s. IsOwn count posts call s) → IfSome found (λ s. IsOwn count (posts ++ post ∷ []) call s)
+own_more count posts post call None own = tt
+own_more count posts post call (Some standing) own = record { placed = own.placed; about = own.about; begun = begun_more posts post call own.begun }
+
+own_same : (count : ℕ) (posts : List Post) (post : Post) (call : ℕ) (found after : Option Standing) → after ≡ found → IfSome found (λ s. IsOwn count posts call s)
+    → IfSome after (λ s. IsOwn count (posts ++ post ∷ []) call s)
+own_same count posts post call found after same own =
+    let P : Option Standing → Type 0 = λ f. IfSome f (λ s. IsOwn count (posts ++ post ∷ []) call s) in subst P (sym same) (own_more count posts post call found own)
+
+unasked_sound : (accounts : List ℕ) (posts : List Post) (post : Post) (old new : Holding) → IsSound accounts posts old → new.lists ≡ old.lists → Stay old.talks new.talks
+    → IsSound accounts (posts ++ post ∷ []) new
+unasked_sound accounts posts post old new sound lists talks = record {
+  served = rw lists (all_served_more accounts posts post old.lists sound.served);
+  talks = λ call. own_same (length accounts) posts post call (old.talks call) (new.talks call) (talks call) (sound.talks call);
+}
+
+same_number : (s t : ℕ) → (s == t) ≡ true → s ≡ t
+same_number s t is = grind (arith, nat_tests, is)
+
+is_itself : (n : ℕ) → (n == n) ≡ true
+is_itself n = grind (arith, nat_tests)
+
+own_now : (count : ℕ) (posts : List Post) (post : Post) (call other : ℕ) (b : Bool) (standing : Standing) (found after : Option Standing) → (other == call) ≡ b
+    → after ≡ (if b then Some standing else found) → IsOwn count (posts ++ post ∷ []) call standing → IfSome found (λ s. IsOwn count posts other s)
+    → IfSome after (λ s. IsOwn count (posts ++ post ∷ []) other s)
+own_now count posts post call other true standing found after is now own before =
+    let P : Option Standing → Type 0 = λ f. IfSome f (λ s. IsOwn count (posts ++ post ∷ []) other s) in
+    let Q : ℕ → Type 0 = λ c. IsOwn count (posts ++ post ∷ []) c standing in
+    subst P (sym now) (subst Q (sym (same_number other call is)) own)
+own_now count posts post call other false standing found after is now own before = own_same count posts post other found after now before
+
+talked_sound : (accounts numbers : List ℕ) (call place : ℕ) (first : Says × Phase) (posts : List Post) (post : Post) (old new : Holding) (t : Told) → IsSound accounts posts old
+    → place < length accounts → Contains (begun_of (posts ++ post ∷ [])) call → IsAbout call first.1 → SaysOf call first.0
+    → IsPart (settled_by first.0) (reported_in post.number post.body) → IsTalked numbers call place first old new t → IsSound accounts (posts ++ post ∷ []) new
+talked_sound accounts numbers call place first posts post old new t sound within has about says settles is =
+    let seat : ℕ = slice_index_or numbers place 0 in
+    let entered : IsEntered (get_or accounts place 0) posts post (entries_of seat first is.gots) = record {
+      settles = part_through (settles_of (entries_of seat first is.gots)) (settled_by first.0) (reported_in post.number post.body) (talk_settles seat call first is.gots about) settles;
+      credits =
+          let P : List ℕ → Type 0 = λ l. IsPart l (recharged_in (get_or accounts place 0) post.body) in subst P (sym (talk_credits seat call first is.gots about says)) tt;
+      calls = talk_held seat call (begun_of (posts ++ post ∷ [])) first is.gots about says has;
+    } in
+    let stands : IsAbout call is.phase = let P : (Says × Phase) → Type 0 = λ p. IsAbout call p.1 in subst P is.talk (talked_about call first is.gots about) in
+    record {
+      served = rw is.lists (all_served_grown accounts posts post old.lists place (entries_of seat first is.gots) sound.served within entered);
+      talks = λ other.
+          own_now (length accounts) posts post call other (other == call) (record { phase = is.phase; place = place }) (old.talks other) (new.talks other) refl (is.talks other)
+          (record { placed = within; about = stands; begun = has }) (sound.talks other);
+    }
+
+credit_entered : (account : ℕ) (posts : List Post) (post : Post) (seat amount : ℕ) (got : Got) → recharged_in account post.body ≡ amount ∷ []
+    → IsEntered account posts post (entry_of seat (Asks (Credits amount)) got)
+credit_entered account posts post seat amount (Ok reply) is = record {
+  settles = tt;
+  credits = let P : List ℕ → Type 0 = λ l. IsPart (amount ∷ []) l in subst P (sym is) (inl (refl, tt));
+  calls = All-nil (λ call. Contains (begun_of (posts ++ post ∷ [])) call);
+}
+credit_entered account posts post seat amount (Err fault) is =
+    record { settles = tt; credits = tt; calls = All-nil (λ call. Contains (begun_of (posts ++ post ∷ [])) call) }
+
+of_account : (setup : Setup) (body : Body) (place amount : ℕ) → IsOfAccount setup body place amount → recharged_in (get_or (keys_of setup.accounts) place 0) body ≡ amount ∷ []
+of_account setup body place amount m =
+    let found = at_place setup m.account place m.at in
+    let key : get_or (keys_of setup.accounts) place 0 ≡ m.account =
+    get_or-map (λ (e : ℕ × ℕ). e.0) setup.accounts place (0, 0) 0 found.0 ∙ same_number (get_or setup.accounts place (0, 0)).0 m.account found.1 in
+    rw (key, m.is, is_itself m.account) refl
+
+sound_by : (setup : Setup) (numbers : List ℕ) (posts : List Post) (post : Post) (v : Verdict) (old new : Holding) (t : Told) → IsSound (keys_of setup.accounts) posts old
+    → Means setup old.talks post.number post.body v → IsDone setup numbers post.at v old new t → IsSound (keys_of setup.accounts) (posts ++ post ∷ []) new
+sound_by setup numbers posts post Strays old new t sound m done = unasked_sound (keys_of setup.accounts) posts post old new sound done.lists done.talks
+sound_by setup numbers posts post Rejects old new t sound m done = unasked_sound (keys_of setup.accounts) posts post old new sound done.lists done.talks
+sound_by setup numbers posts post (Recharges place amount) old new t sound m done =
+    let within : place < length (keys_of setup.accounts) = rw (many_keys setup) (at_place setup m.account place m.at).0 in
+    let seat : ℕ = slice_index_or numbers place 0 in
+    record {
+      served =
+          rw done.lists
+          (all_served_grown (keys_of setup.accounts) posts post old.lists place (entry_of seat (Asks (Credits amount)) done.got) sound.served within
+          (credit_entered (get_or (keys_of setup.accounts) place 0) posts post seat amount done.got (of_account setup post.body place amount m)));
+      talks = λ call. own_same (length (keys_of setup.accounts)) posts post call (old.talks call) (new.talks call) (done.talks call) (sound.talks call);
+    }
+sound_by setup numbers posts post (Begins call place called) old new t sound m done =
+    let within : place < length (keys_of setup.accounts) = rw (many_keys setup) m.within in
+    let has : Contains (begun_of (posts ++ post ∷ [])) call =
+    let P : List ℕ → Type 0 = λ calls. Contains calls call in
+    subst P (flat_map_more (λ (p : Post). begun_by p.body) [] posts post) (rw m.begins (Contains-push (begun_of posts) call)) in
+    let settles : IsPart (settled_by (begun call post.at setup.service.wanted setup.service.least done.route).0) (reported_in post.number post.body) =
+    let P : List Report → Type 0 = λ l. IsPart l (reported_in post.number post.body) in
+    subst P (sym (begun_settles call post.at setup.service.wanted setup.service.least done.route)) tt in
+    talked_sound (keys_of setup.accounts) numbers call place (begun call post.at setup.service.wanted setup.service.least done.route) posts post old new t sound within has
+    (begun_about call post.at setup.service.wanted setup.service.least done.route) (begun_says call post.at setup.service.wanted setup.service.least done.route) settles done.talked
+sound_by setup numbers posts post (GoesOn call place said phase) old new t sound m done =
+    let own = own_of (length (keys_of setup.accounts)) posts call m.standing (old.talks call) m.stands (sound.talks call) in
+    let within : place < length (keys_of setup.accounts) = rw (← m.same) own.placed in
+    let takes : TakesTo call post.number m.message (Ok (said, phase)) =
+    let P : Step → Type 0 = λ step. TakesTo call post.number m.message step in
+    subst P m.takes (takes_told call post.number m.standing.phase m.message own.about) in
+    talked_sound (keys_of setup.accounts) numbers call place (said, phase) posts post old new t sound within (begun_more posts post call own.begun) takes.0 takes.1 (rw m.is takes.2) done
+
+-- what a worker holds stays in order
+pub sound_after : (setup : Setup) (numbers : List ℕ) (posts : List Post) (post : Post) (old new : Holding) (t : Told) → IsSound (keys_of setup.accounts) posts old
+    → IsDone setup numbers post.at (verdict setup old.talks post) old new t → IsSound (keys_of setup.accounts) (posts ++ post ∷ []) new
+sound_after setup numbers posts post old new t sound done =
+    sound_by setup numbers posts post (verdict setup old.talks post) old new t sound (means_on setup old.talks post.number post.body) done

@@ -1,0 +1,53 @@
+use Rattle.std.proofs.Common.{◌≡◌, ◌∙◌, ℕ, List, All, length, map, ap, sym, subst}
+use Rattle.std.proofs.lemmas.List.{length-map}
+use Rattle.workers_core.specs.Handled.{told_of}
+use Rattle.workers_core.specs.Verdicts.{verdict}
+use Rattle.workers_core.specs.Workers.{holding, standings_in}
+use Rattle.workers_core.proofs.Handling.{case_within, done_by, recharged_so, rejected_so, sound_after, stray_is, stray_lists}
+use Rattle.workers_core.proofs.worker.Worker.handle.Goals as goal
+
+done : goal.returns-clause-handled
+done g c = record {
+  number = c.in_ok-answer.ensures.number;
+  done =
+      done_by c.args.self.now.setup.now (map g.S.Shared.number_of c.args.self.now.seats.items) c.args.post.at
+      (verdict c.args.self.now.setup.now (standings_in c.args.self.now.talks) c.args.post) c.judge-case.result (map g.S.Shared.mine_of c.args.self.now.seats.items)
+      (standings_in c.args.self.now.talks) (standings_in c.make_room.new.talks) _ (told_of c.in_ok-answer.answer) c.judge-case.ensures c.in_ok-make_room.ensures.others
+      c.in_ok-answer.ensures.acted;
+}
+
+pub act-requires-clause-within : goal.act-requires-clause-within
+act-requires-clause-within g c κs within =
+    let many : length c.args.self.now.accounts.now ≡ length c.args.self.now.setup.now.accounts =
+    sym (length-map c.args.self.now.accounts.now (λ account. (g.S.Shared.terms account).number)) ∙ ap length c.requires.ready.accounts
+    ∙ length-map c.args.self.now.setup.now.accounts (λ (e : ℕ × ℕ). e.0) in
+    rw many
+    (case_within c.args.self.now.setup.now c.args.self.now.posts.items (holding g.S.Shared.mine_of c.args.self.now) c.args.post c.judge-case.result c.requires.ready.sound c.judge-case.ensures)
+
+pub returns-clause-handled : goal.returns-clause-handled
+returns-clause-handled g c = done g c
+
+pub returns-clause-ready : goal.returns-clause-ready
+returns-clause-ready g c = record {
+  accounts = c.requires.ready.accounts;
+  keys = c.in_ok-answer.ensures.same_keys ∙ c.requires.ready.keys;
+  numbers =
+      let P : List ℕ → Type 0 = λ numbers. All (λ number. number ≡ c.args.self.now.number) numbers in
+      subst P (sym c.in_ok-answer.ensures.same_numbers) c.requires.ready.numbers;
+  sound =
+      rw c.in_ok-push.ensures.items
+      (sound_after c.args.self.now.setup.now (map g.S.Shared.number_of c.args.self.now.seats.items) c.args.self.now.posts.items c.args.post
+      (holding g.S.Shared.mine_of c.args.self.now) _ (told_of c.in_ok-answer.answer) c.requires.ready.sound (done g c).done);
+}
+
+pub returns-clause-stray : goal.returns-clause-stray
+returns-clause-stray g c = stray_is _ _ _ _ _ _ (told_of c.in_ok-answer.answer) (done g c).done
+
+pub returns-clause-stray_asks_nothing : goal.returns-clause-stray_asks_nothing
+returns-clause-stray_asks_nothing g c = λ is. stray_lists _ _ _ _ _ _ (told_of c.in_ok-answer.answer) (done g c).done is
+
+pub returns-clause-rejected : goal.returns-clause-rejected
+returns-clause-rejected g c = λ is. rejected_so _ _ _ _ _ _ (told_of c.in_ok-answer.answer) (done g c).done is
+
+pub returns-clause-recharged : goal.returns-clause-recharged
+returns-clause-recharged g c = λ place amount is. recharged_so _ _ _ _ _ _ (told_of c.in_ok-answer.answer) place amount (done g c).done is

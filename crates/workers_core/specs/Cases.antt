@@ -1,0 +1,86 @@
+-- The case of a post, as the code has it, and what acting on it does.
+use Rattle.std.specs.Prelude.{◌≡◌, ◌==◌, ◌<◌, ◌++◌, ◌⊎◌, ℕ, true, false, Option, Some, None, Ok, Err, List, [], ◌∷◌, IsSome, if◌then◌else◌}
+use Rattle.std.specs.BTreeMap.{BTreeMap, get}
+use Rattle.std.specs.Ordering.{nat_cmp}
+use Rattle.account_core.specs.Asked.{Asked}
+use Rattle.account_core.specs.Events.{Event}
+use Rattle.account_core.specs.declared.fault.AccountFault.{AccountFault}
+use Rattle.cap_values.specs.NumberDigits.{digits_of}
+use Rattle.cap_values.specs.Orders.{Release}
+use Rattle.cap_values.specs.declared.number.Number.{Number}
+use Rattle.dialogue_core.specs.Phases.{Phase, Says, Asks}
+use Rattle.dialogue_core.specs.Table.{begun}
+use Rattle.dialogue_core.specs.Views.{phase_of, says_of}
+use Rattle.tariff_core.specs.declared.route.Route.{Route}
+use Rattle.workers_core.specs.Handled.{Holding, IsRecharged, IsRouted, IsTalked, IsUnasked, Told}
+use Rattle.workers_core.specs.Setups.{Setup}
+use Rattle.workers_core.specs.Talks.{Got, after_got, entry_of}
+use Rattle.workers_core.specs.Verdicts.{Standing, Verdict, Strays, Rejects, Recharges, Begins, GoesOn}
+use Rattle.workers_core.specs.Workers.{standing_of}
+use Rattle.workers_core.specs.declared.case.Case.{Case}
+use Rattle.workers_core.specs.declared.case.Case.TheVariants as case
+use Rattle.workers_core.specs.declared.talk.Talk.{Talk}
+
+-- the dialogue of a call begins, and this is what it says first
+pub record IsFirst (setup : Setup) (at : ℕ) (verdict : Verdict) (call place : ℕ) (first : Says × Phase) : Type 0 where
+  pub called : Number
+  pub is : verdict ≡ Begins call place called
+  pub route : Option Route
+  pub routed : IsRouted setup.tariff (digits_of called) at route
+  pub begins : begun call at setup.service.wanted setup.service.least route ≡ first
+
+-- the case of a verdict
+abbrev pub IsCase : Setup → ℕ → Verdict → Case → Type 0
+IsCase setup at verdict case.Stray = verdict ≡ Strays
+IsCase setup at verdict case.Rejected = verdict ≡ Rejects
+IsCase setup at verdict (case.Recharge place amount) = verdict ≡ Recharges place amount
+IsCase setup at verdict (case.Talk call talk turn) =
+    (verdict ≡ GoesOn call talk.place (says_of turn) (phase_of talk.dialogue)) ⊎ IsFirst setup at verdict call talk.place (says_of turn, phase_of talk.dialogue)
+
+-- the account of a case is one of so many
+abbrev pub IsWithin : ℕ → Case → Type 0
+IsWithin count case.Stray = Unit {0}
+IsWithin count case.Rejected = Unit {0}
+IsWithin count (case.Recharge place amount) = place < count
+IsWithin count (case.Talk call talk turn) = talk.place < count
+
+-- the dialogue of a case has its place among the dialogues
+abbrev pub HasRoom : Case → BTreeMap ℕ Talk → Type 0
+HasRoom case.Stray talks = Unit {0}
+HasRoom case.Rejected talks = Unit {0}
+HasRoom (case.Recharge place amount) talks = Unit {0}
+HasRoom (case.Talk call talk turn) talks = IsSome (get nat_cmp talks call)
+
+-- where dialogues stand with that of a case among them
+abbrev pub with_room : Case → (ℕ → Option Standing) → ℕ → Option Standing
+with_room case.Stray talks other = talks other
+with_room case.Rejected talks other = talks other
+with_room (case.Recharge place amount) talks other = talks other
+with_room (case.Talk call talk turn) talks other = if other == call then Some (standing_of talk) else talks other
+
+-- what is done in a case
+abbrev pub IsActed : List ℕ → Case → Holding → Holding → Told → Type 0
+IsActed numbers case.Stray old new told = IsUnasked [] true old new told
+IsActed numbers case.Rejected old new told = IsUnasked (Release 21 ∷ []) false old new told
+IsActed numbers (case.Recharge place amount) old new told = IsRecharged numbers place amount old new told
+IsActed numbers (case.Talk call talk turn) old new told = IsTalked numbers call talk.place (says_of turn, phase_of talk.dialogue) old new told
+
+-- a fault that is asked for after others takes their place
+abbrev pub or_fault : Option AccountFault → Got → Option AccountFault
+or_fault refused (Ok reply) = refused
+or_fault refused (Err fault) = Some fault
+
+-- an account was asked once, from a seat: what it got was entered, and the dialogue went on by it
+pub record IsAsked (seat : ℕ) (asked : Asked) (before after : List Event) (from to : Phase) (said : Says) (old new : Option AccountFault) : Type 0 where
+  pub got : Got
+  pub enters : after ≡ before ++ entry_of seat (Asks asked) got
+  pub says : after_got from got ≡ (said, to)
+  pub refuses : new ≡ or_fault old got
+
+-- an account was asked for a Credit
+pub record IsCredited (seat : ℕ) (asked : Asked) (before after : List Event) (told : Told) : Type 0 where
+  pub got : Got
+  pub enters : after ≡ before ++ entry_of seat (Asks asked) got
+  pub orders : told.orders ≡ []
+  pub stray : told.stray ≡ false
+  pub refuses : told.refused ≡ or_fault None got

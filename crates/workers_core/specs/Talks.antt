@@ -1,0 +1,68 @@
+-- The talk of a dialogue with its account: what is asked, what each ask gets, and what is entered.
+use Rattle.std.specs.Prelude.{◌≡◌, ◌++◌, ℕ, Bool, true, false, Option, Some, None, Result, Ok, Err, List, [], ◌∷◌}
+use Rattle.account_core.specs.Events.{Event}
+use Rattle.account_core.specs.Ledger.{event_by}
+use Rattle.account_core.specs.declared.entry.Reply.{Reply}
+use Rattle.account_core.specs.declared.fault.AccountFault.{AccountFault}
+use Rattle.cap_values.specs.Orders.{Order}
+use Rattle.dialogue_core.specs.Phases.{Phase, Says, Asks, Sends, Finished}
+use Rattle.dialogue_core.specs.Table.{Step, replied, unanswered}
+
+-- what an ask gets: the account's reply, or its refusal
+abbrev pub Got : Type 0
+Got = Result Reply AccountFault
+
+-- a dialogue that has no place for what it is handed stays where it is, and says no more
+abbrev pub or_done : Phase → Step → Says × Phase
+or_done phase (Ok next) = next
+or_done phase (Err fault) = (Finished, phase)
+
+-- what the dialogue says to what its ask got, and where it stands then: by the table of the service
+abbrev pub after_got : Phase → Got → Says × Phase
+after_got phase (Ok reply) = or_done phase (replied phase reply)
+after_got phase (Err fault) = or_done phase (unanswered phase)
+
+-- what the dialogue says, and where it stands, once its asks got these, the newest first
+abbrev pub talked : Says × Phase → List Got → Says × Phase
+talked first [] = first
+talked first (got ∷ earlier) = after_got (talked first earlier).1 got
+
+-- the entry of an ask that got a reply
+abbrev pub entry_of : ℕ → Says → Got → List Event
+entry_of seat (Asks asked) (Ok reply) = event_by seat asked reply ∷ []
+entry_of seat (Asks asked) (Err fault) = []
+entry_of seat (Sends orders) got = []
+entry_of seat Finished got = []
+
+-- the entries of a talk, oldest first: just the asks that got a reply, with those replies
+abbrev pub entries_of : ℕ → Says × Phase → List Got → List Event
+entries_of seat first [] = []
+entries_of seat first (got ∷ earlier) = entries_of seat first earlier ++ entry_of seat (talked first earlier).0 got
+
+-- the last fault that an ask got
+abbrev pub last_fault : List Got → Option AccountFault
+last_fault [] = None
+last_fault (Ok reply ∷ earlier) = last_fault earlier
+last_fault (Err fault ∷ earlier) = Some fault
+
+abbrev pub is_ask : Says → Bool
+is_ask (Asks asked) = true
+is_ask (Sends orders) = false
+is_ask Finished = false
+
+-- the operations that are sent
+abbrev pub sent_by : Says → List Order
+sent_by (Asks asked) = []
+sent_by (Sends orders) = orders
+sent_by Finished = []
+
+-- a talk from what is said first until no ask is left: where the dialogue stands then, what it sends, what the seat has entered, and why
+-- the account refused an ask last, if it did
+pub record IsTalk (seat : ℕ) (first : Says × Phase) (before after : List Event) (phase : Phase) (orders : List Order) (refused : Option AccountFault) : Type 0 where
+  pub gots : List Got
+  pub last : Says
+  pub talks : talked first gots ≡ (last, phase)
+  pub rests : is_ask last ≡ false
+  pub sends : orders ≡ sent_by last
+  pub enters : after ≡ before ++ entries_of seat first gots
+  pub refuses : refused ≡ last_fault gots

@@ -1,0 +1,74 @@
+-- What a post comes to before anything is asked.
+use Rattle.std.specs.Prelude.{◌==◌, ℕ, Bool, true, false, Option, Some, None, Ok, Err, option_and_then, position}
+use Rattle.cap_values.specs.declared.message.SsfMsg.{SsfMsg}
+use Rattle.cap_values.specs.declared.message.SsfMsg.TheVariants.{InitialDp, EventReport, ChargingReport, Ended}
+use Rattle.cap_values.specs.declared.number.Number.{Number}
+use Rattle.dialogue_core.specs.Phases.{Phase, Says}
+use Rattle.dialogue_core.specs.Table.{Step, told}
+use Rattle.workers_core.specs.Setups.{Setup, account_of}
+use Rattle.workers_core.specs.declared.post.Body.{Body}
+use Rattle.workers_core.specs.declared.post.Body.TheVariants.{Ssf, Recharge}
+use Rattle.workers_core.specs.declared.post.Post.{Post}
+
+-- a dialogue of a worker: where it stands, and the place of its account in the ascending order
+pub record Standing : Type 0 where
+  pub phase : Phase
+  pub place : ℕ
+
+-- the place of an account in the ascending order
+abbrev pub place_of : ℕ → Setup → Option ℕ
+place_of account setup = position (λ other. other.0 == account) setup.accounts
+
+-- the place of the account of a calling number, none where it isn't a subscriber's
+abbrev pub home_of : Number → Setup → Option ℕ
+home_of calling setup = option_and_then (λ account. place_of account setup) (account_of calling setup.subscribers)
+
+-- it has no place here; the caller is unknown; the account at a place is recharged; a dialogue begins, of a call with an account's place to a
+-- called number; or a dialogue goes on, with what it says and where it stands
+pub data Verdict : Type 0 where
+  Strays : Verdict
+  Rejects : Verdict
+  Recharges : (place amount : ℕ) → Verdict
+  Begins : (call place : ℕ) (called : Number) → Verdict
+  GoesOn : (call place : ℕ) (said : Says) (phase : Phase) → Verdict
+
+-- a recharge, at the place of its account
+abbrev pub recharged : ℕ → Option ℕ → Verdict
+recharged amount None = Strays
+recharged amount (Some place) = Recharges place amount
+
+-- an InitialDp of a call without dialogue, at the place of the caller's account
+abbrev pub begins : ℕ → Number → Option ℕ → Verdict
+begins call called None = Rejects
+begins call called (Some place) = Begins call place called
+
+-- a message of a call without dialogue
+abbrev pub fresh : Setup → ℕ → SsfMsg → Verdict
+fresh setup call (InitialDp other calling called) = begins call called (home_of calling setup)
+fresh setup call (EventReport event leg mode) = Strays
+fresh setup call (ChargingReport active info) = Strays
+fresh setup call Ended = Strays
+
+-- a message of a call with a dialogue, which takes it or refuses it. An InitialDp is refused wherever it stands
+abbrev pub goes_on : ℕ → ℕ → Step → Verdict
+goes_on call place (Ok next) = GoesOn call place next.0 next.1
+goes_on call place (Err fault) = Strays
+
+abbrev pub spoken : Setup → ℕ → ℕ → SsfMsg → Option Standing → Verdict
+spoken setup number call message None = fresh setup call message
+spoken setup number call message (Some standing) = goes_on call standing.place (told standing.phase number message)
+
+abbrev pub verdict_on : Setup → (ℕ → Option Standing) → ℕ → Body → Verdict
+verdict_on setup talks number (Ssf call message) = spoken setup number call message (talks call)
+verdict_on setup talks number (Recharge account amount) = recharged amount (place_of account setup)
+
+-- by the setup and the dialogues of the worker
+abbrev pub verdict : Setup → (ℕ → Option Standing) → Post → Verdict
+verdict setup talks post = verdict_on setup talks post.number post.body
+
+abbrev pub strays : Verdict → Bool
+strays Strays = true
+strays Rejects = false
+strays (Recharges place amount) = false
+strays (Begins call place called) = false
+strays (GoesOn call place said phase) = false

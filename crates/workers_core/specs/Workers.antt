@@ -1,0 +1,74 @@
+-- Workers, as their callers see them.
+use Rattle.std.specs.Prelude.{◌≡◌, ◌<◌, ℕ, Option, List, All, Contains, IfSome, length, map, option_map}
+use Rattle.std.specs.BTreeMap.{BTreeMap, get}
+use Rattle.std.specs.Map.{keys_of}
+use Rattle.std.specs.Ordering.{nat_cmp}
+use Rattle.account_core.specs.Events.{Event}
+use Rattle.dialogue_core.specs.Phases.{Phase, FirstAsk, Running, Settling, MoreAsk, Returning, Ending, Closed}
+use Rattle.dialogue_core.specs.Views.{phase_of}
+use Rattle.workers_core.specs.Handled.{Holding}
+use Rattle.workers_core.specs.Served.{AreServed, begun_of}
+use Rattle.workers_core.specs.Setups.{Setup}
+use Rattle.workers_core.specs.Verdicts.{Standing}
+use Rattle.workers_core.specs.declared.post.Post.{Post}
+use Rattle.workers_core.specs.declared.talk.Talk.{Talk}
+use Rattle.workers_core.specs.declared.worker.Worker.{Worker}
+
+abbrev pub standing_of : Talk → Standing
+standing_of talk = record { phase = phase_of talk.dialogue; place = talk.place }
+
+-- where the dialogues of a map stand
+abbrev pub standings_in : BTreeMap ℕ Talk → ℕ → Option Standing
+standings_in talks call = option_map standing_of (get nat_cmp talks call)
+
+-- the number of a worker, the setup of its run, the accounts, its seats and the posts that it has handled
+abbrev pub number_of : {S T : Type 0} → Worker S T → ℕ
+number_of worker = worker.number
+
+abbrev pub setup_of : {S T : Type 0} → Worker S T → Setup
+setup_of worker = worker.setup.now
+
+abbrev pub accounts_of : {S T : Type 0} → Worker S T → List S
+accounts_of worker = worker.accounts.now
+
+abbrev pub seats_of : {S T : Type 0} → Worker S T → List T
+seats_of worker = worker.seats.items
+
+abbrev pub posts_of : {S T : Type 0} → Worker S T → List Post
+posts_of worker = worker.posts.items
+
+abbrev pub talks_of : {S T : Type 0} → Worker S T → ℕ → Option Standing
+talks_of worker = standings_in worker.talks
+
+-- what a worker holds beside its posts
+abbrev pub holding : {S T : Type 0} → (T → List Event) → Worker S T → Holding
+holding mine_of worker = record { lists = map mine_of (seats_of worker); talks = talks_of worker }
+
+-- a dialogue is about a call
+abbrev pub IsAbout : ℕ → Phase → Type 0
+IsAbout call (FirstAsk t) = t.call ≡ call
+IsAbout call (Running t) = t.call ≡ call
+IsAbout call (Settling t active) = t.call ≡ call
+IsAbout call (MoreAsk t) = t.call ≡ call
+IsAbout call (Returning after) = Unit {0}
+IsAbout call Ending = Unit {0}
+IsAbout call Closed = Unit {0}
+
+-- a dialogue of a call: its account is one of so many, it is about the call, and the call had an InitialDp among the posts
+pub record IsOwn (count : ℕ) (posts : List Post) (call : ℕ) (standing : Standing) : Type 0 where
+  pub placed : standing.place < count
+  pub about : IsAbout call standing.phase
+  pub begun : Contains (begun_of posts) call
+
+-- what a worker holds is in order, where the accounts have these numbers
+pub record IsSound (accounts : List ℕ) (posts : List Post) (h : Holding) : Type 0 where
+  pub served : AreServed accounts posts h.lists
+  pub talks : (call : ℕ) → IfSome (h.talks call) (λ standing. IsOwn (length accounts) posts call standing)
+
+-- a worker can handle a post: the accounts are those of the setup, each seat is of its account and has the worker's number, and what it holds is in
+-- order
+pub record IsReady {S T K : Type 0} (account_number : S → ℕ) (key : S → K) (key_of : T → K) (seat_number : T → ℕ) (mine_of : T → List Event) (worker : Worker S T) : Type 0 where
+  pub accounts : map account_number (accounts_of worker) ≡ keys_of (setup_of worker).accounts
+  pub keys : map key_of (seats_of worker) ≡ map key (accounts_of worker)
+  pub numbers : All (λ number. number ≡ number_of worker) (map seat_number (seats_of worker))
+  pub sound : IsSound (keys_of (setup_of worker).accounts) (posts_of worker) (holding mine_of worker)

@@ -1,0 +1,184 @@
+//! What a worker does in the case of a post.
+
+ghost use Rattle.std.specs.Prelude.{◌≡◌, ◌≢◌, ◌==◌, ◌∷◌, ◌<◌, [], ℕ, None, Some, true, false, length, map, if◌then◌else◌, IfOk, IfErr, IsSome, OnOk};
+ghost use Rattle.std.specs.BTreeMap.{get};
+ghost use Rattle.std.specs.Ordering.{nat_cmp};
+ghost use Rattle.account_core.specs.Asked.{Credits};
+ghost use Rattle.cap_values.specs.Orders.{Release, orders_of};
+ghost use Rattle.dialogue_core.specs.Views.{phase_of, says_of};
+ghost use Rattle.workers_core.specs.Cases.{HasRoom, IsActed, IsCredited, IsWithin, with_room};
+ghost use Rattle.workers_core.specs.Handled.{IsRecharged, IsTalked, told_of};
+ghost use Rattle.workers_core.specs.Workers.{standing_of, standings_in};
+
+use crate::case::Case;
+use crate::converse::converse;
+use crate::talk::Talk;
+use crate::{Answer, Body, WorkerFault};
+use account_core::{AccountFault, Op};
+use arrayvec::ArrayVec;
+use cap_values::{Cause, ScfOp};
+use dialogue_core::Turn;
+use shared_account::{Gate, Shared};
+use std::collections::BTreeMap;
+use std::sync::Wait;
+
+/// Makes room for the dialogue of a case, where it has one: it is kept as it stands before its talk.
+pub(crate) fn make_room(talks: &mut BTreeMap<u64, Talk>, case: &Case) -> Result<(), WorkerFault>
+    ensures room { OnOk result (HasRoom case.now talks.new) }
+    ensures others { OnOk result ((call : ℕ) → standings_in talks.new call
+        ≡ with_room case.now (standings_in talks.old) call) }
+    ensures fault { IfErr result (λ fault. fault ≡ WorkerFault.OutOfMemory) }
+{
+    if let Case::Talk { call, talk, .. } = case {
+        talks.insert(*call, *talk)?;
+    }
+    Ok(())
+}
+
+/// Asks the gate before a message of a call is taken up.
+pub(crate) fn pass<G: Gate>(gate: &G, worker: u32, body: &Body) -> Result<(), WorkerFault>
+    ensures fault { IfErr result (λ fault. fault ≡ WorkerFault.GateClosed) }
+    ensures gate { result ≡ Err WorkerFault.GateClosed → G.may_shut gate.now }
+{
+    match *body {
+        Body::Ssf { call, .. } => {
+            if gate.before(worker, call) {
+                Ok(())
+            } else {
+                Err(WorkerFault::GateClosed)
+            }
+        }
+        Body::Recharge { .. } => Ok(()),
+    }
+}
+
+/// Tells the gate that a message of a call was answered.
+pub(crate) fn tell<G: Gate>(gate: &G, worker: u32, body: &Body) {
+    if let Body::Ssf { call, .. } = *body {
+        gate.after(worker, call);
+    }
+}
+
+/// Does what the case of a post asks for, and answers the post of this number.
+pub(crate) fn act<S: Shared, R: Wait, G: Gate>(
+    rt: &R,
+    gate: &G,
+    accounts: &[S],
+    seats: &mut Vec<S::Seat>,
+    talks: &mut BTreeMap<u64, Talk>,
+    number: u64,
+    case: Case,
+) -> Result<Answer, WorkerFault>
+    requires keys { map S.key_of seats.old.items ≡ map S.key accounts.now }
+    requires within { IsWithin (length accounts.now) case }
+    requires room { HasRoom case talks.old }
+    ensures same_keys { OnOk result (map S.key_of seats.new.items ≡ map S.key_of seats.old.items) }
+    ensures same_numbers { OnOk result (map S.number_of seats.new.items ≡ map
+        S.number_of seats.old.items) }
+    ensures number { IfOk result (λ answer. answer.number ≡ number) }
+    ensures acted { IfOk result (λ answer. IsActed (map S.number_of seats.old.items) case
+        (record { lists = map S.mine_of seats.old.items; talks = standings_in talks.old })
+        (record { lists = map S.mine_of seats.new.items; talks = standings_in talks.new })
+        (told_of answer)) }
+    ensures fault { IfErr result (λ fault. fault ≡ WorkerFault.GateClosed) }
+    ensures gate { result ≡ Err WorkerFault.GateClosed → G.may_shut gate.now }
+{
+    match case {
+        Case::Stray => Ok(unasked(number, ArrayVec::new(), true)),
+        Case::Rejected => Ok(unasked(number, rejection(), false)),
+        Case::Recharge { place, amount } => {
+            recharge(
+                rt,
+                gate,
+                &accounts[place],
+                &mut seats[place],
+                number,
+                amount,
+            )
+        }
+        Case::Talk { call, talk, turn } => {
+            let Talk {
+                mut dialogue,
+                place,
+            } = talk;
+            let said = converse(
+                rt,
+                gate,
+                &accounts[place],
+                &mut seats[place],
+                &mut dialogue,
+                turn,
+            )?;
+            keep(talks, call, Talk { dialogue, place });
+            Ok(Answer {
+                number,
+                ops: said.ops,
+                stray: false,
+                refused: said.refused,
+            })
+        }
+    }
+}
+
+/// The answer to a post for which no account is asked.
+fn unasked(number: u64, ops: ArrayVec<ScfOp, 4>, stray: bool) -> Answer
+    ensures { result ≡ record { number = number; ops = ops; stray = stray; refused = None } }
+{
+    Answer {
+        number,
+        ops,
+        stray,
+        refused: None,
+    }
+}
+
+/// The call is cleared, as its caller isn't known.
+fn rejection() -> ArrayVec<ScfOp, 4>
+    ensures { orders_of result.items ≡ Release 21 ∷ [] }
+{
+    let mut ops = ArrayVec::new();
+    ops.push(ScfOp::ReleaseCall(Cause::call_rejected()));
+    ops
+}
+
+/// Adds money to an account.
+fn recharge<S: Shared, R: Wait, G: Gate>(
+    rt: &R,
+    gate: &G,
+    account: &S,
+    seat: &mut S::Seat,
+    number: u64,
+    amount: u64,
+) -> Result<Answer, WorkerFault>
+    requires { S.key_of seat.old ≡ S.key account.now }
+    ensures same_key { S.key_of seat.new ≡ S.key_of seat.old }
+    ensures same_number { S.number_of seat.new ≡ S.number_of seat.old }
+    ensures number { IfOk result (λ answer. answer.number ≡ number) }
+    ensures credited { IfOk result (λ answer. IsCredited (S.number_of seat.old) (Credits amount)
+        (S.mine_of seat.old) (S.mine_of seat.new) (told_of answer)) }
+    ensures fault { IfErr result (λ fault. fault ≡ WorkerFault.GateClosed) }
+    ensures gate { result ≡ Err WorkerFault.GateClosed → G.may_shut gate.now }
+{
+    let refused = match account.call(rt, seat, Op::Credit { amount }, gate) {
+        Ok(_) => None,
+        Err(AccountFault::GateClosed) => return Err(WorkerFault::GateClosed),
+        Err(fault) => Some(fault),
+    };
+    Ok(Answer {
+        number,
+        ops: ArrayVec::new(),
+        stray: false,
+        refused,
+    })
+}
+
+/// Keeps a dialogue as it stands, in the place that it has.
+fn keep(talks: &mut BTreeMap<u64, Talk>, call: u64, talk: Talk)
+    requires { IsSome (get nat_cmp talks.old call) }
+    ensures { (other : ℕ) → get nat_cmp talks.new other
+        ≡ (if other == call then Some talk else get nat_cmp talks.old other) }
+{
+    if let Some(kept) = talks.get_mut(&call) {
+        *kept = talk;
+    }
+}

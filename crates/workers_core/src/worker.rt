@@ -1,0 +1,153 @@
+//! A worker: it handles the posts of its calls and the recharges of its accounts.
+
+ghost use Rattle.std.specs.Prelude.{◌≡◌, ◌++◌, ◌∷◌, ◌≤◌, ℕ, [], None, true, map, All, IfErr, IfOk, OnOk};
+ghost use Rattle.std.specs.Map.{keys_of};
+ghost use Rattle.workers_core.specs.Handled.{IsHandled, IsRecharged, told_of};
+ghost use Rattle.workers_core.specs.Served.{AreServed};
+ghost use Rattle.cap_values.specs.Orders.{Release, orders_of};
+ghost use Rattle.workers_core.specs.Verdicts.{Recharges, Rejects, strays, verdict};
+ghost use Rattle.workers_core.specs.Workers.{IsReady, accounts_of, holding, number_of, posts_of, seats_of, setup_of, talks_of};
+
+use crate::acting::{act, make_room, pass, tell};
+use crate::case::judge;
+use crate::talk::Talk;
+use crate::{Answer, Post, RunSetup, WorkerFault};
+use shared_account::{Gate, Shared};
+use std::alloc::Global;
+use std::collections::BTreeMap;
+use std::sync::Wait;
+
+/// A worker. It has a seat at each account of the run, keeps the dialogue of each of its calls to
+/// its end and beyond, and keeps the posts that it has handled.
+#[derive(Drop)]
+pub struct Worker<'s, S: Shared> {
+    number: u32,
+    setup: &'s RunSetup,
+    accounts: &'s [S],
+    seats: Vec<S::Seat>,
+    talks: BTreeMap<u64, Talk>,
+    posts: Vec<Post>,
+}
+
+impl<'s, S: Shared> Worker<'s, S> {
+    /// The worker of this number, without dialogues: the accounts of the setup and the worker's
+    /// seat at each, both in the ascending order of the accounts. It takes no memory yet.
+    pub fn new(
+        alloc: Global,
+        number: u32,
+        setup: &'s RunSetup,
+        accounts: &'s [S],
+        seats: Vec<S::Seat>,
+    ) -> Result<Worker<'s, S>, WorkerFault>
+        requires accounts { map (λ account. (S.terms account).number) accounts.now
+            ≡ keys_of setup.now.accounts }
+        requires keys { map S.key_of seats.items ≡ map S.key accounts.now }
+        requires numbers { All (λ seat. S.number_of seat ≡ number) seats.items }
+        requires empty { All (λ seat. S.mine_of seat ≡ []) seats.items }
+        ensures number { IfOk result (λ worker. number_of worker ≡ number) }
+        ensures setup { IfOk result (λ worker. setup_of worker ≡ setup.now) }
+        ensures accounts { IfOk result (λ worker. accounts_of worker ≡ accounts.now) }
+        ensures seats { IfOk result (λ worker. seats_of worker ≡ seats.items) }
+        ensures talks { IfOk result (λ worker. (call : ℕ) → talks_of worker call ≡ None) }
+        ensures posts { IfOk result (λ worker. posts_of worker ≡ []) }
+        ensures ready { IfOk result (λ worker. IsReady (λ account. (S.terms account).number)
+            S.key S.key_of S.number_of S.mine_of worker) }
+        ensures fault { IfErr result (λ fault. fault ≡ WorkerFault.OutOfMemory) }
+    {
+        Ok(Worker {
+            number,
+            setup,
+            accounts,
+            seats,
+            talks: BTreeMap::new(alloc),
+            posts: Vec::new(alloc),
+        })
+    }
+
+    /// Handles a post.
+    ///
+    /// A stray is a recharge of an unknown account, a message that the dialogue of its call refuses,
+    /// among them each further InitialDp, and any other message of a call without dialogue: it sends
+    /// no operation and asks no account. An InitialDp from a number that is no subscriber's is
+    /// answered by ReleaseCall(21), and no account is asked. Else the dialogue of the call talks with
+    /// its account until it sends operations or is done, or the account is recharged.
+    ///
+    /// `OutOfMemory` comes before any account is asked; `GateClosed` where a gate is closed. After
+    /// either the worker isn't used again.
+    pub fn handle<R: Wait, G: Gate>(
+        &mut self,
+        rt: &R,
+        post: Post,
+        gate: &G,
+    ) -> Result<Answer, WorkerFault>
+        requires ready { IsReady (λ account. (S.terms account).number) S.key S.key_of S.number_of
+            S.mine_of self.old }
+        ensures number { IfOk result (λ answer. answer.number ≡ post.number) }
+        ensures handled { IfOk result (λ answer. IsHandled (setup_of self.old) (map
+            S.number_of (seats_of self.old)) post
+            (holding S.mine_of self.old) (holding S.mine_of self.new) (told_of answer)) }
+        ensures stray { IfOk result (λ answer. answer.stray ≡ strays
+            (verdict (setup_of self.old) (talks_of self.old) post)) }
+        ensures stray_asks_nothing { IfOk result (λ answer. answer.stray ≡ true
+            → map S.mine_of (seats_of self.new) ≡ map S.mine_of (seats_of self.old)) }
+        ensures rejected { IfOk result
+            (λ answer. verdict (setup_of self.old) (talks_of self.old) post ≡ Rejects
+            → (orders_of answer.ops.items ≡ Release 21 ∷ []) × (map S.mine_of (seats_of self.new)
+            ≡ map S.mine_of (seats_of self.old))) }
+        ensures recharged { IfOk result (λ answer. (place amount : ℕ)
+            → verdict (setup_of self.old) (talks_of self.old) post ≡ Recharges place amount
+            → IsRecharged (map S.number_of (seats_of self.old)) place amount
+            (holding S.mine_of self.old) (holding S.mine_of self.new) (told_of answer)) }
+        ensures posts { OnOk result (posts_of self.new ≡ posts_of self.old ++ post ∷ []) }
+        ensures setup { OnOk result (setup_of self.new ≡ setup_of self.old) }
+        ensures accounts { OnOk result (accounts_of self.new ≡ accounts_of self.old) }
+        ensures worker { OnOk result (number_of self.new ≡ number_of self.old) }
+        ensures keys { OnOk result (map S.key_of (seats_of self.new) ≡ map
+            S.key_of (seats_of self.old)) }
+        ensures numbers { OnOk result (map S.number_of (seats_of self.new) ≡ map
+            S.number_of (seats_of self.old)) }
+        ensures ready { OnOk result (IsReady (λ account. (S.terms account).number) S.key S.key_of
+            S.number_of S.mine_of self.new) }
+        ensures memory { result ≡ Err WorkerFault.OutOfMemory → map S.mine_of (seats_of self.new)
+            ≡ map S.mine_of (seats_of self.old) }
+        ensures gate { result ≡ Err WorkerFault.GateClosed → G.may_shut gate.now }
+    {
+        let case = judge(self.setup, &self.talks, &post);
+        self.posts.push(post)?;
+        make_room(&mut self.talks, &case)?;
+        pass(gate, self.number, &post.body)?;
+        let accounts = self.accounts;
+        let answer = act(
+            rt,
+            gate,
+            accounts,
+            &mut self.seats,
+            &mut self.talks,
+            post.number,
+            case,
+        )?;
+        tell(gate, self.number, &post.body);
+        Ok(answer)
+    }
+
+    /// Its seats, in the order in which they were given.
+    pub fn seats(&self) -> &[S::Seat]
+        ensures { result.now ≡ seats_of self.now }
+    {
+        self.seats.as_slice()
+    }
+
+    /// Hands back the seats in the order in which they were given, and the posts that were handled,
+    /// in order. It takes no memory.
+    pub fn finish(self) -> (Vec<S::Seat>, Vec<Post>)
+        requires ready { IsReady (λ account. (S.terms account).number) S.key S.key_of S.number_of
+            S.mine_of self }
+        ensures seats { result.0.items ≡ seats_of self.entry }
+        ensures posts { result.1.items ≡ posts_of self.entry }
+        ensures served { AreServed (keys_of (setup_of self.entry).accounts) result.1.items (map
+            S.mine_of result.0.items) }
+    {
+        let Worker { seats, posts, .. } = self;
+        (seats, posts)
+    }
+}
