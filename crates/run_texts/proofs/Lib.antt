@@ -1,0 +1,7 @@
+pub mod FieldLemmas
+pub mod FitLemmas
+pub mod IndexLemmas
+pub mod Known
+pub mod PartLemmas
+pub mod ScriptLemmas
+pub mod SetupLemmas

@@ -1,0 +1,137 @@
+-- What was said so far, and what the rows that are left say, is what the script says.
+use Rattle.std.proofs.Common.{◌≡◌, ◌==◌, ◌+◌, ◌<◌, ◌≤◌, ℕ, Bool, true, false, List, [], ◌∷◌, ◌++◌, length, get_or, take, Result, Ok, Err, refl, sym, ap, append_assoc, append-nil, reverse, arith}
+use Rattle.std.specs.Prelude.{◌||◌, ◌&&◌, cond, map, nat_le}
+use Rattle.std.specs.BTreeSet.{BTreeSet, Updates, contains}
+use Rattle.std.specs.Ordering.{is_eq, nat_cmp}
+use Rattle.std.proofs.lemmas.Bool.Decides.{nat_tests}
+use Rattle.std.proofs.lemmas.List.{map-append, reverse-append}
+use Rattle.std.proofs.lemmas.List.Folds.{list_any_more}
+use Rattle.table_core.specs.Judging.{with_front}
+use Rattle.table_core.specs.declared.fault.RowKind.{RowKind}
+use Rattle.table_core.specs.declared.fault.RowKind.TheVariants as kind
+use Rattle.run_texts.specs.Happenings.{Event, Happens, Meets, Recharges, Starts}
+use Rattle.run_texts.specs.Scripts.{is_header, is_started, row_at, rows_from, script_of, starts}
+use Rattle.run_texts.specs.Setups.{has_account}
+use Rattle.run_texts.specs.Starts.{HasAccounts, HasCalls, Notes}
+use Rattle.run_texts.specs.Views.{are_in_order, event_of}
+use Rattle.run_texts.specs.declared.script_row.ScriptRow.{ScriptRow}
+
+abbrev Fields : Type 0
+Fields = List (List ℕ)
+
+abbrev Accounts : Type 0
+Accounts = List (ℕ × ℕ)
+
+-- ---- the sets
+
+is_eq-nat_cmp : (s t : ℕ) → is_eq (nat_cmp s t) ≡ (s == t)
+is_eq-nat_cmp s t = grind (arith, nat_tests)
+
+one_more : (new old : Bool) → cond new true old ≡ (old || new)
+one_more true true = refl
+one_more true false = refl
+one_more false true = refl
+one_more false false = refl
+
+no_more : (old : Bool) → old ≡ (old || false)
+no_more true = refl
+no_more false = refl
+
+pub accounts_more : (before after : BTreeSet ℕ) (accounts : Accounts) (i : ℕ) (d : ℕ × ℕ) → i < length accounts → HasAccounts before (take i accounts)
+    → Updates nat_cmp before after (get_or accounts i d).0 true → HasAccounts after (take (i + 1) accounts)
+accounts_more before after accounts i d within has updates q =
+    rw (updates.0 q, is_eq-nat_cmp (get_or accounts i d).0 q, has q, list_any_more (λ (other : ℕ × ℕ). other.0 == q) accounts i d within)
+    (one_more ((get_or accounts i d).0 == q) (has_account q (take i accounts)))
+
+call_more : (before after : BTreeSet ℕ) (what : Happens) (q : ℕ) (is : Bool) → Notes what before after → contains nat_cmp before q ≡ is
+    → contains nat_cmp after q ≡ (is || starts q what)
+call_more before after (Starts call calling called) q is notes has = rw (notes.0 q, is_eq-nat_cmp call q, has) (one_more (call == q) is)
+call_more before after (Meets call event) q is notes has = rw (notes, has) (no_more is)
+call_more before after (Recharges account amount) q is notes has = rw (notes, has) (no_more is)
+
+calls_more : (before after : BTreeSet ℕ) (event : Event) (earlier : List Event) → Notes event.what before after → HasCalls before earlier → HasCalls after (event ∷ earlier)
+calls_more before after event earlier notes has q = call_more before after event.what q (is_started q earlier) notes (has q)
+
+-- ---- the rows so far, newest first
+
+abbrev pub earlier_of : List ScriptRow → List Event
+earlier_of rows = reverse (map event_of rows)
+
+events_more : (rows : List ScriptRow) (row : ScriptRow) → map event_of (rows ++ row ∷ []) ≡ map event_of rows ++ event_of row ∷ []
+events_more rows row = map-append event_of rows (row ∷ [])
+
+pub earlier_more : (rows : List ScriptRow) (row : ScriptRow) → earlier_of (rows ++ row ∷ []) ≡ event_of row ∷ earlier_of rows
+earlier_more rows row = rw (events_more rows row) (reverse-append (map event_of rows) (event_of row ∷ []))
+
+pub calls_after : (before after : BTreeSet ℕ) (rows : List ScriptRow) (row : ScriptRow) → Notes (event_of row).what before after → HasCalls before (earlier_of rows)
+    → HasCalls after (earlier_of (rows ++ row ∷ []))
+calls_after before after rows row notes has = rw (earlier_more rows row) (calls_more before after (event_of row) (earlier_of rows) notes has)
+
+-- ---- the order of the moments
+
+-- the moment of the last row
+abbrev pub end_of : ℕ → List ScriptRow → ℕ
+end_of start [] = start
+end_of start (row ∷ rows) = end_of row.at rows
+
+pub end_more : (start : ℕ) (rows : List ScriptRow) (row : ScriptRow) → end_of start (rows ++ row ∷ []) ≡ row.at
+end_more start [] row = refl
+end_more start (first ∷ rows) row = end_more first.at rows row
+
+both : (a b : Bool) → (a && b) ≡ true → (a ≡ true) × (b ≡ true)
+both true b is = (refl, is)
+both false b is = cc
+
+in_turn : (a b : Bool) → a ≡ true → b ≡ true → (a && b) ≡ true
+in_turn true b one two = two
+in_turn false b one two = cc
+
+pub order_more : (start : ℕ) (rows : List ScriptRow) (row : ScriptRow) → are_in_order start rows ≡ true → end_of start rows ≤ row.at
+    → are_in_order start (rows ++ row ∷ []) ≡ true
+order_more start [] row ordered after = in_turn (nat_le start row.at) true (grind (arith, nat_tests, after)) refl
+order_more start (first ∷ rows) row ordered after =
+    let parts = both (nat_le start first.at) (are_in_order first.at rows) ordered in
+    in_turn (nat_le start first.at) (are_in_order first.at (rows ++ row ∷ [])) parts.0 (order_more first.at rows row parts.1 after)
+
+-- ---- the rows
+
+with_front-nil : {X E : Type 0} (rest : Result (List X) E) → with_front [] rest ≡ rest
+with_front-nil (Ok rest) = refl
+with_front-nil (Err why) = refl
+
+with_front-with_front : {X E : Type 0} (xs ys : List X) (rest : Result (List X) E) → with_front xs (with_front ys rest) ≡ with_front (xs ++ ys) rest
+with_front-with_front xs ys (Ok rest) = ap Ok (sym (append_assoc xs ys rest))
+with_front-with_front xs ys (Err why) = refl
+
+pub header_missing : (accounts : Accounts) (rows : List Fields) → rows ≡ [] → script_of accounts rows ≡ Err (record { row = 1; kind = kind.Header })
+unfolding script_of
+header_missing accounts rows none = rw none refl
+
+pub header_wrong : (accounts : Accounts) (rows rest : List Fields) (header : Fields) → rows ≡ header ∷ rest → is_header header ≡ false
+    → script_of accounts rows ≡ Err (record { row = 1; kind = kind.Header })
+unfolding script_of
+header_wrong accounts rows rest header rows_are wrong = rw (rows_are, wrong) refl
+
+pub header_read : (accounts : Accounts) (rows rest : List Fields) (header : Fields) → rows ≡ header ∷ rest → is_header header ≡ true
+    → script_of accounts rows ≡ with_front [] (rows_from accounts 2 [] rest)
+unfolding script_of
+header_read accounts rows rest header rows_are right = rw (rows_are, right) (sym (with_front-nil _))
+
+pub row_read : (accounts : Accounts) (number : ℕ) (so_far : List ScriptRow) (row : ScriptRow) (left rest : List Fields) (fields : Fields)
+    → left ≡ fields ∷ rest → row_at accounts number (earlier_of so_far) fields ≡ Ok (event_of row)
+    → with_front (map event_of so_far) (rows_from accounts number (earlier_of so_far) left)
+    ≡ with_front (map event_of (so_far ++ row ∷ [])) (rows_from accounts (number + 1) (earlier_of (so_far ++ row ∷ [])) rest)
+unfolding rows_from
+row_read accounts number so_far row left rest fields left_are is =
+    rw (left_are, is, earlier_more so_far row, events_more so_far row) (with_front-with_front (map event_of so_far) (event_of row ∷ []) _)
+
+pub row_refused : (accounts : Accounts) (number : ℕ) (earlier : List Event) (events : List Event) (left rest : List Fields) (fields : Fields) (why : RowKind)
+    → left ≡ fields ∷ rest → row_at accounts number earlier fields ≡ Err why
+    → with_front events (rows_from accounts number earlier left) ≡ Err (record { row = number; kind = why })
+unfolding rows_from
+row_refused accounts number earlier events left rest fields why left_are is = rw (left_are, is) refl
+
+pub none_left : (accounts : Accounts) (number : ℕ) (earlier : List Event) (events : List Event) (left : List Fields) → left ≡ []
+    → with_front events (rows_from accounts number earlier left) ≡ Ok events
+unfolding rows_from
+none_left accounts number earlier events left none = rw none (ap Ok (append-nil events))

@@ -1,0 +1,9 @@
+pub mod Fits
+pub mod Happenings
+pub mod Indexes
+pub mod Parties
+pub mod Parts
+pub mod Scripts
+pub mod Setups
+pub mod Starts
+pub mod Views

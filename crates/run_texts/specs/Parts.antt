@@ -1,0 +1,42 @@
+-- The three parts of the input of a run.
+use Rattle.std.specs.Prelude.{◌==◌, ◌||◌, ◌∷◌, ◌++◌, ℕ, Bool, List, [], Option, None, Some, codes, if◌then◌else◌}
+use Rattle.std.specs.Str.{bytes_eq}
+
+-- the lines with c put before the first of them
+abbrev pub begun_by : ℕ → List (List ℕ) → List (List ℕ)
+begun_by c [] = (c ∷ []) ∷ []
+begun_by c (line ∷ lines) = (c ∷ line) ∷ lines
+
+-- the lines of a text, each with the LF that ends it; only the last may have none
+unfoldable pub lines_of : List ℕ → List (List ℕ)
+lines_of [] = []
+lines_of (c ∷ text) = if c == 10 then (c ∷ []) ∷ lines_of text else begun_by c (lines_of text)
+
+-- whether a line divides two parts: `%%` alone, ended by LF, CR LF or the end of the text
+abbrev pub is_divider : List ℕ → Bool
+is_divider line = bytes_eq line (codes "%%\n") || bytes_eq line (codes "%%\r\n") || bytes_eq line (codes "%%")
+
+-- the parts with a line put before the first of them
+abbrev pub after_line : List ℕ → List (List ℕ) → List (List ℕ)
+after_line line [] = line ∷ []
+after_line line (part ∷ parts) = (line ++ part) ∷ parts
+
+-- what stands between the dividers of some lines, which is one part more than there are dividers
+unfoldable pub parts_of : List (List ℕ) → List (List ℕ)
+parts_of [] = [] ∷ []
+parts_of (line ∷ lines) = if is_divider line then [] ∷ parts_of lines else after_line line (parts_of lines)
+
+-- the texts of a run
+pub record Texts : Type 0 where
+  pub tariff : List ℕ
+  pub setup : List ℕ
+  pub script : List ℕ
+
+-- three parts, no less and no more
+abbrev pub texts_in : List (List ℕ) → Option Texts
+texts_in (tariff ∷ setup ∷ script ∷ []) = Some (record { tariff = tariff; setup = setup; script = script })
+texts_in parts = None
+
+-- the texts that an input has
+abbrev pub texts_of : List ℕ → Option Texts
+texts_of input = texts_in (parts_of (lines_of input))

@@ -1,0 +1,120 @@
+-- The meaning of a script: what happens in a run, or the first fault.
+use Rattle.std.specs.Prelude.{◌+◌, ◌==◌, ◌&&◌, ◌||◌, ℕ, Bool, false, not, List, [], ◌∷◌, length, Result, Ok, Err, if◌then◌else◌, nat_lt, codes}
+use Rattle.cap_values.specs.declared.leg.Leg.TheVariants as leg
+use Rattle.ssf_core.specs.declared.bcsm_event.BcsmEvent.{BcsmEvent}
+use Rattle.ssf_core.specs.declared.bcsm_event.BcsmEvent.TheVariants as bcsm
+use Rattle.table_core.specs.Fields.{has_word, is_blank, number_in}
+use Rattle.table_core.specs.Judging.{after, after_row, with_front}
+use Rattle.table_core.specs.declared.fault.RowFault.{RowFault}
+use Rattle.table_core.specs.declared.fault.RowKind.{RowKind}
+use Rattle.table_core.specs.declared.fault.RowKind.TheVariants as kind
+use Rattle.run_texts.specs.Happenings.{Event, Happens, Meets, Recharges, Starts}
+use Rattle.run_texts.specs.Setups.{account_in, amount_in, has_account, party_in}
+use Rattle.run_texts.specs.declared.word.Word.{Word}
+use Rattle.run_texts.specs.declared.word.Word.TheVariants as word
+
+-- ---- words
+
+-- `moment,call,what,x,y`
+abbrev pub is_header : List (List ℕ) → Bool
+is_header fields =
+    (length fields == 5) && has_word fields 0 (codes "moment") && has_word fields 1 (codes "call") && has_word fields 2 (codes "what")
+    && has_word fields 3 (codes "x") && has_word fields 4 (codes "y")
+
+-- the word in a row
+abbrev pub word_in : List (List ℕ) → Result Word RowKind
+word_in fields =
+    if has_word fields 2 (codes "start") then Ok word.Start else
+    if has_word fields 2 (codes "answer") then Ok (word.Event bcsm.Answer) else
+    if has_word fields 2 (codes "busy") then Ok (word.Event bcsm.Busy) else
+    if has_word fields 2 (codes "noanswer") then Ok (word.Event bcsm.NoAnswer) else
+    if has_word fields 2 (codes "routefail") then Ok (word.Event bcsm.RouteSelectFailure) else
+    if has_word fields 2 (codes "abandon") then Ok (word.Event bcsm.Abandon) else
+    if has_word fields 2 (codes "disconnect") then Ok word.Disconnect else
+    if has_word fields 2 (codes "recharge") then Ok word.Recharge else Err kind.What
+
+-- ---- fields
+
+-- what happens, where the fields that must be empty are
+abbrev pub when_blank : Bool → Happens → Result Happens RowKind
+when_blank blank what = if blank then Ok what else Err kind.Empty
+
+-- a call: any number of 64 bits
+abbrev pub call_in : List (List ℕ) → Result ℕ RowKind
+call_in fields = number_in fields 1 18446744073709551615
+
+-- a call starts: x is the calling and y the called party
+abbrev pub start_in : List (List ℕ) → Result Happens RowKind
+start_in fields = after (call_in fields) (λ call. after (party_in fields 3) (λ calling. after (party_in fields 4) (λ called. Ok (Starts call calling called))))
+
+-- an event of a call that has no more to say
+abbrev pub event_in : List (List ℕ) → BcsmEvent → Result Happens RowKind
+event_in fields event = after (call_in fields) (λ call. when_blank (is_blank fields 3 && is_blank fields 4) (Meets call event))
+
+-- the party that hangs up: the calling one at leg 1, the called one at leg 2
+abbrev pub leg_of : ℕ → Result BcsmEvent RowKind
+leg_of number = if number == 1 then Ok (bcsm.Disconnect leg.One) else if number == 2 then Ok (bcsm.Disconnect leg.Two) else Err kind.Number
+
+-- a party of a call hangs up: x is its leg
+abbrev pub disconnect_in : List (List ℕ) → Result Happens RowKind
+disconnect_in fields = after (call_in fields) (λ call. after (number_in fields 3 2) (λ number. after (leg_of number) (λ event. when_blank (is_blank fields 4) (Meets call event))))
+
+-- without a call, the account x is recharged by the amount y
+abbrev pub recharge_in : List (List ℕ) → Result Happens RowKind
+recharge_in fields = after (account_in fields 3) (λ account. after (amount_in fields 4) (λ amount. when_blank (is_blank fields 1) (Recharges account amount)))
+
+-- what happens in a row with this word
+abbrev pub happens_in : List (List ℕ) → Word → Result Happens RowKind
+happens_in fields word.Start = start_in fields
+happens_in fields (word.Event event) = event_in fields event
+happens_in fields word.Disconnect = disconnect_in fields
+happens_in fields word.Recharge = recharge_in fields
+
+-- what happens in a row, and its moment of 0 to 10^12
+abbrev pub read_in : List (List ℕ) → Result Event RowKind
+read_in fields = after (word_in fields) (λ word. after (number_in fields 0 1000000000000) (λ at. after (happens_in fields word) (λ what. Ok (record { at = at; what = what }))))
+
+-- ---- rows; the earlier ones newest first
+
+-- the moment of the row before, 0 at the first
+abbrev pub last_moment : List Event → ℕ
+last_moment [] = 0
+last_moment (event ∷ earlier) = event.at
+
+-- whether a call starts
+abbrev pub starts : ℕ → Happens → Bool
+starts call (Starts other calling called) = other == call
+starts call (Meets other event) = false
+starts call (Recharges account amount) = false
+
+-- whether a call has started
+abbrev pub is_started : ℕ → List Event → Bool
+is_started call [] = false
+is_started call (event ∷ earlier) = is_started call earlier || starts call event.what
+
+-- a call starts once; only a call that has started meets anything, and only an account of the setup is recharged
+abbrev pub judged_by : List (ℕ × ℕ) → List Event → Event → Happens → Result Event RowKind
+judged_by accounts earlier event (Starts call calling called) = if is_started call earlier then Err kind.Repeated else Ok event
+judged_by accounts earlier event (Meets call met) = if is_started call earlier then Ok event else Err kind.Unknown
+judged_by accounts earlier event (Recharges account amount) = if has_account account accounts then Ok event else Err kind.Unknown
+
+-- a row may stand after the earlier ones; no moment lies below the one before
+abbrev pub judged : List (ℕ × ℕ) → List Event → Event → Result Event RowKind
+judged accounts earlier event = if nat_lt event.at (last_moment earlier) then Err kind.Order else judged_by accounts earlier event event.what
+
+-- what the row of this number says, after the earlier rows; there are 1,000,000 rows at most, the header not counted
+unfoldable pub row_at : List (ℕ × ℕ) → ℕ → List Event → List (List ℕ) → Result Event RowKind
+row_at accounts number earlier fields =
+    if not (length fields == 5) then Err kind.Csv else if nat_lt 1000001 number then Err kind.TooManyRows else
+    after (read_in fields) (judged accounts earlier)
+
+-- what the rows from this number on say
+unfoldable pub rows_from : List (ℕ × ℕ) → ℕ → List Event → List (List (List ℕ)) → Result (List Event) RowFault
+rows_from accounts number earlier [] = Ok []
+rows_from accounts number earlier (fields ∷ rows) =
+    after_row number (row_at accounts number earlier fields) (λ event. with_front (event ∷ []) (rows_from accounts (number + 1) (event ∷ earlier) rows))
+
+-- what a script says, where these are the accounts of the setup
+unfoldable pub script_of : List (ℕ × ℕ) → List (List (List ℕ)) → Result (List Event) RowFault
+script_of accounts [] = Err (record { row = 1; kind = kind.Header })
+script_of accounts (header ∷ rows) = if is_header header then rows_from accounts 2 [] rows else Err (record { row = 1; kind = kind.Header })

@@ -1,0 +1,21 @@
+-- What a reader of a script keeps beside the rows, so that it needs no scan of them.
+use Rattle.std.specs.Prelude.{◌≡◌, ℕ, List, true}
+use Rattle.std.specs.BTreeSet.{BTreeSet, Updates, contains}
+use Rattle.std.specs.Ordering.{nat_cmp}
+use Rattle.run_texts.specs.Happenings.{Event, Happens, Meets, Recharges, Starts}
+use Rattle.run_texts.specs.Scripts.{is_started}
+use Rattle.run_texts.specs.Setups.{has_account}
+
+-- a set has the accounts of a setup, and no others
+abbrev pub HasAccounts : BTreeSet ℕ → List (ℕ × ℕ) → Type 0
+HasAccounts set accounts = (account : ℕ) → contains nat_cmp set account ≡ has_account account accounts
+
+-- a set has the calls that have started, and no others
+abbrev pub HasCalls : BTreeSet ℕ → List Event → Type 0
+HasCalls set earlier = (call : ℕ) → contains nat_cmp set call ≡ is_started call earlier
+
+-- a call that starts comes into the set
+abbrev pub Notes : Happens → BTreeSet ℕ → BTreeSet ℕ → Type 0
+Notes (Starts call calling called) old new = Updates nat_cmp old new call true
+Notes (Meets call event) old new = new ≡ old
+Notes (Recharges account amount) old new = new ≡ old

@@ -1,0 +1,38 @@
+-- What the values of the code say.
+use Rattle.std.specs.Prelude.{◌&&◌, ℕ, Bool, true, List, [], ◌∷◌, map, nat_le}
+use Rattle.cap_values.specs.NumberDigits.{digits_of}
+use Rattle.cap_values.specs.declared.number.Number.{Number}
+use Rattle.run_texts.specs.Happenings.{Event, Happens, Meets, Recharges, Starts}
+use Rattle.run_texts.specs.Parts.{Texts}
+use Rattle.run_texts.specs.Setups.{Setup}
+use Rattle.run_texts.specs.declared.parts.Parts.{Parts}
+use Rattle.run_texts.specs.declared.script_row.Happening.{Happening}
+use Rattle.run_texts.specs.declared.script_row.Happening.TheVariants as happening
+use Rattle.run_texts.specs.declared.script_row.ScriptRow.{ScriptRow}
+use Rattle.run_texts.specs.declared.setup_rows.SetupRows.{SetupRows}
+
+-- the texts of an input
+abbrev pub texts_of_parts : Parts → Texts
+texts_of_parts parts = record { tariff = parts.tariff.now; setup = parts.setup.now; script = parts.script.now }
+
+-- the digits of the subscribers, each with its account
+abbrev pub with_digits : List (Number × ℕ) → List (List ℕ × ℕ)
+with_digits subscribers = map (λ subscriber. (digits_of subscriber.0, subscriber.1)) subscribers
+
+-- what was read of a setup
+abbrev pub setup_in : SetupRows → Setup
+setup_in rows = record { accounts = rows.accounts.items; subscribers = with_digits rows.subscribers.items }
+
+abbrev pub happens_of : Happening → Happens
+happens_of (happening.Start call calling called) = Starts call (digits_of calling) (digits_of called)
+happens_of (happening.Meets call event) = Meets call event
+happens_of (happening.Recharge account amount) = Recharges account amount
+
+-- what a row of a script says
+abbrev pub event_of : ScriptRow → Event
+event_of row = record { at = row.at; what = happens_of row.what }
+
+-- no moment lies below the one before it, nor the first one below the start
+abbrev pub are_in_order : ℕ → List ScriptRow → Bool
+are_in_order start [] = true
+are_in_order start (row ∷ rows) = nat_le start row.at && are_in_order row.at rows

@@ -1,0 +1,44 @@
+//! Accounts, amounts and parties in the fields of a row.
+
+ghost use Rattle.std.specs.Prelude.{◌≡◌, ◌<◌, ◌≤◌, length, IfOk};
+ghost use Rattle.std.specs.Result.{result_map_both};
+ghost use Rattle.cap_values.specs.NumberDigits.{digits_of};
+ghost use Rattle.csv.specs.Records.{fields_of};
+ghost use Rattle.run_texts.specs.Setups.{account_in, amount_in, party_in};
+
+use account_core::MAX_MONEY;
+use cap_values::Number;
+use csv::ByteRecord;
+use std::str;
+use table_core::{RowKind, field, number};
+
+/// The number of an account: a decimal of 32 bits.
+pub(crate) fn account(row: &ByteRecord, place: usize) -> Result<u32, RowKind>
+    requires { place < length (fields_of row.now) }
+    ensures { result ≡ account_in (fields_of row.now) place }
+{
+    Ok(number(row, place, u64::from(u32::MAX))? as u32)
+}
+
+/// An amount of money: a decimal of 0 to `MAX_MONEY`.
+pub(crate) fn amount(row: &ByteRecord, place: usize) -> Result<u64, RowKind>
+    requires { place < length (fields_of row.now) }
+    ensures value { result ≡ amount_in (fields_of row.now) place }
+    ensures within { IfOk result (λ amount. amount ≤ 1000000000000000) }
+{
+    number(row, place, MAX_MONEY)
+}
+
+/// The number of a party.
+pub(crate) fn party(row: &ByteRecord, place: usize) -> Result<Number, RowKind>
+    requires { place < length (fields_of row.now) }
+    ensures { result_map_both digits_of (λ kind. kind) result ≡ party_in (fields_of row.now) place }
+{
+    let Ok(text) = str::from_utf8(field(row, place)) else {
+        return Err(RowKind::Number);
+    };
+    match Number::new(text) {
+        Ok(party) => Ok(party),
+        Err(_) => Err(RowKind::Number),
+    }
+}

@@ -1,0 +1,112 @@
+//! What happens in a row of a script, by its word.
+
+ghost use Rattle.std.specs.Prelude.{◌≡◌, ◌≤◌, IfOk, length};
+ghost use Rattle.std.specs.Result.{result_map_both};
+ghost use Rattle.csv.specs.Records.{fields_of};
+ghost use Rattle.run_texts.specs.Scripts.{call_in, disconnect_in, event_in, happens_in, leg_of, read_in, recharge_in, start_in};
+ghost use Rattle.run_texts.specs.Views.{event_of, happens_of};
+
+use crate::fields::{account, amount, party};
+use crate::script_row::LAST_MOMENT;
+use crate::word::{Word, read_word};
+use crate::{Happening, ScriptRow};
+use cap_values::Leg;
+use csv::ByteRecord;
+use ssf_core::BcsmEvent;
+use table_core::{RowKind, is_blank, number};
+
+/// What a row of five fields says, wherever it stands.
+pub(crate) fn read_row(row: &ByteRecord) -> Result<ScriptRow, RowKind>
+    requires { length (fields_of row.now) ≡ 5 }
+    ensures says { result_map_both event_of (λ kind. kind) result ≡ read_in (fields_of row.now) }
+    ensures in_range { IfOk result (λ row. row.at ≤ 1000000000000) }
+{
+    let word = read_word(row)?;
+    let at = number(row, 0, LAST_MOMENT)?;
+    let what = read_happening(row, word)?;
+    Ok(ScriptRow { at, what })
+}
+
+fn read_happening(row: &ByteRecord, word: Word) -> Result<Happening, RowKind>
+    requires { length (fields_of row.now) ≡ 5 }
+    ensures { result_map_both happens_of (λ kind. kind) result
+        ≡ happens_in (fields_of row.now) word }
+{
+    match word {
+        Word::Start => read_start(row),
+        Word::Event(event) => read_event(row, event),
+        Word::Disconnect => read_disconnect(row),
+        Word::Recharge => read_recharge(row),
+    }
+}
+
+fn read_call(row: &ByteRecord) -> Result<u64, RowKind>
+    requires { length (fields_of row.now) ≡ 5 }
+    ensures { result ≡ call_in (fields_of row.now) }
+{
+    number(row, 1, u64::MAX)
+}
+
+fn read_start(row: &ByteRecord) -> Result<Happening, RowKind>
+    requires { length (fields_of row.now) ≡ 5 }
+    ensures { result_map_both happens_of (λ kind. kind) result ≡ start_in (fields_of row.now) }
+{
+    let call = read_call(row)?;
+    let calling = party(row, 3)?;
+    let called = party(row, 4)?;
+    Ok(Happening::Start {
+        call,
+        calling,
+        called,
+    })
+}
+
+fn read_event(row: &ByteRecord, event: BcsmEvent) -> Result<Happening, RowKind>
+    requires { length (fields_of row.now) ≡ 5 }
+    ensures { result_map_both happens_of (λ kind. kind) result
+        ≡ event_in (fields_of row.now) event }
+{
+    let call = read_call(row)?;
+    if is_blank(row, 3) && is_blank(row, 4) {
+        Ok(Happening::Meets { call, event })
+    } else {
+        Err(RowKind::Empty)
+    }
+}
+
+fn read_disconnect(row: &ByteRecord) -> Result<Happening, RowKind>
+    requires { length (fields_of row.now) ≡ 5 }
+    ensures { result_map_both happens_of (λ kind. kind) result ≡ disconnect_in (fields_of row.now) }
+{
+    let call = read_call(row)?;
+    let leg = number(row, 3, 2)?;
+    let event = disconnect(leg)?;
+    if is_blank(row, 4) {
+        Ok(Happening::Meets { call, event })
+    } else {
+        Err(RowKind::Empty)
+    }
+}
+
+fn disconnect(leg: u64) -> Result<BcsmEvent, RowKind>
+    ensures { result ≡ leg_of leg }
+{
+    match leg {
+        1 => Ok(BcsmEvent::Disconnect(Leg::One)),
+        2 => Ok(BcsmEvent::Disconnect(Leg::Two)),
+        _ => Err(RowKind::Number),
+    }
+}
+
+fn read_recharge(row: &ByteRecord) -> Result<Happening, RowKind>
+    requires { length (fields_of row.now) ≡ 5 }
+    ensures { result_map_both happens_of (λ kind. kind) result ≡ recharge_in (fields_of row.now) }
+{
+    let account = account(row, 3)?;
+    let amount = amount(row, 4)?;
+    if is_blank(row, 1) {
+        Ok(Happening::Recharge { account, amount })
+    } else {
+        Err(RowKind::Empty)
+    }
+}

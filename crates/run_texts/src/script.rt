@@ -1,0 +1,162 @@
+//! The script of a run: what happens, row after row.
+
+ghost use Rattle.std.specs.Prelude.{◌≡◌, ◌≤◌, All, IfOk, IfSome, OnOk, length, map, true};
+ghost use Rattle.std.specs.Result.{result_map_both};
+ghost use Rattle.csv.specs.Records.{fields_of};
+ghost use Rattle.table_core.specs.Faults.{Gives};
+ghost use Rattle.table_core.specs.Rows.{rows_of};
+ghost use Rattle.run_texts.specs.Scripts.{is_header, judged_by, last_moment, row_at, script_of};
+ghost use Rattle.run_texts.specs.Starts.{HasAccounts, HasCalls, Notes};
+ghost use Rattle.run_texts.specs.Views.{are_in_order, event_of, happens_of};
+
+use crate::happenings::read_row;
+use crate::{Happening, ScriptRow};
+use csv::ByteRecord;
+use ssf_core::Moment;
+use std::alloc::{AllocError, Global};
+use std::collections::BTreeSet;
+use std::io::Read;
+use table_core::{RowFault, RowKind, Rows, TableFault, is_word};
+
+/// The last row that a script may have, its header counted: 1,000,000 rows besides it.
+const LAST_ROW: u32 = 1_000_001;
+
+/// What a script says, a table with the header `moment,call,what,x,y`, where these are the accounts
+/// of the setup.
+///
+/// `what` is `start` (x the calling and y the called party), `answer`, `busy`, `noanswer`,
+/// `routefail`, `abandon`, `disconnect` (x the leg, 1 or 2) or `recharge` (without a call, x the
+/// account and y the amount); fields not named are empty.
+///
+/// Rows are judged in order as they are read, a row in this order: `Csv` where it hasn't five
+/// fields; `TooManyRows` past 1,000,000 rows; `What` where its word is another one; `Number` where
+/// a field isn't a decimal, or digits, within its range; `Empty` where a field that must be empty
+/// isn't; `Order` where its moment lies below the one before; `Repeated` where a call starts again;
+/// `Unknown` where no earlier row starts its call, or the setup hasn't its account. `Header` is the
+/// fault of row 1.
+pub fn read_script<I: Read + Drop>(
+    alloc: Global,
+    accounts: &[(u32, u64)],
+    reader: I,
+) -> Result<Vec<ScriptRow>, TableFault>
+    ensures means { IfSome (I.remaining reader) (λ text.
+        Gives (λ rows. map event_of rows.items) result (script_of accounts.now (rows_of text))) }
+    ensures in_range { IfOk result (λ rows. All (λ row. row.at ≤ 1000000000000) rows.items) }
+    ensures in_order { IfOk result (λ rows. are_in_order 0 rows.items ≡ true) }
+{
+    let mut table = Rows::new(alloc, reader);
+    if !table.next_row()? || !is_header(table.row()) {
+        return Err(TableFault::Row(RowFault {
+            row: 1,
+            kind: RowKind::Header,
+        }));
+    }
+    let listed = numbers_of(alloc, accounts)?;
+    let mut calls = BTreeSet::new(alloc);
+    let mut rows = Vec::new(alloc);
+    let mut last = 0;
+    let mut number = 2;
+    while table.next_row()? {
+        let row = match judge(&listed, &calls, last, number, table.row()) {
+            Ok(row) => row,
+            Err(kind) => return Err(TableFault::Row(RowFault { row: number, kind })),
+        };
+        note(&mut calls, row.what)?;
+        rows.push(row)?;
+        last = row.at;
+        number += 1;
+    }
+    Ok(rows)
+}
+
+fn is_header(row: &ByteRecord) -> bool
+    ensures { result ≡ is_header (fields_of row.now) }
+{
+    row.len() == 5
+        && is_word(row, 0, "moment")
+        && is_word(row, 1, "call")
+        && is_word(row, 2, "what")
+        && is_word(row, 3, "x")
+        && is_word(row, 4, "y")
+}
+
+/// The numbers of these accounts.
+fn numbers_of(alloc: Global, accounts: &[(u32, u64)]) -> Result<BTreeSet<u32>, AllocError>
+    ensures { IfOk result (λ numbers. HasAccounts numbers accounts.now) }
+{
+    let mut numbers = BTreeSet::new(alloc);
+    for account in accounts {
+        numbers.insert(account.0)?;
+    }
+    Ok(numbers)
+}
+
+/// What the row of this number says, after a row of the moment `last` and the calls that have
+/// started.
+#[tactic(auto, unfolding(crate::specs::Scripts::row_at))]
+fn judge(
+    accounts: &BTreeSet<u32>,
+    calls: &BTreeSet<u64>,
+    last: Moment,
+    number: u32,
+    row: &ByteRecord,
+) -> Result<ScriptRow, RowKind>
+    ensures says { (listed : _) (earlier : _) → HasAccounts accounts.now listed
+        → HasCalls calls.now earlier → last ≡ last_moment earlier
+        → result_map_both event_of (λ kind. kind) result
+        ≡ row_at listed number earlier (fields_of row.now) }
+    ensures early { IfOk result (λ row. number ≤ 1000001) }
+    ensures in_range { IfOk result (λ row. row.at ≤ 1000000000000) }
+    ensures in_order { IfOk result (λ row. last ≤ row.at) }
+{
+    if row.len() != 5 {
+        return Err(RowKind::Csv);
+    }
+    if number > LAST_ROW {
+        return Err(RowKind::TooManyRows);
+    }
+    let row = read_row(row)?;
+    if row.at < last {
+        return Err(RowKind::Order);
+    }
+    check(accounts, calls, row.what)?;
+    Ok(row)
+}
+
+/// Refuses a call that starts again, an event of a call that hasn't started, and a recharge of no
+/// account.
+fn check(accounts: &BTreeSet<u32>, calls: &BTreeSet<u64>, what: Happening) -> Result<(), RowKind>
+    ensures { (listed : _) (earlier : _) (event : _) → HasAccounts accounts.now listed
+        → HasCalls calls.now earlier
+        → result_map_both (λ done. event) (λ kind. kind) result
+        ≡ judged_by listed earlier event (happens_of what) }
+{
+    match what {
+        Happening::Start { call, .. } => {
+            if calls.contains(&call) {
+                return Err(RowKind::Repeated);
+            }
+        }
+        Happening::Meets { call, .. } => {
+            if !calls.contains(&call) {
+                return Err(RowKind::Unknown);
+            }
+        }
+        Happening::Recharge { account, .. } => {
+            if !accounts.contains(&account) {
+                return Err(RowKind::Unknown);
+            }
+        }
+    }
+    Ok(())
+}
+
+/// Puts a call that starts into the set.
+fn note(calls: &mut BTreeSet<u64>, what: Happening) -> Result<(), AllocError>
+    ensures { OnOk result (Notes (happens_of what) calls.old calls.new) }
+{
+    if let Happening::Start { call, .. } = what {
+        calls.insert(call)?;
+    }
+    Ok(())
+}
