@@ -1,0 +1,137 @@
+-- Workers are started and waited for, one after the other.
+use Rattle.std.proofs.Common.{◌≡◌, ◌≢◌, ℕ, ◌+◌, List, [], ◌∷◌, ◌++◌, length, map, refl, ap, sym, subst, ◌∙◌, arith, suc, Option, Some, None}
+use Rattle.std.specs.Option.{option_or}
+use mathlib.Core.Logic.{inl, inr}
+use Rattle.std.proofs.lemmas.List.{append-nil, append_assoc, map-append}
+use Rattle.workers_core.specs.Setups.{Setup}
+use Rattle.runs_core.specs.Sending.{AreLeftBy, ArePromised, IsLeftBy, IsPromised, MayBeShut, promises_of, sent_by}
+use Rattle.std.specs.Map.{keys_of}
+use Rattle.shared_account.specs.Terms.{Terms}
+use Rattle.runs_core.specs.Closing.{AreLeftFrom, IsLeftFrom}
+use Rattle.runs_core.specs.Teams.{IsLeft, Reads, terms_of, terms_with}
+use Rattle.runs_core.specs.declared.line.Left.{Left}
+use Rattle.runs_core.specs.declared.line.Line.{Line}
+use Rattle.runs_core.specs.declared.returns.Returns.{Returns}
+use Rattle.runs_core.specs.declared.run_fault.RunFault.{RunFault}
+use Rattle.runs_core.specs.declared.run_fault.RunFault.TheVariants as out
+
+pub promised_more : {S G T : Type 0} (setup : Setup) (accounts : List S) (gate : G) (number : ℕ) (promises : List (Returns S G T)) (promise : Returns S G T)
+    → ArePromised setup accounts gate number promises → IsPromised setup accounts gate (number + length promises) promise → ArePromised setup accounts gate number (promises ++ promise ∷ [])
+promised_more setup accounts gate number [] promise before one =
+    let here : number + 0 ≡ number = omega (arith) in
+    (subst (λ n. IsPromised setup accounts gate n promise) here one, tt)
+promised_more setup accounts gate number (first ∷ promises) promise before one =
+    let here : number + suc (length promises) ≡ number + 1 + length promises = omega (arith) in
+    (before.0, promised_more setup accounts gate (number + 1) promises promise before.1 (subst (λ n. IsPromised setup accounts gate n promise) here one))
+
+left_more : {K S G T : Type 0} (read : Reads K T) (key : S → K) (promises : List (Returns S G T)) (left : List (Left S T)) (promise : Returns S G T) (one : Left S T)
+    → AreLeftBy read key promises left → IsLeftBy read key promise one → AreLeftBy read key (promises ++ promise ∷ []) (left ++ one ∷ [])
+left_more read key [] [] promise one before is = (is, tt)
+left_more read key [] (first ∷ left) promise one before is = absurd before
+left_more read key (first ∷ promises) [] promise one before is = absurd before
+left_more read key (p ∷ promises) (l ∷ left) promise one before is = (before.0, left_more read key promises left promise one before.1 is)
+
+shut_more : {S G T : Type 0} (may_shut : G → Type 0) (promises : List (Returns S G T)) (promise : Returns S G T) → MayBeShut may_shut promises → MayBeShut may_shut (promises ++ promise ∷ [])
+shut_more may_shut [] promise shut = absurd shut
+shut_more may_shut (first ∷ promises) promise (inl here) = inl here
+shut_more may_shut (first ∷ promises) promise (inr later) = inr (shut_more may_shut promises promise later)
+
+shut_last : {S G T : Type 0} (may_shut : G → Type 0) (promises : List (Returns S G T)) (promise : Returns S G T) → may_shut promise.gate.now → MayBeShut may_shut (promises ++ promise ∷ [])
+shut_last may_shut [] promise shut = inl shut
+shut_last may_shut (first ∷ promises) promise shut = inr (shut_last may_shut promises promise shut)
+
+-- where all gates are one, it is that one
+pub shut_by : {S G T : Type 0} (may_shut : G → Type 0) (setup : Setup) (accounts : List S) (gate : G) (number : ℕ) (promises : List (Returns S G T))
+    → ArePromised setup accounts gate number promises → MayBeShut may_shut promises → may_shut gate
+shut_by may_shut setup accounts gate number [] promised shut = absurd shut
+shut_by may_shut setup accounts gate number (promise ∷ promises) promised (inl here) = subst may_shut promised.0.gate_is here
+shut_by may_shut setup accounts gate number (promise ∷ promises) promised (inr later) = shut_by may_shut setup accounts gate (number + 1) promises promised.1 later
+
+-- the workers before a place have left, or some have failed
+pub record IsFinishing {K S G T : Type 0} (read : Reads K T) (key : S → K) (may_shut : G → Type 0) (lines rest : List (Line S G T)) (left : List (Left S T)) (fault : Option RunFault) : Type 0 where
+  pub done : List (Line S G T)
+  pub split : done ++ rest ≡ lines
+  pub posts : fault ≡ None → map (λ l. l.posts.items) left ≡ map sent_by done
+  pub left_by : fault ≡ None → AreLeftBy read key (promises_of done) left
+  pub shut : fault ≡ Some out.GateClosed → MayBeShut may_shut (promises_of done)
+  pub workers : fault ≢ Some out.Workers
+
+pub none_finished : {K S G T : Type 0} (read : Reads K T) (key : S → K) (may_shut : G → Type 0) (lines rest : List (Line S G T)) (left : List (Left S T)) → rest ≡ lines → left ≡ []
+    → IsFinishing read key may_shut lines rest left None
+none_finished {G = G} read key may_shut lines rest left whole none = record {
+  done = [];
+  split = whole;
+  posts = λ _. ap (map (λ l. l.posts.items)) none;
+  left_by = λ _. subst (AreLeftBy {G = G} read key []) (sym none) tt;
+  shut = λ never. absurd (cc);
+  workers = λ never. absurd (cc);
+}
+
+-- one more has left
+pub one_finished : {K S G T : Type 0} (read : Reads K T) (key : S → K) (may_shut : G → Type 0) (lines rest : List (Line S G T)) (left more : List (Left S T)) (fault : Option RunFault) (line : Line S G T) (one : Left S T)
+    → IsFinishing read key may_shut lines (line ∷ rest) left fault → more ≡ left ++ one ∷ [] → one.posts.items ≡ sent_by line → IsLeftBy read key line.child.promise one
+    → IsFinishing read key may_shut lines rest more fault
+one_finished read key may_shut lines rest left more fault line one before grown posts is = record {
+  done = before.done ++ line ∷ [];
+  split = append_assoc before.done (line ∷ []) rest ∙ before.split;
+  posts = λ none. ap (map (λ l. l.posts.items)) grown ∙ map-append (λ l. l.posts.items) left (one ∷ []) ∙ ap (λ ps. ps ++ one.posts.items ∷ []) (before.posts none)
+      ∙ ap (λ p. map sent_by before.done ++ p ∷ []) posts ∙ sym (map-append sent_by before.done (line ∷ []));
+  left_by = λ none. rw (grown, map-append (λ l. l.child.promise) before.done (line ∷ [])) (left_more read key (promises_of before.done) left line.child.promise one (before.left_by none) is);
+  shut = λ closed. rw (map-append (λ l. l.child.promise) before.done (line ∷ [])) (shut_more may_shut (promises_of before.done) line.child.promise (before.shut closed));
+  workers = before.workers;
+}
+
+-- one more has failed
+pub one_failed : {K S G T : Type 0} (read : Reads K T) (key : S → K) (may_shut : G → Type 0) (lines rest : List (Line S G T)) (left more : List (Left S T)) (fault : Option RunFault) (line : Line S G T) (why : RunFault)
+    → IsFinishing read key may_shut lines (line ∷ rest) left fault → (why ≡ out.GateClosed → may_shut line.child.promise.gate.now) → why ≢ out.Workers
+    → IsFinishing read key may_shut lines rest more (option_or fault (Some why))
+one_failed read key may_shut lines rest left more None line why before shut named = record {
+  done = before.done ++ line ∷ [];
+  split = append_assoc before.done (line ∷ []) rest ∙ before.split;
+  posts = λ none. absurd (cc);
+  left_by = λ none. absurd (cc);
+  shut = λ closed. let is : why ≡ out.GateClosed = cc in
+      rw (map-append (λ l. l.child.promise) before.done (line ∷ [])) (shut_last may_shut (promises_of before.done) line.child.promise (shut is));
+  workers = λ closed. let is : why ≡ out.Workers = cc in named is;
+}
+one_failed read key may_shut lines rest left more (Some first) line why before shut named = record {
+  done = before.done ++ line ∷ [];
+  split = append_assoc before.done (line ∷ []) rest ∙ before.split;
+  posts = λ none. absurd (cc);
+  left_by = λ none. absurd (cc);
+  shut = λ closed. rw (map-append (λ l. l.child.promise) before.done (line ∷ [])) (shut_more may_shut (promises_of before.done) line.child.promise (before.shut closed));
+  workers = before.workers;
+}
+
+-- all have left
+pub all_finished : {K S G T : Type 0} (read : Reads K T) (key : S → K) (may_shut : G → Type 0) (lines : List (Line S G T)) (left : List (Left S T)) (fault : Option RunFault)
+    → (finishing : IsFinishing read key may_shut lines [] left fault) → finishing.done ≡ lines
+all_finished read key may_shut lines left fault finishing = sym (append-nil finishing.done) ∙ finishing.split
+
+left_as : {K S T : Type 0} (read : Reads K T) (keys : List K) (numbers : List ℕ) (number : ℕ) (one : Left S T) → IsLeft read keys numbers number one.posts.items one.seats.items
+    → IsLeftFrom read keys numbers one
+left_as read keys numbers number one is = record { of_accounts = is.of_accounts; served = is.served }
+
+-- what the workers of one run have left
+pub left_from : {K S G T : Type 0} (read : Reads K T) (key : S → K) (setup : Setup) (accounts : List S) (gate : G) (number : ℕ) (promises : List (Returns S G T)) (left : List (Left S T))
+    → ArePromised setup accounts gate number promises → AreLeftBy read key promises left → AreLeftFrom read (map key accounts) (keys_of setup.accounts) left
+left_from read key setup accounts gate number [] [] promised by = tt
+left_from read key setup accounts gate number [] (one ∷ left) promised by = absurd by
+left_from read key setup accounts gate number (promise ∷ promises) [] promised by = absurd by
+left_from read key setup accounts gate number (promise ∷ promises) (one ∷ left) promised by = (
+  rw (sym promised.0.accounts_are, sym promised.0.setup_is)
+      (left_as read (map key promise.accounts.now) (keys_of promise.setup.now.accounts) promise.number one by.0),
+  left_from read key setup accounts gate (number + 1) promises left promised.1 by.1,
+)
+
+-- the numbers of accounts that were opened are those of the setup
+pub numbers_of : {S : Type 0} (terms : S → Terms) (limit workers : ℕ) (setup : List (ℕ × ℕ)) (accounts : List S) → map terms accounts ≡ terms_of limit workers setup
+    → map (λ account. (terms account).number) accounts ≡ keys_of setup
+numbers_of terms limit workers [] [] same = refl
+numbers_of terms limit workers [] (account ∷ accounts) same = absurd (cc)
+numbers_of terms limit workers (first ∷ setup) [] same = absurd (cc)
+numbers_of terms limit workers (first ∷ setup) (account ∷ accounts) same =
+    let its : terms account ≡ terms_with limit workers first = cc in
+    let number : (terms account).number ≡ first.0 = ap (λ (t : Terms). t.number) its in
+    let rest : map terms accounts ≡ terms_of limit workers setup = cc in
+    rw (number) (ap (λ numbers. first.0 ∷ numbers) (numbers_of terms limit workers setup accounts rest))

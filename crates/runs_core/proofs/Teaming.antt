@@ -1,0 +1,91 @@
+-- The seats of accounts that are opened go to the teams of the workers.
+use Rattle.std.proofs.Common.{◌≡◌, ◌<◌, ℕ, ◌+◌, Bool, true, false, List, [], ◌∷◌, ◌++◌, length, map, refl, ap, sym, ◌∙◌, arith, zero, suc, take}
+use Rattle.std.specs.Prelude.{◌==◌, ◌&&◌, All, HoldsAt, replicate}
+use Rattle.std.proofs.Math.ListN.{get_or}
+use Rattle.std.proofs.lemmas.Bool.Decides.{nat_tests}
+use Rattle.std.proofs.lemmas.List.{length-map, length-replicate, map-append, take_more}
+use Rattle.std.proofs.lemmas.List.Elements.{All-head, All-nil, All-push, All-tail}
+use Rattle.shared_account.specs.Seats.{are_numbered}
+use Rattle.shared_account.specs.Terms.{Terms}
+use Rattle.runs_core.specs.Dealing.{dealt}
+use Rattle.runs_core.specs.Teams.{AreFresh, IsFresh, IsNew, Reads, terms_of, terms_with}
+use Rattle.runs_core.proofs.Deals.{dealt_length}
+
+pub first_by : (here rest : Bool) → here && rest ≡ true → (here ≡ true) × (rest ≡ true)
+first_by true rest are = (refl, are)
+first_by false rest are = absurd (cc)
+
+same_number : (s t : ℕ) → (s == t) ≡ true → s ≡ t
+same_number s t is = grind (arith, nat_tests, is)
+
+pair : {s t u v : ℕ} → s ≡ t → u ≡ v → Path (ℕ × ℕ) (s, u) (t, v)
+pair one other = cc
+
+-- ---- opening
+
+fresh_team : {K T : Type 0} (read : Reads K T) (number : ℕ) → IsFresh read [] number []
+fresh_team read number = record {
+  of_accounts = refl;
+  numbered = All-nil (λ seat. read.number seat ≡ number);
+  empty = All-nil (λ seat. read.mine seat ≡ []);
+}
+
+fresh_teams : {K T : Type 0} (read : Reads K T) (number workers : ℕ) → AreFresh read [] number (replicate workers [])
+fresh_teams read number zero = tt
+fresh_teams read number (suc workers) = (fresh_team read number, fresh_teams read (number + 1) workers)
+
+more_fresh : {K T : Type 0} (read : Reads K T) (keys : List K) (key : K) (number : ℕ) (team : List T) (seat : T) → IsFresh read keys number team
+    → read.key seat ≡ key → read.number seat ≡ number → read.mine seat ≡ [] → IsFresh read (keys ++ key ∷ []) number (team ++ seat ∷ [])
+more_fresh read keys key number team seat fresh of_account numbered empty = record {
+  of_accounts = map-append read.key team (seat ∷ []) ∙ ap (λ keys. keys ++ read.key seat ∷ []) fresh.of_accounts ∙ ap (λ key. keys ++ key ∷ []) of_account;
+  numbered = All-push (λ seat. read.number seat ≡ number) team seat fresh.numbered numbered;
+  empty = All-push (λ seat. read.mine seat ≡ []) team seat fresh.empty empty;
+}
+
+dealt_fresh : {K T : Type 0} (read : Reads K T) (keys : List K) (key : K) (number : ℕ) (teams : List (List T)) (seats : List T) → AreFresh read keys number teams
+    → length seats ≡ length teams → are_numbered number (map read.number seats) ≡ true → All (λ seat. read.key seat ≡ key) seats → All (λ seat. read.mine seat ≡ []) seats
+    → AreFresh read (keys ++ key ∷ []) number (dealt teams seats)
+dealt_fresh read keys key number [] seats fresh enough numbered of_account empty = tt
+dealt_fresh read keys key number (team ∷ teams) [] fresh enough numbered of_account empty = absurd (omega (arith, enough))
+dealt_fresh read keys key number (team ∷ teams) (seat ∷ seats) fresh enough numbered of_account empty =
+    let parts = first_by (read.number seat == number) (are_numbered (number + 1) (map read.number seats)) numbered in (
+      more_fresh read keys key number team seat fresh.0 (All-head (λ seat. read.key seat ≡ key) seat seats of_account) (same_number _ _ parts.0) (All-head (λ seat. read.mine seat ≡ []) seat seats empty),
+      dealt_fresh read keys key (number + 1) teams seats fresh.1 (omega (arith, enough)) parts.1 (All-tail (λ seat. read.key seat ≡ key) seat seats of_account) (All-tail (λ seat. read.mine seat ≡ []) seat seats empty),
+    )
+
+-- the accounts and the teams before any account is opened
+pub none_opened : {K T S V : Type 0} (read : Reads K T) (terms : S → Terms) (key : S → K) (inside : V → List T) (limit workers : ℕ) (all : List (ℕ × ℕ)) (accounts : List S) (teams : List V)
+    → accounts ≡ [] → map inside teams ≡ replicate workers []
+    → (map terms accounts ≡ terms_of limit workers (take 0 all)) × (length teams ≡ workers) × AreFresh read (map key accounts) 0 (map inside teams)
+none_opened read terms key inside limit workers all accounts teams none are =
+    rw (none, are)
+    (refl, sym (length-map teams inside) ∙ ap length are ∙ length-replicate workers [], fresh_teams read 0 workers)
+
+terms_more : (limit workers : ℕ) (all : List (ℕ × ℕ)) (place : ℕ) (number opening : ℕ) → place < length all
+    → HoldsAt (λ account. account.0 ≡ number) all place → HoldsAt (λ account. account.1 ≡ opening) all place
+    → terms_of limit workers (take (place + 1) all)
+    ≡ terms_of limit workers (take place all) ++ record { number = number; opening = opening; limit = limit; seats = workers } ∷ []
+terms_more limit workers all place number opening within numbered opened =
+    let make = λ (account : ℕ × ℕ). terms_with limit workers account in
+    ap (map make) (take_more all place (0, 0) within) ∙ map-append make (take place all) (get_or all place (0, 0) ∷ [])
+    ∙ ap (λ account. map make (take place all) ++ make account ∷ []) (pair (numbered (0, 0)) (opened (0, 0)))
+
+-- one account more is opened
+pub one_opened : {K T S V : Type 0} (read : Reads K T) (terms : S → Terms) (key : S → K) (inside : V → List T) (limit workers : ℕ) (all : List (ℕ × ℕ)) (place number opening : ℕ)
+    (accounts : List S) (teams dealt_teams : List V) (account : S) (seats : List T)
+    → place < length all → HoldsAt (λ account. account.0 ≡ number) all place → HoldsAt (λ account. account.1 ≡ opening) all place
+    → (map terms accounts ≡ terms_of limit workers (take place all)) × (length teams ≡ workers) × AreFresh read (map key accounts) 0 (map inside teams)
+    → terms account ≡ record { number = number; opening = opening; limit = limit; seats = workers } → IsNew read (key account) workers seats
+    → map inside dealt_teams ≡ dealt (map inside teams) seats
+    → (map terms (accounts ++ account ∷ []) ≡ terms_of limit workers (take (place + 1) all)) × (length dealt_teams ≡ workers)
+    × AreFresh read (map key (accounts ++ account ∷ [])) 0 (map inside dealt_teams)
+one_opened read terms key inside limit workers all place number opening accounts teams dealt_teams account seats within numbered opened before is new deals =
+    let parts = first_by (length (map read.number seats) == workers) (are_numbered 0 (map read.number seats)) new.numbers in
+    let enough : length seats ≡ length (map inside teams) =
+    sym (length-map seats read.number) ∙ same_number _ _ parts.0 ∙ sym before.1 ∙ sym (length-map teams inside) in (
+      map-append terms accounts (account ∷ []) ∙ ap (λ ts. ts ++ terms account ∷ []) before.0
+          ∙ ap (λ t. terms_of limit workers (take place all) ++ t ∷ []) is ∙ sym (terms_more limit workers all place number opening within numbered opened),
+      sym (length-map dealt_teams inside) ∙ ap length deals ∙ dealt_length (map inside teams) seats ∙ length-map teams inside ∙ before.1,
+      rw (deals, map-append key accounts (account ∷ []))
+          (dealt_fresh read (map key accounts) (key account) 0 (map inside teams) seats before.2 enough parts.1 new.of_account new.empty),
+    )

@@ -1,0 +1,34 @@
+use Rattle.std.proofs.Common.{arith, ◌∷◌, [], map, refl, sym, ◌∙◌}
+use Rattle.std.proofs.lemmas.List.{append_assoc, length-map, map-append}
+use Rattle.runs_core.specs.Teams.{reads}
+use Rattle.runs_core.proofs.Rows.{books_served, map_twice, rows_for, rows_count, rows_dealt, rows_of, team_count}
+use Rattle.runs_core.proofs.closing.close_accounts.Goals as goal
+
+pub loop-one-init : goal.loop-one-init
+loop-one-init g c =
+    rw (c.in_ok-handled.ensures.items, c.in_ok-rows.ensures, c.len.ensures, c.into_iter-one-iterator.ensures.into_iter_gives.0)
+    (rows_for (reads g.S.Shared.key_of g.S.Shared.number_of g.S.Shared.mine_of) g.S.Shared.key g.S.Shared.terms c.args.accounts.items _ (omega (arith, c.args.accounts.ok)), c.requires.left, refl)
+
+pub deal-requires : goal.deal-requires
+deal-requires g c =
+    let left = rw c.in-Some.ensures.steps.0 at c.loop-one.invariant in
+    let read = reads g.S.Shared.key_of g.S.Shared.number_of g.S.Shared.mine_of in
+    team_count read g.S.Shared.key c.in-Some.one.seats.items c.args.accounts.items left.1.0.of_accounts
+    ∙ sym (rows_count read g.S.Shared.key g.S.Shared.terms c.args.accounts.items _ _ left.0) ∙ length-map c.loop-one.rows.items (λ row. row.items)
+
+pub loop-one-preserved : goal.loop-one-preserved
+loop-one-preserved g c =
+    let left = rw c.in-Some.ensures.steps.0 at c.loop-one.invariant in
+    rw (c.in_ok-push.ensures.items, c.in_ok-deal.ensures, map-append (λ posts. posts.items) c.loop-one.handled.items (c.in-Some.one.posts ∷ [])) (
+      rows_dealt (reads g.S.Shared.key_of g.S.Shared.number_of g.S.Shared.mine_of) g.S.Shared.key g.S.Shared.terms c.args.accounts.items _ _ c.in-Some.one.posts.items c.in-Some.one.seats.items left.0 left.1.0.of_accounts left.1.0.served,
+      left.1.1,
+      append_assoc (map (λ posts. posts.items) c.loop-one.handled.items) (c.in-Some.one.posts.items ∷ []) _ ∙ left.2,
+    )
+
+pub close_each-requires-clause-rows : goal.close_each-requires-clause-rows
+close_each-requires-clause-rows g c = λ _ _. rows_of (reads g.S.Shared.key_of g.S.Shared.number_of g.S.Shared.mine_of) g.S.Shared.key g.S.Shared.terms c.args.accounts.items _ _ c.loop-one.invariant.0
+
+pub returns-clause-served : goal.returns-clause-served
+returns-clause-served g c =
+    books_served (reads g.S.Shared.key_of g.S.Shared.number_of g.S.Shared.mine_of) g.S.Shared.key g.S.Shared.terms c.args.accounts.items _ (map (λ row. row.items) c.loop-one.rows.items) c.in_ok-books.books.items
+    c.loop-one.invariant.0 c.in_ok-books.ensures.terms (c.in_ok-books.ensures.own ∙ map_twice _ _ c.loop-one.rows.items)

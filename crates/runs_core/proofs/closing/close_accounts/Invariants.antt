@@ -1,0 +1,12 @@
+use Rattle.std.proofs.Common.{◌≡◌, ◌++◌, map}
+use Rattle.std.specs.Vec.Iter.{into_iter_items}
+use Rattle.runs_core.proofs.Rows.{AreRows}
+use Rattle.runs_core.specs.Closing.{AreLeftFrom}
+use Rattle.runs_core.specs.Teams.{reads}
+use Rattle.runs_core.proofs.closing.close_accounts.Given as goal
+
+abbrev pub invariant-loop-one : goal.invariant-loop-one
+invariant-loop-one g l =
+    AreRows (reads g.S.Shared.key_of g.S.Shared.number_of g.S.Shared.mine_of) g.S.Shared.key g.S.Shared.terms l.accounts.items (map (λ posts. posts.items) l.handled.items) (map (λ row. row.items) l.rows.items)
+    × AreLeftFrom (reads g.S.Shared.key_of g.S.Shared.number_of g.S.Shared.mine_of) (map g.S.Shared.key l.accounts.items) (map (λ account. (g.S.Shared.terms account).number) l.accounts.items) (into_iter_items l.one-iterator)
+    × (map (λ posts. posts.items) l.handled.items ++ map (λ one. one.posts.items) (into_iter_items l.one-iterator) ≡ map (λ one. one.posts.items) l.fn.left.items)

@@ -1,0 +1,16 @@
+use Rattle.std.proofs.Common.{map, sym, subst}
+use Rattle.runs_core.proofs.Finishing.{numbers_of}
+use Rattle.runs_core.specs.Closing.{AreLeftFrom}
+use Rattle.runs_core.specs.Teams.{reads}
+use Rattle.runs_core.proofs.serving.serve_over.Goals as goal
+
+pub run_workers-requires-clause-numbered : goal.run_workers-requires-clause-numbered
+run_workers-requires-clause-numbered g c = λ _ _.
+    rw (c.as_slice.ensures.value)
+    (numbers_of g.S.Shared.terms c.args.setup.now.limit c.args.workers c.args.setup.now.accounts c.in_ok-accounts.field-0.accounts.items c.in_ok-accounts.ensures.accounts)
+
+pub close_accounts-requires-clause-left : goal.close_accounts-requires-clause-left
+close_accounts-requires-clause-left g c = λ _ _.
+    subst (λ numbers. AreLeftFrom (reads g.S.Shared.key_of g.S.Shared.number_of g.S.Shared.mine_of) (map g.S.Shared.key c.in_ok-accounts.field-0.accounts.items) numbers c.in_ok-left.left.items)
+    (sym (numbers_of g.S.Shared.terms c.args.setup.now.limit c.args.workers c.args.setup.now.accounts c.in_ok-accounts.field-0.accounts.items c.in_ok-accounts.ensures.accounts))
+    (rw (c.as_slice.ensures.value) at c.in_ok-left.ensures.left)

@@ -1,0 +1,36 @@
+-- The books of a run, and where their entries come from.
+use Rattle.std.specs.Prelude.{◌≡◌, ℕ, List, [], ◌∷◌, length, map, All}
+use Rattle.account_core.specs.Events.{Event}
+use Rattle.shared_account.specs.Closed.{Closed}
+use Rattle.shared_account.specs.Terms.{Terms}
+use Rattle.workers_core.specs.Served.{AreServed, IsServed}
+use Rattle.workers_core.specs.declared.post.Post.{Post}
+use Rattle.runs_core.specs.Teams.{Reads}
+use Rattle.runs_core.specs.declared.line.Left.{Left}
+
+-- what a book shows of its account: its number, the credit that it was opened with, how many entries it may have, and how many seats it has
+abbrev pub terms_shown : Closed → Terms
+terms_shown book = record { number = book.account; opening = book.opening; limit = book.limit; seats = length book.own }
+
+-- each row of seats is of its account
+abbrev pub AreOf : {K T : Type 0} → (T → K) → List K → List (List T) → Type 0
+AreOf key_of [] [] = Unit {0}
+AreOf key_of [] (row ∷ rows) = ⊥
+AreOf key_of (key ∷ keys) [] = ⊥
+AreOf key_of (key ∷ keys) (row ∷ rows) = All (λ seat. key_of seat ≡ key) row × AreOf key_of keys rows
+
+-- what workers have left: each a seat of each account, in order, with entries that come from the worker's posts
+pub record IsLeftFrom {K S T : Type 0} (read : Reads K T) (keys : List K) (numbers : List ℕ) (one : Left S T) : Type 0 where
+  pub of_accounts : map read.key one.seats.items ≡ keys
+  pub served : AreServed numbers one.posts.items (map read.mine one.seats.items)
+
+abbrev pub AreLeftFrom : {K S T : Type 0} → Reads K T → List K → List ℕ → List (Left S T) → Type 0
+AreLeftFrom read keys numbers [] = Unit {0}
+AreLeftFrom read keys numbers (one ∷ left) = IsLeftFrom read keys numbers one × AreLeftFrom read keys numbers left
+
+-- the lists of an account's seats come from the posts of the workers, each from those of its own
+abbrev pub AreServedBy : ℕ → List (List Post) → List (List Event) → Type 0
+AreServedBy account [] [] = Unit {0}
+AreServedBy account [] (mine ∷ lists) = ⊥
+AreServedBy account (posts ∷ handled) [] = ⊥
+AreServedBy account (posts ∷ handled) (mine ∷ lists) = IsServed account posts mine × AreServedBy account handled lists

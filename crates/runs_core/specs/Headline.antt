@@ -1,0 +1,33 @@
+-- What holds of every book of a run, in words that know nothing of how accounts answer.
+use Rattle.std.specs.Prelude.{◌≡◌, ◌+◌, ◌≤◌, ℕ, false, Some, List, ◌++◌, reverse}
+use Rattle.account_core.specs.Answers.{IsLegal}
+use Rattle.account_core.specs.Available.{credits, taken_by_all}
+use Rattle.account_core.specs.Events.{Event}
+use Rattle.account_core.specs.Known.{known}
+use Rattle.account_core.specs.Laws.{AreReported, IsClosed, last_report, told}
+use Rattle.shared_account.specs.Closed.{Closed}
+use Rattle.tariff_core.specs.Price.{price_at}
+use Rattle.tariff_core.specs.Rates.{Rates}
+
+-- no balance is negative: at no place do all calls take more than the opening and the credits accepted so far
+abbrev pub IsSolvent : Closed → Type 0
+IsSolvent book = (history later : List Event) → book.history ≡ history ++ later → taken_by_all (reverse history) ≤ book.opening + credits (reverse history)
+
+-- each call that was returned, and never forfeited, has paid exactly the price of its times
+abbrev pub PaysTheTariff : Closed → Type 0
+PaysTheTariff book = (call : ℕ) (plan : Rates) → IsClosed call plan (reverse book.history)
+    → told call (reverse book.history) ≡ Some (price_at plan (known call (reverse book.history)).times)
+
+-- and these are the times that its last report states
+abbrev pub ReportsItsTimes : Closed → Type 0
+ReportsItsTimes book = (call : ℕ) → (known call (reverse book.history)).forfeited ≡ false
+    → AreReported (last_report call (reverse book.history)) (known call (reverse book.history)).times
+
+pub record IsRight (book : Closed) : Type 0 where
+  pub solvent : IsSolvent book
+  pub paid : PaysTheTariff book
+  pub times : ReportsItsTimes book
+
+-- a book whose history is legal is right; each book of a run has one, and the opening credit of its account
+abbrev pub BooksAreRight : Type 0
+BooksAreRight = (book : Closed) → book.opening ≤ 1000000000000000 → IsLegal book.opening book.history → IsRight book

@@ -1,0 +1,52 @@
+-- The lines of the workers of a run: what was sent by them, and what their threads promise.
+use Rattle.std.specs.Prelude.{◌≡◌, ◌+◌, ◌⊎◌, ℕ, List, [], ◌∷◌, length, map}
+use Rattle.std.specs.Map.{keys_of}
+use Rattle.runs_core.specs.Mails.{posts_in}
+use Rattle.runs_core.specs.Shares.{HaveHandled}
+use Rattle.runs_core.specs.Teams.{IsLeft, Reads}
+use Rattle.runs_core.specs.declared.line.Left.{Left}
+use Rattle.runs_core.specs.declared.line.Line.{Line}
+use Rattle.runs_core.specs.declared.returns.Returns.{Returns}
+use Rattle.workers_core.specs.Ends.{sent}
+use Rattle.workers_core.specs.Setups.{Setup}
+use Rattle.workers_core.specs.declared.post.Body.{Body}
+use Rattle.workers_core.specs.declared.post.Post.{Post}
+
+-- the posts that were sent by a line
+abbrev pub sent_by : {S G T : Type 0} → Line S G T → List Post
+sent_by line = posts_in (sent line.outbox)
+
+-- each worker was sent its share of what was given
+abbrev pub AreSent : {S G T : Type 0} → List (ℕ × Body) → List (Line S G T) → Type 0
+AreSent given lines = HaveHandled (length lines) given (map sent_by lines)
+
+-- what the threads of the workers promise
+abbrev pub promises_of : {S G T : Type 0} → List (Line S G T) → List (Returns S G T)
+promises_of lines = map (λ line. line.child.promise) lines
+
+-- promises of the workers of one run, from this number on
+pub record IsPromised {S G T : Type 0} (setup : Setup) (accounts : List S) (gate : G) (number : ℕ) (promise : Returns S G T) : Type 0 where
+  pub setup_is : promise.setup.now ≡ setup
+  pub accounts_are : promise.accounts.now ≡ accounts
+  pub gate_is : promise.gate.now ≡ gate
+  pub number_is : promise.number ≡ number
+
+abbrev pub ArePromised : {S G T : Type 0} → Setup → List S → G → ℕ → List (Returns S G T) → Type 0
+ArePromised setup accounts gate number [] = Unit {0}
+ArePromised setup accounts gate number (promise ∷ promises) = IsPromised setup accounts gate number promise × ArePromised setup accounts gate (number + 1) promises
+
+-- one of the gates may answer false
+abbrev pub MayBeShut : {S G T : Type 0} → (G → Type 0) → List (Returns S G T) → Type 0
+MayBeShut may_shut [] = ⊥
+MayBeShut may_shut (promise ∷ promises) = may_shut promise.gate.now ⊎ MayBeShut may_shut promises
+
+-- a worker has left what its thread promised
+abbrev pub IsLeftBy : {K S G T : Type 0} → Reads K T → (S → K) → Returns S G T → Left S T → Type 0
+IsLeftBy read key promise left =
+    IsLeft read (map key promise.accounts.now) (keys_of promise.setup.now.accounts) promise.number left.posts.items left.seats.items
+
+abbrev pub AreLeftBy : {K S G T : Type 0} → Reads K T → (S → K) → List (Returns S G T) → List (Left S T) → Type 0
+AreLeftBy read key [] [] = Unit {0}
+AreLeftBy read key [] (one ∷ left) = ⊥
+AreLeftBy read key (promise ∷ promises) [] = ⊥
+AreLeftBy read key (promise ∷ promises) (one ∷ left) = IsLeftBy read key promise one × AreLeftBy read key promises left

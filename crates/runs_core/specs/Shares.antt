@@ -1,0 +1,36 @@
+-- What a driver gives, and which worker handles it.
+use Rattle.std.specs.Prelude.{◌≡◌, ◌+◌, ◌%◌, ◌==◌, ◌<◌, ℕ, List, [], ◌∷◌, length, map, filter, slice_index_or}
+use Rattle.workers_core.specs.declared.post.Body.{Body}
+use Rattle.workers_core.specs.declared.post.Body.TheVariants.{Ssf, Recharge}
+use Rattle.workers_core.specs.declared.post.Post.{Post}
+
+-- a call, or an account, goes to the worker of its remainder
+abbrev pub worker_of : ℕ → Body → ℕ
+worker_of workers (Ssf call msg) = call % workers
+worker_of workers (Recharge account amount) = account % workers
+
+-- a number, a moment and what is posted then
+pub record Item : Type 0 where
+  pub number : ℕ
+  pub at : ℕ
+  pub body : Body
+
+abbrev pub item_of : Post → Item
+item_of post = record { number = post.number; at = post.at; body = post.body }
+
+abbrev pub item_at : ℕ → ℕ × Body → Item
+item_at number next = record { number = number; at = next.0; body = next.1 }
+
+-- what was given, each numbered by its place, from this number on
+abbrev pub numbered : ℕ → List (ℕ × Body) → List Item
+numbered number [] = []
+numbered number (next ∷ given) = item_at number next ∷ numbered (number + 1) given
+
+-- the share of a worker: the items that go to it, in order
+abbrev pub share : ℕ → List (ℕ × Body) → ℕ → List Item
+share workers given worker = filter (λ item. worker_of workers item.body == worker) (numbered 0 given)
+
+-- each worker has handled its share, in order, and nothing else
+pub record HaveHandled (workers : ℕ) (given : List (ℕ × Body)) (handled : List (List Post)) : Type 0 where
+  pub count : length handled ≡ workers
+  pub each : (worker : ℕ) → worker < workers → map item_of (slice_index_or handled worker []) ≡ share workers given worker

@@ -1,0 +1,50 @@
+-- The seats of the accounts of a run: a team of each worker's, a row of each account's.
+use Rattle.std.specs.Prelude.{◌≡◌, ◌+◌, ◌&&◌, ℕ, Bool, nat_le, true, List, [], ◌∷◌, map, All, ⊤}
+use Rattle.account_core.specs.Events.{Event}
+use Rattle.shared_account.specs.Seats.{are_all}
+use Rattle.shared_account.specs.Terms.{Terms}
+use Rattle.workers_core.specs.Served.{AreServed}
+use Rattle.workers_core.specs.declared.post.Post.{Post}
+
+-- there can be so many workers: 1 to 16
+abbrev pub are_workers : ℕ → Bool
+are_workers workers = nat_le 1 workers && nat_le workers 16
+
+-- what the accounts of a run are made with
+abbrev pub terms_with : ℕ → ℕ → ℕ × ℕ → Terms
+terms_with limit seats account = record { number = account.0; opening = account.1; limit = limit; seats = seats }
+
+abbrev pub terms_of : ℕ → ℕ → List (ℕ × ℕ) → List Terms
+terms_of limit seats accounts = map (terms_with limit seats) accounts
+
+-- what is known of a seat: the key of its account, its number there, and its entries
+pub record Reads (K T : Type 0) : Type 0 where
+  pub key : T → K
+  pub number : T → ℕ
+  pub mine : T → List Event
+
+abbrev pub reads : {K T : Type 0} → (T → K) → (T → ℕ) → (T → List Event) → Reads K T
+reads key number mine = record { key = key; number = number; mine = mine }
+
+-- all seats of an account, in order and without entries
+pub record IsNew {K T : Type 0} (read : Reads K T) (key : K) (seats : ℕ) (row : List T) : Type 0 where
+  pub of_account : All (λ seat. read.key seat ≡ key) row
+  pub numbers : are_all seats (map read.number row) ≡ true
+  pub empty : All (λ seat. read.mine seat ≡ []) row
+
+-- a worker's seats: one of each account, in order, all of its number and without entries
+pub record IsFresh {K T : Type 0} (read : Reads K T) (keys : List K) (number : ℕ) (team : List T) : Type 0 where
+  pub of_accounts : map read.key team ≡ keys
+  pub numbered : All (λ seat. read.number seat ≡ number) team
+  pub empty : All (λ seat. read.mine seat ≡ []) team
+
+-- the teams of the workers from this number on
+abbrev pub AreFresh : {K T : Type 0} → Reads K T → List K → ℕ → List (List T) → Type 0
+AreFresh read keys number [] = ⊤
+AreFresh read keys number (team ∷ teams) = IsFresh read keys number team × AreFresh read keys (number + 1) teams
+
+-- a worker's seats after its posts: one of each account, in order, all of its number, with entries that come from the posts
+pub record IsLeft {K T : Type 0} (read : Reads K T) (keys : List K) (accounts : List ℕ) (number : ℕ) (posts : List Post) (team : List T) : Type 0 where
+  pub of_accounts : map read.key team ≡ keys
+  pub numbered : All (λ seat. read.number seat ≡ number) team
+  pub served : AreServed accounts posts (map read.mine team)

@@ -1,0 +1,83 @@
+//! The accounts of a run are closed.
+
+ghost use Rattle.std.specs.Prelude.{◌≡◌, ◌≢◌, length, map, All, IfOk};
+ghost use Rattle.account_core.specs.Answers.{IsLegal};
+ghost use Rattle.shared_account.specs.Own.{IsMerged};
+ghost use Rattle.runs_core.specs.Closing.{AreLeftFrom, AreOf, AreServedBy, terms_shown};
+ghost use Rattle.runs_core.specs.Teams.{reads};
+
+use crate::dealing::deal;
+use crate::line::Left;
+use crate::opening::empty_piles;
+use crate::{Books, RunFault};
+use shared_account::{Book, CloseFault, Shared};
+use std::alloc::Global;
+
+/// Closes the accounts of a run, when its workers have left.
+pub(crate) fn close_accounts<S: Shared>(
+    alloc: Global,
+    accounts: Vec<S>,
+    left: Vec<Left<S>>,
+) -> Result<Books, RunFault>
+    requires left { AreLeftFrom (reads S.key_of S.number_of S.mine_of) (map S.key accounts.items)
+        (map (λ account. (S.terms account).number) accounts.items) left.items }
+    ensures terms { IfOk result (λ all. map terms_shown all.books.items ≡ map S.terms accounts.items) }
+    ensures legal { IfOk result (λ all. All (λ book. IsLegal book.opening book.history) all.books.items) }
+    ensures merged { IfOk result (λ all. All (λ book. IsMerged book.history book.own) all.books.items) }
+    ensures handled { IfOk result (λ all.
+        map (λ posts. posts.items) all.handled.items ≡ map (λ one. one.posts.items) left.items) }
+    ensures served { IfOk result (λ all. All (λ book. AreServedBy book.account
+        (map (λ posts. posts.items) all.handled.items) book.own) all.books.items) }
+    ensures fault { (result ≢ Err RunFault.GateClosed) × (result ≢ Err RunFault.Workers) }
+{
+    let mut rows = empty_piles(alloc, accounts.len())?;
+    let mut handled = Vec::with_capacity(alloc, left.len())?;
+    for one in left {
+        let Left { seats, posts } = one;
+        deal(&mut rows, seats)?;
+        handled.push(posts)?;
+    }
+    let books = close_each(alloc, accounts, rows)?;
+    Ok(Books { books, handled })
+}
+
+/// Closes each account, with its row of seats.
+fn close_each<S: Shared>(
+    alloc: Global,
+    accounts: Vec<S>,
+    rows: Vec<Vec<S::Seat>>,
+) -> Result<Vec<Book>, RunFault>
+    requires rows { AreOf S.key_of (map S.key accounts.items) (map (λ row. row.items) rows.items) }
+    ensures terms { IfOk result (λ books. map terms_shown books.items ≡ map S.terms accounts.items) }
+    ensures own { IfOk result (λ books.
+        map (λ book. book.own) books.items ≡ map (λ row. map S.mine_of row.items) rows.items) }
+    ensures legal { IfOk result (λ books. All (λ book. IsLegal book.opening book.history) books.items) }
+    ensures merged { IfOk result (λ books. All (λ book. IsMerged book.history book.own) books.items) }
+    ensures fault { (result ≢ Err RunFault.GateClosed) × (result ≢ Err RunFault.Workers) }
+{
+    let mut books = Vec::with_capacity(alloc, accounts.len())?;
+    let mut rows_left = rows.into_iter();
+    for account in accounts {
+        let Some(seats) = rows_left.next() else {
+            return Err(RunFault::Mismatch);
+        };
+        books.push(close(alloc, account, seats)?)?;
+    }
+    Ok(books)
+}
+
+/// Closes an account with its seats.
+fn close<S: Shared>(alloc: Global, account: S, seats: Vec<S::Seat>) -> Result<Book, RunFault>
+    requires { All (λ seat. S.key_of seat ≡ S.key account) seats.items }
+    ensures terms { IfOk result (λ book. terms_shown book ≡ S.terms account) }
+    ensures own { IfOk result (λ book. book.own ≡ map S.mine_of seats.items) }
+    ensures legal { IfOk result (λ book. IsLegal book.opening book.history) }
+    ensures merged { IfOk result (λ book. IsMerged book.history book.own) }
+    ensures fault { (result ≢ Err RunFault.GateClosed) × (result ≢ Err RunFault.Workers) }
+{
+    match account.close(alloc, seats) {
+        Ok(book) => Ok(book),
+        Err(CloseFault::OutOfMemory) => Err(RunFault::OutOfMemory),
+        Err(_) => Err(RunFault::Mismatch),
+    }
+}

@@ -1,0 +1,35 @@
+//! What drives a run.
+
+use std::alloc::AllocError;
+use workers_core::{Answer, Body};
+
+/// Gives the posts of a run, round by round.
+///
+/// A driver stores all that it has given, in order, each with its moment in units of 100 ms, and
+/// whether it has ended.
+pub trait Driver {
+    ghost use Rattle.std.specs.Prelude.{◌≡◌, ◌≤◌, ◌++◌, ℕ, List, Bool, not, false, All, IfOk};
+    ghost use Rattle.workers_core.specs.declared.post.Body.{Body};
+
+    ghost given: { Self → List (ℕ × Body) };
+
+    ghost ended: { Self → Bool };
+
+    /// All that it has given, each with its moment, 0 to 2,000,000,000,000.
+    fn given(&self) -> &[(u64, Body)]
+        ensures items { result.now ≡ given self.now }
+        ensures moments { All (λ item. item.0 ≤ 2000000000000) result.now };
+
+    /// Whether it has ended.
+    fn ended(&self) -> bool
+        ensures { result ≡ ended self.now };
+
+    /// Takes the answers to the items of the round before, in their order, and gives more items, or
+    /// none; false where it has ended, and then it gives none. After want of memory it isn't used
+    /// again.
+    fn round(&mut self, answers: &[Answer]) -> Result<bool, AllocError>
+        ensures grows { IfOk result (λ _.
+            (added : List (ℕ × Body)) × (given self.new ≡ given self.old ++ added)) }
+        ensures ended { IfOk result (λ more. ended self.new ≡ not more) }
+        ensures end { IfOk result (λ more. more ≡ false → given self.new ≡ given self.old) };
+}

@@ -1,0 +1,23 @@
+//! Runs: a driver's posts are handled by workers, each in a thread of its own, and end in the books
+//! of the accounts.
+#![tactic(auto)]
+
+mod books;
+mod closing;
+mod dealing;
+mod driver;
+mod laws;
+mod line;
+mod opening;
+mod returns;
+mod rounds;
+mod run_fault;
+mod serving;
+mod threads;
+mod working;
+
+pub use books::Books;
+pub use driver::Driver;
+pub use laws::books_are_right;
+pub use run_fault::RunFault;
+pub use serving::serve;

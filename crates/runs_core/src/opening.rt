@@ -1,0 +1,82 @@
+//! The accounts of a run are opened.
+
+ghost use Rattle.std.specs.Prelude.{◌≡◌, ◌≤◌, [], length, map, replicate, IfOk, IfErr};
+ghost use Rattle.runs_core.specs.Teams.{AreFresh, IsNew, reads, terms_of};
+
+use crate::RunFault;
+use crate::dealing::deal;
+use shared_account::Shared;
+use std::alloc::{AllocError, Global};
+use workers_core::RunSetup;
+
+/// The accounts of a run, in order, and the seats of each worker, one of each account.
+#[derive(Drop)]
+pub(crate) struct Opened<S: Shared> {
+    pub accounts: Vec<S>,
+    pub teams: Vec<Vec<S::Seat>>,
+}
+
+/// Opens the accounts of a setup, each with a seat for each of so many workers.
+pub(crate) fn open_accounts<S: Shared, R>(
+    rt: &R,
+    alloc: Global,
+    setup: &RunSetup,
+    workers: u32,
+) -> Result<Opened<S>, RunFault>
+    requires some { 1 ≤ workers }
+    requires few { workers ≤ 16 }
+    ensures accounts { IfOk result (λ opened.
+        map S.terms opened.accounts.items ≡ terms_of setup.now.limit workers setup.now.accounts) }
+    ensures count { IfOk result (λ opened. length opened.teams.items ≡ workers) }
+    ensures fresh { IfOk result (λ opened. AreFresh (reads S.key_of S.number_of S.mine_of)
+        (map S.key opened.accounts.items) 0 (map (λ team. team.items) opened.teams.items)) }
+    ensures fault { IfErr result (λ fault. fault ≡ RunFault.OutOfMemory) }
+{
+    let mut accounts = Vec::new(alloc);
+    let mut teams = empty_piles(alloc, workers as usize)?;
+    for place in 0..setup.account_count() {
+        let terms = (setup.number(place), setup.opening(place));
+        let (account, seats) = open_account::<S, R>(rt, alloc, terms, setup.limit(), workers)?;
+        deal(&mut teams, seats)?;
+        accounts.push(account)?;
+    }
+    Ok(Opened { accounts, teams })
+}
+
+/// Opens an account, named by its number and its opening credit.
+fn open_account<S: Shared, R>(
+    rt: &R,
+    alloc: Global,
+    account: (u32, u64),
+    limit: u32,
+    workers: u32,
+) -> Result<(S, Vec<S::Seat>), RunFault>
+    requires opening { account.1 ≤ 1000000000000000 }
+    requires some { 1 ≤ workers }
+    requires few { workers ≤ 16 }
+    ensures terms { IfOk result (λ made. S.terms made.0 ≡ record {
+      number = account.0;
+      opening = account.1;
+      limit = limit;
+      seats = workers;
+    }) }
+    ensures seats { IfOk result (λ made. IsNew (reads S.key_of S.number_of S.mine_of)
+        (S.key made.0) workers made.1.items) }
+    ensures fault { IfErr result (λ fault. fault ≡ RunFault.OutOfMemory) }
+{
+    match S::new(rt, alloc, account.0, account.1, limit, workers) {
+        Ok(made) => Ok(made),
+        Err(_) => Err(RunFault::OutOfMemory),
+    }
+}
+
+/// So many piles without items.
+pub(crate) fn empty_piles<T: Drop>(alloc: Global, count: usize) -> Result<Vec<Vec<T>>, AllocError>
+    ensures { IfOk result (λ piles. map (λ pile. pile.items) piles.items ≡ replicate count []) }
+{
+    let mut piles = Vec::with_capacity(alloc, count)?;
+    for _ in 0..count {
+        piles.push(Vec::new(alloc))?;
+    }
+    Ok(piles)
+}

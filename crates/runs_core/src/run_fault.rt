@@ -1,0 +1,71 @@
+//! What can end a run without books.
+
+ghost use Rattle.std.specs.Prelude.{◌≡◌, Some};
+ghost use Rattle.runs_core.specs.RunFaults.{name_of, run_fault_of};
+ghost use Rattle.runs_core.specs.declared.run_fault.RunFault.TheVariants as out;
+
+use std::alloc::{AllocError, AllocFailed};
+use std::error::Error;
+use std::fmt;
+use workers_core::WorkerFault;
+
+/// Why a run ended without books.
+#[derive(Clone, Copy, Debug, PartialEq, Eq)]
+pub enum RunFault {
+    /// Memory ran out.
+    OutOfMemory = 1,
+    /// There can't be so many workers, or none. Nothing was started.
+    Workers = 2,
+    /// A gate answered false.
+    GateClosed = 3,
+    /// An account that was closed has no book: its history and its seats' lists differ.
+    Mismatch = 4,
+    /// A worker is gone, or has answered another post than the next one.
+    Channel = 5,
+    /// A worker couldn't be started.
+    Thread = 6,
+}
+
+impl fmt::Display for RunFault {
+    ghost output = { λ fault. Some (name_of fault) };
+
+    fn fmt<W: fmt::Write>(&self, f: &mut fmt::Formatter<W>) -> fmt::Result {
+        match self {
+            RunFault::OutOfMemory => f.write_str("OutOfMemory"),
+            RunFault::Workers => f.write_str("Workers"),
+            RunFault::GateClosed => f.write_str("GateClosed"),
+            RunFault::Mismatch => f.write_str("Mismatch"),
+            RunFault::Channel => f.write_str("Channel"),
+            RunFault::Thread => f.write_str("Thread"),
+        }
+    }
+}
+
+impl Error for RunFault {}
+
+impl From<AllocError> for RunFault {
+    ghost from_gives = { λ _ fault. fault ≡ out.OutOfMemory };
+
+    fn from(_error: AllocError) -> RunFault {
+        RunFault::OutOfMemory
+    }
+}
+
+impl<T: Drop> From<AllocFailed<T>> for RunFault {
+    ghost from_gives = { λ _ fault. fault ≡ out.OutOfMemory };
+
+    fn from(_error: AllocFailed<T>) -> RunFault {
+        RunFault::OutOfMemory
+    }
+}
+
+impl From<WorkerFault> for RunFault {
+    ghost from_gives = { λ why fault. fault ≡ run_fault_of why };
+
+    fn from(why: WorkerFault) -> RunFault {
+        match why {
+            WorkerFault::OutOfMemory => RunFault::OutOfMemory,
+            WorkerFault::GateClosed => RunFault::GateClosed,
+        }
+    }
+}

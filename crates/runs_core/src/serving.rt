@@ -1,0 +1,208 @@
+//! A run, from its setup to its books.
+
+ghost use Rattle.std.specs.Prelude.{◌≡◌, ◌≢◌, ◌≤◌, ◌↔◌, [], true, false, length, map, All, IfOk, OnOk};
+ghost use Rattle.std.specs.Map.{keys_of};
+ghost use Rattle.account_core.specs.Answers.{IsLegal};
+ghost use Rattle.shared_account.specs.Own.{IsMerged};
+ghost use Rattle.runs_core.specs.Closing.{AreLeftFrom, AreServedBy, terms_shown};
+ghost use Rattle.runs_core.specs.Sending.{ArePromised, AreSent, promises_of};
+ghost use Rattle.runs_core.specs.Shares.{HaveHandled};
+ghost use Rattle.runs_core.specs.Teams.{AreFresh, are_workers, reads, terms_of};
+
+use crate::closing::close_accounts;
+use crate::line::{Left, Line};
+use crate::opening::{Opened, open_accounts};
+use crate::rounds::play;
+use crate::threads::{finish_all, start_all};
+use crate::{Books, Driver, RunFault};
+use shared_account::{Gate, Shared, TurnAccount};
+use std::alloc::Global;
+use std::sync::Wait;
+use std::thread;
+use std::thread::{Scope, Threads};
+use workers_core::RunSetup;
+
+/// The most workers of a run.
+const MOST_WORKERS: u32 = 16;
+
+/// Serves what the driver gives by so many workers, 1 to 16, each in a thread of its own, until the
+/// driver has ended, and gives the books.
+///
+/// `Workers` where there can't be so many workers: then nothing is started. After any other fault
+/// all workers are waited for; the fault told is that of the failed worker with the least number,
+/// else the run's own.
+pub fn serve<D: Driver, R: Wait + Threads + Sync, G: Gate + Sync>(
+    rt: &R,
+    alloc: Global,
+    setup: &RunSetup,
+    driver: &mut D,
+    workers: u32,
+    gate: &G,
+) -> Result<Books, RunFault>
+    requires given { D.given driver.old ≡ [] }
+    ensures workers { (result ≡ Err RunFault.Workers) ↔ (are_workers workers ≡ false) }
+    ensures nothing { result ≡ Err RunFault.Workers → driver.new ≡ driver.old }
+    ensures ended { OnOk result (D.ended driver.new ≡ true) }
+    ensures handled { IfOk result (λ all. HaveHandled workers (D.given driver.new)
+        (map (λ posts. posts.items) all.handled.items)) }
+    ensures books { IfOk result (λ all.
+        map terms_shown all.books.items ≡ terms_of setup.now.limit workers setup.now.accounts) }
+    ensures legal { IfOk result (λ all. All (λ book. IsLegal book.opening book.history) all.books.items) }
+    ensures merged { IfOk result (λ all. All (λ book. IsMerged book.history book.own) all.books.items) }
+    ensures served { IfOk result (λ all. All (λ book. AreServedBy book.account
+        (map (λ posts. posts.items) all.handled.items) book.own) all.books.items) }
+    ensures gate { result ≡ Err RunFault.GateClosed → G.may_shut gate.now }
+{
+    serve_over::<D, TurnAccount, R, G>(rt, alloc, setup, driver, workers, gate)
+}
+
+/// Serves a run over shared accounts of a form.
+fn serve_over<D: Driver, S: Shared, R: Wait + Threads + Sync, G: Gate + Sync>(
+    rt: &R,
+    alloc: Global,
+    setup: &RunSetup,
+    driver: &mut D,
+    workers: u32,
+    gate: &G,
+) -> Result<Books, RunFault>
+    requires given { D.given driver.old ≡ [] }
+    ensures workers { (result ≡ Err RunFault.Workers) ↔ (are_workers workers ≡ false) }
+    ensures nothing { result ≡ Err RunFault.Workers → driver.new ≡ driver.old }
+    ensures ended { OnOk result (D.ended driver.new ≡ true) }
+    ensures handled { IfOk result (λ all. HaveHandled workers (D.given driver.new)
+        (map (λ posts. posts.items) all.handled.items)) }
+    ensures books { IfOk result (λ all.
+        map terms_shown all.books.items ≡ terms_of setup.now.limit workers setup.now.accounts) }
+    ensures legal { IfOk result (λ all. All (λ book. IsLegal book.opening book.history) all.books.items) }
+    ensures merged { IfOk result (λ all. All (λ book. IsMerged book.history book.own) all.books.items) }
+    ensures served { IfOk result (λ all. All (λ book. AreServedBy book.account
+        (map (λ posts. posts.items) all.handled.items) book.own) all.books.items) }
+    ensures gate { result ≡ Err RunFault.GateClosed → G.may_shut gate.now }
+{
+    if workers < 1 || workers > MOST_WORKERS {
+        return Err(RunFault::Workers);
+    }
+    let Opened { accounts, teams } = open_accounts::<S, R>(rt, alloc, setup, workers)?;
+    let left = run_workers(rt, alloc, setup, accounts.as_slice(), teams, driver, gate)?;
+    close_accounts(alloc, accounts, left)
+}
+
+/// What comes back from the scope of the threads: the driver, and what the workers have left.
+struct Served<'d, D: Driver, S: Shared> {
+    driver: &'d mut D,
+    left: Result<Vec<Left<S>>, RunFault>,
+}
+
+/// Runs a worker for each team until the driver has ended.
+fn run_workers<D: Driver, S: Shared, R: Wait + Threads + Sync, G: Gate + Sync>(
+    rt: &R,
+    alloc: Global,
+    setup: &RunSetup,
+    accounts: &[S],
+    teams: Vec<Vec<S::Seat>>,
+    driver: &mut D,
+    gate: &G,
+) -> Result<Vec<Left<S>>, RunFault>
+    requires given { D.given driver.old ≡ [] }
+    requires some { 1 ≤ length teams.items }
+    requires few { length teams.items ≤ 16 }
+    requires numbered { map (λ account. (S.terms account).number) accounts.now ≡ keys_of setup.now.accounts }
+    requires fresh { AreFresh (reads S.key_of S.number_of S.mine_of) (map S.key accounts.now) 0 (map (λ team. team.items) teams.items) }
+    ensures ended { OnOk result (D.ended driver.new ≡ true) }
+    ensures handled { IfOk result (λ left. HaveHandled (length teams.items) (D.given driver.new)
+        (map (λ one. one.posts.items) left.items)) }
+    ensures left { IfOk result (λ left. AreLeftFrom (reads S.key_of S.number_of S.mine_of)
+        (map S.key accounts.now) (keys_of setup.now.accounts) left.items) }
+    ensures gate { result ≡ Err RunFault.GateClosed → G.may_shut gate.now }
+    ensures workers { result ≢ Err RunFault.Workers }
+{
+    let served = thread::scope(
+        thread::scope_env(),
+        rt,
+        move |scope| -> Served<'_, D, S>
+            requires { (D.given driver.now ≡ []) × (1 ≤ length teams.items) × (length teams.items ≤ 16)
+                × (map (λ account. (S.terms account).number) accounts.now ≡ keys_of setup.now.accounts)
+                × AreFresh (reads S.key_of S.number_of S.mine_of) (map S.key accounts.now) 0 (map (λ team. team.items) teams.items) }
+            ensures { (result.driver.ghost_name ≡ driver.entry.ghost_name)
+                × OnOk result.left (D.ended result.driver.now ≡ true)
+                × IfOk result.left (λ left. HaveHandled (length teams.items) (D.given result.driver.now) (map (λ one. one.posts.items) left.items))
+                × IfOk result.left (λ left. AreLeftFrom (reads S.key_of S.number_of S.mine_of)
+                (map S.key accounts.entry.now) (keys_of setup.entry.now.accounts) left.items)
+                × (result.left ≡ Err RunFault.GateClosed → G.may_shut gate.entry.now)
+                × (result.left ≢ Err RunFault.Workers) }
+        {
+            let left = run_in(scope, rt, alloc, setup, accounts, teams, driver, gate);
+            Served { driver, left }
+        },
+    );
+    let Served { driver, left } = served;
+    take_back(driver);
+    left
+}
+
+/// Ends the loan of what was lent to a scope.
+fn take_back<T>(lent: &mut T)
+    ensures { lent.new ≡ lent.old }
+{}
+
+/// Starts the workers in a scope, plays the rounds, and waits for the workers.
+fn run_in<'s, E, D: Driver, S: Shared, R: Wait + Threads + Sync, G: Gate + Sync>(
+    scope: &Scope<'s, E>,
+    rt: &'s R,
+    alloc: Global,
+    setup: &'s RunSetup,
+    accounts: &'s [S],
+    teams: Vec<Vec<S::Seat>>,
+    driver: &mut D,
+    gate: &'s G,
+) -> Result<Vec<Left<S>>, RunFault>
+    requires given { D.given driver.old ≡ [] }
+    requires some { 1 ≤ length teams.items }
+    requires few { length teams.items ≤ 16 }
+    requires numbered { map (λ account. (S.terms account).number) accounts.now ≡ keys_of setup.now.accounts }
+    requires fresh { AreFresh (reads S.key_of S.number_of S.mine_of) (map S.key accounts.now) 0 (map (λ team. team.items) teams.items) }
+    ensures ended { OnOk result (D.ended driver.new ≡ true) }
+    ensures handled { IfOk result (λ left. HaveHandled (length teams.items) (D.given driver.new)
+        (map (λ one. one.posts.items) left.items)) }
+    ensures left { IfOk result (λ left. AreLeftFrom (reads S.key_of S.number_of S.mine_of)
+        (map S.key accounts.now) (keys_of setup.now.accounts) left.items) }
+    ensures gate { result ≡ Err RunFault.GateClosed → G.may_shut gate.now }
+    ensures workers { result ≢ Err RunFault.Workers }
+{
+    let mut lines = Vec::with_capacity(alloc, teams.len())?;
+    let mut left = Vec::with_capacity(alloc, teams.len())?;
+    let ran = start_and_play(
+        scope, rt, alloc, setup, accounts, teams, driver, gate, &mut lines,
+    );
+    finish_all(rt, lines, &mut left)?;
+    ran?;
+    Ok(left)
+}
+
+/// Starts the workers, and plays the rounds.
+fn start_and_play<'s, E, D: Driver, S: Shared, R: Wait + Threads + Sync, G: Gate + Sync>(
+    scope: &Scope<'s, E>,
+    rt: &'s R,
+    alloc: Global,
+    setup: &'s RunSetup,
+    accounts: &'s [S],
+    teams: Vec<Vec<S::Seat>>,
+    driver: &mut D,
+    gate: &'s G,
+    lines: &mut Vec<Line<'s, S, G>>,
+) -> Result<(), RunFault>
+    requires given { D.given driver.old ≡ [] }
+    requires some { 1 ≤ length teams.items }
+    requires few { length teams.items ≤ 16 }
+    requires numbered { map (λ account. (S.terms account).number) accounts.now ≡ keys_of setup.now.accounts }
+    requires fresh { AreFresh (reads S.key_of S.number_of S.mine_of) (map S.key accounts.now) 0 (map (λ team. team.items) teams.items) }
+    requires none { lines.old.items ≡ [] }
+    ensures ended { OnOk result (D.ended driver.new ≡ true) }
+    ensures count { OnOk result (length lines.new.items ≡ length teams.items) }
+    ensures sent { OnOk result (AreSent (D.given driver.new) lines.new.items) }
+    ensures promised { ArePromised setup.now accounts.now gate.now 0 (promises_of lines.new.items) }
+    ensures fault { (result ≢ Err RunFault.GateClosed) × (result ≢ Err RunFault.Workers) }
+{
+    start_all(scope, rt, alloc, setup, accounts, teams, gate, lines)?;
+    play(rt, alloc, driver, lines)
+}
