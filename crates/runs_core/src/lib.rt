@@ -21,3 +21,6 @@ pub use driver::Driver;
 pub use laws::books_are_right;
 pub use run_fault::RunFault;
 pub use serving::serve;
+
+#[cfg(test)]
+mod tests;

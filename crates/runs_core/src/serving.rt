@@ -57,7 +57,7 @@ pub fn serve<D: Driver, R: Wait + Threads + Sync, G: Gate + Sync>(
 }
 
 /// Serves a run over shared accounts of a form.
-fn serve_over<D: Driver, S: Shared, R: Wait + Threads + Sync, G: Gate + Sync>(
+pub(crate) fn serve_over<D: Driver, S: Shared, R: Wait + Threads + Sync, G: Gate + Sync>(
     rt: &R,
     alloc: Global,
     setup: &RunSetup,
