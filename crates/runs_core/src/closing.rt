@@ -21,9 +21,12 @@ pub(crate) fn close_accounts<S: Shared>(
 ) -> Result<Books, RunFault>
     requires left { AreLeftFrom (reads S.key_of S.number_of S.mine_of) (map S.key accounts.items)
         (map (λ account. (S.terms account).number) accounts.items) left.items }
-    ensures terms { IfOk result (λ all. map terms_shown all.books.items ≡ map S.terms accounts.items) }
-    ensures legal { IfOk result (λ all. All (λ book. IsLegal book.opening book.history) all.books.items) }
-    ensures merged { IfOk result (λ all. All (λ book. IsMerged book.history book.own) all.books.items) }
+    ensures terms { IfOk result
+        (λ all. map terms_shown all.books.items ≡ map S.terms accounts.items) }
+    ensures legal { IfOk result
+        (λ all. All (λ book. IsLegal book.opening book.history) all.books.items) }
+    ensures merged { IfOk result
+        (λ all. All (λ book. IsMerged book.history book.own) all.books.items) }
     ensures handled { IfOk result (λ all.
         map (λ posts. posts.items) all.handled.items ≡ map (λ one. one.posts.items) left.items) }
     ensures served { IfOk result (λ all. All (λ book. AreServedBy book.account
@@ -48,11 +51,14 @@ fn close_each<S: Shared>(
     rows: Vec<Vec<S::Seat>>,
 ) -> Result<Vec<Book>, RunFault>
     requires rows { AreOf S.key_of (map S.key accounts.items) (map (λ row. row.items) rows.items) }
-    ensures terms { IfOk result (λ books. map terms_shown books.items ≡ map S.terms accounts.items) }
+    ensures terms { IfOk result
+        (λ books. map terms_shown books.items ≡ map S.terms accounts.items) }
     ensures own { IfOk result (λ books.
         map (λ book. book.own) books.items ≡ map (λ row. map S.mine_of row.items) rows.items) }
-    ensures legal { IfOk result (λ books. All (λ book. IsLegal book.opening book.history) books.items) }
-    ensures merged { IfOk result (λ books. All (λ book. IsMerged book.history book.own) books.items) }
+    ensures legal { IfOk result
+        (λ books. All (λ book. IsLegal book.opening book.history) books.items) }
+    ensures merged { IfOk result
+        (λ books. All (λ book. IsMerged book.history book.own) books.items) }
     ensures fault { (result ≢ Err RunFault.GateClosed) × (result ≢ Err RunFault.Workers) }
 {
     let mut books = Vec::with_capacity(alloc, accounts.len())?;

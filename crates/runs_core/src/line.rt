@@ -48,8 +48,10 @@ pub(crate) fn start<'s, E, S: Shared, R: Wait + Threads + Sync, G: Gate + Sync>(
     seats: Vec<S::Seat>,
     gate: &'s G,
 ) -> Result<Line<'s, S, G>, RunFault>
-    requires numbered { map (λ account. (S.terms account).number) accounts.now ≡ keys_of setup.now.accounts }
-    requires fresh { IsFresh (reads S.key_of S.number_of S.mine_of) (map S.key accounts.now) number seats.items }
+    requires numbered { map (λ account. (S.terms account).number) accounts.now
+        ≡ keys_of setup.now.accounts }
+    requires fresh { IsFresh (reads S.key_of S.number_of S.mine_of)
+        (map S.key accounts.now) number seats.items }
     ensures number { IfOk result (λ line. line.child.promise.number ≡ number) }
     ensures setup { IfOk result (λ line. line.child.promise.setup.now ≡ setup.now) }
     ensures accounts { IfOk result (λ line. line.child.promise.accounts.now ≡ accounts.now) }
@@ -67,12 +69,15 @@ pub(crate) fn start<'s, E, S: Shared, R: Wait + Threads + Sync, G: Gate + Sync>(
         inbox: Snapshot::of(&inbox),
     };
     let serve = move || -> Result<Finished<S>, RunFault>
-        requires { (map (λ account. (S.terms account).number) accounts.now ≡ keys_of setup.now.accounts)
-            × IsFresh (reads S.key_of S.number_of S.mine_of) (map S.key accounts.now) number seats.items
+        requires { (map (λ account. (S.terms account).number) accounts.now
+            ≡ keys_of setup.now.accounts)
+            × IsFresh (reads S.key_of S.number_of S.mine_of)
+            (map S.key accounts.now) number seats.items
             × (taken inbox ≡ []) }
         ensures { IfOk result (λ f. IsSameInbox inbox f.inbox
             × (taken f.inbox ≡ mails_of f.posts.items)
-            × IsLeft (reads S.key_of S.number_of S.mine_of) (map S.key accounts.entry.now) (keys_of setup.entry.now.accounts) number f.posts.items f.seats.items)
+            × IsLeft (reads S.key_of S.number_of S.mine_of) (map S.key accounts.entry.now)
+            (keys_of setup.entry.now.accounts) number f.posts.items f.seats.items)
             × (result ≡ Err RunFault.GateClosed → G.may_shut gate.entry.now)
             × (result ≢ Err RunFault.Workers) }
     { work(rt, alloc, number, setup, accounts, seats, inbox, &to, gate) };
@@ -89,7 +94,8 @@ pub(crate) fn start<'s, E, S: Shared, R: Wait + Threads + Sync, G: Gate + Sync>(
 impl<S: Shared, G: Gate> Line<'_, S, G> {
     /// Sends a post to the worker, and waits while its mailbox is full.
     pub(crate) fn send<R: Wait>(&mut self, rt: &R, post: Post) -> Result<(), RunFault>
-        ensures posts { OnOk result (posts_in (sent self.new.outbox) ≡ posts_in (sent self.old.outbox) ++ post ∷ []) }
+        ensures posts { OnOk result (posts_in (sent self.new.outbox)
+            ≡ posts_in (sent self.old.outbox) ++ post ∷ []) }
         ensures child { self.new.child ≡ self.old.child }
         ensures fault { (result ≢ Err RunFault.GateClosed) × (result ≢ Err RunFault.Workers) }
     {
@@ -115,9 +121,11 @@ impl<S: Shared, G: Gate> Line<'_, S, G> {
     pub(crate) fn finish<R: Wait + Threads>(self, rt: &R) -> Result<Left<S>, RunFault>
         ensures posts { IfOk result (λ left. left.posts.items ≡ posts_in (sent self.entry.outbox)) }
         ensures left { IfOk result (λ left. IsLeft (reads S.key_of S.number_of S.mine_of)
-            (map S.key self.entry.child.promise.accounts.now) (keys_of self.entry.child.promise.setup.now.accounts)
+            (map S.key self.entry.child.promise.accounts.now)
+            (keys_of self.entry.child.promise.setup.now.accounts)
             self.entry.child.promise.number left.posts.items left.seats.items) }
-        ensures gate { result ≡ Err RunFault.GateClosed → G.may_shut self.entry.child.promise.gate.now }
+        ensures gate { result ≡ Err RunFault.GateClosed
+            → G.may_shut self.entry.child.promise.gate.now }
         ensures workers { result ≢ Err RunFault.Workers }
     {
         let Line {

@@ -36,7 +36,8 @@ impl<'s, S: Shared, G: Gate> Promise<Result<Finished<S>, RunFault>> for Returns<
 
     ghost kept_by = { λ p r. IfOk r (λ f. IsSameInbox p.inbox.value f.inbox
         × (taken f.inbox ≡ mails_of f.posts.items)
-        × IsLeft (reads S.key_of S.number_of S.mine_of) (map S.key p.accounts.now) (keys_of p.setup.now.accounts) p.number f.posts.items f.seats.items)
+        × IsLeft (reads S.key_of S.number_of S.mine_of) (map S.key p.accounts.now)
+        (keys_of p.setup.now.accounts) p.number f.posts.items f.seats.items)
         × (r ≡ Err out.GateClosed → G.may_shut p.gate.now)
         × (r ≢ Err out.Workers) };
 }

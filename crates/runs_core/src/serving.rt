@@ -47,8 +47,10 @@ pub fn serve<D: Driver, R: Wait + Threads + Sync, G: Gate + Sync>(
         (map (λ posts. posts.items) all.handled.items)) }
     ensures books { IfOk result (λ all.
         map terms_shown all.books.items ≡ terms_of setup.now.limit workers setup.now.accounts) }
-    ensures legal { IfOk result (λ all. All (λ book. IsLegal book.opening book.history) all.books.items) }
-    ensures merged { IfOk result (λ all. All (λ book. IsMerged book.history book.own) all.books.items) }
+    ensures legal { IfOk result
+        (λ all. All (λ book. IsLegal book.opening book.history) all.books.items) }
+    ensures merged { IfOk result
+        (λ all. All (λ book. IsMerged book.history book.own) all.books.items) }
     ensures served { IfOk result (λ all. All (λ book. AreServedBy book.account
         (map (λ posts. posts.items) all.handled.items) book.own) all.books.items) }
     ensures gate { result ≡ Err RunFault.GateClosed → G.may_shut gate.now }
@@ -73,8 +75,10 @@ pub(crate) fn serve_over<D: Driver, S: Shared, R: Wait + Threads + Sync, G: Gate
         (map (λ posts. posts.items) all.handled.items)) }
     ensures books { IfOk result (λ all.
         map terms_shown all.books.items ≡ terms_of setup.now.limit workers setup.now.accounts) }
-    ensures legal { IfOk result (λ all. All (λ book. IsLegal book.opening book.history) all.books.items) }
-    ensures merged { IfOk result (λ all. All (λ book. IsMerged book.history book.own) all.books.items) }
+    ensures legal { IfOk result
+        (λ all. All (λ book. IsLegal book.opening book.history) all.books.items) }
+    ensures merged { IfOk result
+        (λ all. All (λ book. IsMerged book.history book.own) all.books.items) }
     ensures served { IfOk result (λ all. All (λ book. AreServedBy book.account
         (map (λ posts. posts.items) all.handled.items) book.own) all.books.items) }
     ensures gate { result ≡ Err RunFault.GateClosed → G.may_shut gate.now }
@@ -106,8 +110,10 @@ fn run_workers<D: Driver, S: Shared, R: Wait + Threads + Sync, G: Gate + Sync>(
     requires given { D.given driver.old ≡ [] }
     requires some { 1 ≤ length teams.items }
     requires few { length teams.items ≤ 16 }
-    requires numbered { map (λ account. (S.terms account).number) accounts.now ≡ keys_of setup.now.accounts }
-    requires fresh { AreFresh (reads S.key_of S.number_of S.mine_of) (map S.key accounts.now) 0 (map (λ team. team.items) teams.items) }
+    requires numbered { map (λ account. (S.terms account).number) accounts.now
+        ≡ keys_of setup.now.accounts }
+    requires fresh { AreFresh (reads S.key_of S.number_of S.mine_of)
+        (map S.key accounts.now) 0 (map (λ team. team.items) teams.items) }
     ensures ended { OnOk result (D.ended driver.new ≡ true) }
     ensures handled { IfOk result (λ left. HaveHandled (length teams.items) (D.given driver.new)
         (map (λ one. one.posts.items) left.items)) }
@@ -120,12 +126,17 @@ fn run_workers<D: Driver, S: Shared, R: Wait + Threads + Sync, G: Gate + Sync>(
         thread::scope_env(),
         rt,
         move |scope| -> Served<'_, D, S>
-            requires { (D.given driver.now ≡ []) × (1 ≤ length teams.items) × (length teams.items ≤ 16)
-                × (map (λ account. (S.terms account).number) accounts.now ≡ keys_of setup.now.accounts)
-                × AreFresh (reads S.key_of S.number_of S.mine_of) (map S.key accounts.now) 0 (map (λ team. team.items) teams.items) }
+            requires { (D.given driver.now ≡ []) × (1 ≤ length teams.items)
+                × (length teams.items ≤ 16)
+                × (map (λ account. (S.terms account).number) accounts.now
+                ≡ keys_of setup.now.accounts)
+                × AreFresh (reads S.key_of S.number_of S.mine_of)
+                (map S.key accounts.now) 0 (map (λ team. team.items) teams.items) }
             ensures { (result.driver.ghost_name ≡ driver.entry.ghost_name)
                 × OnOk result.left (D.ended result.driver.now ≡ true)
-                × IfOk result.left (λ left. HaveHandled (length teams.items) (D.given result.driver.now) (map (λ one. one.posts.items) left.items))
+                × IfOk result.left
+                (λ left. HaveHandled (length teams.items) (D.given result.driver.now)
+                (map (λ one. one.posts.items) left.items))
                 × IfOk result.left (λ left. AreLeftFrom (reads S.key_of S.number_of S.mine_of)
                 (map S.key accounts.entry.now) (keys_of setup.entry.now.accounts) left.items)
                 × (result.left ≡ Err RunFault.GateClosed → G.may_shut gate.entry.now)
@@ -159,8 +170,10 @@ fn run_in<'s, E, D: Driver, S: Shared, R: Wait + Threads + Sync, G: Gate + Sync>
     requires given { D.given driver.old ≡ [] }
     requires some { 1 ≤ length teams.items }
     requires few { length teams.items ≤ 16 }
-    requires numbered { map (λ account. (S.terms account).number) accounts.now ≡ keys_of setup.now.accounts }
-    requires fresh { AreFresh (reads S.key_of S.number_of S.mine_of) (map S.key accounts.now) 0 (map (λ team. team.items) teams.items) }
+    requires numbered { map (λ account. (S.terms account).number) accounts.now
+        ≡ keys_of setup.now.accounts }
+    requires fresh { AreFresh (reads S.key_of S.number_of S.mine_of)
+        (map S.key accounts.now) 0 (map (λ team. team.items) teams.items) }
     ensures ended { OnOk result (D.ended driver.new ≡ true) }
     ensures handled { IfOk result (λ left. HaveHandled (length teams.items) (D.given driver.new)
         (map (λ one. one.posts.items) left.items)) }
@@ -194,8 +207,10 @@ fn start_and_play<'s, E, D: Driver, S: Shared, R: Wait + Threads + Sync, G: Gate
     requires given { D.given driver.old ≡ [] }
     requires some { 1 ≤ length teams.items }
     requires few { length teams.items ≤ 16 }
-    requires numbered { map (λ account. (S.terms account).number) accounts.now ≡ keys_of setup.now.accounts }
-    requires fresh { AreFresh (reads S.key_of S.number_of S.mine_of) (map S.key accounts.now) 0 (map (λ team. team.items) teams.items) }
+    requires numbered { map (λ account. (S.terms account).number) accounts.now
+        ≡ keys_of setup.now.accounts }
+    requires fresh { AreFresh (reads S.key_of S.number_of S.mine_of)
+        (map S.key accounts.now) 0 (map (λ team. team.items) teams.items) }
     requires none { lines.old.items ≡ [] }
     ensures ended { OnOk result (D.ended driver.new ≡ true) }
     ensures count { OnOk result (length lines.new.items ≡ length teams.items) }

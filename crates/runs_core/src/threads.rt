@@ -26,8 +26,10 @@ pub(crate) fn start_all<'s, E, S: Shared, R: Wait + Threads + Sync, G: Gate + Sy
     gate: &'s G,
     lines: &mut Vec<Line<'s, S, G>>,
 ) -> Result<(), RunFault>
-    requires numbered { map (λ account. (S.terms account).number) accounts.now ≡ keys_of setup.now.accounts }
-    requires fresh { AreFresh (reads S.key_of S.number_of S.mine_of) (map S.key accounts.now) 0 (map (λ team. team.items) teams.items) }
+    requires numbered { map (λ account. (S.terms account).number) accounts.now
+        ≡ keys_of setup.now.accounts }
+    requires fresh { AreFresh (reads S.key_of S.number_of S.mine_of)
+        (map S.key accounts.now) 0 (map (λ team. team.items) teams.items) }
     requires few { length teams.items ≤ 16 }
     requires none { lines.old.items ≡ [] }
     ensures count { OnOk result (length lines.new.items ≡ length teams.items) }
@@ -52,9 +54,12 @@ pub(crate) fn finish_all<S: Shared, R: Wait + Threads, G: Gate>(
     left: &mut Vec<Left<S>>,
 ) -> Result<(), RunFault>
     requires none { left.old.items ≡ [] }
-    ensures posts { OnOk result (map (λ l. l.posts.items) left.new.items ≡ map sent_by lines.entry.items) }
-    ensures left { OnOk result (AreLeftBy (reads S.key_of S.number_of S.mine_of) S.key (promises_of lines.entry.items) left.new.items) }
-    ensures gate { result ≡ Err RunFault.GateClosed → MayBeShut G.may_shut (promises_of lines.entry.items) }
+    ensures posts { OnOk result
+        (map (λ l. l.posts.items) left.new.items ≡ map sent_by lines.entry.items) }
+    ensures left { OnOk result (AreLeftBy (reads S.key_of S.number_of S.mine_of) S.key
+        (promises_of lines.entry.items) left.new.items) }
+    ensures gate { result ≡ Err RunFault.GateClosed
+        → MayBeShut G.may_shut (promises_of lines.entry.items) }
     ensures workers { result ≢ Err RunFault.Workers }
 {
     let mut fault = None;
@@ -75,7 +80,8 @@ fn finish_one<S: Shared, R: Wait + Threads, G: Gate>(
     line: Line<'_, S, G>,
     left: &mut Vec<Left<S>>,
 ) -> Result<(), RunFault>
-    ensures left { OnOk result ((one : Left S S.Seat) × (left.new.items ≡ left.old.items ++ one ∷ [])
+    ensures left { OnOk result ((one : Left S S.Seat)
+        × (left.new.items ≡ left.old.items ++ one ∷ [])
         × (one.posts.items ≡ sent_by line.entry)
         × IsLeftBy (reads S.key_of S.number_of S.mine_of) S.key line.entry.child.promise one) }
     ensures gate { result ≡ Err RunFault.GateClosed → G.may_shut line.entry.child.promise.gate.now }

@@ -27,13 +27,16 @@ pub(crate) fn work<S: Shared, R: Wait, G: Gate>(
     answers: &Sender<Answer>,
     gate: &G,
 ) -> Result<Finished<S>, RunFault>
-    requires numbered { map (λ account. (S.terms account).number) accounts.now ≡ keys_of setup.now.accounts }
-    requires fresh { IsFresh (reads S.key_of S.number_of S.mine_of) (map S.key accounts.now) number seats.items }
+    requires numbered { map (λ account. (S.terms account).number) accounts.now
+        ≡ keys_of setup.now.accounts }
+    requires fresh { IsFresh (reads S.key_of S.number_of S.mine_of)
+        (map S.key accounts.now) number seats.items }
     requires taken { taken inbox ≡ [] }
     ensures inbox { IfOk result (λ finished. IsSameInbox inbox finished.inbox) }
     ensures mails { IfOk result (λ finished. taken finished.inbox ≡ mails_of finished.posts.items) }
     ensures left { IfOk result (λ finished. IsLeft (reads S.key_of S.number_of S.mine_of)
-        (map S.key accounts.now) (keys_of setup.now.accounts) number finished.posts.items finished.seats.items) }
+        (map S.key accounts.now)
+        (keys_of setup.now.accounts) number finished.posts.items finished.seats.items) }
     ensures gate { result ≡ Err RunFault.GateClosed → G.may_shut gate.now }
     ensures workers { result ≢ Err RunFault.Workers }
 {
@@ -55,11 +58,13 @@ fn handle_all<S: Shared, R: Wait, G: Gate>(
     answers: &Sender<Answer>,
     gate: &G,
 ) -> Result<(), RunFault>
-    requires ready { IsReady (λ account. (S.terms account).number) S.key S.key_of S.number_of S.mine_of worker.old }
+    requires ready { IsReady (λ account. (S.terms account).number)
+        S.key S.key_of S.number_of S.mine_of worker.old }
     requires posts { posts_of worker.old ≡ [] }
     requires taken { taken inbox.old ≡ [] }
     ensures inbox { IsSameInbox inbox.old inbox.new }
-    ensures ready { OnOk result (IsReady (λ account. (S.terms account).number) S.key S.key_of S.number_of S.mine_of worker.new) }
+    ensures ready { OnOk result (IsReady (λ account. (S.terms account).number)
+        S.key S.key_of S.number_of S.mine_of worker.new) }
     ensures mails { OnOk result (taken inbox.new ≡ mails_of (posts_of worker.new)) }
     ensures setup { OnOk result (setup_of worker.new ≡ setup_of worker.old) }
     ensures accounts { OnOk result (accounts_of worker.new ≡ accounts_of worker.old) }
@@ -85,8 +90,10 @@ fn answer<S: Shared, R: Wait, G: Gate>(
     answers: &Sender<Answer>,
     gate: &G,
 ) -> Result<(), RunFault>
-    requires ready { IsReady (λ account. (S.terms account).number) S.key S.key_of S.number_of S.mine_of worker.old }
-    ensures ready { OnOk result (IsReady (λ account. (S.terms account).number) S.key S.key_of S.number_of S.mine_of worker.new) }
+    requires ready { IsReady (λ account. (S.terms account).number)
+        S.key S.key_of S.number_of S.mine_of worker.old }
+    ensures ready { OnOk result (IsReady (λ account. (S.terms account).number)
+        S.key S.key_of S.number_of S.mine_of worker.new) }
     ensures posts { OnOk result (posts_of worker.new ≡ posts_of worker.old ++ post ∷ []) }
     ensures setup { OnOk result (setup_of worker.new ≡ setup_of worker.old) }
     ensures accounts { OnOk result (accounts_of worker.new ≡ accounts_of worker.old) }
