@@ -1,0 +1,5 @@
+pub mod Configs
+pub mod Errors
+pub mod Inputs
+pub mod Options
+pub mod Texts
