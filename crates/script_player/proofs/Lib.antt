@@ -1,0 +1,5 @@
+pub mod Goings
+pub mod Items
+pub mod Sendings
+pub mod Takings
+pub mod Tellings
