@@ -1,3 +1,4 @@
+pub mod Endings
 pub mod Goings
 pub mod Items
 pub mod Sendings

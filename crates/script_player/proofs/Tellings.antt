@@ -8,10 +8,12 @@ use Rattle.std.specs.Ordering.{nat_cmp}
 use Rattle.std.specs.Prelude.{MatchOption}
 use Rattle.ssf_core.specs.Calls.{View}
 use Rattle.ssf_core.specs.Happenings.{sent_in}
+use Rattle.ssf_core.specs.Traces.{IsTrace}
 use Rattle.ssf_core.specs.declared.config.SsfConfig.{SsfConfig}
 use Rattle.ssf_core.specs.declared.item.Out.{Out}
 use Rattle.workers_core.specs.declared.post.Body.{Body}
 use Rattle.script_player.specs.Networks.{AreTold, GoesOn, Grows, IsTold, Moves, Shown}
+use Rattle.script_player.specs.Plays.{IsPlayed}
 use Rattle.script_player.specs.Posts.{items_of, posts_of}
 use Rattle.script_player.proofs.Items.{items_of-other, items_of-own, posts_in_range, posts_of-append, recharges_in-posts}
 
@@ -79,3 +81,13 @@ grows_on first second third one two = record {
 
 pub grows_not : (shown : Shown) → Grows shown shown
 grows_not shown = record { same_config = refl; added = []; grown = sym (append-nil shown.given); same_recharges = refl }
+
+played_by : (config : SsfConfig) (call : ℕ) (given : List (ℕ × Body)) (found : Option View) → IsToldOf config given call found → IsPlayed config call given
+played_by config call given None told = record { trace = []; is_trace = tt; same = told }
+played_by config call given (Some view) told =
+    let P : SsfConfig → Type 0 = λ other. IsTrace other told.trace in
+    record { trace = told.trace; is_trace = subst P told.same_config told.stands.is_trace; same = told.same }
+
+-- what was given of each call was played
+pub played : (config : SsfConfig) (calls : BTreeMap ℕ View) (given : List (ℕ × Body)) → AreTold config calls given → (call : ℕ) → IsPlayed config call given
+played config calls given are call = played_by config call given (get nat_cmp calls call) (are.told call)

@@ -33,8 +33,9 @@ impl Model for Network {
 }
 
 impl Network {
-    ghost use Rattle.std.specs.Prelude.{◌≡◌, ◌≤◌, ◌++◌, ◌∷◌, [], All, IfOk, OnOk, OnErr};
+    ghost use Rattle.std.specs.Prelude.{◌≡◌, ◌≤◌, ◌++◌, ◌∷◌, ℕ, [], All, IfOk, OnOk, OnErr};
     ghost use Rattle.script_player.specs.Networks.{Grows};
+    ghost use Rattle.script_player.specs.Plays.{IsPlayed};
     ghost use Rattle.workers_core.specs.declared.post.Body.TheVariants as body;
 
     /// A network without calls. There is room for so many items.
@@ -53,6 +54,7 @@ impl Network {
     pub fn given(&self) -> &[(u64, Body)]
         ensures items { result.now ≡ self.now.given }
         ensures in_range { All (λ item. item.0 ≤ 2000000000000) result.now }
+        ensures calls { (call : ℕ) → IsPlayed self.now.config call self.now.given }
     {
         self.given.as_slice()
     }

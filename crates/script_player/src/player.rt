@@ -47,7 +47,7 @@ impl Model for ScriptPlayer {
 
     ghost view = { λ p. record { config = p.network.config; taken = take p.taken p.rows.items; left = drop p.taken p.rows.items; given = p.network.given; ended = p.ended } };
 
-    ghost invariant = { λ p. IsKept p.network.given p.delay p.rows.items p.taken };
+    ghost invariant = { λ p. IsKept p.network.given p.delay p.rows.items p.taken p.ended };
 }
 
 impl ScriptPlayer {
@@ -84,19 +84,44 @@ impl ScriptPlayer {
 }
 
 impl Driver for ScriptPlayer {
+    ghost use Rattle.std.specs.Prelude.{◌≡◌, ◌≤◌, ◌++◌, ℕ, List, [], not, true, false, All, IfOk, OnOk};
+    ghost use Rattle.workers_core.specs.declared.post.Body.{Body};
+    ghost use Rattle.script_player.specs.Plays.{IsPlayed};
+    ghost use Rattle.script_player.specs.Posts.{recharges_in, recharges_of};
+
     ghost given = { λ player. player.given };
 
     ghost ended = { λ player. player.ended };
 
-    fn given(&self) -> &[(u64, Body)] {
+    /// All that it has given: the messages of the gsmSSFs, and the recharges of the rows taken.
+    fn given(&self) -> &[(u64, Body)]
+        ensures items { result.now ≡ self.now.given }
+        ensures moments { All (λ item. item.0 ≤ 2000000000000) result.now }
+        ensures calls { (call : ℕ) → IsPlayed self.now.config call self.now.given }
+        ensures recharges { recharges_in self.now.given ≡ recharges_of self.now.taken }
+    {
         self.network.given()
     }
 
-    fn ended(&self) -> bool {
+    /// Whether it has ended: then no row is left.
+    fn ended(&self) -> bool
+        ensures value { result ≡ self.now.ended }
+        ensures left { result ≡ true → self.now.left ≡ [] }
+    {
         self.ended
     }
 
-    fn round(&mut self, answers: &[Answer]) -> Result<bool, AllocError> {
+    /// Takes the answers to the items of the round before: the number of an answer is the place of
+    /// its item. Plays the round of the next moment; false where there is none. The recharge of a
+    /// row has no operations.
+    fn round(&mut self, answers: &[Answer]) -> Result<bool, AllocError>
+        ensures grows { IfOk result (λ _.
+            (added : List (ℕ × Body)) × (self.new.given ≡ self.old.given ++ added)) }
+        ensures ended { IfOk result (λ more. self.new.ended ≡ not more) }
+        ensures end { IfOk result (λ more. more ≡ false → self.new.given ≡ self.old.given) }
+        ensures config { self.new.config ≡ self.old.config }
+        ensures rows { self.new.taken ++ self.new.left ≡ self.old.taken ++ self.old.left }
+    {
         if self.ended {
             return Ok(false);
         }
