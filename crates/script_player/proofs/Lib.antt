@@ -1,0 +1,6 @@
+pub mod Endings
+pub mod Goings
+pub mod Items
+pub mod Sendings
+pub mod Takings
+pub mod Tellings

@@ -1,1 +1,7 @@
+pub mod Deliveries
+pub mod Moments
+pub mod Networks
+pub mod Playing
 pub mod Plays
+pub mod Posts
+pub mod Rows

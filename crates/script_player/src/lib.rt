@@ -1,6 +1,16 @@
-//! The player of a script: it drives a run from a script of calls and recharges.
+//! The player of a script: it drives a run by the calls and the recharges of a script, with one
+//! gsmSSF for each call.
 #![tactic(auto)]
 
+mod deliveries;
+mod feeding;
+mod input;
+mod moments;
+mod network;
 mod player;
+mod posting;
+mod rows;
+#[cfg(test)]
+mod tests;
 
 pub use player::ScriptPlayer;
