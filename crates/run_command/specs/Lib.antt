@@ -1,3 +1,5 @@
+pub mod Answers
+pub mod Books
 pub mod Configs
 pub mod Errors
 pub mod Inputs

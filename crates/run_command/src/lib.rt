@@ -5,8 +5,11 @@
 mod ask;
 mod error;
 mod options;
+mod playing;
+mod running;
 mod texts;
 
 pub use ask::RunAsk;
 pub use error::RunError;
 pub use options::RunOptions;
+pub use running::run;
