@@ -21,7 +21,7 @@ posts_of-drop call k outs out within is = rw (add-one, drop-cons outs k out with
 
 -- ---- the items of a call among posts
 
-same_true : (call : ℕ) → (call == call) ≡ true
+pub same_true : (call : ℕ) → (call == call) ≡ true
 same_true call = grind (arith, nat_tests)
 
 own_post : (call at : ℕ) (item : Item) → items_of call (post_of call at item) ≡ post_of call at item

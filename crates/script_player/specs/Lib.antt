@@ -1,3 +1,4 @@
+pub mod Beginnings
 pub mod Deliveries
 pub mod Moments
 pub mod Networks

@@ -14,12 +14,13 @@ pub record Shown : Type 0 where
   pub config : SsfConfig
   pub given : List (ℕ × Body)
 
--- the gsmSSF of a call stands for a trace whose messages are the items of the call
+-- the gsmSSF of a call stands for a trace whose messages are the items of the call, of which there are some
 pub record IsTold (config : SsfConfig) (call : ℕ) (given : List (ℕ × Body)) (view : View) : Type 0 where
   pub same_config : view.config ≡ config
   pub trace : List Happening
   pub stands : Stands view trace
   pub same : items_of call given ≡ posts_of call (sent_in trace)
+  pub some : items_of call given ≡ [] → ⊥
 
 -- each gsmSSF is told so; a call without one has no items
 pub record AreTold (config : SsfConfig) (calls : BTreeMap ℕ View) (given : List (ℕ × Body)) : Type 0 where
@@ -46,9 +47,10 @@ pub record Moves (before after : BTreeMap ℕ View) (call : ℕ) (sent : List Ou
   pub updates : Updates nat_cmp before after call (Some new)
   pub goes_on : GoesOn old new sent
 
--- what was given stays and grows, and no recharge is added
+-- what was given stays and grows; no recharge is added, and no call begins
 pub record Grows (before after : Shown) : Type 0 where
   pub same_config : after.config ≡ before.config
   pub added : List (ℕ × Body)
   pub grown : after.given ≡ before.given ++ added
   pub same_recharges : recharges_in after.given ≡ recharges_in before.given
+  pub none_begins : (call : ℕ) → items_of call before.given ≡ [] → items_of call after.given ≡ []

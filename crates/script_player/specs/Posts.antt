@@ -1,5 +1,7 @@
 -- The items of a run: the messages of its gsmSSFs, and recharges.
-use Rattle.std.specs.Prelude.{◌==◌, ◌++◌, ℕ, Bool, true, false, List, [], ◌∷◌, filter}
+use Rattle.std.specs.Prelude.{◌≡◌, ◌==◌, ◌++◌, ℕ, Bool, true, false, Option, Some, None, List, [], ◌∷◌, filter, if◌then◌else◌}
+use Rattle.cap_values.specs.declared.message.SsfMsg.TheVariants as message
+use Rattle.cap_values.specs.declared.number.Number.{Number}
 use Rattle.run_texts.specs.declared.script_row.Happening.{Happening}
 use Rattle.run_texts.specs.declared.script_row.Happening.TheVariants as happening
 use Rattle.run_texts.specs.declared.script_row.ScriptRow.{ScriptRow}
@@ -46,3 +48,28 @@ recharge_of at (happening.Recharge account amount) = (at, body.Recharge account 
 abbrev pub recharges_of : List ScriptRow → List (ℕ × Body)
 recharges_of [] = []
 recharges_of (row ∷ rows) = recharge_of row.at row.what ++ recharges_of rows
+
+-- the first message of a call that starts
+abbrev pub initial : ℕ → ℕ → Number → Number → ℕ × Body
+initial at call calling called = (at, body.Ssf call (message.InitialDp call calling called))
+
+-- the item by which a row lets a call begin, if the row starts it
+abbrev pub start_of : ℕ → ℕ → Happening → Option (ℕ × Body)
+start_of call at (happening.Start other calling called) = if other == call then Some (initial at call calling called) else None
+start_of call at (happening.Meets other event) = None
+start_of call at (happening.Recharge account amount) = None
+
+-- the first of two, where there is one
+abbrev pub first_of : Option (ℕ × Body) → Option (ℕ × Body) → Option (ℕ × Body)
+first_of None second = second
+first_of (Some item) second = Some item
+
+-- the item by which a call begins: that of the first row that starts it
+abbrev pub opening_of : ℕ → List ScriptRow → Option (ℕ × Body)
+opening_of call [] = None
+opening_of call (row ∷ rows) = first_of (start_of call row.at row.what) (opening_of call rows)
+
+-- items begin with this one; there are none where there is none to begin with
+abbrev pub Begins : Option (ℕ × Body) → List (ℕ × Body) → Type 0
+Begins None items = items ≡ []
+Begins (Some item) items = (rest : List (ℕ × Body)) × (items ≡ item ∷ rest)

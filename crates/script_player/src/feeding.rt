@@ -29,7 +29,7 @@ pub(crate) fn feed(
 {
     let ssf = calls.get_mut(&call)?;
     let before = ssf.next_due();
-    let sent = step(ssf, now, call, input).sent;
+    let sent = step(ssf, now, input).sent;
     let after = ssf.next_due();
     Some(Fed {
         sent,
@@ -39,13 +39,11 @@ pub(crate) fn feed(
 }
 
 /// Gives a gsmSSF an input at a moment. What it refuses is ignored.
-fn step(ssf: &mut Ssf, now: Moment, call: u64, input: Input) -> Step
+fn step(ssf: &mut Ssf, now: Moment, input: Input) -> Step
     requires { now ≤ 2000000000000 }
     ensures { GoesOn ssf.old ssf.new result.sent.items }
 {
     match input {
-        Input::Invoke => ssf.invoke(now),
-        Input::Trigger { calling, called } => ssf.trigger(now, call, calling, called),
         Input::Operate(op) => ssf.operation(now, op),
         Input::Meet(event) => ssf.event(now, event),
         Input::Wait => ssf.advance(now),

@@ -1,20 +1,11 @@
-//! What a gsmSSF is given.
+//! What a gsmSSF is given after its start.
 
-use cap_values::{Number, ScfOp};
+use cap_values::ScfOp;
 use ssf_core::BcsmEvent;
 
-/// An input of a gsmSSF.
+/// An input of a gsmSSF that was triggered.
 #[derive(Clone, Copy)]
 pub(crate) enum Input {
-    /// The switch invokes it.
-    Invoke,
-    /// A call triggers it.
-    Trigger {
-        /// The number of the calling party.
-        calling: Number,
-        /// The number of the called party.
-        called: Number,
-    },
     /// The service sends an operation.
     Operate(ScfOp),
     /// The call meets an event.

@@ -2,6 +2,7 @@
 //! gsmSSF for each call.
 #![tactic(auto)]
 
+mod beginning;
 mod deliveries;
 mod feeding;
 mod input;

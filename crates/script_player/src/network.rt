@@ -1,8 +1,10 @@
 //! The gsmSSFs of a run, and what was given of them.
 
+use crate::beginning::{Begun, begin};
 use crate::feeding::feed;
 use crate::input::Input;
 use crate::posting::post;
+use cap_values::Number;
 use ssf_core::{Moment, Ssf, SsfConfig};
 use std::alloc::{AllocError, Global};
 use std::collections::{BTreeMap, BTreeSet};
@@ -36,6 +38,8 @@ impl Network {
     ghost use Rattle.std.specs.Prelude.{◌≡◌, ◌≤◌, ◌++◌, ◌∷◌, ℕ, [], All, IfOk, OnOk, OnErr};
     ghost use Rattle.script_player.specs.Networks.{Grows};
     ghost use Rattle.script_player.specs.Plays.{IsPlayed};
+    ghost use Rattle.script_player.specs.Posts.{initial};
+    ghost use Rattle.script_player.specs.Rows.{Starts};
     ghost use Rattle.workers_core.specs.declared.post.Body.TheVariants as body;
 
     /// A network without calls. There is room for so many items.
@@ -65,13 +69,28 @@ impl Network {
         Some(at)
     }
 
-    /// A gsmSSF for a call that has none.
-    pub fn admit(&mut self, call: u64) -> Result<(), AllocError>
-        ensures { self.new ≡ self.old }
+    /// Starts a call at a moment. Nothing happens where it has started already.
+    pub fn start(
+        &mut self,
+        now: Moment,
+        call: u64,
+        calling: Number,
+        called: Number,
+    ) -> Result<(), AllocError>
+        requires { now ≤ 2000000000000 }
+        ensures config { self.new.config ≡ self.old.config }
+        ensures started { OnOk result
+            (Starts self.old.given self.new.given call (initial now call calling called)) }
+        ensures unchanged { OnErr result (self.new ≡ self.old) }
     {
-        if !self.calls.contains_key(&call) {
-            self.calls.insert(call, Ssf::new(self.config))?;
+        if self.calls.contains_key(&call) {
+            return Ok(());
         }
+        self.given.reserve(MOST_SENT)?;
+        let Begun { ssf, sent } = begin(self.config, now, call, calling, called);
+        keep_due(&mut self.dues, call, None, ssf.next_due())?;
+        self.calls.insert(call, ssf)?;
+        post(&mut self.given, call, sent.as_slice());
         Ok(())
     }
 

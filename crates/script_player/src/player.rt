@@ -87,7 +87,7 @@ impl Driver for ScriptPlayer {
     ghost use Rattle.std.specs.Prelude.{◌≡◌, ◌≤◌, ◌++◌, ℕ, List, [], not, true, false, All, IfOk, OnOk};
     ghost use Rattle.workers_core.specs.declared.post.Body.{Body};
     ghost use Rattle.script_player.specs.Plays.{IsPlayed};
-    ghost use Rattle.script_player.specs.Posts.{recharges_in, recharges_of};
+    ghost use Rattle.script_player.specs.Posts.{Begins, items_of, opening_of, recharges_in, recharges_of};
 
     ghost given = { λ player. player.given };
 
@@ -98,6 +98,7 @@ impl Driver for ScriptPlayer {
         ensures items { result.now ≡ self.now.given }
         ensures moments { All (λ item. item.0 ≤ 2000000000000) result.now }
         ensures calls { (call : ℕ) → IsPlayed self.now.config call self.now.given }
+        ensures begins { (call : ℕ) → Begins (opening_of call self.now.taken) (items_of call self.now.given) }
         ensures recharges { recharges_in self.now.given ≡ recharges_of self.now.taken }
     {
         self.network.given()

@@ -1,9 +1,8 @@
 //! The rows of a script are taken.
 
-ghost use Rattle.std.specs.Prelude.{◌≡◌, ◌≤◌, ◌++◌, All, MatchResult, drop, length, take};
-ghost use Rattle.script_player.specs.Networks.{Shown};
-ghost use Rattle.script_player.specs.Posts.{recharge_of, recharges_in, recharges_of};
-ghost use Rattle.script_player.specs.Rows.{Adds, next_row};
+ghost use Rattle.std.specs.Prelude.{◌≡◌, ◌≤◌, All, OnErr, OnOk, drop, length, take};
+ghost use Rattle.script_player.specs.Networks.{Grows};
+ghost use Rattle.script_player.specs.Rows.{Adds, FollowsRows, TakesRow, next_row};
 
 use crate::input::Input;
 use crate::network::Network;
@@ -30,9 +29,9 @@ pub(crate) fn take_rows(
 ) -> Result<(), AllocError>
     requires in_range { All (λ row. row.at ≤ 1000000000000) rows.now }
     requires within { taken.old ≤ length rows.now }
-    requires recharged { recharges_in network.old.given ≡ recharges_of (take taken.old rows.now) }
+    requires follows { FollowsRows (take taken.old rows.now) network.old.given }
     ensures within { taken.new ≤ length rows.now }
-    ensures recharged { recharges_in network.new.given ≡ recharges_of (take taken.new rows.now) }
+    ensures follows { FollowsRows (take taken.new rows.now) network.new.given }
     ensures added { Adds network.old network.new }
 {
     while *taken < rows.len() && rows[*taken].at <= now {
@@ -45,22 +44,15 @@ pub(crate) fn take_rows(
 /// Takes a row.
 fn take_row(network: &mut Network, row: ScriptRow) -> Result<(), AllocError>
     requires { row.at ≤ 1000000000000 }
-    ensures added { Adds network.old network.new }
-    ensures recharged { MatchResult result
-        (λ _. recharges_in network.new.given
-        ≡ recharges_in network.old.given ++ recharge_of row.at row.what)
-        (λ _. recharges_in network.new.given ≡ recharges_in network.old.given) }
+    ensures taken { OnOk result (TakesRow network.old network.new row.at row.what) }
+    ensures failed { OnErr result (Grows network.old network.new) }
 {
     match row.what {
         Happening::Start {
             call,
             calling,
             called,
-        } => {
-            network.admit(call)?;
-            network.give(row.at, call, Input::Invoke)?;
-            network.give(row.at, call, Input::Trigger { calling, called })
-        }
+        } => network.start(row.at, call, calling, called),
         Happening::Meets { call, event } => network.give(row.at, call, Input::Meet(event)),
         Happening::Recharge { account, amount } => network.recharge(row.at, account, amount),
     }

@@ -1,16 +1,6 @@
 use Rattle.script_player.proofs.Goings.{goes_by}
 use Rattle.script_player.proofs.feeding.step.Goals as goal
 
-pub returns-in-Invoke : goal.returns-in-Invoke
-returns-in-Invoke c =
-    goes_by c.args.ssf.now c.invoke.new.self c.args.now c.invoke.result.sent.items c.invoke.result.fault c.requires c.invoke.ensures.backwards c.invoke.ensures.moment
-    (λ late t stands. let took = c.invoke.ensures.trace late t stands in (_, (took.stands, took.sends)))
-
-pub returns-in-Trigger : goal.returns-in-Trigger
-returns-in-Trigger c =
-    goes_by c.args.ssf.now c.trigger.new.self c.args.now c.trigger.result.sent.items c.trigger.result.fault c.requires c.trigger.ensures.backwards c.trigger.ensures.moment
-    (λ late t stands. let took = c.trigger.ensures.trace late t stands in (_, (took.stands, took.sends)))
-
 pub returns-in-Operate : goal.returns-in-Operate
 returns-in-Operate c =
     goes_by c.args.ssf.now c.operation.new.self c.args.now c.operation.result.sent.items c.operation.result.fault c.requires c.operation.ensures.backwards c.operation.ensures.moment
