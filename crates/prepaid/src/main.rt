@@ -3,6 +3,7 @@
 #![tactic(auto)]
 
 use prepaid_command::{Fault, command};
+use std::alloc::AllocError;
 use std::process::ExitCode;
 use std::{env, io};
 
@@ -16,8 +17,9 @@ fn main(rt: HostRuntime) -> ExitCode {
             &mut rt.stderr(),
         ),
         Err(_) => {
-            let _ = rt.eprintln(Fault::OutOfMemory);
-            Fault::OutOfMemory.status()
+            let fault = Fault::from(AllocError);
+            let _ = rt.eprintln(fault);
+            fault.status()
         }
     };
     ExitCode::from(status)

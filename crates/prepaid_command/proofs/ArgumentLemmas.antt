@@ -8,7 +8,7 @@ use Rattle.clap.specs.declared.parser.matches.ArgMatches.TheViews.{out-ArgMatche
 use Rattle.clap.specs.declared.parser.matches.Found.{Found}
 use Rattle.clap.specs.declared.parser.matches.SubCommand.{SubCommand}
 use Rattle.table_core.specs.Decimals.{decimal_of}
-use Rattle.prepaid_command.specs.Arguments.{number_in, optional_number_in, optional_decimal}
+use Rattle.prepaid_command.specs.Options.{number_in, optional_number_in, optional_decimal}
 
 -- what `get_str` gives is the first value in the rows
 module _ {A : Type 0} (now : A → Text) (found : Found) (name : Text) where

@@ -3,7 +3,8 @@ use Rattle.std.proofs.Common.{◌≡◌, ℕ, ◌+◌, ◌<◌, ◌≤◌, List,
 use Rattle.std.specs.Prelude.{IfSome, Result, Ok, Err, option_map}
 use Rattle.std.proofs.lemmas.Bool.Decides.{nat_tests}
 use Rattle.std.proofs.lemmas.List.{take_all}
-use Rattle.prepaid_command.specs.Faults.{Refuses, status_of}
+use Rattle.runs_core.specs.declared.run_fault.RunFault.TheVariants as run
+use Rattle.prepaid_command.specs.Faults.{MayAlwaysCome, Refuses}
 use Rattle.prepaid_command.specs.Input.{sized}
 use Rattle.prepaid_command.specs.declared.fault.Fault.{Fault}
 use Rattle.prepaid_command.specs.declared.fault.Fault.TheVariants as fault
@@ -26,10 +27,18 @@ fits (Some text) bytes read short =
     let all : bytes ≡ text = read ∙ take_all 16777217 text (omega arith) in
     rw all (grind (arith, nat_tests))
 
--- a fault of the run may come at any meaning
-pub run_fault : {Y : Type 0} (why : Fault) (meaning : Result Y Fault) → status_of why ≡ 2 → Refuses why meaning
-run_fault fault.Arguments meaning is = absurd (omega arith)
-run_fault fault.TooLong meaning is = absurd (omega arith)
-run_fault (fault.Table part row) meaning is = absurd (omega arith)
+-- a fault that may always come may come at any meaning
+pub run_fault : {Y : Type 0} (why : Fault) (meaning : Result Y Fault) → MayAlwaysCome why → Refuses why meaning
+run_fault fault.Arguments meaning is = absurd is
+run_fault fault.Config meaning is = absurd is
+run_fault fault.TooLong meaning is = absurd is
+run_fault fault.Parts meaning is = absurd is
+run_fault (fault.Tariff row) meaning is = absurd is
+run_fault (fault.Table part row) meaning is = absurd is
 run_fault fault.Device meaning is = tt
-run_fault fault.OutOfMemory meaning is = tt
+run_fault (fault.Run run.OutOfMemory) meaning is = tt
+run_fault (fault.Run run.Workers) meaning is = absurd is
+run_fault (fault.Run run.GateClosed) meaning is = absurd is
+run_fault (fault.Run run.Mismatch) meaning is = absurd is
+run_fault (fault.Run run.Channel) meaning is = absurd is
+run_fault (fault.Run run.Thread) meaning is = absurd is

@@ -1,4 +1,5 @@
 pub mod ArgumentLemmas
+pub mod CappedLemmas
 pub mod InputLemmas
 pub mod Known
 pub mod LineLemmas

@@ -1,13 +1,17 @@
 //! What a run of the program may have to refuse.
 
 ghost use Rattle.std.specs.Prelude.{◌≡◌, Some};
-ghost use Rattle.prepaid_command.specs.Faults.{line_of, name_of_part};
+ghost use Rattle.runs_core.specs.declared.run_fault.RunFault.TheVariants as run;
+ghost use Rattle.prepaid_command.specs.Faults.{line_of, name_of_part, of_run};
 ghost use Rattle.prepaid_command.specs.declared.fault.Fault.TheVariants as out;
 
+use run_command::RunError;
+use runs_core::RunFault;
 use std::alloc::{AllocError, AllocFailed};
 use std::error::Error;
 use std::fmt;
 use table_core::{RowFault, TableFault};
+use tariff_core::TariffFault;
 
 /// A part of the input that is a table.
 #[derive(Clone, Copy, Debug, PartialEq, Eq)]
@@ -16,6 +20,10 @@ pub enum Part {
     Reports,
     /// The operations of `replay`.
     Ops,
+    /// The accounts and the subscribers of `run`.
+    Setup,
+    /// What happens in a `run`.
+    Script,
 }
 
 impl fmt::Display for Part {
@@ -25,6 +33,8 @@ impl fmt::Display for Part {
         match self {
             Part::Reports => f.write_str("reports"),
             Part::Ops => f.write_str("ops"),
+            Part::Setup => f.write_str("setup"),
+            Part::Script => f.write_str("script"),
         }
     }
 }
@@ -34,14 +44,20 @@ impl fmt::Display for Part {
 pub enum Fault {
     /// The words ask for nothing that the program does.
     Arguments,
+    /// A time that `run` is asked for is out of its range.
+    Config,
     /// The input has more than `MAX_INPUT` bytes.
     TooLong,
-    /// A row of the input has a fault.
+    /// The input of `run` doesn't have three parts.
+    Parts,
+    /// A row of the tariff has a fault.
+    Tariff(TariffFault),
+    /// A row of another table has a fault.
     Table(Part, RowFault),
     /// Standard input failed.
     Device,
-    /// Memory ran out.
-    OutOfMemory,
+    /// A run failed; also where memory ran out anywhere.
+    Run(RunFault),
 }
 
 impl Fault {
@@ -52,8 +68,8 @@ impl Fault {
         ensures { result ≡ status_of self }
     {
         match self {
-            Fault::Arguments | Fault::TooLong | Fault::Table(..) => 1,
-            Fault::Device | Fault::OutOfMemory => 2,
+            Fault::Device | Fault::Run(_) => 2,
+            _ => 1,
         }
     }
 
@@ -64,7 +80,7 @@ impl Fault {
         match fault {
             TableFault::Row(fault) => Fault::Table(part, fault),
             TableFault::Device => Fault::Device,
-            TableFault::OutOfMemory => Fault::OutOfMemory,
+            TableFault::OutOfMemory => Fault::Run(RunFault::OutOfMemory),
         }
     }
 }
@@ -75,28 +91,46 @@ impl fmt::Display for Fault {
     fn fmt<W: fmt::Write>(&self, f: &mut fmt::Formatter<W>) -> fmt::Result {
         match self {
             Fault::Arguments => f.write_str("prepaid: arguments"),
+            Fault::Config => f.write_str("prepaid: input: Config"),
             Fault::TooLong => f.write_str("prepaid: input: TooLong"),
+            Fault::Parts => f.write_str("prepaid: input: Parts"),
+            Fault::Tariff(fault) => write!(f, "prepaid: tariff {fault}"),
             Fault::Table(part, fault) => write!(f, "prepaid: {part} {fault}"),
             Fault::Device => f.write_str("prepaid: run: Device"),
-            Fault::OutOfMemory => f.write_str("prepaid: run: OutOfMemory"),
+            Fault::Run(fault) => write!(f, "prepaid: run: {fault}"),
         }
     }
 }
 
 impl Error for Fault {}
 
+impl From<RunError> for Fault {
+    ghost from_gives = { λ error fault. fault ≡ of_run error };
+
+    fn from(error: RunError) -> Fault {
+        match error {
+            RunError::Parts => Fault::Parts,
+            RunError::Tariff(fault) => Fault::Tariff(fault),
+            RunError::Setup(fault) => Fault::Table(Part::Setup, fault),
+            RunError::Script(fault) => Fault::Table(Part::Script, fault),
+            RunError::Device => Fault::Device,
+            RunError::Run(fault) => Fault::Run(fault),
+        }
+    }
+}
+
 impl From<AllocError> for Fault {
-    ghost from_gives = { λ _ fault. fault ≡ out.OutOfMemory };
+    ghost from_gives = { λ _ fault. fault ≡ out.Run run.OutOfMemory };
 
     fn from(_error: AllocError) -> Fault {
-        Fault::OutOfMemory
+        Fault::Run(RunFault::OutOfMemory)
     }
 }
 
 impl<T: Drop> From<AllocFailed<T>> for Fault {
-    ghost from_gives = { λ _ fault. fault ≡ out.OutOfMemory };
+    ghost from_gives = { λ _ fault. fault ≡ out.Run run.OutOfMemory };
 
     fn from(_error: AllocFailed<T>) -> Fault {
-        Fault::OutOfMemory
+        Fault::Run(RunFault::OutOfMemory)
     }
 }

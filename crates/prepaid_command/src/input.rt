@@ -1,10 +1,11 @@
 //! Standard input, read whole.
 
-ghost use Rattle.std.specs.Prelude.{◌≡◌, IfSome};
-ghost use Rattle.prepaid_command.specs.Faults.{Gives, status_of};
+ghost use Rattle.std.specs.Prelude.{IfSome};
+ghost use Rattle.prepaid_command.specs.Faults.{Gives, MayAlwaysCome};
 ghost use Rattle.prepaid_command.specs.Input.{sized};
 
 use crate::Fault;
+use runs_core::RunFault;
 use std::alloc::Global;
 use std::io::{Error, ErrorKind, Read};
 
@@ -25,10 +26,10 @@ pub fn read_input<I: Read + Drop>(alloc: Global, input: I) -> Result<Vec<u8>, Fa
 }
 
 fn fault_of(error: &Error) -> Fault
-    ensures { status_of result ≡ 2 }
+    ensures { MayAlwaysCome result }
 {
     if error.kind() == ErrorKind::OutOfMemory {
-        Fault::OutOfMemory
+        Fault::Run(RunFault::OutOfMemory)
     } else {
         Fault::Device
     }

@@ -3,15 +3,18 @@
 
 mod arguments;
 mod asks;
+mod command_line;
 mod fault;
 mod input;
 mod operations;
+mod options;
 mod price_lines;
 mod program;
 mod replay_lines;
 mod replaying;
 mod reports;
 mod request;
+mod run_words;
 mod tables;
 
 pub use arguments::read_words;

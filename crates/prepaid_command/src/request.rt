@@ -2,6 +2,7 @@
 
 ghost use Rattle.std.specs.Prelude.{◌≤◌};
 
+use run_command::RunOptions;
 use tariff_core::Plan;
 
 /// What the words ask for.
@@ -13,6 +14,8 @@ pub enum Request {
     Price(Plan),
     /// The replies of an account to operations.
     Replay(Opening),
+    /// A run of a script.
+    Run(RunOptions),
 }
 
 /// An account as it is opened.

@@ -2,12 +2,15 @@
 //! writers that fail.
 
 mod replays;
+mod runs;
 
 use crate::command;
 use std::alloc::AllocError;
 use std::io::{self, ErrorKind, Read, Write};
 use std::process::Abort;
+use std::sync::Wait;
 use std::test::Fail;
+use std::thread::Threads;
 
 const PLAN: [&str; 5] = ["price", "--fee", "50", "--before", "1000"];
 
@@ -19,7 +22,7 @@ struct Outcome {
     faults: Vec<u8>,
 }
 
-fn run<R: AllocGlobal>(rt: &R, words: &[&str], input: &[u8]) -> Outcome {
+fn run<R: AllocGlobal + Wait + Threads + Sync>(rt: &R, words: &[&str], input: &[u8]) -> Outcome {
     let mut output = Vec::new(rt.alloc());
     let mut faults = Vec::new(rt.alloc());
     let status = command(rt, words, input, &mut output, &mut faults);
@@ -31,7 +34,7 @@ fn run<R: AllocGlobal>(rt: &R, words: &[&str], input: &[u8]) -> Outcome {
 }
 
 /// Runs the words over the input and compares all that was written.
-fn expect<R: Abort + AllocGlobal>(
+fn expect<R: Abort + AllocGlobal + Wait + Threads + Sync>(
     rt: &R,
     words: &[&str],
     input: &[u8],
@@ -138,7 +141,7 @@ fn takes_ten_thousand_rows(rt: HostRuntime) -> Result<(), Fail> {
 
 #[test]
 fn refuses_other_words(rt: HostRuntime) {
-    let rows: [&[&str]; 20] = [
+    let rows: [&[&str]; 19] = [
         &[],
         &["prices"],
         &["price"],
@@ -166,7 +169,6 @@ fn refuses_other_words(rt: HostRuntime) {
         &["replay", "--opening", "1000000000000001"],
         &["replay", "--opening", "1", "--limit", "2"],
         &["replay", "--opening", "1", "--limit", "1000001"],
-        &["run"],
     ];
     for words in rows {
         expect(&rt, words, b"before,after\n", 1, "", "prepaid: arguments\n");
@@ -175,7 +177,13 @@ fn refuses_other_words(rt: HostRuntime) {
 
 #[test]
 fn prints_help(rt: HostRuntime) {
-    let rows: [&[&str]; 3] = [&["--help"], &["help"], &["price", "--help"]];
+    let rows: [&[&str]; 5] = [
+        &["--help"],
+        &["help"],
+        &["price", "--help"],
+        &["replay", "--help"],
+        &["run", "--help"],
+    ];
     for words in rows {
         let outcome = run(&rt, words, b"");
         assert_eq!(rt; outcome.status, 0);

@@ -2,12 +2,18 @@
 
 use super::{Outcome, expect, run};
 use std::alloc::AllocError;
+use std::sync::Wait;
 use std::test::Fail;
+use std::thread::Threads;
 
 const OPS: &str = "seat,op,call,x1,x2,x3,x4,x5\n";
 
 /// Runs `replay` over the rows below the header.
-fn replay_rows<R: AllocGlobal>(rt: &R, words: &[&str], rows: &str) -> Result<Outcome, AllocError> {
+fn replay_rows<R: AllocGlobal + Wait + Threads + Sync>(
+    rt: &R,
+    words: &[&str],
+    rows: &str,
+) -> Result<Outcome, AllocError> {
     let mut input = String::from_str(rt.alloc(), OPS)?;
     input.push_str(rows)?;
     Ok(run(rt, words, input.as_bytes()))

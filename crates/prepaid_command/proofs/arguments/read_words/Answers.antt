@@ -8,6 +8,5 @@ returns-in-Err g c =
 
 pub returns : goal.returns
 returns g c =
-    rw c.ok_or.ensures.value
-    (asked_read (app_of c.in_ok-program_command.field-0) _ c.in-Ok.matches c.asked.result c.in_ok-program_command.ensures.app
-    c.in-Ok.ensures.kinds c.in-Ok.ensures.matches c.asked.ensures)
+    asked_read (app_of c.in_ok-program_command.field-0) _ c.in-Ok.matches c.asked.result c.in_ok-program_command.ensures.app
+    c.in-Ok.ensures.kinds c.in-Ok.ensures.matches c.asked.ensures

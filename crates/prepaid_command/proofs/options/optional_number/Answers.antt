@@ -2,7 +2,7 @@ use Rattle.std.proofs.Common.{◌∙◌, ap, sym}
 use Rattle.std.specs.Prelude.{Some, option_map}
 use Rattle.clap.specs.Words.{found_of}
 use Rattle.prepaid_command.proofs.ArgumentLemmas.{optional_none, optional_some}
-use Rattle.prepaid_command.proofs.arguments.optional_number.Goals as goal
+use Rattle.prepaid_command.proofs.options.optional_number.Goals as goal
 
 pub returns-in_err-decimal-in-Some-clause-value : goal.returns-in_err-decimal-in-Some-clause-value
 returns-in_err-decimal-in-Some-clause-value c =

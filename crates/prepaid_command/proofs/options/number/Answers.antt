@@ -2,7 +2,7 @@ use Rattle.std.proofs.Common.{◌∙◌, ap, sym}
 use Rattle.clap.specs.Words.{found_of}
 use Rattle.table_core.specs.Decimals.{decimal_of}
 use Rattle.prepaid_command.proofs.ArgumentLemmas.{number_none, number_some}
-use Rattle.prepaid_command.proofs.arguments.number.Goals as goal
+use Rattle.prepaid_command.proofs.options.number.Goals as goal
 
 pub returns-in_err-get_str-clause-value : goal.returns-in_err-get_str-clause-value
 returns-in_err-get_str-clause-value c =

@@ -1,0 +1,2 @@
+pub mod CallLemmas
+pub mod TextLemmas

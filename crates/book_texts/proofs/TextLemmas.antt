@@ -1,0 +1,30 @@
+-- One more book among the texts so far.
+use Rattle.std.proofs.Common.{◌≡◌, ℕ, ◌+◌, ◌<◌, List, [], ◌∷◌, ◌++◌, length, get_or, take, reverse, sym, ap, ◌∙◌, append_assoc}
+use Rattle.std.proofs.lemmas.List.{append-nil, take_more}
+use Rattle.std.proofs.lemmas.List.Concat.{flat_map-append}
+use Rattle.std.specs.List.{flat_map}
+use Rattle.account_core.specs.Available.{available}
+use Rattle.shared_account.specs.Closed.{Closed}
+use Rattle.book_texts.specs.RunTexts.{account_line, account_text}
+
+-- the next item of a list
+pub next_item : {X : Type 0} (items : List X) (i : ℕ) (item : X) → i < length items → item ≡ get_or items i item
+    → take (i + 1) items ≡ take i items ++ item ∷ []
+next_item items i item within is = take_more items i item within ∙ ap (λ x. take i items ++ x ∷ []) (sym is)
+
+-- the text of one more item
+pub one_more : {X : Type 0} (text_of : X → List ℕ) (front text : List ℕ) (items : List X) (i : ℕ) (item : X)
+    → i < length items → item ≡ get_or items i item → text ≡ front ++ flat_map text_of (take i items)
+    → text ++ text_of item ≡ front ++ flat_map text_of (take (i + 1) items)
+one_more text_of front text items i item within is so_far =
+    rw (so_far, next_item items i item within is, flat_map-append text_of (take i items) (item ∷ []), append-nil (text_of item))
+    (append_assoc front (flat_map text_of (take i items)) (text_of item))
+
+-- the line of one more account, from its summary
+pub account_printed : (books : List Closed) (i : ℕ) (book : Closed) (text : List ℕ) (account opening credit entries : ℕ)
+    → i < length books → book ≡ get_or books i book
+    → account ≡ book.account → opening ≡ book.opening → credit ≡ available book.opening (reverse book.history) → entries ≡ length book.history
+    → text ≡ flat_map account_line (take i books)
+    → text ++ account_text account opening credit entries ≡ flat_map account_line (take (i + 1) books)
+account_printed books i book text account opening credit entries within is number opened left count so_far =
+    rw (number, opened, left, count) (one_more account_line [] text books i book within is so_far)

@@ -1,0 +1,3 @@
+pub mod BookTexts
+pub mod Columns
+pub mod RunTexts

@@ -1,0 +1,13 @@
+//! The texts of the books that a run ends with: the lines of accounts and calls, and the table of
+//! all entries.
+#![tactic(auto)]
+
+mod calls;
+mod columns;
+mod lines;
+mod table;
+#[cfg(test)]
+mod tests;
+
+pub use lines::run_lines;
+pub use table::book_table;

@@ -1,0 +1,78 @@
+//! The lines that a run prints of its books.
+
+ghost use Rattle.std.specs.Prelude.{◌≡◌, ◌++◌, OnOk, IfOk, string_bytes};
+ghost use Rattle.std.specs.List.{flat_map};
+ghost use Rattle.book_texts.specs.RunTexts.{IsRunText, account_text, call_line, word_of};
+
+use crate::calls::{CallLine, add_calls};
+use account_core::Fate;
+use shared_account::{Book, Summary};
+use std::alloc::{AllocError, Global};
+
+/// A line `account A opening O available N entries E` for each book, in order, and then a line
+/// `call C account A paid P WORD` for each call that an account granted anything, by rising number.
+/// A call of several accounts has a line for each of them, in the order of the books.
+pub fn run_lines(alloc: Global, books: &[Book]) -> Result<String, AllocError>
+    ensures { IfOk result (λ text. IsRunText books.now (string_bytes text)) }
+{
+    let mut text = String::new(alloc);
+    let mut lines = Vec::new(alloc);
+    for book in books {
+        let summary = book.summary(alloc)?;
+        write_account(&mut text, &summary)?;
+        add_calls(&mut lines, summary.account, summary.calls.as_slice())?;
+    }
+    lines.sort_by_key(|line| line.sum.call)?;
+    write_calls(&mut text, lines.as_slice())?;
+    Ok(text)
+}
+
+/// Adds the line of an account.
+fn write_account(text: &mut String, summary: &Summary) -> Result<(), AllocError>
+    ensures { OnOk result (string_bytes text.new ≡ string_bytes text.old
+        ++ account_text summary.now.account summary.now.opening summary.now.available
+        summary.now.entries) }
+{
+    let Summary {
+        account,
+        opening,
+        available,
+        entries,
+        ..
+    } = summary;
+    writeln!(
+        text,
+        "account {account} opening {opening} available {available} entries {entries}"
+    )
+}
+
+/// Adds a line for each call.
+fn write_calls(text: &mut String, lines: &[CallLine]) -> Result<(), AllocError>
+    ensures { OnOk result (string_bytes text.new ≡ string_bytes text.old
+        ++ flat_map call_line lines.now) }
+{
+    for line in lines {
+        write_call(text, line)?;
+    }
+    Ok(())
+}
+
+/// Adds the line of a call.
+fn write_call(text: &mut String, line: &CallLine) -> Result<(), AllocError>
+    ensures { OnOk result (string_bytes text.new ≡ string_bytes text.old ++ call_line line.now) }
+{
+    let (account, call, paid) = (line.account, line.sum.call, line.sum.paid);
+    let word = word(line.sum.fate);
+    writeln!(text, "call {call} account {account} paid {paid} {word}")
+}
+
+/// The word for how a call stands.
+fn word(fate: Fate) -> &'static str
+    ensures { result.now ≡ word_of fate }
+{
+    match fate {
+        Fate::Holding => "holding",
+        Fate::Returned => "returned",
+        Fate::Forfeit => "forfeit",
+    }
+}

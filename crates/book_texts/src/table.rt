@@ -1,0 +1,47 @@
+//! The table of books.
+
+ghost use Rattle.std.specs.Prelude.{◌≡◌, ◌++◌, OnOk, IfOk, string_bytes};
+ghost use Rattle.account_core.specs.Events.{event_of};
+ghost use Rattle.book_texts.specs.BookTexts.{book_rows, book_text, entry_row};
+
+use crate::columns::{write_answer, write_operation};
+use account_core::Entry;
+use shared_account::Book;
+use std::alloc::{AllocError, Global};
+
+/// The table of these books, version 1: a header, and for each book, in order, a row of its opening
+/// and a row for each entry of its history.
+#[tactic(auto, unfolding(crate::specs::BookTexts::book_text))]
+pub fn book_table(alloc: Global, books: &[Book]) -> Result<String, AllocError>
+    ensures { IfOk result (λ text. string_bytes text ≡ book_text books.now) }
+{
+    let mut text = String::new(alloc);
+    writeln!(text, "account,seat,op,call,x1,x2,x3,x4,x5,reply,y1,y2,y3")?;
+    for book in books {
+        write_book(&mut text, book)?;
+    }
+    Ok(text)
+}
+
+/// Adds the rows of a book.
+fn write_book(text: &mut String, book: &Book) -> Result<(), AllocError>
+    ensures { OnOk result (string_bytes text.new ≡ string_bytes text.old ++ book_rows book.now) }
+{
+    let (account, opening) = (book.account(), book.opening());
+    writeln!(text, "{account},,opening,,{opening},,,,,,,,")?;
+    for entry in book.history() {
+        write_entry(text, account, entry)?;
+    }
+    Ok(())
+}
+
+/// Adds the row of an entry.
+fn write_entry(text: &mut String, account: u32, entry: &Entry) -> Result<(), AllocError>
+    ensures { OnOk result (string_bytes text.new ≡ string_bytes text.old
+        ++ entry_row account (event_of entry.now)) }
+{
+    let seat = entry.seat;
+    write!(text, "{account},{seat},")?;
+    write_operation(text, entry.op)?;
+    write_answer(text, entry.reply)
+}

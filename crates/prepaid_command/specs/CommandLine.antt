@@ -1,0 +1,59 @@
+-- The command line, in clap's own words.
+use Rattle.std.specs.Prelude.{List, ◌∷◌, [], Option, Some, true, codes, fold}
+use Rattle.clap.specs.Simple.{on_top}
+use Rattle.clap.specs.Words.{App, Row, Rule, Text, fault_of, new_app, new_rule, subcommand_of, with_rule, with_subcommand}
+use Rattle.clap.specs.declared.builder.action.ArgAction.TheVariants.{Set, SetTrue}
+use Rattle.clap.specs.declared.error.kind.ErrorKind.{ErrorKind}
+
+-- `[--name N]`
+abbrev pub option_rule : Text → Rule
+option_rule name = record (new_rule name) { long = Some name; action = Some Set; value_names = 1 }
+
+-- `--name N`
+abbrev pub required_rule : Text → Rule
+required_rule name = record (option_rule name) { required = true }
+
+-- `[--name]`
+abbrev pub flag_rule : Text → Rule
+flag_rule name = record (new_rule name) { long = Some name; action = Some SetTrue }
+
+-- a command with these options besides
+abbrev pub with_rules : App → List Rule → App
+with_rules app rules = fold with_rule app rules
+
+-- `price --fee N --before N [--after N]`
+unfoldable pub price_app : App
+price_app = with_rules (new_app (codes "price")) (required_rule (codes "fee") ∷ required_rule (codes "before") ∷ option_rule (codes "after") ∷ [])
+
+-- `replay --opening N [--limit N]`
+unfoldable pub replay_app : App
+replay_app = with_rules (new_app (codes "replay")) (required_rule (codes "opening") ∷ option_rule (codes "limit") ∷ [])
+
+abbrev pub service_rules : List Rule
+service_rules = option_rule (codes "wanted") ∷ option_rule (codes "least") ∷ []
+
+abbrev pub switch_rules : List Rule
+switch_rules = option_rule (codes "tssf") ∷ option_rule (codes "tccd") ∷ option_rule (codes "delay") ∷ []
+
+abbrev pub other_rules : List Rule
+other_rules = option_rule (codes "workers") ∷ option_rule (codes "default") ∷ flag_rule (codes "book") ∷ []
+
+-- `run [--wanted N] [--least N] [--tssf N] [--tccd N] [--delay N] [--workers N] [--default N] [--book]`
+unfoldable pub run_app : App
+run_app = with_rules (with_rules (with_rules (new_app (codes "run")) service_rules) switch_rules) other_rules
+
+-- the program itself, which has nothing but commands
+abbrev pub bare_app : App
+bare_app = on_top (λ top. record top { no_binary_name = true; subcommand_required = true }) (new_app (codes "prepaid"))
+
+-- the program, with its commands
+unfoldable pub program_app : App
+program_app = with_subcommand (with_subcommand (with_subcommand bare_app price_app.top) replay_app.top) run_app.top
+
+-- the kinds of error that clap has for the words; none where they parse
+unfoldable pub errors_in : List Text → List ErrorKind
+errors_in words = fault_of program_app words
+
+-- the command that the words name, with its options
+unfoldable pub command_in : List Text → Option (Text × List Row)
+command_in words = subcommand_of program_app words

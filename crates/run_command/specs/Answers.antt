@@ -1,0 +1,55 @@
+-- What `run` answers to an input.
+use Rattle.std.specs.Prelude.{◌≡◌, ℕ, Bool, true, false, List, Result, Ok, Err, ⊤}
+use Rattle.std.specs.Bool.{MatchBool}
+use Rattle.book_texts.specs.BookTexts.{book_text}
+use Rattle.book_texts.specs.RunTexts.{IsRunText}
+use Rattle.run_command.specs.Books.{AreBooksOf}
+use Rattle.run_command.specs.Inputs.{RunInput, input_of}
+use Rattle.run_command.specs.declared.ask.RunAsk.{RunAsk}
+use Rattle.run_command.specs.declared.error.RunError.{RunError}
+use Rattle.run_command.specs.declared.error.RunError.TheVariants as error
+use Rattle.runs_core.specs.Teams.{are_workers}
+use Rattle.runs_core.specs.declared.run_fault.RunFault.{RunFault}
+use Rattle.runs_core.specs.declared.run_fault.RunFault.TheVariants as run
+use Rattle.shared_account.specs.Closed.{Closed}
+use Rattle.workers_core.specs.declared.post.Body.{Body}
+
+-- the text of books: the table of them where that is asked for, else the lines of their accounts and calls
+abbrev pub IsTextOf : Bool → List Closed → List ℕ → Type 0
+IsTextOf book books text = MatchBool book (text ≡ book_text books) (IsRunText books text)
+
+-- the text is that of the books of a run over the accounts of the input, by the workers asked for
+pub record IsRunOf (ask : RunAsk) (input : List ℕ) (text : List ℕ) : Type 0 where
+  pub said : RunInput
+  pub read : input_of input ≡ Ok said
+  pub workers : are_workers ask.workers ≡ true
+  pub given : List (ℕ × Body)
+  pub books : List Closed
+  pub are_books : AreBooksOf said.setup.accounts ask.workers given books
+  pub printed : IsTextOf ask.book books text
+
+-- what can end a run of so many workers: `Workers` where there can't be so many, and only then; no gate closes
+abbrev pub MayEnd : ℕ → RunFault → Type 0
+MayEnd workers run.OutOfMemory = ⊤
+MayEnd workers run.Workers = are_workers workers ≡ false
+MayEnd workers run.GateClosed = ⊥
+MayEnd workers _ = are_workers workers ≡ true
+
+-- the same of an error of the run
+abbrev pub MayFail : ℕ → RunError → Type 0
+MayFail workers (error.Run fault) = MayEnd workers fault
+MayFail workers why = ⊥
+
+-- a run over this input was ended by a fault
+pub record IsEnded (workers : ℕ) (input : List ℕ) (fault : RunFault) : Type 0 where
+  pub said : RunInput
+  pub read : input_of input ≡ Ok said
+  pub may : MayEnd workers fault
+
+-- an answer to the input: the text of a run, or the first fault of the input, or else a fault of the run. A failed reader and want of memory may come at any
+abbrev pub IsRunAnswer : RunAsk → List ℕ → Result (List ℕ) RunError → Type 0
+IsRunAnswer ask input (Ok text) = IsRunOf ask input text
+IsRunAnswer ask input (Err error.Device) = ⊤
+IsRunAnswer ask input (Err (error.Run run.OutOfMemory)) = ⊤
+IsRunAnswer ask input (Err (error.Run fault)) = IsEnded ask.workers input fault
+IsRunAnswer ask input (Err why) = input_of input ≡ Err why

@@ -1,0 +1,7 @@
+pub mod Answers
+pub mod Books
+pub mod Configs
+pub mod Errors
+pub mod Inputs
+pub mod Options
+pub mod Texts

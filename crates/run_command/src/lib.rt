@@ -1,0 +1,15 @@
+//! The command `run`, from its options and its input to its text: the input is read, a script is
+//! played over the accounts that it sets up, and their books are printed.
+#![tactic(auto)]
+
+mod ask;
+mod error;
+mod options;
+mod playing;
+mod running;
+mod texts;
+
+pub use ask::RunAsk;
+pub use error::RunError;
+pub use options::RunOptions;
+pub use running::run;

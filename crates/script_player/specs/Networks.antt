@@ -1,0 +1,56 @@
+-- The gsmSSFs of a run beside what was given of them.
+use Rattle.std.specs.Prelude.{◌≡◌, ◌++◌, ◌≤◌, ℕ, Some, List, [], All, MatchOption}
+use Rattle.std.specs.BTreeMap.{BTreeMap, Updates, get}
+use Rattle.std.specs.Ordering.{nat_cmp}
+use Rattle.ssf_core.specs.Calls.{Stands, View}
+use Rattle.ssf_core.specs.Happenings.{Happening, sent_in}
+use Rattle.ssf_core.specs.declared.config.SsfConfig.{SsfConfig}
+use Rattle.ssf_core.specs.declared.item.Out.{Out}
+use Rattle.workers_core.specs.declared.post.Body.{Body}
+use Rattle.script_player.specs.Posts.{items_of, posts_of, recharges_in}
+
+-- what a network shows: the configuration of its gsmSSFs, and all that was given
+pub record Shown : Type 0 where
+  pub config : SsfConfig
+  pub given : List (ℕ × Body)
+
+-- the gsmSSF of a call stands for a trace whose messages are the items of the call, of which there are some
+pub record IsTold (config : SsfConfig) (call : ℕ) (given : List (ℕ × Body)) (view : View) : Type 0 where
+  pub same_config : view.config ≡ config
+  pub trace : List Happening
+  pub stands : Stands view trace
+  pub same : items_of call given ≡ posts_of call (sent_in trace)
+  pub some : items_of call given ≡ [] → ⊥
+
+-- each gsmSSF is told so; a call without one has no items
+pub record AreTold (config : SsfConfig) (calls : BTreeMap ℕ View) (given : List (ℕ × Body)) : Type 0 where
+  pub told : (call : ℕ) → MatchOption (get nat_cmp calls call) (items_of call given ≡ []) (IsTold config call given)
+  pub in_range : All (λ item. item.0 ≤ 2000000000000) given
+
+-- from a trace that it stands for, a gsmSSF goes on and sends this
+pub record SendsFrom (after : View) (trace : List Happening) (sent : List Out) : Type 0 where
+  pub further : List Happening
+  pub stands : Stands after further
+  pub sends : sent_in further ≡ sent_in trace ++ sent
+  pub in_range : All (λ out. out.at ≤ 2000000000000) sent
+
+-- a gsmSSF goes on and sends this
+pub record GoesOn (before after : View) (sent : List Out) : Type 0 where
+  pub same_config : after.config ≡ before.config
+  pub from : (trace : List Happening) → Stands before trace → SendsFrom after trace sent
+
+-- the gsmSSF of a call goes on and sends this, and the others stay
+pub record Moves (before after : BTreeMap ℕ View) (call : ℕ) (sent : List Out) : Type 0 where
+  pub old : View
+  pub new : View
+  pub was : get nat_cmp before call ≡ Some old
+  pub updates : Updates nat_cmp before after call (Some new)
+  pub goes_on : GoesOn old new sent
+
+-- what was given stays and grows; no recharge is added, and no call begins
+pub record Grows (before after : Shown) : Type 0 where
+  pub same_config : after.config ≡ before.config
+  pub added : List (ℕ × Body)
+  pub grown : after.given ≡ before.given ++ added
+  pub same_recharges : recharges_in after.given ≡ recharges_in before.given
+  pub none_begins : (call : ℕ) → items_of call before.given ≡ [] → items_of call after.given ≡ []

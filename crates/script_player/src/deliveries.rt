@@ -1,0 +1,116 @@
+//! The operations of the service on their way to the gsmSSFs.
+
+ghost use Rattle.std.specs.Prelude.{◌≡◌, ◌≤◌, ◌++◌, ◌+◌, All, OnOk};
+ghost use Rattle.script_player.specs.Deliveries.{TakesDue, deliveries_at, deliveries_of, deliveries_to, next_delivery};
+ghost use Rattle.script_player.specs.Networks.{Grows};
+
+use crate::input::Input;
+use crate::network::Network;
+use cap_values::ScfOp;
+use ssf_core::Moment;
+use std::alloc::AllocError;
+use std::collections::VecDeque;
+use workers_core::{Answer, Body};
+
+/// An operation on its way.
+#[derive(Clone, Copy, Debug, PartialEq, Eq)]
+pub(crate) struct Delivery {
+    /// When it is delivered.
+    pub at: Moment,
+    /// The call whose gsmSSF gets it.
+    pub call: u64,
+    /// What is delivered.
+    pub op: ScfOp,
+}
+
+/// Puts down the operations of answers, one after the other, each for the call of its post and a
+/// delay after the post's moment.
+pub(crate) fn put_down(
+    deliveries: &mut VecDeque<Delivery>,
+    delay: u32,
+    given: &[(u64, Body)],
+    answers: &[Answer],
+) -> Result<(), AllocError>
+    requires delay { delay ≤ 864000 }
+    requires in_range { All (λ item. item.0 ≤ 2000000000000) given.now }
+    ensures { OnOk result (deliveries.new.items
+        ≡ deliveries.old.items ++ deliveries_of delay given.now answers.now) }
+{
+    for answer in answers {
+        if let Some(item) = given.get(answer.number as usize) {
+            send_to(deliveries, delay, *item, answer.ops.as_slice())?;
+        }
+    }
+    Ok(())
+}
+
+/// Puts down operations that answer an item. A recharge has none.
+fn send_to(
+    deliveries: &mut VecDeque<Delivery>,
+    delay: u32,
+    item: (u64, Body),
+    ops: &[ScfOp],
+) -> Result<(), AllocError>
+    requires delay { delay ≤ 864000 }
+    requires in_range { item.0 ≤ 2000000000000 }
+    ensures { OnOk result (deliveries.new.items
+        ≡ deliveries.old.items ++ deliveries_to delay ops.now item.0 item.1) }
+{
+    let (at, body) = item;
+    match body {
+        Body::Ssf { call, .. } => send(deliveries, at + u64::from(delay), call, ops),
+        Body::Recharge { .. } => Ok(()),
+    }
+}
+
+/// Puts down operations, all for one call and to be delivered at one moment.
+fn send(
+    deliveries: &mut VecDeque<Delivery>,
+    at: Moment,
+    call: u64,
+    ops: &[ScfOp],
+) -> Result<(), AllocError>
+    ensures { OnOk result (deliveries.new.items
+        ≡ deliveries.old.items ++ deliveries_at at call ops.now) }
+{
+    for op in ops {
+        deliveries.push_back(Delivery { at, call, op: *op })?;
+    }
+    Ok(())
+}
+
+/// Delivers the operations that are due by now, in order.
+pub(crate) fn deliver(
+    network: &mut Network,
+    deliveries: &mut VecDeque<Delivery>,
+    now: Moment,
+) -> Result<(), AllocError>
+    requires { now ≤ 2000000000000 }
+    ensures { Grows network.old network.new }
+{
+    while let Some(delivery) = take_due(deliveries, now) {
+        network.give(now, delivery.call, Input::Operate(delivery.op))?;
+    }
+    Ok(())
+}
+
+/// The moment of the first delivery.
+pub(crate) fn next_delivery(deliveries: &VecDeque<Delivery>) -> Option<Moment>
+    ensures { result ≡ next_delivery deliveries.now.items }
+{
+    match deliveries.front() {
+        Some(delivery) => Some(delivery.at),
+        None => None,
+    }
+}
+
+/// Takes the first delivery, where it is due by now.
+fn take_due(deliveries: &mut VecDeque<Delivery>, now: Moment) -> Option<Delivery>
+    ensures { TakesDue now deliveries.old.items result deliveries.new.items }
+{
+    let at = next_delivery(deliveries)?;
+    if now < at {
+        return None;
+    }
+    deliveries.pop_front()
+}

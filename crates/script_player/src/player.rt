@@ -1,0 +1,151 @@
+//! The driver that plays a script.
+
+use crate::deliveries::{Delivery, deliver, next_delivery, put_down};
+use crate::moments::next_moment;
+use crate::network::Network;
+use crate::rows::{next_row, take_rows};
+use run_texts::ScriptRow;
+use runs_core::Driver;
+use ssf_core::SsfConfig;
+use std::alloc::{AllocError, Global};
+use std::collections::VecDeque;
+use std::marker::Model;
+use workers_core::{Answer, Body};
+
+/// Plays a script: it drives a run by the rows of a script, with one gsmSSF for each call that has
+/// started.
+///
+/// The operations of the answer to a post of a moment are delivered to the post's call `delay` units
+/// of 100 ms later, one after the other. The moment of the next round is the least of the next
+/// row's, the next delivery's, and that at which a timer of a gsmSSF is due. A round first delivers
+/// the operations that are due, in order of their answers; then it takes the rows of its moment, in
+/// order; then the timers that are due run, in ascending order of the calls. At a `Start` row the
+/// gsmSSF of the call is invoked and triggered, an event is met by its call, and a recharge is a
+/// post in its place. Each message that a gsmSSF sends is a post, in the order in which they were
+/// sent. What a gsmSSF refuses is ignored.
+///
+/// It ends where no row, delivery or due moment is left, or where the next moment lies above
+/// 2,000,000,000,000, the last one that a gsmSSF takes: a run breaks off there. The last row lies at
+/// half of it at most, and what follows that one takes a few days: the periods of a call, a day
+/// together, and its timers.
+#[derive(Drop)]
+pub struct ScriptPlayer {
+    network: Network,
+    deliveries: VecDeque<Delivery>,
+    delay: u32,
+    rows: Vec<ScriptRow>,
+    taken: usize,
+    ended: bool,
+}
+
+impl Model for ScriptPlayer {
+    ghost use Rattle.std.specs.Prelude.{◌≡◌, ◌≤◌, All, length, take, drop};
+    ghost use Rattle.script_player.specs.Plays.{Play};
+    ghost use Rattle.script_player.specs.Playing.{IsKept};
+
+    ghost Value = { Play };
+
+    ghost view = { λ p. record { config = p.network.config; taken = take p.taken p.rows.items; left = drop p.taken p.rows.items; given = p.network.given; ended = p.ended } };
+
+    ghost invariant = { λ p. IsKept p.network.given p.delay p.rows.items p.taken p.ended };
+}
+
+impl ScriptPlayer {
+    ghost use Rattle.std.specs.Prelude.{◌≡◌, ◌≤◌, [], true, false, All, IfOk};
+    ghost use Rattle.run_texts.specs.Views.{are_in_order};
+
+    /// The player of these rows, before its first round. Each gsmSSF has this configuration, and
+    /// the delay is 1 to 864,000 units of 100 ms.
+    pub fn new(
+        alloc: Global,
+        rows: Vec<ScriptRow>,
+        config: SsfConfig,
+        delay: u32,
+    ) -> Result<ScriptPlayer, AllocError>
+        requires delay_positive { 1 ≤ delay }
+        requires delay_within_day { delay ≤ 864000 }
+        requires in_range { All (λ row. row.at ≤ 1000000000000) rows.items }
+        requires in_order { are_in_order 0 rows.items ≡ true }
+        ensures config { IfOk result (λ player. player.config ≡ config) }
+        ensures taken { IfOk result (λ player. player.taken ≡ []) }
+        ensures left { IfOk result (λ player. player.left ≡ rows.items) }
+        ensures given { IfOk result (λ player. player.given ≡ []) }
+        ensures running { IfOk result (λ player. player.ended ≡ false) }
+    {
+        Ok(ScriptPlayer {
+            network: Network::new(alloc, config, rows.len())?,
+            deliveries: VecDeque::new(alloc),
+            delay,
+            rows,
+            taken: 0,
+            ended: false,
+        })
+    }
+}
+
+impl Driver for ScriptPlayer {
+    ghost use Rattle.std.specs.Prelude.{◌≡◌, ◌≤◌, ◌++◌, ℕ, List, [], not, true, false, All, IfOk, OnOk};
+    ghost use Rattle.workers_core.specs.declared.post.Body.{Body};
+    ghost use Rattle.script_player.specs.Plays.{IsPlayed};
+    ghost use Rattle.script_player.specs.Posts.{Begins, items_of, opening_of, recharges_in, recharges_of};
+
+    ghost given = { λ player. player.given };
+
+    ghost ended = { λ player. player.ended };
+
+    /// All that it has given: the messages of the gsmSSFs, and the recharges of the rows taken.
+    fn given(&self) -> &[(u64, Body)]
+        ensures items { result.now ≡ self.now.given }
+        ensures moments { All (λ item. item.0 ≤ 2000000000000) result.now }
+        ensures calls { (call : ℕ) → IsPlayed self.now.config call self.now.given }
+        ensures begins { (call : ℕ) → Begins (opening_of call self.now.taken) (items_of call self.now.given) }
+        ensures recharges { recharges_in self.now.given ≡ recharges_of self.now.taken }
+    {
+        self.network.given()
+    }
+
+    /// Whether it has ended: then no row is left.
+    fn ended(&self) -> bool
+        ensures value { result ≡ self.now.ended }
+        ensures left { result ≡ true → self.now.left ≡ [] }
+    {
+        self.ended
+    }
+
+    /// Takes the answers to the items of the round before: the number of an answer is the place of
+    /// its item. Plays the round of the next moment; false where there is none. The recharge of a
+    /// row has no operations.
+    fn round(&mut self, answers: &[Answer]) -> Result<bool, AllocError>
+        ensures grows { IfOk result (λ _.
+            (added : List (ℕ × Body)) × (self.new.given ≡ self.old.given ++ added)) }
+        ensures ended { IfOk result (λ more. self.new.ended ≡ not more) }
+        ensures end { IfOk result (λ more. more ≡ false → self.new.given ≡ self.old.given) }
+        ensures config { self.new.config ≡ self.old.config }
+        ensures rows { self.new.taken ++ self.new.left ≡ self.old.taken ++ self.old.left }
+    {
+        if self.ended {
+            return Ok(false);
+        }
+        put_down(
+            &mut self.deliveries,
+            self.delay,
+            self.network.given(),
+            answers,
+        )?;
+        let row = next_row(self.rows.as_slice(), self.taken);
+        let delivery = next_delivery(&self.deliveries);
+        let Some(now) = next_moment(row, delivery, self.network.first_due()) else {
+            self.ended = true;
+            return Ok(false);
+        };
+        deliver(&mut self.network, &mut self.deliveries, now)?;
+        take_rows(
+            &mut self.network,
+            self.rows.as_slice(),
+            &mut self.taken,
+            now,
+        )?;
+        self.network.advance(now)?;
+        Ok(true)
+    }
+}
