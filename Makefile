@@ -4,9 +4,9 @@ SOURCES := crates.txt $(shell find crates -path '*/out' -prune -o -name '*.rt' -
 
 .PHONY: run test install bench
 
-# Builds the program, proving what it stands on, and prices the reports of an example.
+# Builds the program, proving what it stands on, and plays an evening of calls.
 run: bin/prepaid
-	bin/prepaid price --fee 50 --before 1000 --after 400 < examples/reports.csv
+	bin/prepaid run < examples/evening.txt
 
 # Proves everything from nothing, tries the edits that must fail, and runs the tests and the programs;
 # then closes calls while memory is refused.
@@ -17,9 +17,10 @@ test:
 install: bin/prepaid
 	install -D -m 755 bin/prepaid $(DESTDIR)$(PREFIX)/bin/prepaid
 
-# Times the program beside a plain one, and shared accounts beside plain ones.
+# Times the program beside a plain one, a run by its length, and shared accounts beside plain ones.
 bench: bin/prepaid
 	bench/price.sh
+	bench/run.sh
 	bench/shared.sh
 
 bin/prepaid: $(SOURCES)
