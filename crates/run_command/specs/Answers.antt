@@ -5,6 +5,7 @@ use Rattle.book_texts.specs.BookTexts.{book_text}
 use Rattle.book_texts.specs.RunTexts.{IsRunText}
 use Rattle.run_command.specs.Books.{AreBooksOf}
 use Rattle.run_command.specs.Inputs.{RunInput, input_of}
+use Rattle.run_command.specs.Plays.{IsGivenBy}
 use Rattle.run_command.specs.declared.ask.RunAsk.{RunAsk}
 use Rattle.run_command.specs.declared.error.RunError.{RunError}
 use Rattle.run_command.specs.declared.error.RunError.TheVariants as error
@@ -18,12 +19,13 @@ use Rattle.workers_core.specs.declared.post.Body.{Body}
 abbrev pub IsTextOf : Bool → List Closed → List ℕ → Type 0
 IsTextOf book books text = MatchBool book (text ≡ book_text books) (IsRunText books text)
 
--- the text is that of the books of a run over the accounts of the input, by the workers asked for
+-- the text is that of the books of a run over the accounts of the input, by the workers asked for, to which the script of the input was played
 pub record IsRunOf (ask : RunAsk) (input : List ℕ) (text : List ℕ) : Type 0 where
   pub said : RunInput
   pub read : input_of input ≡ Ok said
   pub workers : are_workers ask.workers ≡ true
   pub given : List (ℕ × Body)
+  pub given_by : IsGivenBy ask said.script given
   pub books : List Closed
   pub are_books : AreBooksOf said.setup.accounts ask.workers given books
   pub printed : IsTextOf ask.book books text

@@ -4,4 +4,5 @@ pub mod Configs
 pub mod Errors
 pub mod Inputs
 pub mod Options
+pub mod Plays
 pub mod Texts

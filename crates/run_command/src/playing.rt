@@ -1,11 +1,14 @@
 //! A script is played.
 
-ghost use Rattle.std.specs.Prelude.{◌≡◌, ◌≤◌, ℕ, true, List, All, IfErr, IfOk};
+ghost use Rattle.std.specs.Prelude.{◌≡◌, ◌≤◌, ◌++◌, ℕ, true, List, map, All, IfErr, IfOk};
 ghost use Rattle.run_command.specs.Answers.{MayFail};
 ghost use Rattle.run_command.specs.Books.{AreBooksOf};
+ghost use Rattle.run_command.specs.Options.{ask_of};
+ghost use Rattle.run_command.specs.Plays.{IsGivenBy, IsPlayOf};
 ghost use Rattle.runs_core.specs.Teams.{are_workers};
 ghost use Rattle.run_texts.specs.Fits.{SetsUp};
-ghost use Rattle.run_texts.specs.Views.{are_in_order};
+ghost use Rattle.run_texts.specs.Views.{are_in_order, event_of};
+ghost use Rattle.run_texts.specs.declared.script_row.ScriptRow.{ScriptRow};
 ghost use Rattle.workers_core.specs.Setups.{AreAscending};
 ghost use Rattle.workers_core.specs.declared.post.Body.{Body};
 
@@ -13,7 +16,7 @@ use crate::texts::RunTexts;
 use crate::{RunError, RunOptions};
 use dialogue_core::ServiceConfig;
 use run_texts::SetupRows;
-use runs_core::{Books, serve};
+use runs_core::{Books, Driver, serve};
 use script_player::ScriptPlayer;
 use shared_account::{Book, OpenGate};
 use std::alloc::{AllocError, Global};
@@ -37,6 +40,7 @@ pub(crate) fn play<R: Wait + Threads + Sync>(
     requires in_order { are_in_order 0 texts.script.items ≡ true }
     ensures workers { IfOk result (λ _. are_workers options.now.workers ≡ true) }
     ensures books { IfOk result (λ books. (given : List (ℕ × Body))
+        × IsGivenBy (ask_of options.now) (map event_of texts.script.items) given
         × AreBooksOf texts.setup.accounts.items options.now.workers given books.items) }
     ensures fault { IfErr result (MayFail options.now.workers) }
 {
@@ -49,7 +53,18 @@ pub(crate) fn play<R: Wait + Threads + Sync>(
     let mut player = ScriptPlayer::new(alloc, script, options.ssf, options.delay)?;
     let workers = options.workers;
     let Books { books, .. } = serve(rt, alloc, &setup, &mut player, workers, &OpenGate)?;
+    is_played(&player);
     Ok(books)
+}
+
+/// What a player that has ended has given is the play of its rows.
+fn is_played(player: &ScriptPlayer)
+    requires { player.now.ended ≡ true }
+    ensures { (rows : List ScriptRow) → player.now.taken ++ player.now.left ≡ rows
+        → IsPlayOf player.now.config rows player.now.given }
+{
+    let _ = player.ended();
+    let _ = player.given();
 }
 
 /// The setup of a run, which wants nothing but memory.

@@ -6,7 +6,7 @@ use workers_core::{Answer, Body};
 /// Gives the posts of a run, round by round.
 ///
 /// A driver stores all that it has given, in order, each with its moment in units of 100 ms, and
-/// whether it has ended.
+/// whether it has ended. It may state a plan, which no round changes.
 pub trait Driver {
     ghost use Rattle.std.specs.Prelude.{◌≡◌, ◌≤◌, ◌++◌, ℕ, List, Bool, not, false, All, IfOk};
     ghost use Rattle.workers_core.specs.declared.post.Body.{Body};
@@ -14,6 +14,10 @@ pub trait Driver {
     ghost given: { Self → List (ℕ × Body) };
 
     ghost ended: { Self → Bool };
+
+    ghost Plan: { Type 0 } = { Unit {0} };
+
+    ghost plan: { Self → Self.Plan };
 
     /// All that it has given, each with its moment, 0 to 2,000,000,000,000.
     fn given(&self) -> &[(u64, Body)]
@@ -31,5 +35,6 @@ pub trait Driver {
         ensures grows { IfOk result (λ _.
             (added : List (ℕ × Body)) × (given self.new ≡ given self.old ++ added)) }
         ensures ended { IfOk result (λ more. ended self.new ≡ not more) }
-        ensures end { IfOk result (λ more. more ≡ false → given self.new ≡ given self.old) };
+        ensures end { IfOk result (λ more. more ≡ false → given self.new ≡ given self.old) }
+        ensures plan { Self.plan self.new ≡ Self.plan self.old };
 }

@@ -24,6 +24,7 @@ pub(crate) fn play<D: Driver, S: Shared, R: Wait, G: Gate>(
     requires fresh { D.given driver.old ≡ [] }
     requires sent { AreSent [] lines.old.items }
     ensures ended { OnOk result (D.ended driver.new ≡ true) }
+    ensures plan { D.plan driver.new ≡ D.plan driver.old }
     ensures sent { OnOk result (AreSent (D.given driver.new) lines.new.items) }
     ensures promises { promises_of lines.new.items ≡ promises_of lines.old.items }
     ensures fault { (result ≢ Err RunFault.GateClosed) × (result ≢ Err RunFault.Workers) }

@@ -43,6 +43,7 @@ pub fn serve<D: Driver, R: Wait + Threads + Sync, G: Gate + Sync>(
     ensures workers { (result ≡ Err RunFault.Workers) ↔ (are_workers workers ≡ false) }
     ensures nothing { result ≡ Err RunFault.Workers → driver.new ≡ driver.old }
     ensures ended { OnOk result (D.ended driver.new ≡ true) }
+    ensures plan { D.plan driver.new ≡ D.plan driver.old }
     ensures handled { IfOk result (λ all. HaveHandled workers (D.given driver.new)
         (map (λ posts. posts.items) all.handled.items)) }
     ensures books { IfOk result (λ all.
@@ -71,6 +72,7 @@ pub(crate) fn serve_over<D: Driver, S: Shared, R: Wait + Threads + Sync, G: Gate
     ensures workers { (result ≡ Err RunFault.Workers) ↔ (are_workers workers ≡ false) }
     ensures nothing { result ≡ Err RunFault.Workers → driver.new ≡ driver.old }
     ensures ended { OnOk result (D.ended driver.new ≡ true) }
+    ensures plan { D.plan driver.new ≡ D.plan driver.old }
     ensures handled { IfOk result (λ all. HaveHandled workers (D.given driver.new)
         (map (λ posts. posts.items) all.handled.items)) }
     ensures books { IfOk result (λ all.
@@ -115,6 +117,7 @@ fn run_workers<D: Driver, S: Shared, R: Wait + Threads + Sync, G: Gate + Sync>(
     requires fresh { AreFresh (reads S.key_of S.number_of S.mine_of)
         (map S.key accounts.now) 0 (map (λ team. team.items) teams.items) }
     ensures ended { OnOk result (D.ended driver.new ≡ true) }
+    ensures plan { D.plan driver.new ≡ D.plan driver.old }
     ensures handled { IfOk result (λ left. HaveHandled (length teams.items) (D.given driver.new)
         (map (λ one. one.posts.items) left.items)) }
     ensures left { IfOk result (λ left. AreLeftFrom (reads S.key_of S.number_of S.mine_of)
@@ -133,6 +136,7 @@ fn run_workers<D: Driver, S: Shared, R: Wait + Threads + Sync, G: Gate + Sync>(
                 × AreFresh (reads S.key_of S.number_of S.mine_of)
                 (map S.key accounts.now) 0 (map (λ team. team.items) teams.items) }
             ensures { (result.driver.ghost_name ≡ driver.entry.ghost_name)
+                × (D.plan result.driver.now ≡ D.plan driver.entry.now)
                 × OnOk result.left (D.ended result.driver.now ≡ true)
                 × IfOk result.left
                 (λ left. HaveHandled (length teams.items) (D.given result.driver.now)
@@ -175,6 +179,7 @@ fn run_in<'s, E, D: Driver, S: Shared, R: Wait + Threads + Sync, G: Gate + Sync>
     requires fresh { AreFresh (reads S.key_of S.number_of S.mine_of)
         (map S.key accounts.now) 0 (map (λ team. team.items) teams.items) }
     ensures ended { OnOk result (D.ended driver.new ≡ true) }
+    ensures plan { D.plan driver.new ≡ D.plan driver.old }
     ensures handled { IfOk result (λ left. HaveHandled (length teams.items) (D.given driver.new)
         (map (λ one. one.posts.items) left.items)) }
     ensures left { IfOk result (λ left. AreLeftFrom (reads S.key_of S.number_of S.mine_of)
@@ -213,6 +218,7 @@ fn start_and_play<'s, E, D: Driver, S: Shared, R: Wait + Threads + Sync, G: Gate
         (map S.key accounts.now) 0 (map (λ team. team.items) teams.items) }
     requires none { lines.old.items ≡ [] }
     ensures ended { OnOk result (D.ended driver.new ≡ true) }
+    ensures plan { D.plan driver.new ≡ D.plan driver.old }
     ensures count { OnOk result (length lines.new.items ≡ length teams.items) }
     ensures sent { OnOk result (AreSent (D.given driver.new) lines.new.items) }
     ensures promised { ArePromised setup.now accounts.now gate.now 0 (promises_of lines.new.items) }

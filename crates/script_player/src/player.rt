@@ -85,6 +85,8 @@ impl ScriptPlayer {
 
 impl Driver for ScriptPlayer {
     ghost use Rattle.std.specs.Prelude.{◌≡◌, ◌≤◌, ◌++◌, ℕ, List, [], not, true, false, All, IfOk, OnOk};
+    ghost use Rattle.run_texts.specs.declared.script_row.ScriptRow.{ScriptRow};
+    ghost use Rattle.ssf_core.specs.declared.config.SsfConfig.{SsfConfig};
     ghost use Rattle.workers_core.specs.declared.post.Body.{Body};
     ghost use Rattle.script_player.specs.Plays.{IsPlayed};
     ghost use Rattle.script_player.specs.Posts.{Begins, items_of, opening_of, recharges_in, recharges_of};
@@ -92,6 +94,10 @@ impl Driver for ScriptPlayer {
     ghost given = { λ player. player.given };
 
     ghost ended = { λ player. player.ended };
+
+    ghost Plan = { SsfConfig × List ScriptRow };
+
+    ghost plan = { λ player. (player.config, player.taken ++ player.left) };
 
     /// All that it has given: the messages of the gsmSSFs, and the recharges of the rows taken.
     fn given(&self) -> &[(u64, Body)]

@@ -1,0 +1,27 @@
+use Rattle.std.proofs.Common.{◌∙◌, ◌++◌, ap, map, refl, rules}
+use Rattle.run_command.proofs.PlayLemmas.{given_by}
+use Rattle.run_command.specs.Options.{ask_of}
+use Rattle.run_command.proofs.playing.play.Goals as goal
+
+pub returns-clause-books : goal.returns-clause-books
+returns-clause-books g c =
+    let before = c.in_ok-player.player in
+    let after = c.serve.new.driver in
+    let kept = c.in_ok-books.ensures.plan in (
+      after.given,
+      given_by (ask_of c.args.options.now) c.args.options.now.ssf after.config c.args.texts.script.items after.taken after.left after.given
+          (record { tssf = refl; tccd = refl; default_handling = refl })
+          (ap (λ p. p.0) kept ∙ c.in_ok-player.ensures.config)
+          (ap (λ p. p.1) kept ∙ ap (λ rows. rows ++ before.left) c.in_ok-player.ensures.taken ∙ c.in_ok-player.ensures.left)
+          c.is_played.ensures,
+      record {
+        ascending = c.in_ok-setup.setup.accounts;
+        same = c.in_ok-setup.ensures.accounts;
+        opened = search rules;
+        legal = search rules;
+        merged = search rules;
+        handled = map (λ posts. posts.items) c.in_ok-books.field-0.handled.items;
+        shares = search rules;
+        served = search rules;
+      },
+    )
