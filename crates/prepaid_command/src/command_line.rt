@@ -28,7 +28,7 @@ Input, for example:
 
 /// An input of `run`.
 const SCRIPT: &str = "\
-Input, for example:
+Times are in units of 100 ms. Input, for example:
 
   prefix,from,fee,rate
   49,00:00,50,1000
@@ -109,16 +109,8 @@ fn add_service_options<'a>(alloc: Global, command: Command<'a>) -> Result<Comman
     ensures local { IfOk result (λ more. (fields_of more).has_globals ≡ false) }
 {
     command
-        .arg(option(
-            alloc,
-            "wanted",
-            "The time that it asks for, in 100 ms [600]",
-        ))?
-        .arg(option(
-            alloc,
-            "least",
-            "The least that is worth a grant, in 100 ms [50]",
-        ))
+        .arg(option(alloc, "wanted", "The time that the service asks for [600]"))?
+        .arg(option(alloc, "least", "The least time that it takes [50]"))
 }
 
 /// How the switches wait.
@@ -129,17 +121,9 @@ fn add_switch_options<'a>(alloc: Global, command: Command<'a>) -> Result<Command
     ensures local { IfOk result (λ more. (fields_of more).has_globals ≡ false) }
 {
     command
-        .arg(option(
-            alloc,
-            "tssf",
-            "How long a switch waits for orders, in 100 ms [100]",
-        ))?
-        .arg(option(
-            alloc,
-            "tccd",
-            "How long it waits for more time, in 100 ms [50]",
-        ))?
-        .arg(option(alloc, "delay", "How long orders take to it, in 100 ms [2]"))
+        .arg(option(alloc, "tssf", "How long a switch waits for orders [100]"))?
+        .arg(option(alloc, "tccd", "How long it waits for more time [50]"))?
+        .arg(option(alloc, "delay", "How long orders take to it [2]"))
 }
 
 /// How many serve the run, what comes of a call without orders, and what is printed.
@@ -150,17 +134,13 @@ fn add_other_options<'a>(alloc: Global, command: Command<'a>) -> Result<Command<
     ensures local { IfOk result (λ more. (fields_of more).has_globals ≡ false) }
 {
     command
-        .arg(option(
-            alloc,
-            "workers",
-            "How many workers serve the run, 1 to 16 [2]",
-        ))?
-        .arg(option(
+        .arg(option(alloc, "workers", "How many workers serve it, 1 to 16 [2]"))?
+        .arg(word(
             alloc,
             "default",
-            "What comes of a call without orders: proceed or release [release]",
+            "Without orders: proceed, release [release]",
         ))?
-        .arg(flag(alloc, "book", "Prints the book"))
+        .arg(flag(alloc, "book", "Prints the book, in place of the lines"))
 }
 
 /// `--name N`
@@ -180,6 +160,14 @@ fn required<'a>(alloc: Global, name: &'a str, help: &'a str) -> Arg<'a>
     ensures local { result.global ≡ false }
 {
     option(alloc, name, help).required(true)
+}
+
+/// `--name WORD`
+fn word<'a>(alloc: Global, name: &'a str, help: &'a str) -> Arg<'a>
+    ensures rule { rule_of result ≡ option_rule name.entry.now }
+    ensures local { result.global ≡ false }
+{
+    option(alloc, name, help).value_name("WORD")
 }
 
 /// `--name`
