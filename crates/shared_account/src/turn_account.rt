@@ -25,13 +25,13 @@ use crate::{Book, CloseFault, Gate, Seat, TurnSeat};
 use account_core::{Account, AccountFault, Entry, Op, Reply};
 use std::alloc::Global;
 use std::marker::Model;
-use std::sync::Wait;
+use std::sync::{Mutex, Wait};
 
 /// An account that its seats hand on by turns.
 ///
-/// Who asks draws a ticket and waits until it is served. Then the account is its own: it asks, counts
-/// the entry, puts the account back and serves the next ticket. So what a seat has seen begins what
-/// it sees next, at each step, and no comparison is needed to know it.
+/// Who asks takes the door, draws a ticket and waits until it is served. Then the account is its
+/// own: it asks, counts the entry, puts the account back and serves the next ticket. So what a seat
+/// has seen begins what it sees next, at each step, and no comparison is needed to know it.
 #[derive(Drop)]
 pub struct TurnAccount {
     number: u32,
@@ -39,6 +39,8 @@ pub struct TurnAccount {
     limit: u32,
     seats: u32,
     board: Board,
+    /// Lets one thread in at a time, so that a turn mostly passes to a thread that runs.
+    door: Mutex<()>,
 }
 
 impl Model for TurnAccount {
@@ -90,6 +92,7 @@ impl TurnAccount {
             limit,
             seats,
             board,
+            door: Mutex::new(()),
         };
         Ok((account, made))
     }
@@ -135,6 +138,7 @@ impl TurnAccount {
             → IfErr result (λ fault.
             (fault ≡ AccountFault.NotOpen) ⊎ (fault ≡ AccountFault.GateClosed)) }
     {
+        let _door = self.door.lock(rt);
         let mut account = take_turn(rt, &self.board, &mut seat.chair);
         let result = enter(
             &self.board,
@@ -196,6 +200,7 @@ impl TurnAccount {
             limit,
             seats: count,
             board,
+            ..
         } = self;
         close_board(alloc, number, opening, limit, count, board, seats)
     }

@@ -7,14 +7,14 @@ use Rattle.shared_account.proofs.Calls.{HasGone, gone, rests_after, sits}
 use Rattle.shared_account.proofs.turn_account.TurnAccount.call.Given.{Over}
 use Rattle.shared_account.proofs.turn_account.TurnAccount.call.Goals as goal
 
-went : (g : Over) (c : goal.After-give_turn g) → HasGone c.seat.inside.chair.me.0 c.enter-result.new.chair.me.0 c.enter-result.new.seat
+went : (g : Over) (c : goal.After-drop-door g) → HasGone c.seat.inside.chair.me.0 c.enter-result.new.chair.me.0 c.enter-result.new.seat
 went g c =
     let turn = c.take_turn-account in
     let entered = c.enter-result.ensures in
     gone c.seat.inside.chair.me.0 turn.new.chair.me.0 c.seat.inside.seat turn.result (asked_of c.args.op) turn.ensures.later c.seat.invariant.number c.seat.invariant.own
     turn.ensures.account c.enter-result.new.chair.me.0 c.enter-result.new.seat c.enter-result.result entered.entered entered.mine entered.unseen entered.kept
 
-rested : (g : Over) (c : goal.After-give_turn g) → IsPrefix c.seat.inside.chair.me.0.seen.history c.give_turn.new.chair.me.0.seen.history
+rested : (g : Over) (c : goal.After-drop-door g) → IsPrefix c.seat.inside.chair.me.0.seen.history c.give_turn.new.chair.me.0.seen.history
     × (own c.enter-result.new.seat.number c.give_turn.new.chair.me.0.seen.history ≡ c.enter-result.new.seat.mine)
 rested g c =
     rests_after c.give_turn.new.chair.me c.seat.inside.chair.me.0 c.enter-result.new.chair.me.0 c.enter-result.new.seat c.give_turn.ensures.idle (went g c)
