@@ -1,5 +1,5 @@
 -- The rows of a script, taken one after the other.
-use Rattle.std.proofs.Common.{◌≡◌, ◌==◌, ◌+◌, ◌<◌, ℕ, Bool, true, false, Option, Some, None, List, [], ◌∷◌, ◌++◌, length, slice_index_or, take, refl, sym, ◌∙◌, ap, append_assoc, append-nil, subst}
+use Rattle.std.proofs.Common.{◌≡◌, ◌==◌, ◌+◌, ◌<◌, ◌≤◌, ℕ, Bool, true, false, Option, Some, None, List, [], ◌∷◌, ◌++◌, length, slice_index_or, take, refl, sym, ◌∙◌, ap, append_assoc, append-nil, subst}
 use Rattle.std.proofs.lemmas.Bool.{eqb-true}
 use Rattle.std.proofs.lemmas.List.{take_more}
 use Rattle.std.proofs.lemmas.List.Elements.{filter-append}
@@ -157,4 +157,15 @@ kept_grown delay taken rows ended before after grows kept = record {
   within = kept.within;
   follows = follows_grown (take taken rows) before after grows kept.follows;
   played_out = kept.played_out;
+}
+
+-- what a player keeps, where rows were taken
+pub kept_on : (given : List (ℕ × Body)) (delay taken next : ℕ) (rows : List ScriptRow) (ended : Bool) (before after : Shown) → IsKept given delay rows taken ended → ended ≡ false
+    → next ≤ length rows → FollowsRows (take next rows) before.given → Grows before after → IsKept after.given delay rows next ended
+kept_on given delay taken next rows ended before after kept running within follows grows = record {
+  delay_within_day = kept.delay_within_day;
+  in_range = kept.in_range;
+  within = within;
+  follows = follows_grown (take next rows) before after grows follows;
+  played_out = λ over. cc;
 }

@@ -1,6 +1,7 @@
 //! The operations of the service on their way to the gsmSSFs.
 
-ghost use Rattle.std.specs.Prelude.{◌≡◌, ◌≤◌, ◌++◌, ◌+◌, All, OnOk};
+ghost use Rattle.std.specs.Prelude.{◌≡◌, ◌≤◌, ◌<◌, ◌++◌, ◌+◌, All, OnOk};
+ghost use Rattle.std.specs.Option.{ForSome};
 ghost use Rattle.script_player.specs.Deliveries.{TakesDue, deliveries_at, deliveries_of, deliveries_to, next_delivery};
 ghost use Rattle.script_player.specs.Networks.{Grows};
 
@@ -86,7 +87,8 @@ pub(crate) fn deliver(
     now: Moment,
 ) -> Result<(), AllocError>
     requires { now ≤ 2000000000000 }
-    ensures { Grows network.old network.new }
+    ensures grows { Grows network.old network.new }
+    ensures left { OnOk result (ForSome (next_delivery deliveries.new.items) (λ at. now < at)) }
 {
     while let Some(delivery) = take_due(deliveries, now) {
         network.give(now, delivery.call, Input::Operate(delivery.op))?;

@@ -6,9 +6,9 @@ ghost use Rattle.script_player.specs.Moments.{in_reach, sooner};
 
 use ssf_core::Moment;
 
-/// The last moment that a gsmSSF takes: a run breaks off there. The last row lies at half of it at
-/// most, and what follows that one takes a few days: the periods of a call, a day together, and its
-/// timers.
+/// The last moment that a gsmSSF takes: a run would break off there. The last row lies at half of
+/// it at most, and what follows that one takes a few days: the periods of a call, a day together,
+/// and its timers.
 const HORIZON: Moment = 2_000_000_000_000;
 
 /// The least of three moments, where there are any, up to the last one that a gsmSSF takes.

@@ -119,7 +119,7 @@ impl Network {
         Ok(())
     }
 
-    /// Lets time pass up to a moment for each call with a timer that is due by it, in ascending order of the calls.
+    /// Lets the timers run that are due by a moment, in ascending order of the calls.
     pub fn advance(&mut self, now: Moment) -> Result<(), AllocError>
         requires { now ≤ 2000000000000 }
         ensures { Grows self.old self.new }

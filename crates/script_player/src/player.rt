@@ -15,19 +15,19 @@ use workers_core::{Answer, Body};
 /// Plays a script: it drives a run by the rows of a script, with one gsmSSF for each call that has
 /// started.
 ///
-/// The operations of the answer to a post of a moment are delivered to the post's call `delay` units
-/// of 100 ms later, one after the other. The moment of the next round is the least of the next
-/// row's, the next delivery's, and that at which a timer of a gsmSSF is due. A round first delivers
-/// the operations that are due, in order of their answers; then it takes the rows of its moment, in
-/// order; then the timers that are due run, in ascending order of the calls. At a `Start` row the
-/// gsmSSF of the call is invoked and triggered, an event is met by its call, and a recharge is a
-/// post in its place. Each message that a gsmSSF sends is a post, in the order in which they were
-/// sent. What a gsmSSF refuses is ignored.
+/// The operations of the answer to a post of a moment are delivered to the post's call `delay`
+/// units of 100 ms later, one after the other. The moment of the next round is the least of the
+/// next row's, the next delivery's, and that at which a timer of a gsmSSF is due. A round first
+/// delivers the operations that are due, in order of their answers; then it takes the rows of its
+/// moment, in order; then the timers that are due run, in ascending order of the calls. At a
+/// `Start` row the gsmSSF of the call is invoked and triggered, an event is met by its call, and a
+/// recharge is a post in its place. Each message that a gsmSSF sends is a post, in the order in
+/// which they were sent. What a gsmSSF refuses is ignored, and so is an event of a call that hasn't
+/// started, and a further start of one that has.
 ///
-/// It ends where no row, delivery or due moment is left, or where the next moment lies above
-/// 2,000,000,000,000, the last one that a gsmSSF takes: a run breaks off there. The last row lies at
-/// half of it at most, and what follows that one takes a few days: the periods of a call, a day
-/// together, and its timers.
+/// It ends where no row, delivery or due moment is left. A run would break off at the last moment
+/// that a gsmSSF takes, 2,000,000,000,000. The last row lies at half of it at most, and what
+/// follows that one takes a few days: the periods of a call, a day together, and its timers.
 #[derive(Drop)]
 pub struct ScriptPlayer {
     network: Network,
@@ -45,7 +45,13 @@ impl Model for ScriptPlayer {
 
     ghost Value = { Play };
 
-    ghost view = { λ p. record { config = p.network.config; taken = take p.taken p.rows.items; left = drop p.taken p.rows.items; given = p.network.given; ended = p.ended } };
+    ghost view = { λ p. record {
+      config = p.network.config;
+      taken = take p.taken p.rows.items;
+      left = drop p.taken p.rows.items;
+      given = p.network.given;
+      ended = p.ended;
+    } };
 
     ghost invariant = { λ p. IsKept p.network.given p.delay p.rows.items p.taken p.ended };
 }
@@ -104,7 +110,8 @@ impl Driver for ScriptPlayer {
         ensures items { result.now ≡ self.now.given }
         ensures moments { All (λ item. item.0 ≤ 2000000000000) result.now }
         ensures calls { (call : ℕ) → IsPlayed self.now.config call self.now.given }
-        ensures begins { (call : ℕ) → Begins (opening_of call self.now.taken) (items_of call self.now.given) }
+        ensures begins { (call : ℕ)
+            → Begins (opening_of call self.now.taken) (items_of call self.now.given) }
         ensures recharges { recharges_in self.now.given ≡ recharges_of self.now.taken }
     {
         self.network.given()

@@ -1,6 +1,7 @@
 //! The rows of a script are taken.
 
-ghost use Rattle.std.specs.Prelude.{◌≡◌, ◌≤◌, All, OnErr, OnOk, drop, length, take};
+ghost use Rattle.std.specs.Prelude.{◌≡◌, ◌≤◌, ◌<◌, All, OnErr, OnOk, drop, length, take};
+ghost use Rattle.std.specs.Option.{ForSome};
 ghost use Rattle.script_player.specs.Networks.{Grows};
 ghost use Rattle.script_player.specs.Rows.{Adds, FollowsRows, TakesRow, next_row};
 
@@ -31,6 +32,7 @@ pub(crate) fn take_rows(
     requires within { taken.old ≤ length rows.now }
     requires follows { FollowsRows (take taken.old rows.now) network.old.given }
     ensures within { taken.new ≤ length rows.now }
+    ensures left { OnOk result (ForSome (next_row (drop taken.new rows.now)) (λ at. now < at)) }
     ensures follows { FollowsRows (take taken.new rows.now) network.new.given }
     ensures added { Adds network.old network.new }
 {

@@ -40,12 +40,13 @@ fn first_period() -> Result<ArrayVec<ScfOp, 4>, Fail> {
     Ok(ops)
 }
 
-/// What the service says to an item: it grants one period, and no further one.
+/// What the service says to an item: it grants call 1 one period, and no further one, and has
+/// nothing to say to the start of another call.
 fn ops_for(body: &Body) -> Result<ArrayVec<ScfOp, 4>, Fail> {
     match *body {
         Body::Ssf {
+            call: 1,
             msg: SsfMsg::InitialDp { .. },
-            ..
         } => first_period(),
         Body::Ssf {
             msg: SsfMsg::EventReport {
@@ -101,40 +102,49 @@ fn begun(call: u64, called: &str) -> Result<Body, Fail> {
         calling: Number::new("491700001")?,
         called: Number::new(called)?,
     };
-    Ok(Body::Ssf { call, msg })
+    Ok(of_call(call, msg))
 }
 
-/// A message of call 1.
-fn of_call(msg: SsfMsg) -> Body {
-    Body::Ssf { call: 1, msg }
+/// A message of a call.
+fn of_call(call: u64, msg: SsfMsg) -> Body {
+    Body::Ssf { call, msg }
 }
 
 /// Call 1 is answered.
 fn answered() -> Body {
-    of_call(SsfMsg::EventReport {
-        event: Event::Answer,
-        leg: None,
-        mode: Mode::NotifyAndContinue,
-    })
+    of_call(
+        1,
+        SsfMsg::EventReport {
+            event: Event::Answer,
+            leg: None,
+            mode: Mode::NotifyAndContinue,
+        },
+    )
 }
 
 /// A report of call 1.
 fn report(active: bool, t: u32) -> Body {
-    of_call(SsfMsg::ChargingReport {
-        active,
-        info: TimeInfo::NoSwitch { t },
-    })
+    of_call(
+        1,
+        SsfMsg::ChargingReport {
+            active,
+            info: TimeInfo::NoSwitch { t },
+        },
+    )
 }
 
 #[test]
 fn a_call_is_played(rt: HostRuntime) -> Result<(), Fail> {
-    let script =
-        "moment,call,what,x,y\n0,1,start,491700001,4930\n100,1,answer,,\n400,1,disconnect,1,\n";
-    let hung_up = of_call(SsfMsg::EventReport {
+    let script = "moment,call,what,x,y
+0,1,start,491700001,4930
+100,1,answer,,
+400,1,disconnect,1,
+";
+    let hung_up = SsfMsg::EventReport {
         event: Event::Disconnect,
         leg: Some(Leg::One),
         mode: Mode::Interrupted,
-    });
+    };
     plays(
         &rt,
         rt.alloc(),
@@ -143,16 +153,21 @@ fn a_call_is_played(rt: HostRuntime) -> Result<(), Fail> {
             (0, begun(1, "4930")?),
             (100, answered()),
             (400, report(false, 300)),
-            (400, hung_up),
-            (402, of_call(SsfMsg::Ended)),
+            (400, of_call(1, hung_up)),
+            (402, of_call(1, SsfMsg::Ended)),
         ],
     )
 }
 
 #[test]
-fn a_period_ends_while_others_go_on(rt: HostRuntime) -> Result<(), Fail> {
-    let script =
-        "moment,call,what,x,y\n0,1,start,491700001,4930\n100,1,answer,,\n100,,recharge,7,25\n100,2,start,491700001,4931\n";
+fn calls_and_recharges_stand_in_order(rt: HostRuntime) -> Result<(), Fail> {
+    let script = "moment,call,what,x,y
+0,1,start,491700001,4930
+100,1,answer,,
+100,,recharge,7,25
+100,9,start,491700001,4931
+100,8,start,491700001,4932
+";
     let recharge = Body::Recharge {
         account: 7,
         amount: 25,
@@ -165,9 +180,12 @@ fn a_period_ends_while_others_go_on(rt: HostRuntime) -> Result<(), Fail> {
             (0, begun(1, "4930")?),
             (100, answered()),
             (100, recharge),
-            (100, begun(2, "4931")?),
+            (100, begun(9, "4931")?),
+            (100, begun(8, "4932")?),
+            (200, of_call(8, SsfMsg::Ended)),
+            (200, of_call(9, SsfMsg::Ended)),
             (700, report(true, 600)),
-            (750, of_call(SsfMsg::Ended)),
+            (750, of_call(1, SsfMsg::Ended)),
         ],
     )
 }
