@@ -17,9 +17,10 @@ test:
 install: bin/prepaid
 	install -D -m 755 bin/prepaid $(DESTDIR)$(PREFIX)/bin/prepaid
 
-# Times the program beside a plain one.
+# Times the program beside a plain one, and shared accounts beside plain ones.
 bench: bin/prepaid
 	bench/price.sh
+	bench/shared.sh
 
 bin/prepaid: $(SOURCES)
 	cd crates/prepaid && rt run -- --help > /dev/null

@@ -1,2 +1,3 @@
 pub mod CallLemmas
+pub mod OneText
 pub mod TextLemmas

@@ -1,3 +1,4 @@
 pub mod BookTexts
 pub mod Columns
+pub mod Laws
 pub mod RunTexts

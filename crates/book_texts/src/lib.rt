@@ -4,10 +4,12 @@
 
 mod calls;
 mod columns;
+mod laws;
 mod lines;
 mod table;
 #[cfg(test)]
 mod tests;
 
+pub use laws::books_have_one_text;
 pub use lines::run_lines;
 pub use table::book_table;

@@ -1,0 +1,8 @@
+-- What is true of the lines that a run prints, in words of their own.
+use Rattle.std.specs.Prelude.{◌≡◌, ℕ, List}
+use Rattle.shared_account.specs.Closed.{Closed}
+use Rattle.book_texts.specs.RunTexts.{IsRunText}
+
+-- of books there is no more than one text
+abbrev pub BooksHaveOneText : Type 0
+BooksHaveOneText = (books : List Closed) (one other : List ℕ) → IsRunText books one → IsRunText books other → one ≡ other
