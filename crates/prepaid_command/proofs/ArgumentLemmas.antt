@@ -1,14 +1,14 @@
 -- From what clap's getters say to what its matches are.
-use Rattle.std.proofs.Common.{◌≡◌, ℕ, List, Option, Some, None, refl, sym, ap, ◌∙◌}
+use Rattle.std.proofs.Common.{◌≡◌, ℕ, List, Option, Some, None, refl, sym, ◌∙◌}
 use Rattle.std.specs.Prelude.{Box, option_map}
 use Rattle.std.specs.Box.{box_value}
 use Rattle.clap.proofs.WalkLemmas.{first_value-rows}
 use Rattle.clap.specs.Words.{Row, Text, first_of, first_value, found_of, rows_of, subcommand_rows}
-use Rattle.clap.specs.declared.parser.matches.ArgMatches.TheViews.{out-ArgMatches, out-SubCommand}
+use Rattle.clap.specs.declared.parser.matches.ArgMatches.TheViews.{out-SubCommand}
 use Rattle.clap.specs.declared.parser.matches.Found.{Found}
 use Rattle.clap.specs.declared.parser.matches.SubCommand.{SubCommand}
 use Rattle.table_core.specs.Decimals.{decimal_of}
-use Rattle.prepaid_command.specs.Options.{number_in, optional_number_in, optional_decimal}
+use Rattle.prepaid_command.specs.Options.{number_in, optional_number_in}
 
 -- what `get_str` gives is the first value in the rows
 module _ {A : Type 0} (now : A → Text) (found : Found) (name : Text) where

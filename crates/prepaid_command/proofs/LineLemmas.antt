@@ -1,12 +1,12 @@
 -- The lines so far and those of the reports that are left are the lines of all.
-use Rattle.std.proofs.Common.{◌≡◌, ℕ, ◌+◌, ◌-◌, ◌<◌, ◌≤◌, true, List, [], ◌∷◌, ◌++◌, length, get_or, drop, refl, sym, ap, ◌∙◌, append_assoc, arith, codes}
+use Rattle.std.proofs.Common.{◌≡◌, ℕ, ◌+◌, ◌-◌, ◌<◌, ◌≤◌, true, List, ◌∷◌, ◌++◌, length, get_or, drop, refl, sym, ap, ◌∙◌, append_assoc, arith, codes}
 use Rattle.std.proofs.lemmas.List.{drop_all, drop_more}
 use Rattle.std.specs.Fmt.{decimal}
 use Rattle.tariff_core.specs.Lawful.{is_lawful}
 use Rattle.tariff_core.specs.Price.{price_at}
 use Rattle.tariff_core.specs.Rates.{Rates}
 use Rattle.tariff_core.specs.Times.{Elapsed}
-use Rattle.prepaid_command.specs.PriceLines.{debit_line, price_lines, total_line}
+use Rattle.prepaid_command.specs.PriceLines.{price_lines, total_line}
 use Rattle.prepaid_command.specs.Reports.{AreInOrder}
 
 next_report : (reports : List Elapsed) (i : ℕ) (times : Elapsed) → i < length reports → times ≡ get_or reports i times → drop i reports ≡ times ∷ drop (i + 1) reports

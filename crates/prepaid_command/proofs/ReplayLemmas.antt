@@ -1,14 +1,11 @@
 -- The lines so far and those of the rows that are left are the lines of the table.
-use Rattle.std.proofs.Common.{◌≡◌, ℕ, ◌+◌, ◌≤◌, Bool, true, false, Option, Some, None, List, [], ◌∷◌, ◌++◌, Result, Ok, Err, length, refl, sym, ap, ◌∙◌, append_assoc, append-nil, inl, inr, reverse, arith}
-use Rattle.std.specs.Prelude.{◌⊎◌, ◌≢◌, ◌==◌, not, nat_lt, if◌then◌else◌, IfErr, IfOk, OnErr, OnOk}
-use Rattle.std.specs.Result.{result_map_both}
+use Rattle.std.proofs.Common.{◌≡◌, ℕ, ◌+◌, ◌≤◌, Bool, true, false, None, List, [], ◌∷◌, ◌++◌, Result, Ok, Err, length, refl, sym, ap, ◌∙◌, append_assoc, append-nil, inl, inr, reverse, arith}
+use Rattle.std.specs.Prelude.{◌≢◌, ◌==◌, not, nat_lt, if◌then◌else◌, IfErr, IfOk, OnErr, OnOk}
 use Rattle.std.proofs.lemmas.Bool.Decides.{nat_tests}
 use Rattle.std.proofs.lemmas.List.{reverse-append}
-use Rattle.account_core.specs.Answers.{answer}
 use Rattle.account_core.specs.Asked.{Asked}
 use Rattle.account_core.specs.Events.{Event}
 use Rattle.account_core.specs.Ledger.{IsRefusal, Ledger, answer_of, event_by, refusal_of}
-use Rattle.account_core.specs.Places.{refusal}
 use Rattle.account_core.specs.declared.entry.Reply.{Reply}
 use Rattle.account_core.specs.declared.fault.AccountFault.{AccountFault}
 use Rattle.account_core.specs.declared.fault.AccountFault.TheVariants as fault
@@ -19,8 +16,8 @@ use Rattle.table_core.specs.declared.fault.RowKind.{RowKind}
 use Rattle.table_core.specs.declared.fault.RowKind.TheVariants as kind
 use Rattle.prepaid_command.specs.Asks.{Asking, ask_at, asks_from, asks_of, is_header}
 use Rattle.prepaid_command.specs.Operations.{is_known, operation_in}
-use Rattle.prepaid_command.specs.ReplayLines.{refused_line, reply_line, told_line}
-use Rattle.prepaid_command.specs.Replays.{history_after, history_by, line_by, line_of_ask, lines_of, replay_lines, replayed}
+use Rattle.prepaid_command.specs.ReplayLines.{told_line}
+use Rattle.prepaid_command.specs.Replays.{history_after, line_of_ask, lines_of, replay_lines, replayed}
 
 abbrev Fields : Type 0
 Fields = List (List ℕ)

@@ -1,5 +1,5 @@
 -- What `replay` makes of an ops table: the answers of a sequential account to its rows, in order.
-use Rattle.std.specs.Prelude.{ℕ, Option, Some, None, List, [], ◌∷◌, ◌++◌, Result, Ok, Err}
+use Rattle.std.specs.Prelude.{ℕ, Option, Some, None, List, [], ◌∷◌, ◌++◌, Result, Ok}
 use Rattle.account_core.specs.Answers.{answer}
 use Rattle.account_core.specs.Events.{Event}
 use Rattle.account_core.specs.Places.{refusal}

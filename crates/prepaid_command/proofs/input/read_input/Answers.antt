@@ -1,5 +1,5 @@
 use Rattle.std.proofs.Common.{◌≡◌, arith}
-use Rattle.prepaid_command.proofs.InputLemmas.{fits, run_fault, too_long}
+use Rattle.prepaid_command.proofs.InputLemmas.{fits, run_fault}
 use Rattle.prepaid_command.proofs.Known.{if_known}
 use Rattle.prepaid_command.specs.Faults.{Refuses}
 use Rattle.prepaid_command.specs.Input.{sized}

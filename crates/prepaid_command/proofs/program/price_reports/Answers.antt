@@ -1,5 +1,3 @@
-use Rattle.std.proofs.Common.{sym}
-use Rattle.table_core.specs.Rows.{rows_of}
 use Rattle.prepaid_command.proofs.ReportLemmas.{in_order}
 use Rattle.prepaid_command.proofs.program.price_reports.Goals as goal
 

@@ -1,4 +1,4 @@
-use Rattle.std.proofs.Common.{◌≡◌, ◌∙◌, refl, reverse, string_bytes, sym, arith}
+use Rattle.std.proofs.Common.{◌∙◌, refl, reverse, string_bytes, sym, arith}
 use Rattle.account_core.specs.Events.{asked_of}
 use Rattle.csv.specs.Records.{fields_of}
 use Rattle.table_core.specs.Rows.{rows_of}
