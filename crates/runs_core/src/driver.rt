@@ -6,7 +6,7 @@ use workers_core::{Answer, Body};
 /// Gives the posts of a run, round by round.
 ///
 /// A driver stores all that it has given, in order, each with its moment in units of 100 ms, and
-/// whether it has ended. It may state a plan, which no round changes.
+/// whether it has ended. It states a plan, which no round changes; of one that has none it is `tt`.
 pub trait Driver {
     ghost use Rattle.std.specs.Prelude.{◌≡◌, ◌≤◌, ◌++◌, ℕ, List, Bool, not, false, All, IfOk};
     ghost use Rattle.workers_core.specs.declared.post.Body.{Body};

@@ -80,6 +80,10 @@ impl Driver for Rounds<'_> {
 
     ghost ended = { λ driver. driver.ended };
 
+    ghost Plan = { Unit {0} };
+
+    ghost plan = { λ _. tt };
+
     fn given(&self) -> &[(u64, Body)] {
         self.given.as_slice()
     }
