@@ -25,12 +25,13 @@ else
 endif
 
 # Proves everything from nothing, tries the edits that must fail, and runs the tests and the programs;
-# then closes calls while memory is refused.
+# then closes calls while memory is refused, and compares the program with its model.
 test:
 	tests/edits_test.py
 	mkdir -p out
 	set -o pipefail; rt ci | tee out/gate.txt
 	tests/refused_growths.sh
+	tests/random.sh --program crates/prepaid/out/prepaid
 	@tail -n 1 out/gate.txt
 
 # Tries the other edits in groups; of one crate by make edits CRATE=account_core.
