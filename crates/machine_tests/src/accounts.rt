@@ -68,11 +68,16 @@ const WHOLE_CALL: [(Ask, Want); 4] = [
     (Ask::Return(1), NOT_OPEN),
 ];
 
-/// The opening credit of an account, the number of its entries, and what it is asked in turn.
-const ACCOUNTS: [(u64, u32, &[(Ask, Want)]); 14] = [
-    // What a call holds is settled by its report, and the rest is given back.
-    (1500, MANY, &WHOLE_CALL),
+/// Accounts: the opening credit, the number of entries, and what each is asked in turn.
+const ACCOUNTS: [(&str, u64, u32, &[(Ask, Want)]); 14] = [
     (
+        "a call that talks all of its grant",
+        1500,
+        MANY,
+        &WHOLE_CALL,
+    ),
+    (
+        "a call that is over",
         1500,
         MANY,
         &[
@@ -84,6 +89,7 @@ const ACCOUNTS: [(u64, u32, &[(Ask, Want)]); 14] = [
         ],
     ),
     (
+        "a call that talks half of its grant",
         1500,
         MANY,
         &[
@@ -95,6 +101,7 @@ const ACCOUNTS: [(u64, u32, &[(Ask, Want)]); 14] = [
         ],
     ),
     (
+        "a call after the switch alone",
         1500,
         MANY,
         &[
@@ -106,6 +113,7 @@ const ACCOUNTS: [(u64, u32, &[(Ask, Want)]); 14] = [
         ],
     ),
     (
+        "a call before and after the switch",
         1500,
         MANY,
         &[
@@ -116,8 +124,8 @@ const ACCOUNTS: [(u64, u32, &[(Ask, Want)]); 14] = [
             (Ask::Return(1), NOT_OPEN),
         ],
     ),
-    // Calls share the credit.
     (
+        "two calls",
         1500,
         MANY,
         &[
@@ -126,6 +134,7 @@ const ACCOUNTS: [(u64, u32, &[(Ask, Want)]); 14] = [
         ],
     ),
     (
+        "two calls and a credit",
         1500,
         MANY,
         &[
@@ -135,6 +144,7 @@ const ACCOUNTS: [(u64, u32, &[(Ask, Want)]); 14] = [
         ],
     ),
     (
+        "a call of a whole day",
         2_000_000,
         MANY,
         &[
@@ -146,8 +156,8 @@ const ACCOUNTS: [(u64, u32, &[(Ask, Want)]); 14] = [
             (Ask::ReserveAtOneRate(1, 600), Want::Denied(560_000)),
         ],
     ),
-    // A report past the grant, one of a switch without a second rate, and one out of range forfeit.
     (
+        "a report past the grant",
         1500,
         MANY,
         &[
@@ -159,6 +169,7 @@ const ACCOUNTS: [(u64, u32, &[(Ask, Want)]); 14] = [
         ],
     ),
     (
+        "a switch without a second rate",
         1500,
         MANY,
         &[
@@ -170,6 +181,7 @@ const ACCOUNTS: [(u64, u32, &[(Ask, Want)]); 14] = [
         ],
     ),
     (
+        "a report out of range",
         1500,
         MANY,
         &[
@@ -177,8 +189,8 @@ const ACCOUNTS: [(u64, u32, &[(Ask, Want)]); 14] = [
             (Ask::Switch(1, 100, Some(0)), Want::Forfeit(1050, 450)),
         ],
     ),
-    // What is not admissible is refused.
     (
+        "what is not admissible",
         1500,
         MANY,
         &[
@@ -190,9 +202,14 @@ const ACCOUNTS: [(u64, u32, &[(Ask, Want)]); 14] = [
             (Ask::Reserve(1, 864_001), OUT_OF_RANGE),
         ],
     ),
-    (MOST, MANY, &[(Ask::Credit(1), Want::CreditOver(MOST))]),
-    // The last places are kept for closing.
     (
+        "a credit above the most",
+        MOST,
+        MANY,
+        &[(Ask::Credit(1), Want::CreditOver(MOST))],
+    ),
+    (
+        "the last places, which are kept for closing",
         1500,
         3,
         &[
@@ -254,52 +271,57 @@ fn answer_of(want: &Want) -> Result<Reply, AccountFault> {
 }
 
 /// Looks at the last entry of an account, and of one that walks its list.
-fn enters(rt: &impl Abort, account: &Account, walking: &ListAccount, entry: Entry) {
+fn enters(rt: &impl Abort, name: &str, account: &Account, walking: &ListAccount, entry: Entry) {
     let entered = (
         account.history().last().copied(),
         walking.history().last().copied(),
     );
-    gives(rt, &entry.op, &entered, &(Some(entry), Some(entry)));
+    gives(rt, &(name, entry.op), &entered, &(Some(entry), Some(entry)));
     gives(
         rt,
-        &entry.op,
+        &(name, entry.op),
         &account.available(),
         &entry.reply.available(),
     );
 }
 
-/// Looks at how many entries an account has, and at whether one that walks its list agrees with it
-/// about the credit and about a call.
-fn agree(rt: &impl Abort, account: &Account, walking: &ListAccount, op: &Op, entries: usize) {
-    gives(rt, op, &account.history().len(), &entries);
-    gives(rt, op, &walking.available(), &account.available());
+/// Looks at whether an account agrees with one that walks its list, about the credit and a call.
+fn agree(rt: &impl Abort, name: &str, account: &Account, walking: &ListAccount, op: Op) {
+    gives(rt, &(name, op), &walking.available(), &account.available());
     let call = op.call();
-    gives(rt, op, &walking.paid(call), &account.paid(call));
+    gives(rt, &(name, op), &walking.paid(call), &account.paid(call));
 }
 
 /// Asks an account each operation in turn, and looks at its answers and its entries; and one that
 /// walks its list beside it.
-fn answers<R: Abort + AllocGlobal>(rt: &R, opening: u64, limit: u32, rows: &[(Ask, Want)]) {
+fn answers<R: Abort + AllocGlobal>(
+    rt: &R,
+    name: &str,
+    opening: u64,
+    limit: u32,
+    rows: &[(Ask, Want)],
+) {
     assert!(rt; opening <= MOST);
     let mut account = Account::new(rt.alloc(), opening, limit);
     let mut walking = ListAccount::new(rt.alloc(), opening, limit);
     let mut entries = 0usize;
     for (ask, want) in rows {
         let (op, want) = (op_of(ask), answer_of(want));
-        gives(rt, &op, &account.apply(3, op), &want);
-        gives(rt, &op, &walking.apply(3, op), &want);
+        gives(rt, &(name, op), &account.apply(3, op), &want);
+        gives(rt, &(name, op), &walking.apply(3, op), &want);
         if let Ok(reply) = want {
-            enters(rt, &account, &walking, Entry { seat: 3, op, reply });
+            enters(rt, name, &account, &walking, Entry { seat: 3, op, reply });
             entries = entries.wrapping_add(1);
         }
-        agree(rt, &account, &walking, &op, entries);
+        gives(rt, &(name, op), &account.history().len(), &entries);
+        agree(rt, name, &account, &walking, op);
     }
 }
 
 #[test]
 fn accounts_answer(rt: HostRuntime) {
-    for &(opening, limit, rows) in &ACCOUNTS {
-        answers(&rt, opening, limit, rows);
+    for &(name, opening, limit, rows) in &ACCOUNTS {
+        answers(&rt, name, opening, limit, rows);
     }
 }
 

@@ -1,5 +1,5 @@
-//! The tests of the public calls of `account_core`, `ssf_core`, `dialogue_core` and `simulator`. They
-//! stand apart from these crates, so that none of them is proved a second time for its tests.
+//! The tests of the public calls of `account_core`, `ssf_core`, `dialogue_core` and `simulator`.
+//! They stand apart from these crates, so that none of them is proved a second time for its tests.
 #![tactic(auto)]
 
 #[cfg(test)]

@@ -19,19 +19,19 @@ const TEXTS: [(&[u8], u32); 9] = [
 ];
 
 /// Texts, and the decimal that each writes.
-const DECIMALS: [(&[u8], Option<u64>); 12] = [
-    (b"0", Some(0)),
-    (b"007", Some(7)),
-    (b"00000000000000000042", Some(42)),
-    (b"000000000000000000042", None),
-    (b"18446744073709551615", Some(u64::MAX)),
-    (b"18446744073709551616", None),
-    (b"99999999999999999999", None),
-    (b"", None),
-    (b"+1", None),
-    (b"-1", None),
-    (b" 1", None),
-    (b"1a", None),
+const DECIMALS: [(&str, Option<u64>); 12] = [
+    ("0", Some(0)),
+    ("007", Some(7)),
+    ("00000000000000000042", Some(42)),
+    ("000000000000000000042", None),
+    ("18446744073709551615", Some(u64::MAX)),
+    ("18446744073709551616", None),
+    ("99999999999999999999", None),
+    ("", None),
+    ("+1", None),
+    ("-1", None),
+    (" 1", None),
+    ("1a", None),
 ];
 
 /// How many rows a reader gives, and the fault that ends them.
@@ -53,7 +53,7 @@ fn reads_rows_and_decimals(rt: HostRuntime) {
         gives(&rt, &text, &count_rows(rt.alloc(), text), &(want, None));
     }
     for &(text, want) in &DECIMALS {
-        gives(&rt, &text, &decimal(text, u64::MAX), &want);
+        gives(&rt, &text, &decimal(text.as_bytes(), u64::MAX), &want);
     }
 }
 
