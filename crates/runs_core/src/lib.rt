@@ -20,7 +20,7 @@ pub use books::Books;
 pub use driver::Driver;
 pub use laws::books_are_right;
 pub use run_fault::RunFault;
-pub use serving::serve;
+pub use serving::{serve, serve_over};
 
 #[cfg(test)]
 mod tests;
