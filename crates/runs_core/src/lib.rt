@@ -21,6 +21,3 @@ pub use driver::Driver;
 pub use laws::books_are_right;
 pub use run_fault::RunFault;
 pub use serving::{serve, serve_over};
-
-#[cfg(test)]
-mod tests;

@@ -2,14 +2,14 @@
 
 ghost use Rattle.std.specs.Prelude.{◌≡◌, ◌≤◌, ◌++◌, ◌∷◌, [], false, All, OnOk};
 
-use crate::Driver;
+use runs_core::Driver;
 use std::alloc::{AllocError, Global};
 use workers_core::{Answer, Body};
 
 /// Gives one or two bodies in each round, all at moment 0, and counts the answers and the strays
 /// among them. It takes an answer only with the number of its post.
 #[derive(Drop)]
-pub(super) struct Rounds<'a> {
+pub(crate) struct Rounds<'a> {
     rounds: &'a [(Body, Option<Body>)],
     played: usize,
     given: Vec<(u64, Body)>,
@@ -20,7 +20,7 @@ pub(super) struct Rounds<'a> {
 }
 
 impl<'a> Rounds<'a> {
-    pub(super) fn new(alloc: Global, rounds: &'a [(Body, Option<Body>)]) -> Rounds<'a>
+    pub(crate) fn new(alloc: Global, rounds: &'a [(Body, Option<Body>)]) -> Rounds<'a>
         ensures given { result.given.items ≡ [] }
         ensures goes_on { result.ended ≡ false }
     {
@@ -35,12 +35,12 @@ impl<'a> Rounds<'a> {
     }
 
     /// How many answers it has got.
-    pub(super) fn answered(&self) -> usize {
+    pub(crate) fn answered(&self) -> usize {
         self.answered
     }
 
     /// How many of these were of strays.
-    pub(super) fn strays(&self) -> usize {
+    pub(crate) fn strays(&self) -> usize {
         self.strays
     }
 

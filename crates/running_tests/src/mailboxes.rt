@@ -1,16 +1,14 @@
 //! A mailbox of two places.
 
-use super::*;
+use crate::messages::recharge;
 use std::test::Fail;
+use workers_core::{Gone, Mail, Post, compare, mailbox};
 
 fn work(number: u64) -> Mail {
     Mail::Work(Post {
         number,
         at: 0,
-        body: Body::Recharge {
-            account: 7,
-            amount: 600,
-        },
+        body: recharge(7, 600),
     })
 }
 
@@ -23,11 +21,8 @@ fn mails_come_in_order_until_the_last(rt: HostRuntime) -> Result<(), Fail> {
     assert_eq!(rt; inbox.take_mail(&rt), Ok(work(0)));
     assert_eq!(rt; inbox.take_mail(&rt), Ok(Mail::Close));
     compare(outbox, inbox);
-    Ok(())
-}
 
-#[test]
-fn an_end_that_is_left_alone_says_so(rt: HostRuntime) -> Result<(), Fail> {
+    // An end that is left alone says so.
     let (mut outbox, inbox) = mailbox(rt.alloc(), 1)?;
     drop(inbox);
     assert_eq!(rt; outbox.send_mail(&rt, work(0)), Err(work(0)));

@@ -6,21 +6,21 @@ use std::thread;
 
 /// What meets: calls before they are handled, or accounts while they are held.
 #[derive(Clone, Copy, Debug, PartialEq, Eq)]
-pub(super) enum Of {
+pub(crate) enum Of {
     Calls,
     Accounts,
 }
 
 /// Holds each of two numbers until it was asked for the other too; after a while it answers false.
 #[derive(Drop)]
-pub(super) struct Meeting {
+pub(crate) struct Meeting {
     of: Of,
     first: (u64, AtomicBool),
     second: (u64, AtomicBool),
 }
 
 impl Meeting {
-    pub(super) fn new(of: Of, first: u64, second: u64) -> Meeting {
+    pub(crate) fn new(of: Of, first: u64, second: u64) -> Meeting {
         Meeting {
             of,
             first: (first, AtomicBool::new(false)),

@@ -1,23 +1,26 @@
 //! Setups that are made, and setups that aren't.
 
-use crate::{RunSetup, SetupFault};
 use cap_values::Number;
 use dialogue_core::ServiceConfig;
+use std::alloc::Global;
 use std::test::Fail;
 use tariff_core::Tariff;
+use workers_core::{RunSetup, SetupFault};
 
-const TABLE: &[u8] = b"prefix,from,fee,rate\n49,00:00,50,1000\n";
+/// One band for called numbers that begin with 49.
+pub(crate) const BAND: &[u8] = b"prefix,from,fee,rate\n49,00:00,50,1000\n";
 
-/// A setup over one tariff and one service.
-fn set_up(
-    rt: &HostRuntime,
+/// A setup over a tariff, with one service.
+pub(crate) fn set_up(
+    alloc: Global,
+    tariff: &[u8],
     accounts: &[(u32, u64)],
     subscribers: &[(Number, u32)],
     limit: u32,
 ) -> Result<Result<RunSetup, SetupFault>, Fail> {
-    let tariff = Tariff::read(rt.alloc(), TABLE)?;
+    let tariff = Tariff::read(alloc, tariff)?;
     let service = ServiceConfig::new(600, 50, 50)?;
-    Ok(RunSetup::new(rt.alloc(), accounts, subscribers, tariff, service, limit))
+    Ok(RunSetup::new(alloc, accounts, subscribers, tariff, service, limit))
 }
 
 #[test]
@@ -61,7 +64,12 @@ fn faults_are_told(rt: HostRuntime) -> Result<(), Fail> {
         (&[(7, 5), (7, 5)], &[], 2, Some(SetupFault::OutOfRange)),
     ];
     for (accounts, subscribers, limit, fault) in rows {
-        assert_eq!(rt; set_up(&rt, accounts, subscribers, limit)?.err(), fault);
+        let made = set_up(rt.alloc(), BAND, accounts, subscribers, limit)?;
+        assert_eq!(rt;
+            made.err(),
+            fault,
+            "at {accounts:?}, {subscribers:?} and {limit}"
+        );
     }
     Ok(())
 }
@@ -70,27 +78,26 @@ fn faults_are_told(rt: HostRuntime) -> Result<(), Fail> {
 fn what_was_given_is_found(rt: HostRuntime) -> Result<(), Fail> {
     let one = Number::new("491700001")?;
     let two = Number::new("4917")?;
-    let setup = set_up(
-        &rt,
-        &[(9, 300), (2, 100), (7, 200)],
-        &[(one, 7), (two, 2)],
-        30,
-    )??;
+    let accounts = [(9, 300), (2, 100), (7, 200)];
+    let setup = set_up(rt.alloc(), BAND, &accounts, &[(one, 7), (two, 2)], 30)??;
     assert_eq!(rt; setup.account_count(), 3);
     for (place, number, opening) in [(0, 2, 100), (1, 7, 200), (2, 9, 300)] {
         assert_eq!(rt; setup.place_of(number), Some(place));
-        if place < setup.account_count() {
-            assert_eq!(rt; setup.number(place), number);
-            assert_eq!(rt; setup.opening(place), opening);
-        }
+        assert!(rt; place < setup.account_count());
+        assert_eq!(rt;
+            (setup.number(place), setup.opening(place)),
+            (number, opening)
+        );
     }
     assert_eq!(rt; setup.place_of(8), None);
-    assert_eq!(rt; setup.account_of(one), Some(7));
-    assert_eq!(rt; setup.account_of(two), Some(2));
-    assert_eq!(rt; setup.account_of(Number::new("49170")?), None);
+    let others = Number::new("49170")?;
+    for (calling, account) in [(one, Some(7)), (two, Some(2)), (others, None)] {
+        assert_eq!(rt; setup.account_of(calling), account);
+    }
     assert_eq!(rt; setup.limit(), 30);
     assert_eq!(rt; setup.service(), ServiceConfig::new(600, 50, 50)?);
-    assert_eq!(rt; setup.tariff().plan(b"491700002", 0).is_some(), true);
-    assert_eq!(rt; setup.tariff().plan(b"331700002", 0).is_some(), false);
+    for (called, is_charged) in [(b"491700002", true), (b"331700002", false)] {
+        assert_eq!(rt; setup.tariff().plan(called, 0).is_some(), is_charged);
+    }
     Ok(())
 }
