@@ -7,8 +7,6 @@ mod columns;
 mod laws;
 mod lines;
 mod table;
-#[cfg(test)]
-mod tests;
 
 pub use laws::books_have_one_text;
 pub use lines::run_lines;

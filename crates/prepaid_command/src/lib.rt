@@ -22,6 +22,3 @@ pub use fault::{Fault, Part};
 pub use input::MAX_INPUT;
 pub use program::command;
 pub use request::{Opening, Request};
-
-#[cfg(test)]
-mod tests;

@@ -18,6 +18,3 @@ pub use script::read_script;
 pub use script_row::{Happening, LAST_MOMENT, ScriptRow};
 pub use setup::read_setup;
 pub use setup_rows::SetupRows;
-
-#[cfg(test)]
-mod tests;

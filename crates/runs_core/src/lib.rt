@@ -20,7 +20,4 @@ pub use books::Books;
 pub use driver::Driver;
 pub use laws::books_are_right;
 pub use run_fault::RunFault;
-pub use serving::serve;
-
-#[cfg(test)]
-mod tests;
+pub use serving::{serve, serve_over};

@@ -59,8 +59,8 @@ pub fn serve<D: Driver, R: Wait + Threads + Sync, G: Gate + Sync>(
     serve_over::<D, TurnAccount, R, G>(rt, alloc, setup, driver, workers, gate)
 }
 
-/// Serves a run over shared accounts of a form.
-pub(crate) fn serve_over<D: Driver, S: Shared, R: Wait + Threads + Sync, G: Gate + Sync>(
+/// Serves as `serve` does, over shared accounts of a form.
+pub fn serve_over<D: Driver, S: Shared, R: Wait + Threads + Sync, G: Gate + Sync>(
     rt: &R,
     alloc: Global,
     setup: &RunSetup,

@@ -11,7 +11,5 @@ mod network;
 mod player;
 mod posting;
 mod rows;
-#[cfg(test)]
-mod tests;
 
 pub use player::ScriptPlayer;

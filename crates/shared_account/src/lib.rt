@@ -18,8 +18,6 @@ mod shared_account;
 mod shared_port;
 mod sharing;
 mod steps;
-#[cfg(test)]
-mod tests;
 mod turn;
 mod turn_account;
 mod turn_closing;

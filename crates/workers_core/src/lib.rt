@@ -13,15 +13,9 @@ mod outbox;
 mod post;
 mod setup;
 mod setup_fault;
-#[cfg(test)]
-mod setup_tests;
 mod talk;
-#[cfg(test)]
-mod tests;
 mod worker;
 mod worker_fault;
-#[cfg(test)]
-mod worker_tests;
 
 pub use answer::Answer;
 pub use inbox::{Gone, Inbox};

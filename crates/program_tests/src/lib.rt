@@ -1,0 +1,18 @@
+//! The tests of the program's public call, `command`: they stand apart so that the crate under it
+//! isn't proved a second time for its tests.
+#![tactic(auto)]
+
+#[cfg(test)]
+mod devices;
+#[cfg(test)]
+mod lengths;
+#[cfg(test)]
+mod prices;
+#[cfg(test)]
+mod program;
+#[cfg(test)]
+mod replays;
+#[cfg(test)]
+mod runs;
+#[cfg(test)]
+mod words;

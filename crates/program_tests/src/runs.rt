@@ -1,0 +1,175 @@
+//! Worked runs, and the first fault of an input.
+
+use crate::program::{expect, expect_fault};
+use std::alloc::{AllocError, Global};
+use std::test::Fail;
+
+/// One band for called numbers that begin with 49.
+pub(crate) const BAND: &str = "49,00:00,50,1000\n";
+
+/// One account with a subscriber.
+const ACCOUNT: &str = "account,7,1500\nsubscriber,491700001,7\n";
+
+const CALL: &str = "0,1,start,491700001,4930\n100,1,answer,,\n400,1,disconnect,1,\n";
+
+/// The book of that call.
+const BOOK: &str = "\
+account,seat,op,call,x1,x2,x3,x4,x5,reply,y1,y2,y3
+7,,opening,,1500,,,,,,,,
+7,1,reserve,1,50,1000,,600,50,granted,600,more,450
+7,1,settle,1,2,n,300,,,settled,550,,450
+7,1,return,1,,,,,,returned,550,,950
+";
+
+/// Words, the rows of the tariff, the setup and the script, and what is written.
+const PLAYED: [(&str, &str, &str, &str, &str); 7] = [
+    (
+        "run",
+        BAND,
+        ACCOUNT,
+        CALL,
+        "account 7 opening 1500 available 950 entries 3\ncall 1 account 7 paid 550 returned\n",
+    ),
+    ("run --book", BAND, ACCOUNT, CALL, BOOK),
+    (
+        "run",
+        BAND,
+        ACCOUNT,
+        "0,1,start,491700001,4930\n100,1,answer,,\n",
+        "account 7 opening 1500 available 0 entries 5\ncall 1 account 7 paid 1500 returned\n",
+    ),
+    (
+        "run --wanted 900",
+        "49,00:00,50,1000\n49,00:01,0,400\n",
+        "account,7,1600\nsubscriber,491700001,7\n",
+        "0,1,start,491700001,4930\n100,1,answer,,\n802,1,disconnect,1,\n",
+        "account 7 opening 1600 available 580 entries 3\ncall 1 account 7 paid 1020 returned\n",
+    ),
+    (
+        "run",
+        BAND,
+        ACCOUNT,
+        "0,1,start,491700001,4430\n100,1,answer,,\n400,1,disconnect,1,\n",
+        "account 7 opening 1500 available 1500 entries 0\n",
+    ),
+    ("run --workers 16", "", "", "", ""),
+    (
+        "run --book",
+        "",
+        "",
+        "",
+        "account,seat,op,call,x1,x2,x3,x4,x5,reply,y1,y2,y3\n",
+    ),
+];
+
+/// The rows of the tariff, the setup and the script, and the first fault. There is no worker, which
+/// would be a fault too, but a later one.
+const REFUSED: [(&str, &str, &str, &str); 17] = [
+    ("49,00:00,50\n", "x\n", "x\n", "tariff row 2: Csv"),
+    ("4x,00:00,50,1000\n", "", "", "tariff row 2: Digits"),
+    ("49,24:00,50,1000\n", "", "", "tariff row 2: From"),
+    ("49,00:00,50,1000000001\n", "", "", "tariff row 2: Money"),
+    (
+        "49,00:00,5,1\n49,00:00,5,1\n",
+        "",
+        "",
+        "tariff row 3: Repeated",
+    ),
+    (
+        "49,00:01,50,1000\n",
+        "x\n",
+        "",
+        "tariff row 2: NoMidnightBand",
+    ),
+    (BAND, "account,7\n", "x\n", "setup row 2: Csv"),
+    (BAND, "acount,x,1\n", "", "setup row 2: What"),
+    (BAND, "account,4294967296,1\n", "", "setup row 2: Number"),
+    (
+        BAND,
+        "account,7,1\naccount,7,1\n",
+        "x\n",
+        "setup row 3: Repeated",
+    ),
+    (
+        BAND,
+        "account,7,1\nsubscriber,49,8\n",
+        "",
+        "setup row 3: Unknown",
+    ),
+    (BAND, ACCOUNT, "0,1,answer,\n", "script row 2: Csv"),
+    (BAND, ACCOUNT, "x,1,begin,,\n", "script row 2: What"),
+    (
+        BAND,
+        ACCOUNT,
+        "1000000000001,1,answer,,x\n",
+        "script row 2: Number",
+    ),
+    (BAND, ACCOUNT, "0,1,answer,,1\n", "script row 2: Empty"),
+    (BAND, ACCOUNT, "0,2,answer,,\n", "script row 2: Unknown"),
+    (BAND, ACCOUNT, "0,,recharge,8,1\n", "script row 2: Unknown"),
+];
+
+/// The rows of the script of a call that begins well, and the first fault.
+const REFUSED_LATER: [(&str, &str); 3] = [
+    (
+        "0,1,start,491700001,4930\n400,1,disconnect,1,\n100,1,answer,,\n",
+        "script row 4: Order",
+    ),
+    (
+        "0,1,start,491700001,4930\n0,1,start,491700001,4930\n",
+        "script row 3: Repeated",
+    ),
+    (
+        "0,1,start,491700001,4930\n1,1,disconnect,3,\n",
+        "script row 3: Number",
+    ),
+];
+
+/// Inputs whose parts or headers aren't those of a run, and the fault.
+const NO_RUNS: [(&str, &str); 6] = [
+    ("", "input: Parts"),
+    ("x\n%%\ny\n", "input: Parts"),
+    ("%%\n%%\n%%\n", "input: Parts"),
+    ("%%\n%%\n", "tariff row 1: Header"),
+    (
+        "prefix,from,fee,rate\n%%\nkind,key\n%%\n",
+        "setup row 1: Header",
+    ),
+    (
+        "prefix,from,fee,rate\r\n%%\r\nkind,key,value\n%%",
+        "script row 1: Header",
+    ),
+];
+
+/// An input of tables with these rows below their headers.
+pub(crate) fn input_of(
+    alloc: Global,
+    tariff: &str,
+    setup: &str,
+    script: &str,
+) -> Result<String, AllocError> {
+    format!(in alloc;
+        "prefix,from,fee,rate\n{tariff}%%\nkind,key,value\n{setup}%%\n\
+         moment,call,what,x,y\n{script}"
+    )
+}
+
+#[test]
+fn plays_inputs(rt: HostRuntime) -> Result<(), Fail> {
+    for (words, tariff, setup, script, output) in PLAYED {
+        let input = input_of(rt.alloc(), tariff, setup, script)?;
+        expect(&rt, words, input.as_str(), (0, output, ""))?;
+    }
+    for (tariff, setup, script, fault) in REFUSED {
+        let input = input_of(rt.alloc(), tariff, setup, script)?;
+        expect_fault(&rt, "run --workers 0", input.as_str(), fault)?;
+    }
+    for (script, fault) in REFUSED_LATER {
+        let input = input_of(rt.alloc(), BAND, ACCOUNT, script)?;
+        expect_fault(&rt, "run", input.as_str(), fault)?;
+    }
+    for (input, fault) in NO_RUNS {
+        expect_fault(&rt, "run", input, fault)?;
+    }
+    Ok(())
+}

@@ -1,0 +1,67 @@
+//! A gate at which two calls, or two accounts, wait for each other.
+
+use shared_account::Gate;
+use std::sync::atomic::{AtomicBool, Ordering};
+use std::thread;
+
+/// What meets: calls before they are handled, or accounts while they are held.
+#[derive(Clone, Copy, Debug, PartialEq, Eq)]
+pub(crate) enum Of {
+    Calls,
+    Accounts,
+}
+
+/// Holds each of two numbers until it was asked for the other too; after a while it answers false.
+#[derive(Drop)]
+pub(crate) struct Meeting {
+    of: Of,
+    first: (u64, AtomicBool),
+    second: (u64, AtomicBool),
+}
+
+impl Meeting {
+    pub(crate) fn new(of: Of, first: u64, second: u64) -> Meeting {
+        Meeting {
+            of,
+            first: (first, AtomicBool::new(false)),
+            second: (second, AtomicBool::new(false)),
+        }
+    }
+
+    fn meet(&self, number: u64) -> bool {
+        if number == self.first.0 {
+            self.first.1.store(true, Ordering::SeqCst);
+            is_soon(&self.second.1)
+        } else if number == self.second.0 {
+            self.second.1.store(true, Ordering::SeqCst);
+            is_soon(&self.first.1)
+        } else {
+            true
+        }
+    }
+}
+
+/// Waits for a flag for at most 1,000,000,000 turns.
+fn is_soon(flag: &AtomicBool) -> bool {
+    for _ in 0..1_000_000_000u32 {
+        if flag.load(Ordering::SeqCst) {
+            return true;
+        }
+        thread::yield_now();
+    }
+    false
+}
+
+impl Gate for Meeting {
+    ghost may_shut = { λ _. Unit {0} };
+
+    fn before(&self, _worker: u32, call: u64) -> bool {
+        self.of != Of::Calls || self.meet(call)
+    }
+
+    fn inside(&self, account: u32) -> bool {
+        self.of != Of::Accounts || self.meet(u64::from(account))
+    }
+
+    fn after(&self, _worker: u32, _call: u64) {}
+}

@@ -1,0 +1,235 @@
+//! Accounts that are asked in turn, and the books that they are closed with.
+
+ghost use Rattle.std.specs.Prelude.{◌≡◌, ◌≤◌};
+
+use crate::forms::{
+    Answer, Form, close, credit, credited, granted, plan, reserve, returned, settled, two_seats,
+};
+use account_core::{Account, AccountFault, CallSum, Fate, MAX_MONEY, Op, Port, Reply};
+use shared_account::{Book, CloseFault, Gate, OpenGate, SharedAccount, SharedPort, TurnAccount};
+use std::alloc::Global;
+use std::process::Abort;
+use std::sync::Wait;
+use std::test::Fail;
+use tariff_core::TimeInfo;
+
+/// Closes accounts with all seats, with seats in another order, and with a seat too few.
+fn closes_in_order<S: Form, R: Abort>(rt: &R, alloc: Global) -> Result<(), Fail> {
+    let (account, first, second) = two_seats::<S, R>(rt, alloc, 1, 1500)?;
+    let book = close(alloc, account, first, second)??;
+    assert_eq!(rt;
+        (book.account(), book.opening(), book.limit()),
+        (1, 1500, 100)
+    );
+    assert_eq!(rt; (book.history().len(), book.own().len()), (0, 2));
+
+    let (account, first, second) = two_seats::<S, R>(rt, alloc, 1, 1500)?;
+    let exchanged = close(alloc, account, second, first)?;
+    assert_eq!(rt; exchanged.err(), Some(CloseFault::Seats));
+
+    let (account, first, _second) = two_seats::<S, R>(rt, alloc, 1, 1500)?;
+    let mut seats = Vec::new(alloc);
+    seats.push(first)?;
+    assert_eq!(rt; account.close(alloc, seats).err(), Some(CloseFault::Seats));
+    Ok(())
+}
+
+#[test]
+fn closes_with_all_seats_in_order(rt: HostRuntime) -> Result<(), Fail> {
+    closes_in_order::<SharedAccount, _>(&rt, rt.alloc())?;
+    closes_in_order::<TurnAccount, _>(&rt, rt.alloc())
+}
+
+/// A gate of accounts, which is open or shut.
+#[derive(Clone, Copy)]
+struct Door {
+    open: bool,
+}
+
+impl Gate for Door {
+    ghost may_shut = { λ _. Unit {0} };
+
+    fn before(&self, _worker: u32, _call: u64) -> bool {
+        true
+    }
+
+    fn inside(&self, _account: u32) -> bool {
+        self.open
+    }
+
+    fn after(&self, _worker: u32, _call: u64) {}
+}
+
+/// Asks from one of two seats.
+fn ask_one<S: Form, R: Wait>(
+    rt: &R,
+    account: &S,
+    first: &mut S::Seat,
+    second: &mut S::Seat,
+    seat: u32,
+    op: Op,
+    gate: Door,
+) -> Answer
+    requires first { S.key_of first.old ≡ S.key account.now }
+    requires second { S.key_of second.old ≡ S.key account.now }
+    ensures first { S.key_of first.new ≡ S.key account.now }
+    ensures second { S.key_of second.new ≡ S.key account.now }
+{
+    if seat == 0 {
+        return account.call(rt, first, op, &gate);
+    }
+    account.call(rt, second, op, &gate)
+}
+
+/// What is asked: from which seat, through which gate, and the answer.
+type Row = (u32, Door, Op, Answer);
+
+/// The book of account 1, whose two seats asked in turn, and made so many entries then.
+fn book_of<S: Form, R: Abort + Wait>(
+    rt: &R,
+    alloc: Global,
+    opening: u64,
+    rows: &[Row],
+    made: (usize, usize),
+) -> Result<Book, Fail>
+    requires { opening ≤ 1000000000000000 }
+{
+    let (account, mut first, mut second) = two_seats::<S, R>(rt, alloc, 1, opening)?;
+    for (seat, gate, op, want) in rows {
+        let answer = ask_one(rt, &account, &mut first, &mut second, *seat, *op, *gate);
+        assert_eq!(rt; answer, *want, "at {op:?}");
+    }
+    assert_eq!(rt; S::told(&first), (1, 0, made.0));
+    assert_eq!(rt; S::told(&second), (1, 1, made.1));
+    Ok(close(alloc, account, first, second)??)
+}
+
+fn settle(call: u64, t: u32) -> Op {
+    Op::Settle {
+        call,
+        number: 7,
+        info: TimeInfo::NoSwitch { t },
+    }
+}
+
+fn return_of(call: u64) -> Op {
+    Op::Return { call }
+}
+
+fn sum(call: u64, paid: u64, fate: Fate) -> CallSum {
+    CallSum { call, paid, fate }
+}
+
+/// Asks accounts of a form in turn, and compares the books and what they sum up to.
+fn sums_up<S: Form, R: Abort + Wait>(rt: &R, alloc: Global) -> Result<(), Fail> {
+    let x = plan()?;
+    let open = Door { open: true };
+    let shut = Door { open: false };
+    let denied = Ok(Reply::Denied { available: 0 });
+    let forfeit = Ok(Reply::Forfeit {
+        paid: 950,
+        available: 0,
+    });
+    let holding = [
+        (1, open, reserve(1, x), granted(600, false, 450)),
+        (0, open, reserve(2, x), granted(240, true, 0)),
+    ];
+    let ended = [
+        (1, open, reserve(7, x), granted(600, false, 450)),
+        (1, open, settle(7, 300), settled(550, 450)),
+        (1, open, return_of(7), returned(550, 950)),
+        (0, open, reserve(5, x), granted(540, true, 0)),
+        (0, open, settle(5, 600), forfeit),
+        (0, open, reserve(6, x), denied),
+        (0, open, return_of(5), returned(950, 0)),
+    ];
+    let refused = [
+        (0, shut, credit(5), Err(AccountFault::GateClosed)),
+        (1, open, credit(0), Err(AccountFault::OutOfRange)),
+        (1, open, credit(1), credited(101)),
+    ];
+    let held = [sum(1, 0, Fate::Holding), sum(2, 0, Fate::Holding)];
+    let over = [sum(5, 950, Fate::Forfeit), sum(7, 550, Fate::Returned)];
+    let runs: [(u64, &[Row], (usize, usize), u64, &[CallSum]); 3] = [
+        (1500, &holding, (1, 1), 0, &held),
+        (1500, &ended, (4, 3), 0, &over),
+        (100, &refused, (0, 1), 101, &[]),
+    ];
+    for (opening, rows, made, available, calls) in runs {
+        assert!(rt; opening <= MAX_MONEY);
+        let book = book_of::<S, R>(rt, alloc, opening, rows, made)?;
+        assert_eq!(rt;
+            (book.account(), book.opening(), book.limit()),
+            (1, opening, 100)
+        );
+        assert_eq!(rt; book.own().len(), 2);
+        let summary = book.summary(alloc)?;
+        assert_eq!(rt; (summary.account, summary.opening), (1, opening));
+        assert_eq!(rt; summary.available, available, "after {made:?} entries");
+        let entries = made.0.saturating_add(made.1);
+        assert_eq!(rt; (summary.entries, book.history().len()), (entries, entries));
+        assert_eq!(rt; summary.calls.as_slice(), calls, "after {made:?} entries");
+    }
+    Ok(())
+}
+
+#[test]
+fn sums_up_its_calls(rt: HostRuntime) -> Result<(), Fail> {
+    sums_up::<SharedAccount, _>(&rt, rt.alloc())?;
+    sums_up::<TurnAccount, _>(&rt, rt.alloc())
+}
+
+/// A port asks from its seat.
+fn asks_by_port<S: Form, R: Abort + Wait>(rt: &R, alloc: Global) -> Result<(), Fail> {
+    let x = plan()?;
+    let (account, mut first, _second) = two_seats::<S, R>(rt, alloc, 1, 1500)?;
+    let mut port = SharedPort::new(&account, &mut first, rt, &OpenGate);
+    assert_eq!(rt; port.ask(reserve(1, x)), granted(600, false, 450));
+    assert_eq!(rt; S::told(&first), (1, 0, 1));
+    Ok(())
+}
+
+/// A seat keeps what it enters into an account of its own.
+fn keeps_its_entries(rt: &impl Abort, alloc: Global) -> Result<(), Fail> {
+    let x = plan()?;
+    let (_, mut seat, _) = two_seats::<SharedAccount, _>(rt, alloc, 1, 1500)?;
+    let mut account = Account::new(alloc, 1500, 100);
+    let rows = [
+        (reserve(1, x), granted(600, false, 450)),
+        (settle(1, 600), settled(1050, 450)),
+        (return_of(1), returned(1050, 450)),
+        (return_of(1), Err(AccountFault::NotOpen)),
+    ];
+    for (op, want) in rows {
+        assert_eq!(rt; seat.apply_to(&mut account, op), want, "at {op:?}");
+    }
+    assert_eq!(rt; seat.mine().len(), 3);
+    assert_eq!(rt; seat.mine(), account.history());
+    Ok(())
+}
+
+#[test]
+fn keeps_what_it_has_entered(rt: HostRuntime) -> Result<(), Fail> {
+    asks_by_port::<SharedAccount, _>(&rt, rt.alloc())?;
+    asks_by_port::<TurnAccount, _>(&rt, rt.alloc())?;
+    keeps_its_entries(&rt, rt.alloc())
+}
+
+#[test]
+fn names_its_faults(rt: HostRuntime) -> Result<(), Fail> {
+    let faults = [
+        (CloseFault::Seats, 1, "the seats aren't all there in order"),
+        (
+            CloseFault::Mismatch,
+            2,
+            "the history isn't what the seats have entered",
+        ),
+        (CloseFault::OutOfMemory, 3, "out of memory"),
+    ];
+    for (fault, number, text) in faults {
+        assert_eq!(rt; fault.code(), number);
+        assert_eq!(rt; format!(in rt.alloc(); "{fault}")?.as_str(), text);
+    }
+    assert!(rt; OpenGate.before(0, 1) && OpenGate.inside(1));
+    Ok(())
+}

@@ -1,0 +1,103 @@
+//! What the tests do with an account of either form.
+
+ghost use Rattle.std.specs.Prelude.{◌≡◌, ◌≤◌, IfOk};
+
+use account_core::{AccountFault, Op, Reply};
+use shared_account::{Book, CloseFault, Seat, Shared, SharedAccount, TurnAccount, TurnSeat};
+use std::alloc::{AllocError, Global};
+use std::process::Abort;
+use std::test::Fail;
+use tariff_core::{Plan, PlanRange};
+
+pub(crate) type Answer = Result<Reply, AccountFault>;
+
+/// A form of shared account.
+pub(crate) trait Form: Shared {
+    /// The account and the number of a seat, and how many entries it has made.
+    fn told(seat: &Self::Seat) -> (u32, u32, usize);
+}
+
+impl Form for SharedAccount {
+    fn told(seat: &Seat) -> (u32, u32, usize) {
+        (seat.account(), seat.number(), seat.mine().len())
+    }
+}
+
+impl Form for TurnAccount {
+    fn told(seat: &TurnSeat) -> (u32, u32, usize) {
+        (seat.account(), seat.number(), seat.mine().len())
+    }
+}
+
+/// An account with two seats.
+pub(crate) fn two_seats<S: Form, R: Abort>(
+    rt: &R,
+    alloc: Global,
+    number: u32,
+    opening: u64,
+) -> Result<(S, S::Seat, S::Seat), Fail>
+    requires { opening ≤ 1000000000000000 }
+    ensures first { IfOk result (λ made. S.key_of made.1 ≡ S.key made.0) }
+    ensures second { IfOk result (λ made. S.key_of made.2 ≡ S.key made.0) }
+{
+    let (account, mut seats) = S::new(rt, alloc, number, opening, 100, 2)?;
+    let second = seats.pop().expect(rt, "two seats");
+    let first = seats.pop().expect(rt, "two seats");
+    assert_eq!(rt; S::told(&first), (number, 0, 0));
+    assert_eq!(rt; S::told(&second), (number, 1, 0));
+    Ok((account, first, second))
+}
+
+/// Closes an account whose two seats are handed in, in this order.
+pub(crate) fn close<S: Form>(
+    alloc: Global,
+    account: S,
+    first: S::Seat,
+    second: S::Seat,
+) -> Result<Result<Book, CloseFault>, AllocError>
+    requires first { S.key_of first ≡ S.key account }
+    requires second { S.key_of second ≡ S.key account }
+{
+    let mut seats = Vec::with_capacity(alloc, 2)?;
+    seats.push_reserved(first);
+    seats.push_reserved(second);
+    Ok(account.close(alloc, seats))
+}
+
+/// Two rates, the second cheaper.
+pub(crate) fn plan() -> Result<Plan, PlanRange> {
+    Plan::new(50, 1000, Some(400))
+}
+
+pub(crate) fn reserve(call: u64, plan: Plan) -> Op {
+    Op::Reserve {
+        call,
+        plan,
+        wanted: 600,
+        least: 50,
+    }
+}
+
+pub(crate) fn credit(amount: u64) -> Op {
+    Op::Credit { amount }
+}
+
+pub(crate) fn granted(units: u32, last: bool, available: u64) -> Answer {
+    Ok(Reply::Granted {
+        units,
+        last,
+        available,
+    })
+}
+
+pub(crate) fn settled(paid: u64, available: u64) -> Answer {
+    Ok(Reply::Settled { paid, available })
+}
+
+pub(crate) fn returned(paid: u64, available: u64) -> Answer {
+    Ok(Reply::Returned { paid, available })
+}
+
+pub(crate) fn credited(available: u64) -> Answer {
+    Ok(Reply::Credited { available })
+}

@@ -1,0 +1,133 @@
+//! Accounts that are handed on by turns: seats that meet, and seats that wait.
+
+ghost use Rattle.std.specs.Prelude.{◌≡◌};
+
+use crate::forms::{close, credit, credited, granted, plan, reserve, two_seats};
+use shared_account::{Book, Gate, OpenGate, TurnAccount, TurnSeat};
+use std::alloc::Global;
+use std::process::Abort;
+use std::sync::Wait;
+use std::test::Fail;
+use std::thread;
+use std::thread::Threads;
+
+/// The book of an account whose two seats met, and credited once more or not.
+fn book_of_met<R: Abort + Wait>(rt: &R, alloc: Global, more: bool) -> Result<Book, Fail> {
+    let x = plan()?;
+    let (account, mut first, mut second) = two_seats::<TurnAccount, R>(rt, alloc, 1, 0)?;
+    let answer = account.call(rt, &mut first, credit(600), &OpenGate);
+    assert_eq!(rt; answer, credited(600));
+    assert_eq!(rt; account.meet(&mut first, &mut second), 1);
+    let answer = account.call(rt, &mut second, reserve(1, x), &OpenGate);
+    assert_eq!(rt; answer, granted(330, true, 0));
+    if more {
+        assert_eq!(rt; account.meet(&mut second, &mut first), 2);
+        let answer = account.call(rt, &mut first, credit(1), &OpenGate);
+        assert_eq!(rt; answer, credited(1));
+    }
+    Ok(close(alloc, account, first, second)??)
+}
+
+/// A seat hears no more of an account than the seat that it meets has seen.
+fn hears_what_was_seen<R: Abort + Wait>(rt: &R, alloc: Global) -> Result<(), Fail> {
+    let x = plan()?;
+    let (account, mut seats) = TurnAccount::new(rt, alloc, 1, 0, 100, 3)?;
+    let mut third = seats.pop().expect(rt, "three seats");
+    let mut second = seats.pop().expect(rt, "three seats");
+    let mut first = seats.pop().expect(rt, "three seats");
+    assert_eq!(rt; account.meet(&mut first, &mut second), 0);
+    let answer = account.call(rt, &mut first, credit(600), &OpenGate);
+    assert_eq!(rt; answer, credited(600));
+    assert_eq!(rt; account.meet(&mut first, &mut second), 1);
+    let answer = account.call(rt, &mut second, reserve(1, x), &OpenGate);
+    assert_eq!(rt; answer, granted(330, true, 0));
+    assert_eq!(rt; account.meet(&mut first, &mut second), 2);
+    assert_eq!(rt; account.meet(&mut first, &mut third), 1);
+    assert_eq!(rt; account.meet(&mut second, &mut third), 2);
+    Ok(())
+}
+
+#[test]
+fn meets_share_one_history(rt: HostRuntime) -> Result<(), Fail> {
+    for (more, entries) in [(false, 2), (true, 3)] {
+        let book = book_of_met(&rt, rt.alloc(), more)?;
+        assert_eq!(rt; (book.history().len(), book.own().len()), (entries, 2));
+    }
+    hears_what_was_seen(&rt, rt.alloc())
+}
+
+/// Lets each operation in, but only after a while.
+#[derive(Clone, Copy)]
+struct SlowGate;
+
+impl Gate for SlowGate {
+    ghost may_shut = { λ _. ⊥ };
+
+    fn before(&self, _worker: u32, _call: u64) -> bool {
+        true
+    }
+
+    fn inside(&self, _account: u32) -> bool {
+        for _ in 0..2000u32 {
+            thread::yield_now();
+        }
+        true
+    }
+
+    fn after(&self, _worker: u32, _call: u64) {}
+}
+
+/// Credits 1 so many times, and gives the seat back.
+fn credit_often<R: Wait, G: Gate>(
+    rt: &R,
+    account: &TurnAccount,
+    mut seat: TurnSeat,
+    times: u32,
+    gate: &G,
+) -> TurnSeat
+    requires { seat.table ≡ account.now.table }
+    ensures { result.table ≡ account.now.table }
+{
+    for _ in 0..times {
+        let _ = account.call(rt, &mut seat, credit(1), gate);
+    }
+    seat
+}
+
+/// Credits 1 so many times from two seats, in two threads at the same time.
+fn credit_both<R: Threads + Wait + Sync, G: Gate + Sync>(
+    rt: &R,
+    account: &TurnAccount,
+    first: TurnSeat,
+    second: TurnSeat,
+    times: u32,
+    gate: &G,
+) -> (TurnSeat, TurnSeat)
+    requires first { first.table ≡ account.now.table }
+    requires second { second.table ≡ account.now.table }
+    ensures first { result.0.table ≡ account.now.table }
+    ensures second { result.1.table ≡ account.now.table }
+{
+    thread::join(
+        rt,
+        move || -> TurnSeat
+            requires { first.table ≡ account.now.table }
+            ensures { result.table ≡ first.table }
+        { credit_often(rt, account, first, times, gate) },
+        move || -> TurnSeat
+            requires { second.table ≡ account.now.table }
+            ensures { result.table ≡ second.table }
+        { credit_often(rt, account, second, times, gate) },
+    )
+}
+
+#[test]
+fn wakes_who_waits_for_a_turn(rt: HostRuntime) -> Result<(), Fail> {
+    let (account, first, second) = two_seats::<TurnAccount, _>(&rt, rt.alloc(), 1, 0)?;
+    let (first, second) = credit_both(&rt, &account, first, second, 50, &SlowGate);
+    assert_eq!(rt; (first.mine().len(), second.mine().len()), (50, 50));
+    let book = close(rt.alloc(), account, first, second)??;
+    assert_eq!(rt; book.history().len(), 100);
+    assert_eq!(rt; book.summary(rt.alloc())?.available, 100);
+    Ok(())
+}
