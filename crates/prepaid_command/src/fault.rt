@@ -2,9 +2,10 @@
 
 ghost use Rattle.std.specs.Prelude.{◌≡◌, Some};
 ghost use Rattle.runs_core.specs.declared.run_fault.RunFault.TheVariants as run;
-ghost use Rattle.prepaid_command.specs.Faults.{line_of, name_of_part, of_run};
+ghost use Rattle.prepaid_command.specs.Faults.{line_of, name_of_part, of_run, of_words};
 ghost use Rattle.prepaid_command.specs.declared.fault.Fault.TheVariants as out;
 
+use command_words::WordsFault;
 use run_command::RunError;
 use runs_core::RunFault;
 use std::alloc::{AllocError, AllocFailed};
@@ -103,6 +104,18 @@ impl fmt::Display for Fault {
 }
 
 impl Error for Fault {}
+
+impl From<WordsFault> for Fault {
+    ghost from_gives = { λ why fault. fault ≡ of_words why };
+
+    fn from(why: WordsFault) -> Fault {
+        match why {
+            WordsFault::Arguments => Fault::Arguments,
+            WordsFault::Config => Fault::Config,
+            WordsFault::OutOfMemory => Fault::Run(RunFault::OutOfMemory),
+        }
+    }
+}
 
 impl From<RunError> for Fault {
     ghost from_gives = { λ error fault. fault ≡ of_run error };
