@@ -1,7 +1,7 @@
 //! The command line, as `clap` knows it.
 
 ghost use Rattle.std.specs.Prelude.{◌≡◌, false, IfOk};
-ghost use Rattle.clap.specs.Words.{app_of, rule_of};
+ghost use Rattle.clap.specs.Words.{app_of, new_app, rule_of, with_rule};
 ghost use Rattle.clap.specs.declared.builder.command.Command.TheViews.{out-Command as fields_of};
 ghost use Rattle.command_words.specs.CommandLine.{bare_app, flag_rule, option_rule, other_rules, price_app, program_app, replay_app, required_rule, run_app, service_rules, switch_rules, with_rules};
 
@@ -57,8 +57,8 @@ pub(crate) fn program_command<'a>(alloc: Global) -> Result<Command<'a>, AllocErr
 fn bare_command<'a>(alloc: Global) -> Command<'a>
     ensures { app_of result ≡ bare_app }
 {
-    Command::new(alloc, "prepaid")
-        .about("Prepaid call control: prices, accounts and calls")
+    let about = "Prepaid call control: prices, accounts and calls";
+    new_command(alloc, "prepaid", about)
         .no_binary_name(true)
         .subcommand_required(true)
 }
@@ -68,12 +68,18 @@ fn price_command<'a>(alloc: Global) -> Result<Command<'a>, AllocError>
     ensures app { IfOk result (λ command. app_of command ≡ price_app) }
     ensures local { IfOk result (λ command. (fields_of command).has_globals ≡ false) }
 {
-    Command::new(alloc, "price")
-        .about("Prints what each report adds to the price of a call")
-        .after_help(REPORTS)
-        .arg(required(alloc, "fee", "The fee, in units of money"))?
-        .arg(required(alloc, "before", "The rate a minute before the switch"))?
-        .arg(option(alloc, "after", "The rate a minute after the switch"))
+    let about = "Prints what each report adds to the price of a call";
+    let command = input_command(alloc, "price", about, REPORTS);
+    let command = add(
+        command,
+        required(alloc, "fee", "The fee, in units of money"),
+    )?;
+    let before = required(alloc, "before", "The rate a minute before the switch");
+    let command = add(command, before)?;
+    add(
+        command,
+        option(alloc, "after", "The rate a minute after the switch"),
+    )
 }
 
 #[tactic(auto, unfolding(crate::specs::CommandLine::replay_app))]
@@ -81,11 +87,14 @@ fn replay_command<'a>(alloc: Global) -> Result<Command<'a>, AllocError>
     ensures app { IfOk result (λ command. app_of command ≡ replay_app) }
     ensures local { IfOk result (λ command. (fields_of command).has_globals ≡ false) }
 {
-    Command::new(alloc, "replay")
-        .about("Prints what an account replies to each operation")
-        .after_help(OPS)
-        .arg(required(alloc, "opening", "The opening credit, in units of money"))?
-        .arg(option(alloc, "limit", "How many entries its history may have"))
+    let about = "Prints what an account replies to each operation";
+    let command = input_command(alloc, "replay", about, OPS);
+    let opening = required(alloc, "opening", "The opening credit, in units of money");
+    let command = add(command, opening)?;
+    add(
+        command,
+        option(alloc, "limit", "How many entries its history may have"),
+    )
 }
 
 #[tactic(auto, unfolding(crate::specs::CommandLine::run_app))]
@@ -93,9 +102,8 @@ fn run_command<'a>(alloc: Global) -> Result<Command<'a>, AllocError>
     ensures app { IfOk result (λ command. app_of command ≡ run_app) }
     ensures local { IfOk result (λ command. (fields_of command).has_globals ≡ false) }
 {
-    let command = Command::new(alloc, "run")
-        .about("Plays a script of calls, and prints what its accounts come to")
-        .after_help(SCRIPT);
+    let about = "Plays a script of calls, and prints what its accounts come to";
+    let command = input_command(alloc, "run", about, SCRIPT);
     let command = add_service_options(alloc, command)?;
     let command = add_switch_options(alloc, command)?;
     add_other_options(alloc, command)
@@ -108,9 +116,12 @@ fn add_service_options<'a>(alloc: Global, command: Command<'a>) -> Result<Comman
         ≡ with_rules (app_of command.entry) service_rules) }
     ensures local { IfOk result (λ more. (fields_of more).has_globals ≡ false) }
 {
-    command
-        .arg(option(alloc, "wanted", "The time that the service asks for [600]"))?
-        .arg(option(alloc, "least", "The least time that it takes [50]"))
+    let wanted = option(alloc, "wanted", "The time that the service asks for [600]");
+    let command = add(command, wanted)?;
+    add(
+        command,
+        option(alloc, "least", "The least time that it takes [50]"),
+    )
 }
 
 /// How the switches wait.
@@ -120,10 +131,16 @@ fn add_switch_options<'a>(alloc: Global, command: Command<'a>) -> Result<Command
         ≡ with_rules (app_of command.entry) switch_rules) }
     ensures local { IfOk result (λ more. (fields_of more).has_globals ≡ false) }
 {
-    command
-        .arg(option(alloc, "tssf", "How long a switch waits for orders [100]"))?
-        .arg(option(alloc, "tccd", "How long it waits for more time [50]"))?
-        .arg(option(alloc, "delay", "How long orders take to it [2]"))
+    let tssf = option(alloc, "tssf", "How long a switch waits for orders [100]");
+    let command = add(command, tssf)?;
+    let command = add(
+        command,
+        option(alloc, "tccd", "How long it waits for more time [50]"),
+    )?;
+    add(
+        command,
+        option(alloc, "delay", "How long orders take to it [2]"),
+    )
 }
 
 /// How many serve the run, what comes of a call without orders, and what is printed.
@@ -133,14 +150,41 @@ fn add_other_options<'a>(alloc: Global, command: Command<'a>) -> Result<Command<
         ≡ with_rules (app_of command.entry) other_rules) }
     ensures local { IfOk result (λ more. (fields_of more).has_globals ≡ false) }
 {
-    command
-        .arg(option(alloc, "workers", "How many workers serve it, 1 to 16 [2]"))?
-        .arg(word(
-            alloc,
-            "default",
-            "Without orders: proceed, release [release]",
-        ))?
-        .arg(flag(alloc, "book", "Prints the book, in place of the lines"))
+    let workers = option(alloc, "workers", "How many workers serve it, 1 to 16 [2]");
+    let command = add(command, workers)?;
+    let handling = "Without orders: proceed, release [release]";
+    let command = add(command, named(alloc, "default", "WORD", handling))?;
+    add(
+        command,
+        flag(alloc, "book", "Prints the book, in place of the lines"),
+    )
+}
+
+/// A command, and what its help says that it does.
+fn new_command<'a>(alloc: Global, name: &'a str, about: &'a str) -> Command<'a>
+    ensures app { app_of result ≡ new_app name.entry.now }
+    ensures local { (fields_of result).has_globals ≡ false }
+{
+    Command::new(alloc, name).about(about)
+}
+
+/// The same of a command that reads an input, which its help shows.
+fn input_command<'a>(alloc: Global, name: &'a str, about: &'a str, input: &'a str) -> Command<'a>
+    ensures app { app_of result ≡ new_app name.entry.now }
+    ensures local { (fields_of result).has_globals ≡ false }
+{
+    new_command(alloc, name, about).after_help(input)
+}
+
+/// The command with an option besides.
+fn add<'a>(command: Command<'a>, arg: Arg<'a>) -> Result<Command<'a>, AllocError>
+    requires command { (fields_of command).has_globals ≡ false }
+    requires arg { arg.global ≡ false }
+    ensures app { IfOk result (λ more. app_of more
+        ≡ with_rule (app_of command.entry) (rule_of arg.entry)) }
+    ensures local { IfOk result (λ more. (fields_of more).has_globals ≡ false) }
+{
+    command.arg(arg)
 }
 
 /// `--name N`
@@ -148,13 +192,10 @@ fn option<'a>(alloc: Global, name: &'a str, help: &'a str) -> Arg<'a>
     ensures rule { rule_of result ≡ option_rule name.entry.now }
     ensures local { result.global ≡ false }
 {
-    Arg::new(alloc, name)
-        .long(name)
-        .value_name("N")
-        .help(help)
-        .action(ArgAction::Set)
+    named(alloc, name, "N", help)
 }
 
+/// `--name N`, which may not be left out.
 fn required<'a>(alloc: Global, name: &'a str, help: &'a str) -> Arg<'a>
     ensures rule { rule_of result ≡ required_rule name.entry.now }
     ensures local { result.global ≡ false }
@@ -162,12 +203,16 @@ fn required<'a>(alloc: Global, name: &'a str, help: &'a str) -> Arg<'a>
     option(alloc, name, help).required(true)
 }
 
-/// `--name WORD`
-fn word<'a>(alloc: Global, name: &'a str, help: &'a str) -> Arg<'a>
+/// `--name VALUE`
+fn named<'a>(alloc: Global, name: &'a str, value: &'a str, help: &'a str) -> Arg<'a>
     ensures rule { rule_of result ≡ option_rule name.entry.now }
     ensures local { result.global ≡ false }
 {
-    option(alloc, name, help).value_name("WORD")
+    Arg::new(alloc, name)
+        .long(name)
+        .value_name(value)
+        .help(help)
+        .action(ArgAction::Set)
 }
 
 /// `--name`
