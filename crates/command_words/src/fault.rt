@@ -6,7 +6,7 @@ ghost use Rattle.command_words.specs.declared.fault.WordsFault.TheVariants as ou
 use std::alloc::AllocError;
 
 /// Why the words of a command line have no request.
-#[derive(Clone, Copy, Debug)]
+#[derive(Clone, Copy)]
 pub enum WordsFault {
     /// They ask for nothing that the program does.
     Arguments,

@@ -6,7 +6,7 @@ use run_options::RunOptions;
 use tariff_core::Plan;
 
 /// What the words ask for.
-#[derive(Debug, Drop)]
+#[derive(Drop)]
 pub enum Request {
     /// The text of the help.
     Help(String),
@@ -19,7 +19,7 @@ pub enum Request {
 }
 
 /// An account as it is opened.
-#[derive(Clone, Copy, Debug, PartialEq, Eq)]
+#[derive(Clone, Copy)]
 pub struct Opening {
     /// The credit, 0 to `MAX_MONEY`.
     pub opening: u64,

@@ -15,7 +15,7 @@ use table_core::{RowFault, TableFault};
 use tariff_core::TariffFault;
 
 /// A part of the input that is a table.
-#[derive(Clone, Copy, Debug, PartialEq, Eq)]
+#[derive(Clone, Copy, Debug)]
 pub enum Part {
     /// The reports of `price`.
     Reports,
@@ -41,7 +41,7 @@ impl fmt::Display for Part {
 }
 
 /// Why the program prints no answer.
-#[derive(Clone, Copy, Debug, PartialEq, Eq)]
+#[derive(Clone, Copy, Debug)]
 pub enum Fault {
     /// The words ask for nothing that the program does.
     Arguments,

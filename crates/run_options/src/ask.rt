@@ -3,7 +3,7 @@
 use ssf_core::DefaultHandling;
 
 /// What `run` is asked for besides its input, in any numbers. Times are in units of 100 ms.
-#[derive(Clone, Copy, Debug, PartialEq, Eq)]
+#[derive(Clone, Copy)]
 pub struct RunAsk {
     /// How many workers serve the run.
     pub workers: u32,

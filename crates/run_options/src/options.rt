@@ -8,7 +8,7 @@ use dialogue_core::ServiceConfig;
 use ssf_core::SsfConfig;
 
 /// The options of a run, each in its range.
-#[derive(Clone, Copy, Debug, PartialEq, Eq)]
+#[derive(Clone, Copy)]
 pub struct RunOptions {
     /// How many workers serve the run. A run has 1 to 16.
     pub workers: u32,
