@@ -1,18 +1,42 @@
-# The two commands of the README are `make run` and `make test`.
+# The three commands of the README are `make run`, `make` and `make test`.
+SHELL := bash
 PREFIX ?= /usr/local
+JOBS ?= $(shell nproc)
 SOURCES := crates.txt $(shell find crates -path '*/out' -prune -o -name '*.rt' -print -o -name '*.antt' -print)
 
-.PHONY: run test install bench
+.PHONY: all run test edits install bench
 
-# Builds the program, proving what it stands on, and plays an evening of calls.
-run: bin/prepaid
+# Proves and builds bin/prepaid.
+all: bin/prepaid
+
+bin/prepaid: $(SOURCES)
+	@echo 'Proving and building bin/prepaid: from nothing some 20 minutes on four processors and 4 GB in crates/*/out.'
+	cd crates/prepaid && rt run --jobs $(JOBS) -- --help > /dev/null
+	mkdir -p bin
+	cp crates/prepaid/out/prepaid $@
+
+# Plays an evening of calls: by bin/prepaid, or, before that is built, by the program without its proofs.
+run: $(wildcard bin/prepaid)
+ifeq ($(wildcard bin/prepaid),)
+	@echo 'This program is unproved: rt try compiles it, in a minute or two. make proves and builds bin/prepaid.' >&2
+	@cd crates/prepaid && rt try -- run < ../../examples/evening.txt
+else
 	bin/prepaid run < examples/evening.txt
+endif
 
 # Proves everything from nothing, tries the edits that must fail, and runs the tests and the programs;
-# then closes calls while memory is refused.
+# then closes calls while memory is refused, and compares the program with its model.
 test:
-	rt ci
+	tests/edits_test.py
+	mkdir -p out
+	set -o pipefail; rt ci | tee out/gate.txt
 	tests/refused_growths.sh
+	tests/random.sh --program crates/prepaid/out/prepaid
+	@tail -n 1 out/gate.txt
+
+# Tries the other edits in groups; of one crate by make edits CRATE=account_core.
+edits:
+	tests/edits.py $(CRATE)
 
 install: bin/prepaid
 	install -D -m 755 bin/prepaid $(DESTDIR)$(PREFIX)/bin/prepaid
@@ -22,8 +46,3 @@ bench: bin/prepaid
 	bench/price.sh
 	bench/run.sh
 	bench/shared.sh
-
-bin/prepaid: $(SOURCES)
-	cd crates/prepaid && rt run -- --help > /dev/null
-	mkdir -p bin
-	cp crates/prepaid/out/prepaid $@

@@ -16,8 +16,6 @@ mod port;
 mod sharing_laws;
 mod standing;
 mod tally;
-#[cfg(test)]
-mod tests;
 mod walks;
 
 pub use account::Account;

@@ -13,8 +13,6 @@ mod message;
 mod mode;
 mod number;
 mod operation;
-#[cfg(test)]
-mod tests;
 
 pub use arming::{Arming, Point};
 pub use arms::Arms;

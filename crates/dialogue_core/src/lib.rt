@@ -23,6 +23,3 @@ pub use dialogue::Dialogue;
 pub use fault::DialogueFault;
 pub use laws::{honest_replies_are_expected, one_return_if_granted, one_settle_a_grant};
 pub use turn::Turn;
-
-#[cfg(test)]
-mod tests;

@@ -14,8 +14,6 @@ mod rounds;
 mod script;
 mod step;
 mod tally;
-#[cfg(test)]
-mod tests;
 
 pub use call_end::CallEnd;
 pub use driving::drive_call;

@@ -17,8 +17,6 @@ mod sending;
 mod ssf;
 mod stage;
 mod state;
-#[cfg(test)]
-mod tests;
 mod timer;
 mod timers;
 

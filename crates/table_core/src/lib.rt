@@ -14,6 +14,3 @@ pub use decimals::decimal;
 pub use fault::{RowFault, RowKind, TableFault};
 pub use fields::{field, is_blank, is_word, number, optional};
 pub use rows::{ReadFault, Rows};
-
-#[cfg(test)]
-mod tests;

@@ -32,8 +32,3 @@ pub use tariff::Tariff;
 pub use tariff_fault::{TariffFault, TariffKind};
 pub use time_info::{TimeInfo, TimeRange};
 pub use times::{DAY, Times};
-
-#[cfg(test)]
-mod tariff_tests;
-#[cfg(test)]
-mod tests;

@@ -1,5 +1,5 @@
 use Rattle.std.proofs.Common.{◌+◌, ◌≤◌}
-use Rattle.tariff_core.proofs.tests.afford_counting_down.Given as goal
+use Rattle.value_tests.proofs.prices.afford_counting_down.Given as goal
 
 abbrev pub invariant-loop-units : goal.invariant-loop-units
 invariant-loop-units l = l.old.before + l.old.after + l.units ≤ 864000

@@ -1,0 +1,47 @@
+//! The texts and the numbers of faults.
+
+use crate::looking::gives;
+use cap_values::ValueFault;
+use table_core::{ReadFault, RowFault, RowKind, TableFault};
+use tariff_core::{TariffFault, TariffKind};
+
+const KINDS: [(TariffKind, u8, &str); 10] = [
+    (TariffKind::Csv, 1, "row 7: Csv"),
+    (TariffKind::Header, 2, "row 7: Header"),
+    (TariffKind::Digits, 3, "row 7: Digits"),
+    (TariffKind::From, 4, "row 7: From"),
+    (TariffKind::Money, 5, "row 7: Money"),
+    (TariffKind::Repeated, 6, "row 7: Repeated"),
+    (TariffKind::NoMidnightBand, 7, "row 7: NoMidnightBand"),
+    (TariffKind::OutOfMemory, 8, "row 7: OutOfMemory"),
+    (TariffKind::Device, 9, "row 7: Device"),
+    (TariffKind::TooManyRows, 10, "row 7: TooManyRows"),
+];
+
+#[test]
+fn faults_have_texts_and_numbers(rt: HostRuntime) {
+    let order = RowFault {
+        row: 3,
+        kind: RowKind::Order,
+    };
+    let faults = [
+        (TableFault::Row(order), "row 3: Order"),
+        (TableFault::from(ReadFault::Device), "the reader failed"),
+        (TableFault::from(ReadFault::OutOfMemory), "out of memory"),
+    ];
+    for &(fault, want) in &faults {
+        let text = fault.to_string(rt.alloc()).expect(&rt, "memory");
+        gives(&rt, &fault, &text.as_str(), &want);
+    }
+    for &(kind, code, want) in &KINDS {
+        let text = TariffFault { row: 7, kind }
+            .to_string(rt.alloc())
+            .expect(&rt, "memory");
+        gives(&rt, &kind, &(kind.code(), text.as_str()), &(code, want));
+    }
+    let numbers = [
+        ValueFault::ParameterOutOfRange as u8,
+        ValueFault::MissingParameter as u8,
+    ];
+    assert!(rt; numbers == [1, 2]);
+}

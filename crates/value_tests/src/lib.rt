@@ -1,0 +1,18 @@
+//! The tests of the public calls of `table_core`, `tariff_core` and `cap_values`. They stand apart
+//! from these crates, so that none of them is proved a second time for its tests.
+#![tactic(auto)]
+
+#[cfg(test)]
+mod failed_readers;
+#[cfg(test)]
+mod faults;
+#[cfg(test)]
+mod looking;
+#[cfg(test)]
+mod prices;
+#[cfg(test)]
+mod tables;
+#[cfg(test)]
+mod tariffs;
+#[cfg(test)]
+mod values;

@@ -1,0 +1,330 @@
+#!/usr/bin/env python3
+"""Tries the edits of crates/NAME/edits: wrong bodies that the prover must refuse.
+
+usage: tests/edits.py [--root FOLDER] [--lanes N] [NAME..]
+
+An edit has the form of those in must-fail/, which the gate tries one by one. Here one check tries
+many: it changes different functions of a copy of the crate at once. The prover judges each function
+by itself, so an edit is refused where the function that it changes has an open goal of its own, or
+an error of its own in its proof files. It isn't refused by what a caller of it lacks, nor where the
+function itself waits for another that isn't proved, nor where a proof file only lacks a name. What
+a check leaves undecided is tried in the next one, and at last alone.
+
+The checks go over what `rt check` keeps in out/. The last line is 'N refused, M not refused', and
+the names of the M stand above it. The status is 0 where M is 0.
+"""
+import argparse
+import collections
+import dataclasses
+import os
+import re
+import shutil
+import subprocess
+import sys
+import tempfile
+import threading
+import time
+from concurrent.futures import ThreadPoolExecutor
+
+PARTS = ("src", "specs", "proofs")
+HEAD = re.compile(r"( *)(?:pub(?:\([^)]*\))? )?(?:const )?(?:unsafe )?fn (\w+)")
+# An error in a proof file that only says that a name is gone.
+LACKS_A_NAME = re.compile(r"has no field|is not in scope|has no `|was not admitted")
+# A text that the prover can't read says nothing of a contract.
+UNREAD = re.compile(r"is not in scope|has no field|is no name|operand is missing|expected the end|cannot continue")
+# How many groups an edit is tried in before it is tried alone.
+GROUPS = 3
+PRINTING = threading.Lock()
+
+
+@dataclasses.dataclass(frozen=True)
+class Function:
+    """A function of a crate: its file, its lines there, its name, and the impl that it stands in."""
+
+    file: str
+    first: int
+    last: int
+    name: str
+    impl: str
+
+    def is_called(self, path, crate):
+        """Tells whether the prover calls it by this path: a method stands below its type, and its trait's name."""
+        *above, name = path.split("::")
+        if name != self.name:
+            return False
+        if not self.impl:
+            module = re.sub(r"^(lib|main)$", "", self.file[len("src/") : -len(".rt")])
+            return above == [crate, *module.split("/")] if module else above == [crate]
+        of_trait, _, of_type = self.impl.rpartition(" for ")
+        return above[-1] == "".join(last_words(of_type)[:1] + last_words(of_trait))
+
+
+def last_words(text):
+    """Returns the last word of each path in a type, but for type parameters of one letter."""
+    return [it.split("::")[-1] for it in re.findall(r"\w+(?:::\w+)*", text) if len(it) > 1]
+
+
+@dataclasses.dataclass
+class Edit:
+    """An edit: its name, and its changes, each a file, an old text and a new one."""
+
+    name: str
+    changes: list
+    fault: str = ""
+    groups: int = 0
+
+    def apply(self, texts):
+        """Returns the texts with its changes, or nothing where an old text doesn't stand there once."""
+        texts = dict(texts)
+        for file, old, new in self.changes:
+            if texts.get(file, "").count(old) != 1:
+                return None
+            texts[file] = texts[file].replace(old, new)
+        return texts
+
+    def functions(self, texts, table):
+        """Returns the functions that it changes, and nothing where it changes what is in none."""
+        found = set()
+        for file, old, _ in self.changes:
+            line = texts[file][: texts[file].index(old)].count("\n") + 1
+            inside = [it for it in table if it.file == file and it.first <= line <= it.last]
+            if not inside:
+                return set()
+            found.add(max(inside, key=lambda it: it.first))
+        return found
+
+
+def read_edit(path, texts):
+    edit, file, old = Edit(os.path.basename(path)[: -len(".edit")], []), "", ""
+    with open(path, encoding="utf-8") as it:
+        for line in it.read().split("\n"):
+            if line.startswith("file: "):
+                file = line[len("file: ") :].strip()
+            elif line.startswith("old: "):
+                old = line[len("old: ") :]
+            elif line.startswith("new:"):
+                edit.changes.append((file, old, line[len("new:") :].removeprefix(" ")))
+    if not edit.changes:
+        edit.fault = "it has no 'old:' and 'new:' pair"
+    elif edit.apply(texts) is None:
+        edit.fault = "it no longer fits its file: an 'old:' text doesn't stand there once"
+    return edit
+
+
+def functions_of(file, text):
+    """Returns the functions of a file in the layout of rt fmt."""
+    lines, impl, found = text.split("\n"), "", []
+    for at, line in enumerate(lines):
+        if re.match(r"\S", line):
+            inside = re.match(r"impl\s*(?:<[^<>]*(?:<[^<>]*>[^<>]*)*>)?\s*(.*?)\s*\{?$", line)
+            impl = re.sub(r"'\w+", "", inside[1]) if inside else impl if line.startswith(("where", "{", "}")) else ""
+        head = HEAD.match(line)
+        if head:
+            end = at
+            while not line.rstrip().endswith("}") and lines[end] != head[1] + "}" and end + 1 < len(lines):
+                end += 1
+            found.append(Function(file, at + 1, end + 1, head[2], impl if head[1] else ""))
+    return found
+
+
+class Verdicts:
+    """What one check said of each function."""
+
+    def __init__(self, said):
+        self.said = said
+        self.of = dict(re.findall(r"^fn (\S+): (.*)$", said, re.M))
+        self.notes = [(at[1], int(at[2]), at[0]) for at in re.finditer(r"^note: (src/\S+?):(\d+):\d+: it is not proved.*$", said, re.M)]
+        self.errors = re.findall(r"^\./proofs/(\S+)/\w+\.antt:\d+:\d+: error: (.*)$", said, re.M)
+        self.is_proved = bool(re.search(r"^logic=proved", said, re.M))
+        self.is_refused = bool(re.search(r"^logic=not-proved", said, re.M))
+
+    def unreadable(self):
+        at = re.search(r"^(?:\./)?(?:src|specs)/\S+?:\d+:\d+: error: (?!`)(.*)$", self.said, re.M)
+        named = re.search(r"^(?:\./)?(?:src|specs)/\S+?:\d+:\d+: error: `[^`]*`: (.*)$", self.said, re.M)
+        return at[0] if at else named[0] if named and UNREAD.search(named[1]) else ""
+
+    def refusal(self, function, crate):
+        """Returns why the function itself is refused, nothing where it is proved, and None where that isn't told."""
+        paths = [it for it in self.of if function.is_called(it, crate)]
+        if len(paths) != 1:
+            return None
+        told = self.of[paths[0]]
+        if told == "proved":
+            return ""
+        folder = "/".join(paths[0].split("::")[1:])
+        own = [text for at, text in self.errors if at == folder]
+        if any(LACKS_A_NAME.search(it) for it in own):
+            return None
+        goal = [text for file, line, text in self.notes if file == function.file and function.first <= line <= function.last]
+        return (goal + own + [told] * ("did not prove" in told) + [None])[0]
+
+
+class Crate:
+    """A crate with its edits, in a copy of it and of the crates below, over what its checks keep."""
+
+    def __init__(self, root, name, room):
+        self.name, self.folder, self.room = name, f"{root}/crates/{name}", room
+        self.texts = {}
+        for part in PARTS:
+            for at, _, files in os.walk(f"{self.folder}/{part}"):
+                for it in files:
+                    path = f"{at}/{it}"
+                    with open(path, encoding="utf-8") as text:
+                        self.texts[os.path.relpath(path, self.folder)] = text.read()
+        self.table = [it for file, text in self.texts.items() if file.startswith("src/") for it in functions_of(file, text)]
+        names = sorted(it for it in os.listdir(f"{self.folder}/edits") if it.endswith(".edit"))
+        self.edits = [read_edit(f"{self.folder}/edits/{it}", self.texts) for it in names]
+        self.functions = {it.name: it.functions(self.texts, self.table) for it in self.edits if not it.fault}
+        self.checks = 0
+
+    def check(self, edits):
+        """Checks a fresh copy of the crate with these edits."""
+        texts = self.texts
+        for it in edits:
+            texts = it.apply(texts)
+        to = f"{self.room}/crates/{self.name}"
+        shutil.rmtree(to, ignore_errors=True)
+        for part in (*PARTS, "out/incremental"):
+            if os.path.isdir(f"{self.folder}/{part}"):
+                shutil.copytree(f"{self.folder}/{part}", f"{to}/{part}")
+        for file, text in texts.items():
+            if text != self.texts[file]:
+                with open(f"{to}/{file}", "w", encoding="utf-8") as it:
+                    it.write(text)
+        self.checks += 1
+        return Verdicts(rt_check(to, "--jobs", "1").stdout)
+
+    def group(self, left):
+        """Returns edits of different functions, each of which fits beside those before it."""
+        chosen, texts, taken = [], self.texts, set()
+        for edit in left:
+            own = self.functions[edit.name]
+            changed = edit.apply(texts)
+            if own and not own & taken and changed is not None:
+                chosen, texts, taken = [*chosen, edit], changed, taken | own
+        return chosen
+
+    def in_groups(self, left):
+        """Tries edits in groups and returns why each was refused, by name; what none decides is left out."""
+        refused, size = {}, len(left)
+        while True:
+            tried = self.group(left)[:size]
+            if len(tried) < 2:
+                return refused
+            verdicts = self.check(tried)
+            if not verdicts.of:
+                # one of them can't be read: half of them at a time
+                size = len(tried) // 2
+                continue
+            size = len(left)
+            for edit in tried:
+                why = [verdicts.refusal(it, self.name) for it in self.functions[edit.name]]
+                if any(why):
+                    refused[edit.name] = next(it for it in why if it)
+                edit.groups += 1
+            left = [it for it in left if it.name not in refused and it.groups < GROUPS]
+
+    def alone(self, edit):
+        """Tries one edit and returns whether it was refused, and why."""
+        verdicts = self.check([edit])
+        unread = verdicts.unreadable()
+        if unread or not verdicts.is_proved and not verdicts.is_refused:
+            return False, f"BAD EDIT: the prover can't read the edited text: {unread[:160]}"
+        if verdicts.is_proved:
+            return False, "the crate is still proved with it"
+        own = [it for it in (verdicts.refusal(function, self.name) for function in self.functions[edit.name]) if it]
+        goals = own + [text for _, _, text in verdicts.notes] + [text for _, text in verdicts.errors if not LACKS_A_NAME.search(text)]
+        return True, goals[0] if goals else "only since a proof file names what the edit took away"
+
+    def tried(self):
+        """Returns whether each edit was refused, and why, by the edit's name."""
+        given = {it.name: (False, f"BAD EDIT: {it.fault}") for it in self.edits if it.fault}
+        fits = [it for it in self.edits if not it.fault]
+        given.update((name, (True, why)) for name, why in self.in_groups(fits).items())
+        for it in fits:
+            if it.name not in given:
+                given[it.name] = self.alone(it)
+        return given
+
+
+def lists(root):
+    """Returns the crates of crates.txt, each with those that it names."""
+    with open(f"{root}/crates.txt", encoding="utf-8") as it:
+        lines = [line.partition("#")[0].partition(":") for line in it.read().splitlines()]
+    return {name.split()[0]: deps.split() for name, _, deps in lines if name.strip()}
+
+
+def below(name, listed):
+    found = []
+    for it in listed[name]:
+        if it in listed:
+            found += [deeper for deeper in [*below(it, listed), it] if deeper not in found]
+    return found
+
+
+def lay(root, name, listed, room):
+    """Makes a repository of the crate and those below it, with what is built of them."""
+    needed = below(name, listed)
+    with open(f"{room}/crates.txt", "w", encoding="utf-8") as it:
+        it.writelines(f"{crate}: {' '.join(listed[crate])}\n" for crate in [*needed, name])
+    shutil.copy(f"{root}/HANDLES", room)
+    for crate in needed:
+        for part in (*PARTS, "out/rlib"):
+            if os.path.isdir(f"{root}/crates/{crate}/{part}"):
+                shutil.copytree(f"{root}/crates/{crate}/{part}", f"{room}/crates/{crate}/{part}", copy_function=link)
+
+
+def rt_check(folder, *flags):
+    how = {"stdin": subprocess.DEVNULL, "stdout": subprocess.PIPE, "stderr": subprocess.STDOUT, "errors": "replace"}
+    return subprocess.run(["rt", "check", *flags], cwd=folder, **how)
+
+
+def link(source, to):
+    try:
+        os.link(source, to)
+    except OSError:
+        shutil.copy2(source, to)
+
+
+def try_crate(root, name, listed):
+    """Tries a crate's edits, and returns how many were refused and the names of the others."""
+    start = time.monotonic()
+    with tempfile.TemporaryDirectory(prefix="edits-") as room:
+        lay(root, name, listed, room)
+        crate = Crate(root, name, room)
+        given = crate.tried()
+    refused = [it for it, (well, _) in given.items() if well]
+    with PRINTING:
+        for it in sorted(given):
+            print(f"{name}/{it}: {'refused' if given[it][0] else 'NOT REFUSED'}: {given[it][1][:200]}")
+        print(f"{name}: {len(refused)} of {len(given)} refused, in {crate.checks} checks and {time.monotonic() - start:.0f} s", flush=True)
+    return len(refused), [f"{name}/{it}" for it in sorted(given) if not given[it][0]]
+
+
+def main():
+    asked = argparse.ArgumentParser(description=__doc__, formatter_class=argparse.RawDescriptionHelpFormatter)
+    asked.add_argument("--root", default=os.path.dirname(os.path.dirname(os.path.abspath(__file__))))
+    asked.add_argument("--lanes", type=int, default=len(os.sched_getaffinity(0)))
+    asked.add_argument("names", nargs="*")
+    words = asked.parse_args()
+    listed = lists(words.root)
+    unknown = [it for it in words.names if it not in listed]
+    if unknown:
+        sys.exit(f"edits: crates.txt names no crate {unknown[0]}")
+    names = [it for it in listed if os.path.isdir(f"{words.root}/crates/{it}/edits") and (not words.names or it in words.names)]
+    # each crate must be proved as it is, and its check brings out/ up to date, the crates below included
+    for it in names:
+        ran = rt_check(f"{words.root}/crates/{it}")
+        if ran.returncode:
+            sys.exit(f"{ran.stdout}edits: {it} isn't proved as it is")
+    with ThreadPoolExecutor(words.lanes) as pool:
+        tried = list(pool.map(lambda it: try_crate(words.root, it, listed), names))
+    refused, others = sum(it for it, _ in tried), [it for _, names in tried for it in names]
+    for it in others:
+        print(f"not refused: {it}")
+    print(f"{refused} refused, {len(others)} not refused")
+    return 1 if others else 0
+
+
+if __name__ == "__main__":
+    sys.exit(main())

@@ -1,0 +1,167 @@
+"""Prices and the sequential account, by their definitions."""
+import dataclasses
+
+DAY = 864_000
+MAX_MONEY = 10**15
+
+
+@dataclasses.dataclass(frozen=True)
+class Plan:
+    fee: int
+    before: int
+    after: "int | None" = None
+
+
+@dataclasses.dataclass(frozen=True)
+class Times:
+    before: int = 0
+    after: int = 0
+    switched: bool = False
+
+    def total(self):
+        return self.before + self.after
+
+
+def price(plan, before, after):
+    """Nothing for no time, else the fee and both rates, rounded up once."""
+    if before + after == 0:
+        return 0
+    return plan.fee + -(-(before * plan.before + after * (plan.after or 0)) // 600)
+
+
+def lawful(plan, old, new, granted):
+    return (
+        new.before >= old.before
+        and new.after >= old.after
+        and (not old.switched or new.switched and new.before == old.before)
+        and (not new.switched or plan.after is not None)
+        and new.total() <= granted
+    )
+
+
+def ceiling(plan, old, units):
+    """The greatest price over all lawful times: rates only add, so it is at an end of the stretch."""
+    ends = [Times(old.before + units, old.after, old.switched), Times(old.before, old.after + units, True)]
+    return max(price(plan, it.before, it.after) for it in ends if lawful(plan, old, it, old.total() + units))
+
+
+def afford(plan, old, wanted, money):
+    """The most units that the money covers."""
+    least, most = 0, min(wanted, DAY - old.total())
+    while least < most:
+        middle = (least + most + 1) // 2
+        if ceiling(plan, old, middle) <= money:
+            least = middle
+        else:
+            most = middle - 1
+    return least
+
+
+def read_times(old, info):
+    """What a report states: ('n', t) or ('s', since, interval or None); None where it can't be."""
+    if info[0] == "n":
+        return Times(info[1])
+    before = info[2] if info[2] is not None else old.before if old.switched else 0
+    return Times(before, info[1], True) if before + info[1] <= DAY else None
+
+
+@dataclasses.dataclass
+class Call:
+    """What an account knows of a call that was granted something."""
+
+    plan: Plan
+    times: Times = Times()
+    granted: int = 0
+    top: int = 0
+    is_open: bool = True
+    has_forfeit: bool = False
+    was_settled: bool = False
+
+    def paid(self):
+        return self.top if self.has_forfeit else price(self.plan, self.times.before, self.times.after)
+
+    def taken(self):
+        return self.top if self.is_open else self.paid()
+
+
+@dataclasses.dataclass
+class Account:
+    """An account, its entries as (seat, operation, reply), and its calls by number."""
+
+    opening: int
+    limit: int = 1_000_000
+    credits: int = 0
+    entries: list = dataclasses.field(default_factory=list)
+    calls: dict = dataclasses.field(default_factory=dict)
+
+    def available(self):
+        return self.opening + self.credits - sum(it.taken() for it in self.calls.values())
+
+    def fault(self, op):
+        """Why an operation is refused, or None."""
+        kind, call = op[0], self.calls.get(op[1])
+        if kind == "credit" and not 1 <= op[1] <= MAX_MONEY:
+            return "OutOfRange"
+        if kind == "reserve" and (not 1 <= op[3] <= DAY or op[4] > DAY):
+            return "OutOfRange"
+        if kind in ("settle", "return") and not (call and call.is_open):
+            return "NotOpen"
+        if kind == "reserve" and call and not call.is_open:
+            return "CallUsed"
+        owed = sum(1 + (not it.was_settled) for it in self.calls.values() if it.is_open)
+        return "HistoryFull" if len(self.entries) + owed + self.needed(op, call) > self.limit else None
+
+    def needed(self, op, call):
+        """The places that the operation takes of the history, beside those that are kept for closing."""
+        if op[0] == "credit":
+            return 1
+        if op[0] == "reserve":
+            return 1 + call.was_settled if call else 3
+        return int(op[0] == "settle" and call.was_settled)
+
+    def apply(self, seat, op):
+        """Answers an operation and enters it; a fault is a text, and changes nothing."""
+        fault = self.fault(op)
+        if fault:
+            return fault
+        reply = getattr(self, op[0])(*op[1:])
+        reply = (*reply, self.available())
+        self.entries.append((seat, op, reply))
+        return reply
+
+    def credit(self, amount):
+        if self.opening + self.credits + amount > MAX_MONEY:
+            return ("over",)
+        self.credits += amount
+        return ("credited",)
+
+    def reserve(self, number, plan, wanted, least):
+        call = self.calls.get(number)
+        known = call or Call(plan)
+        money = self.available() + (call.taken() if call else 0)
+        units = afford(known.plan, known.times, wanted, money)
+        if units < least or units == 0 or known.has_forfeit:
+            return ("denied",)
+        known.granted = known.times.total() + units
+        known.top = ceiling(known.plan, known.times, units)
+        known.was_settled = False
+        self.calls[number] = known
+        return ("granted", units, units < wanted)
+
+    def settle(self, number, _, info):
+        call = self.calls[number]
+        call.was_settled = True
+        times = read_times(call.times, info)
+        if times is None or call.has_forfeit or not lawful(call.plan, call.times, times, call.granted):
+            call.has_forfeit = True
+            return ("forfeit", call.top)
+        call.times = times
+        return ("settled", call.paid())
+
+    def return_(self, number):
+        call = self.calls[number]
+        call.is_open = False
+        return ("returned", call.paid())
+
+
+setattr(Account, "return", Account.return_)

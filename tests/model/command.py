@@ -1,0 +1,105 @@
+"""The commands: words and an input to a status, an output and a line of fault."""
+import re
+
+from .account import DAY, MAX_MONEY, Account, Plan, price
+from .run import Options, Run
+from .tables import MAX_RATE, Fault, divide, read_ops, read_reports, read_script, read_setup, read_tariff
+
+MAX_INPUT = 16_777_216
+ARGUMENTS = Fault("prepaid: arguments")
+TAKEN = {
+    "price": {"--fee", "--before", "--after"},
+    "replay": {"--opening", "--limit"},
+    "run": {"--workers", "--wanted", "--least", "--tssf", "--tccd", "--delay", "--default", "--book"},
+}
+
+
+def command(words, text, book=None):
+    """Returns status, output, the fault's line, and whether no other output is right as well."""
+    try:
+        if not words or words[0] not in TAKEN:
+            raise ARGUMENTS
+        given = options_in(words[0], words[1:])
+        if words[0] == "run":
+            run = do_run(given, text, book)
+            return 0, run.book() if "--book" in given else run.lines(), "", not run.is_contended
+        return 0, (do_price if words[0] == "price" else do_replay)(given, text), "", True
+    except Fault as fault:
+        return fault.status, "", fault.line + "\n", True
+
+
+def options_in(name, words):
+    given, left = {}, list(words)
+    while left:
+        word = left.pop(0)
+        if word not in TAKEN[name] or word in given or word != "--book" and not left:
+            raise ARGUMENTS
+        given[word] = True if word == "--book" else left.pop(0)
+    return given
+
+
+def number(given, word, default=None, most=None, least=0):
+    """A number of 1 to 20 digits, within a range where one is given."""
+    if word not in given and default is not None:
+        return default
+    if not re.fullmatch("[0-9]{1,20}", given.get(word, "")):
+        raise ARGUMENTS
+    found = int(given[word])
+    if most is not None and not least <= found <= most:
+        raise ARGUMENTS
+    return found
+
+
+def whole(text):
+    if len(text) > MAX_INPUT:
+        raise Fault("prepaid: input: TooLong")
+    return text
+
+
+def do_price(given, text):
+    after = number(given, "--after", most=MAX_RATE) if "--after" in given else None
+    plan = Plan(number(given, "--fee", most=MAX_RATE), number(given, "--before", most=MAX_RATE), after)
+    lines, total = [], 0
+    for times in read_reports(whole(text), plan):
+        now = price(plan, times.before, times.after)
+        lines.append(f"debit {now - total} total {now}\n")
+        total = now
+    return "".join([*lines, f"total {total}\n"])
+
+
+def do_replay(given, text):
+    account = Account(number(given, "--opening", most=MAX_MONEY), number(given, "--limit", 1_000_000, 1_000_000, 3))
+    lines = []
+    for seat, op in read_ops(whole(text)):
+        reply = account.apply(seat, op)
+        lines.append(f"refused {reply}\n" if isinstance(reply, str) else told(reply))
+    return "".join(lines)
+
+
+def told(reply):
+    kind, *rest, available = reply
+    if kind == "granted":
+        kind += f" {rest[0]} {'last' if rest[1] else 'more'}"
+    elif rest:
+        kind += f" paid {rest[0]}"
+    return f"{kind} available {available}\n"
+
+
+def do_run(given, text, book):
+    workers = number(given, "--workers", 2, 99)
+    wanted, least = number(given, "--wanted", 600), number(given, "--least", 50)
+    tssf, tccd, delay = number(given, "--tssf", 100), number(given, "--tccd", 50), number(given, "--delay", 2)
+    if given.get("--default", "release") not in ("release", "proceed"):
+        raise ARGUMENTS
+    if not 1 <= delay <= tccd <= least <= wanted <= DAY or not 1 <= tssf <= DAY:
+        raise Fault("prepaid: input: Config")
+    first, second, third = divide(whole(text))
+    tariff = read_tariff(first)
+    setup = read_setup(second)
+    script = read_script(third, setup[0])
+    if not 1 <= workers <= 16:
+        raise Fault("prepaid: run: Workers", 2)
+    options = Options(workers, wanted, least, tssf, tccd, delay, given.get("--default") != "proceed")
+    run = Run(tariff, setup, options, book)
+    run.play(script)
+    return run

@@ -1,0 +1,220 @@
+"""Words and inputs made at random from a seed: right ones, and ones with faults of every kind."""
+import random
+
+from .account import DAY, MAX_MONEY
+
+# Fields that are wrong in most places, and right at an end of a range in some.
+FIELDS = (
+    "|0|1|-1|+1| 1|1.0|x|00|007|n|s|start|answer|leave|credit|return|account|subscriber|%%|\"5\"|\"|15|16|2|3|864000|864001|1000000000|1000000001"
+    "|1000000000000|1000000000001|1000000000000000|1000000000000001|4294967295|4294967296|18446744073709551615|18446744073709551616"
+    "|99999999999999999999|000000000000000000001|123456789012345|1234567890123456|24:00|23:59|23:60|8:00|00:00"
+).split("|")
+BYTES = b'",\r\n%0a\x00\xff\xef'
+NUMBERS = ["491700001", "491700002", "4930", "44", "123456789012345", "5"]
+PREFIXES = ["", "4", "49", "493", "44", "4930"]
+
+
+def make(seed):
+    """The words and the input of this seed."""
+    it = random.Random(seed)
+    kind = it.choices(["price", "replay", "run"], [2, 3, 9])[0]
+    words, text = {"price": prices, "replay": operations, "run": runs}[kind](it)
+    if it.random() < 0.12:
+        words = other_words(it, words)
+    if it.random() < 0.35:
+        text = broken(it, text)
+    elif it.random() < 0.2:
+        text = in_other_form(it, text)
+    if seed % 500 in (7, 8) and text:
+        # as long as an input may be, and a byte longer
+        text += b"\n" * (16_777_216 + seed % 500 - 7 - len(text))
+    return words, text
+
+
+def table(rows):
+    return "".join(",".join(map(str, it)) + "\n" for it in rows).encode()
+
+
+def rate(it):
+    return it.choice([0, 1, 7, 400, 600, 1000, 2400, it.randrange(5000), 10**9])
+
+
+def prices(it):
+    words = ["price", "--fee", it.choice([0, 50, it.randrange(1000), 10**9]), "--before", rate(it)]
+    has_after = it.random() < 0.7
+    words += ["--after", rate(it)] if has_after else []
+    before = after = 0
+    rows = [("before", "after")]
+    for _ in range(it.randrange(9)):
+        before += it.randrange(700) if not after or it.random() < 0.05 else 0
+        after += it.choice([0, 0, it.randrange(500)]) if has_after or it.random() < 0.05 else 0
+        rows.append((before, after) if it.random() < 0.9 else (it.choice([0, DAY, before]), it.choice([0, 1, after])))
+    return list(map(str, words)), table(rows)
+
+
+def operations(it):
+    opening = it.choice([0, 1500, it.randrange(10_000), MAX_MONEY, MAX_MONEY - it.randrange(2000)])
+    words = ["replay", "--opening", opening] + (["--limit", it.randrange(3, 12)] if it.random() < 0.5 else [])
+    rows = [("seat", "op", "call", "x1", "x2", "x3", "x4", "x5")]
+    plans = [(it.randrange(100), rate(it), it.choice(["", rate(it)])) for _ in range(2)]
+    for _ in range(it.randrange(25)):
+        seat, call = it.choice([0, 1, 15]), it.choice([1, 1, 2, 3, 2**64 - 1])
+        what = it.choice(["credit", "reserve", "reserve", "settle", "settle", "return"])
+        time = it.choice([0, 100, 300, 600, 601, it.randrange(1300), DAY])
+        if what == "credit":
+            rows.append((seat, what, "", it.choice([0, 1, 600, it.randrange(3000), MAX_MONEY]), "", "", "", ""))
+        elif what == "reserve":
+            rows.append((seat, what, call, *it.choice(plans), it.choice([0, 1, 600, it.randrange(700), DAY]), it.choice([0, 1, 50, DAY])))
+        elif what == "settle" and it.random() < 0.5:
+            rows.append((seat, what, call, it.randrange(9), "n", time, "", ""))
+        elif what == "settle":
+            rows.append((seat, what, call, it.randrange(9), "s", time, it.choice(["", 1, 200, it.randrange(1, 700)]), ""))
+        else:
+            rows.append((seat, what, call, "", "", "", "", ""))
+    return list(map(str, words)), table(rows)
+
+
+def runs(it):
+    """A run of small times, so that rows, deliveries and timers often come at one moment."""
+    delay = it.choice([1, 2, 2, 3, 7])
+    tccd = delay + it.choice([0, 0, 1, 3, 10])
+    least = tccd + it.choice([0, 1, 10, 40])
+    wanted = least + it.choice([0, 5, 40, 500])
+    tssf = it.choice([1, delay, delay + 1, 10, 30, 100])
+    workers = it.choice([1, 1, 1, 2, 2, 3, 4, 16])
+    given = {"workers": workers, "wanted": wanted, "least": least, "tssf": tssf, "tccd": tccd, "delay": delay}
+    given["default"] = it.choice(["release", "proceed"])
+    defaults = {"workers": 2, "wanted": 600, "least": 50, "tssf": 100, "tccd": 50, "delay": 2, "default": "release"}
+    if it.random() < 0.25:
+        given = {**defaults, "workers": workers}
+    words = ["run"]
+    for name in it.sample(sorted(given), len(given)):
+        if given[name] != defaults[name] or it.random() < 0.2:
+            words += [f"--{name}", str(given[name])]
+    words += ["--book"] if given["workers"] > 1 and it.random() < 0.8 or it.random() < 0.4 else []
+    first, starts = tariff(it)
+    second, accounts, subscribers = setup(it)
+    third = script(it, given, starts, accounts, subscribers)
+    return words, first + b"%%\n" + second + b"%%\n" + third
+
+
+def tariff(it):
+    rows, starts = [("prefix", "from", "fee", "rate")], [0]
+    for prefix in it.sample(PREFIXES, it.randrange(1, 4)):
+        for start in sorted({0, *(it.randrange(1440) for _ in range(it.choice([0, 0, 1, 2])))}):
+            rows.append((prefix, f"{start // 60:02}:{start % 60:02}", it.choice([0, 50, it.randrange(300)]), rate(it)))
+            starts.append(start * 600)
+    return table(rows), starts
+
+
+def setup(it):
+    rows, accounts, subscribers = [("kind", "key", "value")], [], []
+    for number in it.sample([1, 2, 7, 8, 4294967295], it.randrange(1, 4)):
+        opening = it.choice([0, 300, 1500, it.randrange(5000), it.randrange(50_000), MAX_MONEY - it.randrange(900)])
+        rows.append(("account", number, opening))
+        accounts.append(number)
+    for number in it.sample(NUMBERS, it.randrange(1, 5)):
+        rows.append(("subscriber", number, it.choice(accounts)))
+        subscribers.append(number)
+    return table(rows), accounts, subscribers
+
+
+def script(it, given, starts, accounts, subscribers):
+    """Calls that begin about the start of a band, each with what it meets at moments that matter to its timers."""
+    base = max(0, it.choice([0, 1, 3]) * DAY + it.choice(starts) - it.choice([0, 5, 10, 100, 305]))
+    delay, tccd, tssf, wanted = (given[it] for it in ("delay", "tccd", "tssf", "wanted"))
+    rows, moment, calls = [], base, it.sample([*range(1, 12), 2**64 - 1], it.randrange(1, 9))
+    for call in calls:
+        moment += it.choice([0, 0, 0, 1, delay, 2 * delay, tssf, it.randrange(60)])
+        calling = it.choice(subscribers) if it.random() < 0.9 else it.choice(NUMBERS)
+        rows.append((moment, call, "start", calling, it.choice(NUMBERS)))
+        at = moment + it.choice([0, delay, delay + 1, 2 * delay, tssf, tssf + delay, it.randrange(60)])
+        word = it.choice(["answer"] * 8 + ["busy", "noanswer", "routefail", "abandon", "disconnect"])
+        rows.append((at, call, word, it.choice([1, 2]) if word == "disconnect" else "", ""))
+        for _ in range(it.choice([0, 1, 1, 2])):
+            at += it.choice([0, 1, delay, tccd, wanted, wanted + delay, wanted + tccd, 2 * wanted, it.randrange(1 + 3 * wanted)])
+            word = it.choice(["disconnect"] * 6 + ["answer", "busy", "abandon"])
+            rows.append((at, call, word, it.choice([1, 2]) if word == "disconnect" else "", ""))
+    for _ in range(it.choice([0, 0, 1, 3])):
+        at = it.choice(rows)[0] + it.choice([0, 0, delay, it.randrange(1 + wanted)])
+        rows.append((at, "", "recharge", it.choice(accounts), it.choice([0, 1, 600, it.randrange(3000), MAX_MONEY])))
+    # a start stays before what its call meets: sorting keeps the order of one moment
+    rows = [row for _, row in sorted(enumerate(rows), key=lambda row: (row[1][0], row[0]))]
+    return table([("moment", "call", "what", "x", "y"), *rows])
+
+
+def other_words(it, words):
+    """Words with another value of an option, an option too many, or one too few."""
+    words = list(words)
+    options = [at for at, word in enumerate(words) if word.startswith("--") and word != "--book"]
+    what = it.choice(["value", "value", "value", "value", "twice", "less", "unknown", "none", "more"])
+    if what == "value" and words[0] == "run" and it.random() < 0.7:
+        name = it.choice(["workers", "wanted", "least", "tssf", "tccd", "delay", "default"])
+        if f"--{name}" in words:
+            at = words.index(f"--{name}")
+            del words[at : at + 2]
+        return [*words, f"--{name}", it.choice(["0", "1", "2", "17", "49", "51", "99", "100", "600", "601", "864000", "864001", *FIELDS])]
+    if what == "value" and options:
+        words[it.choice(options) + 1] = it.choice(["0", "2", "3", "1000000", "1000001", *FIELDS])
+    elif what == "twice" and options:
+        at = it.choice(options)
+        words += words[at : at + 2]
+    elif what == "less":
+        del words[it.randrange(len(words))]
+    elif what == "unknown":
+        words += [it.choice(["--until", "-x", "now"]), "1"]
+    elif what == "none":
+        words = []
+    elif what == "more":
+        words += ["--book"]
+    return words
+
+
+def broken(it, text):
+    """The text with up to three changes, most of which are faults."""
+    for _ in range(it.choice([1, 1, 2, 3])):
+        lines = text.split(b"\n")
+        at = it.randrange(len(lines))
+        fields = lines[at].split(b",")
+        place = it.randrange(len(fields))
+        what = it.randrange(12)
+        if what < 5:
+            fields[place] = it.choice(FIELDS).encode()
+            lines[at] = b",".join(fields)
+        elif what == 5:
+            lines[at] = b",".join(fields[:-1] if it.random() < 0.5 else [*fields, b""])
+        elif what == 6:
+            del lines[at]
+        elif what == 7:
+            lines.insert(it.randrange(len(lines)), lines[at])
+        elif what == 8:
+            other = it.randrange(len(lines))
+            lines[at], lines[other] = lines[other], lines[at]
+        elif what == 9 and it.random() < 0.1 and len(lines) > 2:
+            lines[at:at] = [lines[at]] * 10_001
+        text = b"\n".join(lines)
+        if what == 10 and text:
+            at = it.randrange(len(text))
+            text = text[:at] + bytes([it.choice(BYTES)]) + text[at + it.randrange(2) :]
+        elif what == 11:
+            text = text[: it.randrange(len(text) + 1)]
+    return text
+
+
+def in_other_form(it, text):
+    """The same tables in other words: quotes, line ends, empty lines, zeros, a byte order mark."""
+    lines = text.split(b"\n")
+    what = it.randrange(5)
+    if what == 0:
+        return b"\r\n".join(lines)
+    if what == 1:
+        at = it.randrange(len(lines))
+        lines[at] = b",".join(b'"' + it + b'"' if it else it for it in lines[at].split(b",")) if lines[at] != b"%%" else lines[at]
+    elif what == 2:
+        lines.insert(it.randrange(len(lines)), b"")
+    elif what == 3:
+        at = it.randrange(len(lines))
+        lines[at] = b",".join(b"00" + it if it.isdigit() and len(it) < 9 else it for it in lines[at].split(b","))
+    else:
+        return b"\xef\xbb\xbf" + text
+    return b"\n".join(lines)

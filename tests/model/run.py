@@ -1,0 +1,198 @@
+"""A run: the play of a script over accounts, round by round."""
+import dataclasses
+
+from .account import Account
+from .service import is_stray, talk
+from .switch import Refused, Switch
+from .tables import Fault, route
+
+HEADER = "account,seat,op,call,x1,x2,x3,x4,x5,reply,y1,y2,y3"
+
+
+@dataclasses.dataclass
+class Options:
+    workers: int = 2
+    wanted: int = 600
+    least: int = 50
+    tssf: int = 100
+    tccd: int = 50
+    delay: int = 2
+    releases: bool = True
+
+
+def shown(it):
+    return "" if it is None else str(it)
+
+
+def op_fields(op):
+    """The fields op to x5 of a row of a book."""
+    kind = op[0]
+    if kind == "credit":
+        x = ["", op[1]]
+    elif kind == "reserve":
+        x = [op[1], op[2].fee, op[2].before, op[2].after, op[3], op[4]]
+    elif kind == "settle":
+        x = [op[1], op[2], *op[3]]
+    else:
+        x = [op[1]]
+    return ",".join([kind, *map(shown, x + [None] * (6 - len(x)))])
+
+
+def reply_fields(reply):
+    """The fields reply to y3."""
+    kind, *y, available = reply
+    if kind == "granted":
+        y = [y[0], "last" if y[1] else "more"]
+    return ",".join([kind, *map(shown, [*y, None, None][:2]), str(available)])
+
+
+class Run:
+    """Accounts, dialogues and switches. With the text of a book, the operations of a round are taken in its order."""
+
+    def __init__(self, tariff, setup, options, book=None):
+        accounts, self.subscribers = setup
+        self.tariff, self.options = tariff, options
+        self.accounts = {it: Account(accounts[it]) for it in sorted(accounts)}
+        self.switches, self.talks, self.deliveries, self.number = {}, {}, [], 0
+        # whether workers met at an account in one round, so that the order of their operations is open
+        self.is_contended, self.met = False, {}
+        self.orders = None if book is None else {it: [] for it in accounts}
+        for line in book.splitlines()[1:] if book else []:
+            account, seat, *fields = line.split(",")
+            if fields and fields[0] != "opening" and account.isdigit() and int(account) in self.orders:
+                self.orders[int(account)].append((seat, ",".join(fields[:7])))
+
+    def play(self, script):
+        rows = list(script)
+        while True:
+            dues = [it.next_due() for it in self.switches.values()]
+            moments = [rows[0][0]] if rows else []
+            moments += [self.deliveries[0][0]] if self.deliveries else []
+            moments += [it for it in dues if it is not None]
+            if not moments:
+                return
+            self.round(min(moments), rows)
+
+    def round(self, now, rows):
+        posts = []
+        while self.deliveries and self.deliveries[0][0] == now:
+            _, call, op = self.deliveries.pop(0)
+            self.give(call, posts, lambda switch: switch.operation(now, op))
+        while rows and rows[0][0] == now:
+            _, call, word, *rest = rows.pop(0)
+            if word == "start":
+                self.switches[call] = Switch(self.options.tssf, self.options.tccd, self.options.releases, [])
+                self.give(call, posts, lambda switch: switch.trigger(now, *rest))
+            elif word == "recharge":
+                posts.append((None, ("recharge", *rest)))
+            else:
+                point = f"disconnect {rest[0]}" if word == "disconnect" else word
+                self.give(call, posts, lambda switch: switch.event(now, point))
+        for call in sorted(self.switches):
+            self.give(call, posts, lambda switch: switch.run_timers(now))
+        answers = self.answered(now, posts)
+        for (call, _), (_, ops) in zip(posts, sorted(answers.items())):
+            self.deliveries += [(now + self.options.delay, call, op) for op in ops]
+
+    def give(self, call, posts, do):
+        """Gives a call's switch an input, and puts what it sends to the posts."""
+        switch = self.switches[call]
+        try:
+            do(switch)
+        except Refused:
+            pass
+        posts += [(call, it) for it in switch.sent]
+        switch.sent.clear()
+
+    def answered(self, now, posts):
+        """The operations that answer each post, by its number. Each worker goes through its posts in order."""
+        answers, queues, self.met = {}, {}, {}
+        for call, message in posts:
+            owner = message[1] if call is None else call
+            queues.setdefault(owner % self.options.workers, []).append((self.number, call, message))
+            self.number += 1
+        if self.orders is None:
+            in_turn = sorted((number, seat, call, message) for seat, queue in queues.items() for number, call, message in queue)
+            for number, seat, call, message in in_turn:
+                self.take_turns(now, [(seat, self.work(now, [(number, call, message)], answers))])
+        else:
+            self.take_turns(now, [(seat, self.work(now, queue, answers)) for seat, queue in sorted(queues.items())])
+        return answers
+
+    def take_turns(self, now, workers):
+        """Answers what workers ask, each as soon as it's the next entry of its account's book."""
+        asks = [next(it, None) for _, it in workers]
+        while any(asks):
+            before = list(asks)
+            for at, (seat, worker) in enumerate(workers):
+                while asks[at] and self.is_next(seat, *asks[at]):
+                    reply = self.accounts[asks[at][0]].apply(seat, asks[at][1])
+                    asks[at] = send(worker, ("refused",) if isinstance(reply, str) else reply)
+            if asks == before:
+                raise Fault(f"model: at {now} no order of these is the book's: {[it for it in asks if it]}", 9)
+
+    def is_next(self, seat, account, op):
+        if self.orders is None and self.met.setdefault(account, seat) != seat:
+            self.is_contended = True
+        if self.orders is None or self.accounts[account].fault(op):
+            return True
+        order = self.orders[account]
+        if not order or order[0] != (str(seat), op_fields(op)):
+            return False
+        order.pop(0)
+        return True
+
+    def work(self, now, queue, answers):
+        """What a worker asks, (account, operation) after the other, as it goes through its posts."""
+        for number, call, message in queue:
+            if call is None:
+                yield message[1], ("credit", message[2])
+                answers[number] = []
+            else:
+                answers[number] = yield from self.handle(now, number, call, message)
+
+    def handle(self, now, number, call, message):
+        if call not in self.talks:
+            if message[0] != "initial dp":
+                return []
+            if message[1] not in self.subscribers:
+                return [("release", 21)]
+            found = route(self.tariff, message[2], now)
+            dialogue = talk(call, now, found, self.options.wanted, self.options.least)
+            account, given = self.subscribers[message[1]], None
+        else:
+            dialogue, account, state = self.talks[call]
+            if is_stray(state, message):
+                return []
+            given = number, message
+        turn = send(dialogue, given)
+        while turn and turn[0] == "ask":
+            turn = send(dialogue, (yield account, turn[1]))
+        if turn is None:
+            del self.talks[call]
+            return []
+        self.talks[call] = dialogue, account, turn[0]
+        return turn[1]
+
+    def lines(self):
+        rows = [f"account {number} opening {it.opening} available {it.available()} entries {len(it.entries)}" for number, it in self.accounts.items()]
+        calls = [(call, number, it) for number, account in self.accounts.items() for call, it in account.calls.items()]
+        for call, number, it in sorted(calls, key=lambda row: row[:2]):
+            word = "forfeit" if it.has_forfeit else "holding" if it.is_open else "returned"
+            rows.append(f"call {call} account {number} paid {it.paid()} {word}")
+        return "".join(f"{it}\n" for it in rows)
+
+    def book(self):
+        rows = [HEADER]
+        for number, account in self.accounts.items():
+            rows.append(f"{number},,opening,,{account.opening}" + "," * 8)
+            rows += [f"{number},{seat},{op_fields(op)},{reply_fields(reply)}" for seat, op, reply in account.entries]
+        return "".join(f"{it}\n" for it in rows)
+
+
+def send(generator, given):
+    """What a generator gives next, or None where it ends."""
+    try:
+        return generator.send(given)
+    except StopIteration:
+        return None

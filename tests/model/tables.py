@@ -1,0 +1,218 @@
+"""Tables as bytes: records, fields, the rows of each table, and their faults."""
+import re
+
+from .account import DAY, MAX_MONEY, Plan, Times, lawful
+
+MAX_RATE = 10**9
+LAST_MOMENT = 10**12
+OPS = ["seat", "op", "call", "x1", "x2", "x3", "x4", "x5"]
+
+
+class Fault(Exception):
+    """A fault's line and the status that goes with it."""
+
+    def __init__(self, line, status=1):
+        super().__init__(line)
+        self.line, self.status = line, status
+
+
+def records(text):
+    """The records of a text: fields may be quoted, and a row ends with LF, CR or CR LF."""
+    text = text.removeprefix(b"\xef\xbb\xbf")
+    found, fields, field, state, at = [], [], bytearray(), "start", 0
+    while True:
+        if state == "start":
+            at, state = re.compile(rb"[\r\n]*").match(text, at).end(), "field"
+            if at == len(text):
+                return found
+        if at == len(text):
+            return [*found, [*fields, bytes(field)]]
+        byte, at = text[at], at + 1
+        ends = byte in b"\r\n"
+        if state == "quoted":
+            if byte == ord('"'):
+                state = "quote in quoted"
+            else:
+                field.append(byte)
+        elif state == "quote in quoted" and byte == ord('"'):
+            field.append(byte)
+            state = "quoted"
+        elif byte == ord(",") or ends:
+            fields.append(bytes(field))
+            field, state = bytearray(), "field"
+            if ends:
+                found.append(fields)
+                fields, state = [], "start"
+        elif state == "field" and byte == ord('"'):
+            state = "quoted"
+        else:
+            field.append(byte)
+            state = "inside"
+
+
+def decimal(field, most, least=0):
+    """A decimal of 1 to 20 digits within its range, or None."""
+    if not re.fullmatch(rb"[0-9]{1,20}", field):
+        return None
+    return int(field) if least <= int(field) <= most else None
+
+
+def digits(field):
+    return field.decode() if re.fullmatch(rb"[0-9]{1,15}", field) else None
+
+
+def rows_of(part, text, header, most):
+    """Gives (row, fields, fail) of each row after the header, `fail` raising the first of its kinds that holds."""
+    found = records(text)
+    if not found or found[0] != [it.encode() for it in header]:
+        raise Fault(f"prepaid: {part} row 1: Header")
+    for row, fields in enumerate(found[1:], 2):
+
+        def fail(*kinds, row=row):
+            for kind, holds in kinds:
+                if holds:
+                    raise Fault(f"prepaid: {part} row {row}: {kind}")
+
+        fail(("Csv", len(fields) != len(header)), ("TooManyRows", row > most + 1))
+        yield row, fields, fail
+
+
+def read_reports(text, plan):
+    """The times of each row, each lawful after the one before with a day granted."""
+    read, last = [], Times()
+    for _, fields, fail in rows_of("reports", text, ["before", "after"], 10_000):
+        before, after = (decimal(it, DAY) for it in fields)
+        fail(("Number", before is None or after is None))
+        times = Times(before, after, after > 0)
+        fail(("Order", not lawful(plan, last, times, DAY)))
+        read.append(times)
+        last = times
+    return read
+
+
+def read_ops(text):
+    """The seat and the operation of each row."""
+    read = []
+    for _, fields, fail in rows_of("ops", text, OPS, 10_000):
+        seat, op, call, *x = fields
+        word = op.decode("latin-1")
+        used = {"credit": 1, "reserve": 5, "settle": 4 if x[1] == b"s" else 3, "return": 0}.get(word)
+        fail(("What", used is None or word == "settle" and x[1] not in (b"n", b"s")))
+        numbers = [decimal(seat, 15)]
+        if word != "credit":
+            numbers.append(decimal(call, 2**64 - 1))
+        if word == "credit":
+            numbers.append(decimal(x[0], MAX_MONEY))
+        elif word == "reserve":
+            second = None if x[2] == b"" else decimal(x[2], MAX_RATE)
+            numbers += [decimal(x[0], MAX_RATE), decimal(x[1], MAX_RATE), 0 if x[2] == b"" else second]
+            numbers += [decimal(x[3], DAY), decimal(x[4], DAY)]
+        elif word == "settle":
+            interval = None if x[3] == b"" else decimal(x[3], DAY, 1)
+            numbers += [decimal(x[0], 2**64 - 1), decimal(x[2], DAY)]
+            numbers.append(0 if x[1] == b"n" or x[3] == b"" else interval)
+        empty = [*([call] if word == "credit" else []), *x[used:]]
+        fail(("Number", None in numbers), ("Empty", any(empty)))
+        if word == "credit":
+            asked = ("credit", numbers[1])
+        elif word == "reserve":
+            asked = ("reserve", numbers[1], Plan(numbers[2], numbers[3], second), numbers[5], numbers[6])
+        elif word == "settle":
+            info = ("n", numbers[3]) if x[1] == b"n" else ("s", numbers[3], interval)
+            asked = ("settle", numbers[1], numbers[2], info)
+        else:
+            asked = ("return", numbers[1])
+        read.append((numbers[0], asked))
+    return read
+
+
+def read_tariff(text):
+    """The bands of each prefix: start, fee, rate, in units of 100 ms and by rising start."""
+    bands, first = {}, {}
+    for row, (prefix, start, fee, rate), fail in rows_of("tariff", text, ["prefix", "from", "fee", "rate"], 10_000):
+        at = re.fullmatch(rb"([01][0-9]|2[0-3]):([0-5][0-9])", start)
+        money = decimal(fee, MAX_RATE), decimal(rate, MAX_RATE)
+        fail(("Digits", not re.fullmatch(rb"[0-9]{0,15}", prefix)), ("From", not at), ("Money", None in money))
+        moment = (int(at[1]) * 60 + int(at[2])) * 600
+        of_prefix = bands.setdefault(prefix.decode(), {})
+        fail(("Repeated", moment in of_prefix))
+        first.setdefault(prefix.decode(), row)
+        of_prefix[moment] = money
+    for prefix, row in first.items():
+        if 0 not in bands[prefix]:
+            raise Fault(f"prepaid: tariff row {row}: NoMidnightBand")
+    return {prefix: sorted((start, *money) for start, money in it.items()) for prefix, it in bands.items()}
+
+
+def route(tariff, called, now):
+    """The plan and the moment of the switch, or None: the longest prefix, its band now, the next one's rate."""
+    prefix = max((it for it in tariff if called.startswith(it)), key=len, default=None)
+    if prefix is None:
+        return None
+    bands, time = tariff[prefix], now % DAY
+    at = max(i for i, band in enumerate(bands) if band[0] <= time)
+    _, fee, rate = bands[at]
+    if len(bands) == 1:
+        return Plan(fee, rate), None
+    start, _, second = bands[(at + 1) % len(bands)]
+    return Plan(fee, rate, second), now + ((start - time) % DAY or DAY)
+
+
+def read_setup(text):
+    """The opening of each account, and the account of each subscriber."""
+    accounts, subscribers = {}, {}
+    for _, (kind, key, value), fail in rows_of("setup", text, ["kind", "key", "value"], 10_000):
+        fail(("TooManyRows", kind == b"account" and len(accounts) == 1000), ("What", kind not in (b"account", b"subscriber")))
+        if kind == b"account":
+            number, opening = decimal(key, 2**32 - 1), decimal(value, MAX_MONEY)
+            fail(("Number", number is None or opening is None), ("Repeated", number in accounts))
+            accounts[number] = opening
+        else:
+            number, account = digits(key), decimal(value, 2**32 - 1)
+            fail(("Number", number is None or account is None))
+            fail(("Repeated", number in subscribers), ("Unknown", account not in accounts))
+            subscribers[number] = account
+    return accounts, subscribers
+
+
+WORDS = ("start", "answer", "busy", "noanswer", "routefail", "abandon", "disconnect", "recharge")
+
+
+def read_script(text, accounts):
+    """What happens: (moment, call, word, x, y) of each row."""
+    read, started, last = [], set(), 0
+    for _, (moment, call, what, x, y), fail in rows_of("script", text, ["moment", "call", "what", "x", "y"], 1_000_000):
+        word = what.decode("latin-1")
+        fail(("What", word not in WORDS))
+        numbers, empty = [decimal(moment, LAST_MOMENT)], []
+        numbers += [] if word == "recharge" else [decimal(call, 2**64 - 1)]
+        empty += [call] if word == "recharge" else []
+        if word == "start":
+            numbers += [digits(x), digits(y)]
+        elif word == "recharge":
+            numbers += [decimal(x, 2**32 - 1), decimal(y, MAX_MONEY)]
+        elif word == "disconnect":
+            numbers.append(decimal(x, 2, 1))
+            empty.append(y)
+        else:
+            empty += [x, y]
+        fail(("Number", None in numbers), ("Empty", any(empty)))
+        fail(("Repeated", word == "start" and numbers[1] in started))
+        fail(("Unknown", numbers[1] not in (accounts if word == "recharge" else started | {numbers[1]} if word == "start" else started)))
+        fail(("Order", numbers[0] < last))
+        last = numbers[0]
+        if word == "start":
+            started.add(numbers[1])
+        read.append((last, None, word, *numbers[1:]) if word == "recharge" else (last, numbers[1], word, *numbers[2:]))
+    return read
+
+
+def divide(text):
+    """The three parts of the input of a run."""
+    lines = text.split(b"\n")
+    ends = [i for i, line in enumerate(lines) if line == b"%%" or line == b"%%\r" and i + 1 < len(lines)]
+    if len(ends) != 2:
+        raise Fault("prepaid: input: Parts")
+    first, second = ends
+    parts = lines[:first], lines[first + 1 : second], lines[second + 1 :]
+    return [b"\n".join(it) for it in parts]
