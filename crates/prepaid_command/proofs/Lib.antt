@@ -1,5 +1,3 @@
-pub mod ArgumentLemmas
-pub mod CappedLemmas
 pub mod InputLemmas
 pub mod Known
 pub mod LineLemmas

@@ -1,129 +1,21 @@
--- From what clap says of the words to what they ask for.
-use Rattle.std.proofs.Common.{◌≡◌, ℕ, true, List, [], Option, Result, Ok, Err, refl, ap, sym, ◌∙◌, subst, inl, inr}
-use Rattle.std.specs.Prelude.{◌⊎◌, IsErrAnd}
+-- Where the words are refused, so is the input.
+use Rattle.std.proofs.Common.{◌≡◌, ℕ, List, Result, Ok, Err, sym, subst}
+use Rattle.std.specs.Prelude.{IsErrAnd}
 use Rattle.std.specs.Result.{result_map_both}
-use Rattle.clap.proofs.OnLiterals.{clap_on_literals}
-use Rattle.clap.specs.Words.{App, HasMatchesOf, IsAmong, Row, Text, fault_of, is_simple, is_simple_and_free, subcommand_rows_of}
-use Rattle.clap.specs.declared.error.kind.ErrorKind.{ErrorKind}
-use Rattle.clap.specs.declared.error.kind.ErrorKind.TheVariants as kind
-use Rattle.clap.specs.declared.parser.matches.ArgMatches.{ArgMatches}
-use Rattle.runs_core.specs.declared.run_fault.RunFault.TheVariants as run
+use Rattle.command_words.specs.Arguments.{IsRead}
+use Rattle.command_words.specs.declared.fault.WordsFault.{WordsFault}
+use Rattle.command_words.specs.declared.fault.WordsFault.TheVariants as words_fault
 use Rattle.prepaid_command.specs.Answers.{IsAnswer}
-use Rattle.prepaid_command.specs.Arguments.{IsRead, IsRefusal, IsRequestOf, wish_in}
-use Rattle.prepaid_command.specs.CommandLine.{command_in, errors_in, price_app, program_app, replay_app, run_app}
-use Rattle.prepaid_command.specs.declared.request.Request.{Request}
-use Rattle.prepaid_command.specs.declared.request.Request.TheVariants as request
+use Rattle.prepaid_command.specs.Faults.{of_words}
 use Rattle.prepaid_command.specs.declared.fault.Fault.{Fault}
-use Rattle.prepaid_command.specs.declared.fault.Fault.TheVariants as fault
 
--- the program's command line is one of which clap says the matches and the errors
-pub program_is_simple : is_simple program_app ≡ true
-unfolding clap_on_literals program_app price_app replay_app run_app
-program_is_simple = refl
-
-pub program_is_free : is_simple_and_free program_app ≡ true
-unfolding clap_on_literals program_app price_app replay_app run_app
-program_is_free = refl
-
--- words that clap refuses ask for help or for nothing
-refused_by : (words : List Text) (error : ErrorKind) (read : Result Request Fault) → IsAmong error (errors_in words) → IsRefusal error read → IsRead words read
-refused_by words error (Ok (request.Help text)) among is = rw is at among
-refused_by words error (Ok (request.Price plan)) among is = absurd is
-refused_by words error (Ok (request.Replay account)) among is = absurd is
-refused_by words error (Ok (request.Run options)) among is = absurd is
-refused_by words error (Err fault.Arguments) among is = inl (error, among, is.0)
-refused_by words error (Err (fault.Run run.OutOfMemory)) among is = tt
-refused_by words error (Err fault.Config) among is = absurd is
-refused_by words error (Err fault.TooLong) among is = absurd is
-refused_by words error (Err fault.Parts) among is = absurd is
-refused_by words error (Err (fault.Tariff row)) among is = absurd is
-refused_by words error (Err (fault.Table part row)) among is = absurd is
-refused_by words error (Err fault.Device) among is = absurd is
-refused_by words error (Err (fault.Run run.Workers)) among is = absurd is
-refused_by words error (Err (fault.Run run.GateClosed)) among is = absurd is
-refused_by words error (Err (fault.Run run.Mismatch)) among is = absurd is
-refused_by words error (Err (fault.Run run.Channel)) among is = absurd is
-refused_by words error (Err (fault.Run run.Thread)) among is = absurd is
-
-refused_for_memory : (words : List Text) (error : ErrorKind) (read : Result Request Fault) → error ≡ kind.OutOfMemory → IsRefusal error read → IsRead words read
-refused_for_memory words error (Ok (request.Help text)) memory is = let no : kind.OutOfMemory ≡ kind.DisplayHelp = sym memory ∙ is in cc
-refused_for_memory words error (Ok (request.Price plan)) memory is = absurd is
-refused_for_memory words error (Ok (request.Replay account)) memory is = absurd is
-refused_for_memory words error (Ok (request.Run options)) memory is = absurd is
-refused_for_memory words error (Err fault.Arguments) memory is = absurd (is.1 memory)
-refused_for_memory words error (Err (fault.Run run.OutOfMemory)) memory is = tt
-refused_for_memory words error (Err fault.Config) memory is = absurd is
-refused_for_memory words error (Err fault.TooLong) memory is = absurd is
-refused_for_memory words error (Err fault.Parts) memory is = absurd is
-refused_for_memory words error (Err (fault.Tariff row)) memory is = absurd is
-refused_for_memory words error (Err (fault.Table part row)) memory is = absurd is
-refused_for_memory words error (Err fault.Device) memory is = absurd is
-refused_for_memory words error (Err (fault.Run run.Workers)) memory is = absurd is
-refused_for_memory words error (Err (fault.Run run.GateClosed)) memory is = absurd is
-refused_for_memory words error (Err (fault.Run run.Mismatch)) memory is = absurd is
-refused_for_memory words error (Err (fault.Run run.Channel)) memory is = absurd is
-refused_for_memory words error (Err (fault.Run run.Thread)) memory is = absurd is
-
--- `app` is the program's command line, of which clap says its errors and its matches
-pub refusal_read : (app : App) (words : List Text) (error : ErrorKind) (read : Result Request Fault) → app ≡ program_app
-    → (is_simple_and_free app ≡ true → (error ≡ kind.OutOfMemory) ⊎ IsAmong error (fault_of app words)) → IsRefusal error read → IsRead words read
-unfolding errors_in
-refusal_read app words error read app_is kinds is =
-    let Kinds : App → Type 0 = λ a. is_simple_and_free a ≡ true → (error ≡ kind.OutOfMemory) ⊎ IsAmong error (fault_of a words) in
-    by_kind (subst Kinds app_is kinds program_is_free)
-  where
-    by_kind : (error ≡ kind.OutOfMemory) ⊎ IsAmong error (errors_in words) → IsRead words read
-    by_kind (inl memory) = refused_for_memory words error read memory is
-    by_kind (inr among) = refused_by words error read among is
-
--- words that clap takes ask for what their command says, if its options say it
-asked_by : (words : List Text) (command : Option (Text × List Row)) (asked : Result Request Fault) → errors_in words ≡ [] → command ≡ command_in words
-    → IsRequestOf (wish_in command) asked → IsRead words asked
-asked_by words command (Ok (request.Help text)) parsed command_is is = absurd is
-asked_by words command (Ok (request.Price plan)) parsed command_is is = record { parsed = parsed; wish_is = sym (ap wish_in command_is) ∙ is }
-asked_by words command (Ok (request.Replay account)) parsed command_is is = record { parsed = parsed; wish_is = sym (ap wish_in command_is) ∙ is }
-asked_by words command (Ok (request.Run options)) parsed command_is is = record { parsed = parsed; wish_is = sym (ap wish_in command_is) ∙ is }
-asked_by words command (Err fault.Arguments) parsed command_is is = inr (record { parsed = parsed; refused = sym (ap wish_in command_is) ∙ is })
-asked_by words command (Err (fault.Run run.OutOfMemory)) parsed command_is is = absurd is
-asked_by words command (Err fault.Config) parsed command_is is = record { parsed = parsed; refused = sym (ap wish_in command_is) ∙ is }
-asked_by words command (Err fault.TooLong) parsed command_is is = absurd is
-asked_by words command (Err fault.Parts) parsed command_is is = absurd is
-asked_by words command (Err (fault.Tariff row)) parsed command_is is = absurd is
-asked_by words command (Err (fault.Table part row)) parsed command_is is = absurd is
-asked_by words command (Err fault.Device) parsed command_is is = absurd is
-asked_by words command (Err (fault.Run run.Workers)) parsed command_is is = absurd is
-asked_by words command (Err (fault.Run run.GateClosed)) parsed command_is is = absurd is
-asked_by words command (Err (fault.Run run.Mismatch)) parsed command_is is = absurd is
-asked_by words command (Err (fault.Run run.Channel)) parsed command_is is = absurd is
-asked_by words command (Err (fault.Run run.Thread)) parsed command_is is = absurd is
-
-pub asked_read : (app : App) (words : List Text) (matches : ArgMatches) (asked : Result Request Fault) → app ≡ program_app
-    → (is_simple_and_free app ≡ true → fault_of app words ≡ []) → HasMatchesOf app words matches
-    → IsRequestOf (wish_in (subcommand_rows_of matches)) asked → IsRead words asked
-unfolding errors_in command_in
-asked_read app words matches asked app_is kinds has is =
-    let Kinds : App → Type 0 = λ a. is_simple_and_free a ≡ true → fault_of a words ≡ [] in
-    let Has : App → Type 0 = λ a. HasMatchesOf a words matches in
-    asked_by words (subcommand_rows_of matches) asked (subst Kinds app_is kinds program_is_free) (subst Has app_is has program_is_simple).1 is
-
--- where the words are refused, so is the input
-pub refused_words : (words : List Text) (input : List ℕ) (why : Fault) → IsRead words (Err why) → IsAnswer words input (Err why)
-refused_words words input fault.Arguments is = is
-refused_words words input fault.Config is = is
-refused_words words input fault.Device is = absurd is
-refused_words words input (fault.Run run.OutOfMemory) is = tt
-refused_words words input fault.TooLong is = absurd is
-refused_words words input fault.Parts is = absurd is
-refused_words words input (fault.Tariff row) is = absurd is
-refused_words words input (fault.Table part row) is = absurd is
-refused_words words input (fault.Run run.Workers) is = absurd is
-refused_words words input (fault.Run run.GateClosed) is = absurd is
-refused_words words input (fault.Run run.Mismatch) is = absurd is
-refused_words words input (fault.Run run.Channel) is = absurd is
-refused_words words input (fault.Run run.Thread) is = absurd is
+refused_words : (words : List (List ℕ)) (input : List ℕ) (why : WordsFault) → IsRead words (Err why) → IsAnswer words input (Err (of_words why))
+refused_words words input words_fault.Arguments is = is
+refused_words words input words_fault.Config is = is
+refused_words words input words_fault.OutOfMemory is = tt
 
 -- the same of an answer that passes a fault of the words on
-pub refused_answer : {A : Type 0} (view : A → List ℕ) (words : List Text) (input : List ℕ) (why : Fault) (answer : Result A Fault)
-    → IsErrAnd answer (λ fault. fault ≡ why) → IsRead words (Err why) → IsAnswer words input (result_map_both view (λ fault. fault) answer)
+pub refused_answer : {A : Type 0} (view : A → List ℕ) (words : List (List ℕ)) (input : List ℕ) (why : WordsFault) (answer : Result A Fault)
+    → IsErrAnd answer (λ fault. fault ≡ of_words why) → IsRead words (Err why) → IsAnswer words input (result_map_both view (λ fault. fault) answer)
 refused_answer view words input why (Ok x) is read = absurd is
-refused_answer view words input why (Err other) is read = refused_words words input other (subst (λ (w : Fault). IsRead words (Err w)) (sym is) read)
+refused_answer view words input why (Err other) is read = subst (λ (w : Fault). IsAnswer words input (Err w)) (sym is) (refused_words words input why read)

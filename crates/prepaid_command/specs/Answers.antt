@@ -2,21 +2,21 @@
 use Rattle.std.specs.Prelude.{◌≡◌, ◌⊎◌, ℕ, List, MatchResult, Option, Result, Ok, Err, ⊤}
 use Rattle.std.specs.Io.KnownBytes.{Appends, Keeps}
 use Rattle.std.specs.Result.{result_map_both}
-use Rattle.clap.specs.Words.{Text}
+use Rattle.command_words.specs.Arguments.{AsksFor, AsksHelp, AsksInVain, AsksNothing}
+use Rattle.command_words.specs.Wishes.{Wish, Prices, Replays, Runs}
+use Rattle.command_words.specs.declared.fault.WordsFault.TheVariants as words_fault
 use Rattle.run_command.specs.Answers.{IsRunAnswer}
-use Rattle.run_command.specs.declared.ask.RunAsk.{RunAsk}
 use Rattle.run_command.specs.declared.error.RunError.{RunError}
+use Rattle.run_options.specs.declared.ask.RunAsk.{RunAsk}
 use Rattle.runs_core.specs.declared.run_fault.RunFault.TheVariants as run
 use Rattle.table_core.specs.Judging.{after}
 use Rattle.table_core.specs.Rows.{rows_of}
 use Rattle.tariff_core.specs.Rates.{Rates}
-use Rattle.prepaid_command.specs.Arguments.{AsksFor, AsksHelp, AsksInVain, AsksNothing}
 use Rattle.prepaid_command.specs.Faults.{meaning_in, of_run, status_of}
 use Rattle.prepaid_command.specs.Input.{sized}
 use Rattle.prepaid_command.specs.PriceLines.{price_lines}
 use Rattle.prepaid_command.specs.Replays.{replayed}
 use Rattle.prepaid_command.specs.Reports.{reports_of}
-use Rattle.prepaid_command.specs.Wishes.{Wish, Prices, Replays, Runs}
 use Rattle.prepaid_command.specs.declared.fault.Fault.{Fault}
 use Rattle.prepaid_command.specs.declared.fault.Fault.TheVariants as fault
 use Rattle.prepaid_command.specs.declared.fault.Part.TheVariants as part
@@ -47,16 +47,16 @@ IsAnswerTo (Replays opening limit) input answer = replay_of_input opening limit 
 IsAnswerTo (Runs ask) input answer = IsRunOfInput ask input answer
 
 -- the words ask for what has this answer
-pub record IsAnswered (words : List Text) (input : List ℕ) (answer : Result (List ℕ) Fault) : Type 0 where
+pub record IsAnswered (words : List (List ℕ)) (input : List ℕ) (answer : Result (List ℕ) Fault) : Type 0 where
   pub wish : Wish
   pub asked : AsksFor words wish
   pub answered : IsAnswerTo wish input answer
 
 -- an answer to the words and the input: the help or what is asked for, or the first fault. A failed reader and want of memory may come at any
-abbrev pub IsAnswer : List Text → List ℕ → Result (List ℕ) Fault → Type 0
+abbrev pub IsAnswer : List (List ℕ) → List ℕ → Result (List ℕ) Fault → Type 0
 IsAnswer words input (Ok text) = AsksHelp words ⊎ IsAnswered words input (Ok text)
 IsAnswer words input (Err fault.Arguments) = AsksNothing words
-IsAnswer words input (Err fault.Config) = AsksInVain words fault.Config
+IsAnswer words input (Err fault.Config) = AsksInVain words words_fault.Config
 IsAnswer words input (Err fault.Device) = ⊤
 IsAnswer words input (Err (fault.Run run.OutOfMemory)) = ⊤
 IsAnswer words input (Err why) = IsAnswered words input (Err why)
@@ -67,7 +67,7 @@ IsTold (Ok text) status old new = ((status ≡ 0) × Appends old new text) ⊎ (
 IsTold (Err fault) status old new = (status ≡ status_of fault) × Keeps old new
 
 -- the status and the output tell an answer to the words and the input
-pub record Answers (words : List Text) (input : List ℕ) (status : ℕ) (old new : Option (List ℕ)) : Type 0 where
+pub record Answers (words : List (List ℕ)) (input : List ℕ) (status : ℕ) (old new : Option (List ℕ)) : Type 0 where
   pub answer : Result (List ℕ) Fault
   pub answered : IsAnswer words input answer
   pub told : IsTold answer status old new

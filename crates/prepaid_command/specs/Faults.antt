@@ -1,5 +1,7 @@
 -- The faults of the program: their lines, their statuses, and how an answer meets its meaning.
 use Rattle.std.specs.Prelude.{◌≡◌, ℕ, List, ◌++◌, Result, Ok, Err, ⊤, codes}
+use Rattle.command_words.specs.declared.fault.WordsFault.{WordsFault}
+use Rattle.command_words.specs.declared.fault.WordsFault.TheVariants as words
 use Rattle.run_command.specs.declared.error.RunError.{RunError}
 use Rattle.run_command.specs.declared.error.RunError.TheVariants as error
 use Rattle.runs_core.specs.RunFaults.{name_of}
@@ -48,6 +50,12 @@ in_part part table.OutOfMemory = fault.Run run.OutOfMemory
 abbrev pub meaning_in : {X : Type 0} → Part → Result X RowFault → Result X Fault
 meaning_in part (Ok x) = Ok x
 meaning_in part (Err refused) = Err (fault.Table part refused)
+
+-- the fault of words that have no request
+abbrev pub of_words : WordsFault → Fault
+of_words words.Arguments = fault.Arguments
+of_words words.Config = fault.Config
+of_words words.OutOfMemory = fault.Run run.OutOfMemory
 
 -- the fault of a run that has no text
 abbrev pub of_run : RunError → Fault

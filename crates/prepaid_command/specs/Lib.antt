@@ -1,16 +1,10 @@
 pub mod Answers
-pub mod Arguments
 pub mod AskingOf
 pub mod Asks
-pub mod Capped
-pub mod CommandLine
 pub mod Faults
 pub mod Input
 pub mod Operations
-pub mod Options
 pub mod PriceLines
 pub mod ReplayLines
 pub mod Replays
 pub mod Reports
-pub mod RunWords
-pub mod Wishes

@@ -16,7 +16,7 @@ use table_core::{RowKind, is_word, number};
 const LAST_SEAT: u64 = 15;
 
 /// What a seat asks.
-#[derive(Clone, Copy, Debug, PartialEq, Eq)]
+#[derive(Clone, Copy)]
 pub struct Ask {
     /// The seat, 0 to 15.
     pub seat: u32,

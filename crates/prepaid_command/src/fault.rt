@@ -2,9 +2,10 @@
 
 ghost use Rattle.std.specs.Prelude.{◌≡◌, Some};
 ghost use Rattle.runs_core.specs.declared.run_fault.RunFault.TheVariants as run;
-ghost use Rattle.prepaid_command.specs.Faults.{line_of, name_of_part, of_run};
+ghost use Rattle.prepaid_command.specs.Faults.{line_of, name_of_part, of_run, of_words};
 ghost use Rattle.prepaid_command.specs.declared.fault.Fault.TheVariants as out;
 
+use command_words::WordsFault;
 use run_command::RunError;
 use runs_core::RunFault;
 use std::alloc::{AllocError, AllocFailed};
@@ -14,7 +15,7 @@ use table_core::{RowFault, TableFault};
 use tariff_core::TariffFault;
 
 /// A part of the input that is a table.
-#[derive(Clone, Copy, Debug, PartialEq, Eq)]
+#[derive(Clone, Copy, Debug)]
 pub enum Part {
     /// The reports of `price`.
     Reports,
@@ -40,7 +41,7 @@ impl fmt::Display for Part {
 }
 
 /// Why the program prints no answer.
-#[derive(Clone, Copy, Debug, PartialEq, Eq)]
+#[derive(Clone, Copy, Debug)]
 pub enum Fault {
     /// The words ask for nothing that the program does.
     Arguments,
@@ -103,6 +104,18 @@ impl fmt::Display for Fault {
 }
 
 impl Error for Fault {}
+
+impl From<WordsFault> for Fault {
+    ghost from_gives = { λ why fault. fault ≡ of_words why };
+
+    fn from(why: WordsFault) -> Fault {
+        match why {
+            WordsFault::Arguments => Fault::Arguments,
+            WordsFault::Config => Fault::Config,
+            WordsFault::OutOfMemory => Fault::Run(RunFault::OutOfMemory),
+        }
+    }
+}
 
 impl From<RunError> for Fault {
     ghost from_gives = { λ error fault. fault ≡ of_run error };

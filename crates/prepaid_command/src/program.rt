@@ -4,18 +4,18 @@ ghost use Rattle.std.specs.Prelude.{◌≡◌, ◌⊎◌, map, IfSome, string_by
 ghost use Rattle.std.specs.Io.KnownBytes.{Appends, Keeps};
 ghost use Rattle.std.specs.Result.{result_map_both};
 ghost use Rattle.tariff_core.specs.RatesOf.{rates_of};
-ghost use Rattle.run_command.specs.Options.{ask_of};
+ghost use Rattle.run_options.specs.Options.{ask_of};
 ghost use Rattle.prepaid_command.specs.Answers.{Answers, IsAnswer, IsRunOfInput, price_of_input, replay_of_input};
 ghost use Rattle.prepaid_command.specs.Faults.{Gives, GivesOne};
 
-use crate::arguments::read_words;
 use crate::fault::{Fault, Part};
 use crate::input::read_input;
 use crate::price_lines::print_reports;
 use crate::replaying::replay;
 use crate::reports::read_reports;
-use crate::request::{Opening, Request};
-use run_command::{RunOptions, run};
+use command_words::{Opening, Request, read_words};
+use run_command::run;
+use run_options::RunOptions;
 use std::alloc::Global;
 use std::convert::AsStr;
 use std::io::{Read, Write};

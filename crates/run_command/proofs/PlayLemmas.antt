@@ -2,7 +2,7 @@
 use Rattle.std.proofs.Common.{◌≡◌, ℕ, List, [], ◌++◌, map, refl, sym, ◌∙◌, ap, subst}
 use Rattle.std.proofs.lemmas.List.{append-nil}
 use Rattle.run_command.specs.Plays.{IsAskedFor, IsGivenBy, IsPlayOf}
-use Rattle.run_command.specs.declared.ask.RunAsk.{RunAsk}
+use Rattle.run_options.specs.declared.ask.RunAsk.{RunAsk}
 use Rattle.run_texts.specs.Views.{event_of}
 use Rattle.run_texts.specs.declared.script_row.ScriptRow.{ScriptRow}
 use Rattle.script_player.specs.Plays.{IsPlayed}

@@ -6,7 +6,7 @@ use Rattle.book_texts.specs.RunTexts.{IsRunText}
 use Rattle.run_command.specs.Books.{AreBooksOf}
 use Rattle.run_command.specs.Inputs.{RunInput, input_of}
 use Rattle.run_command.specs.Plays.{IsGivenBy}
-use Rattle.run_command.specs.declared.ask.RunAsk.{RunAsk}
+use Rattle.run_options.specs.declared.ask.RunAsk.{RunAsk}
 use Rattle.run_command.specs.declared.error.RunError.{RunError}
 use Rattle.run_command.specs.declared.error.RunError.TheVariants as error
 use Rattle.runs_core.specs.Teams.{are_workers}

@@ -1,6 +1,6 @@
 -- What the workers of a run are given: what a script says, and what the gsmSSFs of its calls send.
 use Rattle.std.specs.Prelude.{◌≡◌, ℕ, List, map}
-use Rattle.run_command.specs.declared.ask.RunAsk.{RunAsk}
+use Rattle.run_options.specs.declared.ask.RunAsk.{RunAsk}
 use Rattle.run_texts.specs.Happenings.{Event}
 use Rattle.run_texts.specs.Views.{event_of}
 use Rattle.run_texts.specs.declared.script_row.ScriptRow.{ScriptRow}

@@ -10,7 +10,7 @@ use table_core::{RowFault, TableFault};
 use tariff_core::{TariffFault, TariffKind};
 
 /// Why a run has no text: the first fault of its input, or what ended the run.
-#[derive(Clone, Copy, Debug, PartialEq, Eq)]
+#[derive(Clone, Copy)]
 pub enum RunError {
     /// The input doesn't have three parts.
     Parts,

@@ -2,14 +2,10 @@
 //! played over the accounts that it sets up, and their books are printed.
 #![tactic(auto)]
 
-mod ask;
 mod error;
-mod options;
 mod playing;
 mod running;
 mod texts;
 
-pub use ask::RunAsk;
 pub use error::RunError;
-pub use options::RunOptions;
 pub use running::run;

@@ -3,7 +3,7 @@
 ghost use Rattle.std.specs.Prelude.{◌≡◌, ◌≤◌, ◌++◌, ℕ, true, List, map, All, IfErr, IfOk};
 ghost use Rattle.run_command.specs.Answers.{MayFail};
 ghost use Rattle.run_command.specs.Books.{AreBooksOf};
-ghost use Rattle.run_command.specs.Options.{ask_of};
+ghost use Rattle.run_options.specs.Options.{ask_of};
 ghost use Rattle.run_command.specs.Plays.{IsGivenBy, IsPlayOf};
 ghost use Rattle.runs_core.specs.Teams.{are_workers};
 ghost use Rattle.run_texts.specs.Fits.{SetsUp};
@@ -12,9 +12,10 @@ ghost use Rattle.run_texts.specs.declared.script_row.ScriptRow.{ScriptRow};
 ghost use Rattle.workers_core.specs.Setups.{AreAscending};
 ghost use Rattle.workers_core.specs.declared.post.Body.{Body};
 
+use crate::RunError;
 use crate::texts::RunTexts;
-use crate::{RunError, RunOptions};
 use dialogue_core::ServiceConfig;
+use run_options::RunOptions;
 use run_texts::SetupRows;
 use runs_core::{Books, Driver, serve};
 use script_player::ScriptPlayer;

@@ -3,12 +3,13 @@
 ghost use Rattle.std.specs.Prelude.{◌≡◌, IfOk, string_bytes};
 ghost use Rattle.std.specs.Result.{result_map_both};
 ghost use Rattle.run_command.specs.Answers.{IsRunAnswer, IsTextOf};
-ghost use Rattle.run_command.specs.Options.{ask_of};
+ghost use Rattle.run_options.specs.Options.{ask_of};
 
+use crate::RunError;
 use crate::playing::play;
 use crate::texts::read_texts;
-use crate::{RunError, RunOptions};
 use book_texts::{book_table, run_lines};
+use run_options::RunOptions;
 use shared_account::Book;
 use std::alloc::{AllocError, Global};
 use std::sync::Wait;

@@ -104,9 +104,10 @@ one_failed read key may_shut lines rest left more (Some first) line why before s
 }
 
 -- all have left
-pub all_finished : {K S G T : Type 0} (read : Reads K T) (key : S → K) (may_shut : G → Type 0) (lines : List (Line S G T)) (left : List (Left S T)) (fault : Option RunFault)
-    → (finishing : IsFinishing read key may_shut lines [] left fault) → finishing.done ≡ lines
-all_finished read key may_shut lines left fault finishing = sym (append-nil finishing.done) ∙ finishing.split
+pub all_finished : {K S G T : Type 0} (read : Reads K T) (key : S → K) (may_shut : G → Type 0) (lines rest : List (Line S G T)) (left : List (Left S T)) (fault : Option RunFault)
+    → length rest ≡ 0 → (finishing : IsFinishing read key may_shut lines rest left fault) → finishing.done ≡ lines
+all_finished read key may_shut lines [] left fault none finishing = sym (append-nil finishing.done) ∙ finishing.split
+all_finished read key may_shut lines (line ∷ rest) left fault none finishing = absurd (cc)
 
 left_as : {K S T : Type 0} (read : Reads K T) (keys : List K) (numbers : List ℕ) (number : ℕ) (one : Left S T) → IsLeft read keys numbers number one.posts.items one.seats.items
     → IsLeftFrom read keys numbers one

@@ -1,7 +1,7 @@
 //! The rounds of a run: what the driver gives is handed out to the workers, and their answers go
 //! back to it.
 
-ghost use Rattle.std.specs.Prelude.{◌≡◌, ◌≢◌, ◌≤◌, ◌<◌, [], length, take, true, All, OnOk};
+ghost use Rattle.std.specs.Prelude.{◌≡◌, ◌≢◌, ◌≤◌, ◌<◌, [], length, not, take, true, All, IfOk, OnOk};
 ghost use Rattle.std.specs.List.{HoldsAt};
 ghost use Rattle.runs_core.specs.Shares.{item_at, item_of, worker_of};
 ghost use Rattle.runs_core.specs.Sending.{AreSent, promises_of};
@@ -31,15 +31,37 @@ pub(crate) fn play<D: Driver, S: Shared, R: Wait, G: Gate>(
 {
     let mut answers = Vec::new(alloc);
     for _ in rt.forever() {
-        let first = driver.given().len();
-        if !driver.round(answers.as_slice())? {
+        if !play_round(rt, driver, lines, &mut answers)? {
             return Ok(());
         }
-        hand_out(rt, driver.given(), first, lines)?;
-        answers.clear();
-        collect(rt, driver.given(), first, lines.as_slice(), &mut answers)?;
     }
     unreachable!()
+}
+
+/// Plays a round over the answers to the one before, and puts its own in their place. False where
+/// the driver has ended.
+fn play_round<D: Driver, S: Shared, R: Wait, G: Gate>(
+    rt: &R,
+    driver: &mut D,
+    lines: &mut Vec<Line<'_, S, G>>,
+    answers: &mut Vec<Answer>,
+) -> Result<bool, RunFault>
+    requires some { 0 < length lines.old.items }
+    requires sent { AreSent (D.given driver.old) lines.old.items }
+    ensures ended { IfOk result (λ more. D.ended driver.new ≡ not more) }
+    ensures plan { D.plan driver.new ≡ D.plan driver.old }
+    ensures sent { OnOk result (AreSent (D.given driver.new) lines.new.items) }
+    ensures promises { promises_of lines.new.items ≡ promises_of lines.old.items }
+    ensures fault { (result ≢ Err RunFault.GateClosed) × (result ≢ Err RunFault.Workers) }
+{
+    let first = driver.given().len();
+    if !driver.round(answers.as_slice())? {
+        return Ok(false);
+    }
+    hand_out(rt, driver.given(), first, lines)?;
+    answers.clear();
+    collect(rt, driver.given(), first, lines.as_slice(), answers)?;
+    Ok(true)
 }
 
 /// Hands out what was given from a place on, each item to the worker of its call or account.

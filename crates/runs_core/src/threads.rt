@@ -1,9 +1,9 @@
 //! The workers of a run are started, and waited for.
 
-ghost use Rattle.std.specs.Prelude.{◌≡◌, ◌≢◌, ◌≤◌, ◌++◌, ◌∷◌, [], length, map, All, IfOk, OnOk};
+ghost use Rattle.std.specs.Prelude.{◌≡◌, ◌≢◌, ◌≤◌, ◌+◌, ◌++◌, ◌∷◌, [], length, map, All, IfOk, OnOk};
 ghost use Rattle.std.specs.Map.{keys_of};
 ghost use Rattle.runs_core.specs.Sending.{AreLeftBy, ArePromised, AreSent, IsLeftBy, MayBeShut, promises_of, sent_by};
-ghost use Rattle.runs_core.specs.Teams.{AreFresh, reads};
+ghost use Rattle.runs_core.specs.Teams.{AreFresh, IsFresh, reads};
 ghost use Rattle.runs_core.specs.declared.line.Left.{Left};
 
 use crate::RunFault;
@@ -39,10 +39,38 @@ pub(crate) fn start_all<'s, E, S: Shared, R: Wait + Threads + Sync, G: Gate + Sy
 {
     let mut number = 0;
     for team in teams {
-        let line = start(scope, rt, alloc, number, setup, accounts, team, gate)?;
-        lines.push(line)?;
+        start_one(scope, rt, alloc, number, setup, accounts, team, gate, lines)?;
         number += 1;
     }
+    Ok(())
+}
+
+/// Starts the worker of a number, and puts down its line behind those of the workers before it.
+fn start_one<'s, E, S: Shared, R: Wait + Threads + Sync, G: Gate + Sync>(
+    scope: &Scope<'s, E>,
+    rt: &'s R,
+    alloc: Global,
+    number: u32,
+    setup: &'s RunSetup,
+    accounts: &'s [S],
+    seats: Vec<S::Seat>,
+    gate: &'s G,
+    lines: &mut Vec<Line<'s, S, G>>,
+) -> Result<(), RunFault>
+    requires numbered { map (λ account. (S.terms account).number) accounts.now
+        ≡ keys_of setup.now.accounts }
+    requires fresh { IsFresh (reads S.key_of S.number_of S.mine_of)
+        (map S.key accounts.now) number seats.items }
+    requires count { length lines.old.items ≡ number }
+    requires silent { All (λ line. sent_by line ≡ []) lines.old.items }
+    requires promised { ArePromised setup.now accounts.now gate.now 0 (promises_of lines.old.items) }
+    ensures count { OnOk result (length lines.new.items ≡ number + 1) }
+    ensures silent { All (λ line. sent_by line ≡ []) lines.new.items }
+    ensures promised { ArePromised setup.now accounts.now gate.now 0 (promises_of lines.new.items) }
+    ensures fault { (result ≢ Err RunFault.GateClosed) × (result ≢ Err RunFault.Workers) }
+{
+    let line = start(scope, rt, alloc, number, setup, accounts, seats, gate)?;
+    lines.push(line)?;
     Ok(())
 }
 

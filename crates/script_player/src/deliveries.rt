@@ -14,7 +14,7 @@ use std::collections::VecDeque;
 use workers_core::{Answer, Body};
 
 /// An operation on its way.
-#[derive(Clone, Copy, Debug, PartialEq, Eq)]
+#[derive(Clone, Copy)]
 pub(crate) struct Delivery {
     /// When it is delivered.
     pub at: Moment,

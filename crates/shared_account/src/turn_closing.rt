@@ -1,6 +1,6 @@
 //! The close of a turn account.
 
-ghost use Rattle.std.specs.Prelude.{◌≡◌, ◌↔◌, ◌≤◌, false, length, map, All, IfOk, IfSome, OnOk};
+ghost use Rattle.std.specs.Prelude.{◌≡◌, ◌≢◌, ◌↔◌, ◌≤◌, false, length, map, All, IfOk, IfSome, OnOk};
 ghost use Rattle.account_core.specs.Answers.{IsLegal};
 ghost use Rattle.shared_account.specs.Own.{IsMerged};
 ghost use Rattle.shared_account.specs.Prefixes.{IsPrefix};
@@ -43,11 +43,31 @@ pub(crate) fn close_board(
     if !are_all(count, seats.as_slice()) {
         return Err(CloseFault::Seats);
     }
-    let (chair, places) = gather(alloc, &board, seats)?;
-    let Some(account) = clear(board, chair) else {
-        return Err(CloseFault::Mismatch);
-    };
+    let (account, places) = unseat(alloc, board, seats)?;
     close_book(alloc, number, opening, limit, count, account, places)
+}
+
+/// The account of a board and the places of all seats, when one of them has heard what the others
+/// have seen. `Mismatch` where a ticket is out.
+fn unseat(
+    alloc: Global,
+    board: Board,
+    seats: Vec<TurnSeat>,
+) -> Result<(Account, Vec<Seat>), CloseFault>
+    requires words { board.shared.table_id.words ≡ 3 }
+    requires slots { board.shared.table_id.slots ≡ 1 }
+    requires tables { All (λ seat. seat.table ≡ board.shared.table_id) seats.items }
+    requires some_seats { 1 ≤ length seats.items }
+    ensures seen { IfOk result (λ made.
+        All (λ seat. IsPrefix seat.view.history made.0.history) seats.items) }
+    ensures places { IfOk result (λ made. made.1.items ≡ map (λ seat. seat.place) seats.items) }
+    ensures fault { result ≢ Err close.Seats }
+{
+    let (chair, places) = gather(alloc, &board, seats)?;
+    match clear(board, chair) {
+        Some(account) => Ok((account, places)),
+        None => Err(CloseFault::Mismatch),
+    }
 }
 
 /// Whether these are all seats of an account, in the order of their numbers.

@@ -1,6 +1,6 @@
 use Rattle.std.proofs.Common.{◌∙◌, ◌++◌, ap, map, refl, rules}
 use Rattle.run_command.proofs.PlayLemmas.{given_by}
-use Rattle.run_command.specs.Options.{ask_of}
+use Rattle.run_options.specs.Options.{ask_of}
 use Rattle.run_command.proofs.playing.play.Goals as goal
 
 pub returns-clause-books : goal.returns-clause-books

@@ -1,7 +1,12 @@
-use Rattle.std.proofs.Common.{rules}
+use Rattle.std.proofs.Common.{◌≡◌, ◌∙◌, ap, arith, length, map, rules, subst}
 use Rattle.std.specs.Vec.Iter.{into_iter_items}
-use Rattle.runs_core.proofs.Finishing.{one_failed, one_finished}
+use Rattle.runs_core.proofs.Finishing.{all_finished, none_finished, one_failed, one_finished}
+use Rattle.runs_core.specs.Sending.{AreLeftBy, MayBeShut, promises_of, sent_by}
+use Rattle.runs_core.specs.Teams.{reads}
 use Rattle.runs_core.proofs.threads.finish_all.Goals as goal
+
+pub loop-line-init : goal.loop-line-init
+loop-line-init g c = none_finished _ _ _ c.args.lines.items _ c.args.left.now.items c.into_iter-line-iterator.ensures.into_iter_gives.0 c.requires.none
 
 pub loop-line-preserved-in-Err : goal.loop-line-preserved-in-Err
 loop-line-preserved-in-Err g c =
@@ -14,3 +19,22 @@ loop-line-preserved g c =
     let left = c.in_default.ensures.left in
     one_finished _ _ _ c.args.lines.items (into_iter_items c.next.new.self) c.loop-line.left.items c.finish_one.new.left.items c.loop-line.fault c.in-Some.line left.0
     (rw c.in-Some.ensures.steps.0 at c.loop-line.invariant) left.1 left.2 left.3
+
+pub returns-in-None-fault-clause-posts : goal.returns-in-None-fault-clause-posts
+returns-in-None-fault-clause-posts g c =
+    let none : length (into_iter_items c.loop-line.line-iterator) ≡ 0 = omega (arith, c.in-None.ensures.steps.0, c.loop-line.line-iterator.rest.ok) in
+    c.loop-line.invariant.posts c.in-None-fault.is ∙ ap (map sent_by) (all_finished _ _ _ _ _ _ _ none c.loop-line.invariant)
+
+pub returns-in-None-fault-clause-left : goal.returns-in-None-fault-clause-left
+returns-in-None-fault-clause-left g c =
+    let none : length (into_iter_items c.loop-line.line-iterator) ≡ 0 = omega (arith, c.in-None.ensures.steps.0, c.loop-line.line-iterator.rest.ok) in
+    subst (λ lines. AreLeftBy (reads g.S.Shared.key_of g.S.Shared.number_of g.S.Shared.mine_of) g.S.Shared.key (promises_of lines) c.loop-line.left.items)
+    (all_finished _ _ _ _ _ _ _ none c.loop-line.invariant) (c.loop-line.invariant.left_by c.in-None-fault.is)
+
+pub returns-in-Some-fault-clause-gate : goal.returns-in-Some-fault-clause-gate
+returns-in-Some-fault-clause-gate g c = λ closed.
+    let none : length (into_iter_items c.loop-line.line-iterator) ≡ 0 = omega (arith, c.in-None.ensures.steps.0, c.loop-line.line-iterator.rest.ok) in
+    subst (λ lines. MayBeShut g.G.Gate.may_shut (promises_of lines)) (all_finished _ _ _ _ _ _ _ none c.loop-line.invariant) (c.loop-line.invariant.shut (cc))
+
+pub returns-in-Some-fault-clause-workers : goal.returns-in-Some-fault-clause-workers
+returns-in-Some-fault-clause-workers g c = λ is. c.loop-line.invariant.workers (cc)

@@ -9,11 +9,11 @@ use Rattle.shared_account.proofs.turn_closing.close_board.Goals as goal
 
 pub returns-clause-own : goal.returns-clause-own
 returns-clause-own c =
-    let lists = ap (map (λ (p : Place). p.mine)) c.in_ok-chair.ensures.places ∙ map-map (λ (p : Place). p.mine) (λ (s : Sight). s.place) c.args.seats.items in
+    let lists = ap (map (λ (p : Place). p.mine)) c.in_ok-account.ensures.places ∙ map-map (λ (p : Place). p.mine) (λ (s : Sight). s.place) c.args.seats.items in
     IfOk-weaker c.close_book.result _ _ (λ book own. own ∙ lists) c.close_book.ensures.own
 
 pub returns-clause-seats : goal.returns-clause-seats
 returns-clause-seats c =
-    let numbers : map (λ (p : Place). p.number) c.in_ok-chair.places.items ≡ map (λ (s : Sight). s.place.number) c.args.seats.items =
-    ap (map (λ (p : Place). p.number)) c.in_ok-chair.ensures.places ∙ map-map (λ (p : Place). p.number) (λ (s : Sight). s.place) c.args.seats.items in
+    let numbers : map (λ (p : Place). p.number) c.in_ok-account.places.items ≡ map (λ (s : Sight). s.place.number) c.args.seats.items =
+    ap (map (λ (p : Place). p.number)) c.in_ok-account.ensures.places ∙ map-map (λ (p : Place). p.number) (λ (s : Sight). s.place) c.args.seats.items in
     subst (λ (ns : List ℕ). (c.close_book.result ≡ Err close.Seats) ↔ (are_all c.args.count ns ≡ false)) numbers c.close_book.ensures.seats

@@ -1,0 +1,3 @@
+pub mod ArgumentLemmas
+pub mod CappedLemmas
+pub mod WordLemmas

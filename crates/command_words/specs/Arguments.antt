@@ -1,0 +1,69 @@
+-- What words ask of the program.
+use Rattle.std.specs.Prelude.{◌≡◌, ◌≢◌, ◌⊎◌, List, [], Option, Some, None, Result, Ok, Err, ⊤, codes, if◌then◌else◌, ok_or, option_map}
+use Rattle.std.specs.Str.{bytes_eq}
+use Rattle.clap.specs.Words.{IsAmong, Row, Text}
+use Rattle.clap.specs.declared.error.kind.ErrorKind.{ErrorKind}
+use Rattle.clap.specs.declared.error.kind.ErrorKind.TheVariants as kind
+use Rattle.run_options.specs.Options.{ask_of}
+use Rattle.tariff_core.specs.RatesOf.{rates_of}
+use Rattle.command_words.specs.CommandLine.{command_in, errors_in}
+use Rattle.command_words.specs.Options.{plan_in, replay_in}
+use Rattle.command_words.specs.RunWords.{run_in}
+use Rattle.command_words.specs.Wishes.{Wish, Prices, Replays, Runs}
+use Rattle.command_words.specs.declared.request.Request.{Request}
+use Rattle.command_words.specs.declared.request.Request.TheVariants as request
+use Rattle.command_words.specs.declared.fault.WordsFault.{WordsFault}
+use Rattle.command_words.specs.declared.fault.WordsFault.TheVariants as fault
+
+-- what a command is asked for, or why it isn't
+abbrev pub wish_in : Option (Text × List Row) → Result Wish WordsFault
+wish_in None = Err fault.Arguments
+wish_in (Some command) =
+    if bytes_eq command.0 (codes "price") then ok_or (option_map (λ plan. Prices plan) (plan_in command.1)) fault.Arguments
+    else if bytes_eq command.0 (codes "replay") then ok_or (replay_in command.1) fault.Arguments
+    else if bytes_eq command.0 (codes "run") then run_in command.1 else Err fault.Arguments
+
+-- the request is what was wished, or the fault is why nothing is
+abbrev pub IsRequestOf : Result Wish WordsFault → Result Request WordsFault → Type 0
+IsRequestOf wish (Ok (request.Price plan)) = wish ≡ Ok (Prices (rates_of plan))
+IsRequestOf wish (Ok (request.Replay account)) = wish ≡ Ok (Replays account.opening account.limit)
+IsRequestOf wish (Ok (request.Run options)) = wish ≡ Ok (Runs (ask_of options))
+IsRequestOf wish (Err fault.Arguments) = wish ≡ Err fault.Arguments
+IsRequestOf wish (Err fault.Config) = wish ≡ Err fault.Config
+IsRequestOf wish _ = ⊥
+
+-- the words ask for help
+abbrev pub AsksHelp : List Text → Type 0
+AsksHelp words = IsAmong kind.DisplayHelp (errors_in words)
+
+-- the words ask for this
+pub record AsksFor (words : List Text) (wish : Wish) : Type 0 where
+  pub parsed : errors_in words ≡ []
+  pub wish_is : wish_in (command_in words) ≡ Ok wish
+
+-- the words name a command that is refused so
+pub record AsksInVain (words : List Text) (why : WordsFault) : Type 0 where
+  pub parsed : errors_in words ≡ []
+  pub refused : wish_in (command_in words) ≡ Err why
+
+-- the words ask for nothing that the program does: they don't parse, or an option has no number in its range
+abbrev pub AsksNothing : List Text → Type 0
+AsksNothing words = ((error : ErrorKind) × IsAmong error (errors_in words) × (error ≢ kind.DisplayHelp)) ⊎ AsksInVain words fault.Arguments
+
+-- what is read from the words is what they ask for; want of memory may come at any
+abbrev pub IsRead : List Text → Result Request WordsFault → Type 0
+IsRead words (Ok (request.Help text)) = AsksHelp words
+IsRead words (Ok (request.Price plan)) = AsksFor words (Prices (rates_of plan))
+IsRead words (Ok (request.Replay account)) = AsksFor words (Replays account.opening account.limit)
+IsRead words (Ok (request.Run options)) = AsksFor words (Runs (ask_of options))
+IsRead words (Err fault.Arguments) = AsksNothing words
+IsRead words (Err fault.OutOfMemory) = ⊤
+IsRead words (Err fault.Config) = AsksInVain words fault.Config
+
+-- what is answered to an error of clap
+abbrev pub IsRefusal : ErrorKind → Result Request WordsFault → Type 0
+IsRefusal error (Ok (request.Help text)) = error ≡ kind.DisplayHelp
+IsRefusal error (Ok _) = ⊥
+IsRefusal error (Err fault.Arguments) = (error ≢ kind.DisplayHelp) × (error ≢ kind.OutOfMemory)
+IsRefusal error (Err fault.OutOfMemory) = ⊤
+IsRefusal error (Err _) = ⊥

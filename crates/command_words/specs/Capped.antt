@@ -1,0 +1,9 @@
+-- Numbers as the code keeps them: 32 bits, of which the greatest stands for all above it.
+use Rattle.std.specs.Prelude.{ℕ, min}
+use Rattle.run_options.specs.declared.ask.RunAsk.{RunAsk}
+
+abbrev pub capped : ℕ → ℕ
+capped number = min number 4294967295
+
+abbrev pub capped_ask : RunAsk → RunAsk
+capped_ask ask = record ask { wanted = capped ask.wanted; least = capped ask.least; tssf = capped ask.tssf; tccd = capped ask.tccd; delay = capped ask.delay }

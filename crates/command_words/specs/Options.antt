@@ -1,0 +1,36 @@
+-- What the options of `price` and of `replay` say.
+use Rattle.std.specs.Prelude.{ℕ, List, Option, Some, None, codes, if◌then◌else◌, nat_le, option_and_then, option_map, unwrap_or}
+use Rattle.clap.specs.Words.{Row, Text, first_of}
+use Rattle.table_core.specs.Decimals.{decimal_of}
+use Rattle.tariff_core.specs.Rates.{Rates}
+use Rattle.command_words.specs.Wishes.{Wish, Replays}
+
+-- the number of an option, where it is given and at most `most`
+abbrev pub number_in : List Row → Text → ℕ → Option ℕ
+number_in options name most = option_and_then (decimal_of most) (first_of name options)
+
+-- the number that a text writes, where there is a text
+abbrev pub optional_decimal : ℕ → Option Text → Option (Option ℕ)
+optional_decimal most None = Some None
+optional_decimal most (Some text) = option_map (λ number. Some number) (decimal_of most text)
+
+-- the same of an option that may be left out
+abbrev pub optional_number_in : List Row → Text → ℕ → Option (Option ℕ)
+optional_number_in options name most = optional_decimal most (first_of name options)
+
+-- the plan of `price`: fee and rates, each at most 10^9
+abbrev pub plan_in : List Row → Option Rates
+plan_in options = option_and_then (λ fee. option_and_then (λ before.
+    option_map (λ after. record { fee = fee; before = before; after = after }) (optional_number_in options (codes "after") 1000000000))
+    (number_in options (codes "before") 1000000000)) (number_in options (codes "fee") 1000000000)
+
+-- the limit of a history: 3 to 1,000,000, which it is where it is left out
+abbrev pub at_least : ℕ → ℕ → Option ℕ
+at_least least number = if nat_le least number then Some number else None
+
+abbrev pub limit_in : List Row → Option ℕ
+limit_in options = option_and_then (λ limit. at_least 3 (unwrap_or limit 1000000)) (optional_number_in options (codes "limit") 1000000)
+
+-- the account of `replay`: its opening credit, at most 10^15, and its limit
+abbrev pub replay_in : List Row → Option Wish
+replay_in options = option_and_then (λ opening. option_map (λ limit. Replays opening limit) (limit_in options)) (number_in options (codes "opening") 1000000000000000)

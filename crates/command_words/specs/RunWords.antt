@@ -1,0 +1,72 @@
+-- What the options of `run` say.
+use Rattle.std.specs.Prelude.{ℕ, Bool, List, Option, Some, None, Result, Ok, Err, false, codes, if◌then◌else◌, option_and_then, option_map, unwrap_or}
+use Rattle.std.specs.Str.{bytes_eq}
+use Rattle.std.specs.Str.Parse.{digits_value}
+use Rattle.clap.specs.Words.{Row, Text, first_of}
+use Rattle.run_options.specs.Configs.{is_config}
+use Rattle.run_options.specs.declared.ask.RunAsk.{RunAsk}
+use Rattle.ssf_core.specs.declared.config.DefaultHandling.{DefaultHandling}
+use Rattle.ssf_core.specs.declared.config.DefaultHandling.TheVariants as handling
+use Rattle.table_core.specs.Decimals.{is_decimal}
+use Rattle.command_words.specs.Options.{optional_number_in}
+use Rattle.command_words.specs.Wishes.{Wish, Runs}
+use Rattle.command_words.specs.declared.fault.WordsFault.{WordsFault}
+use Rattle.command_words.specs.declared.fault.WordsFault.TheVariants as fault
+
+-- the number that 1 to 20 digits write, however large
+abbrev pub number_of : Text → Option ℕ
+number_of text = if is_decimal text then Some (digits_value 10 text) else None
+
+-- the number of an option, this one where it is left out
+abbrev pub number_or : ℕ → Option Text → Option ℕ
+number_or default None = Some default
+number_or default (Some text) = number_of text
+
+abbrev pub setting_in : List Row → Text → ℕ → Option ℕ
+setting_in options name default = number_or default (first_of name options)
+
+-- how many workers there are to be: 0 to 99, and 2 where that is left out
+abbrev pub workers_in : List Row → Option ℕ
+workers_in options = option_map (λ workers. unwrap_or workers 2) (optional_number_in options (codes "workers") 99)
+
+-- what is to become of a call without instructions: `release`, which it is where that is left out, or `proceed`
+abbrev pub handling_of : Option Text → Option DefaultHandling
+handling_of None = Some handling.Release
+handling_of (Some text) =
+    if bytes_eq text (codes "release") then Some handling.Release else if bytes_eq text (codes "proceed") then Some handling.Proceed else None
+
+abbrev pub handling_in : List Row → Option DefaultHandling
+handling_in options = handling_of (first_of (codes "default") options)
+
+-- whether a flag was given
+abbrev pub is_yes : Option Text → Bool
+is_yes None = false
+is_yes (Some text) = bytes_eq text (codes "true")
+
+abbrev pub book_in : List Row → Bool
+book_in options = is_yes (first_of (codes "book") options)
+
+-- what the options ask for, where each has a number or a word of its own
+unfoldable pub ask_in : List Row → Option RunAsk
+ask_in options =
+    option_and_then (λ workers. option_and_then (λ wanted. option_and_then (λ least. option_and_then (λ tssf. option_and_then (λ tccd. option_and_then (λ delay.
+    option_map (λ default. record {
+      workers = workers;
+      wanted = wanted;
+      least = least;
+      tssf = tssf;
+      tccd = tccd;
+      delay = delay;
+      default_handling = default;
+      book = book_in options;
+    })
+    (handling_in options)) (setting_in options (codes "delay") 2)) (setting_in options (codes "tccd") 50)) (setting_in options (codes "tssf") 100))
+    (setting_in options (codes "least") 50)) (setting_in options (codes "wanted") 600)) (workers_in options)
+
+-- the run that is asked for, its times judged
+abbrev pub judged : Option RunAsk → Result Wish WordsFault
+judged None = Err fault.Arguments
+judged (Some ask) = if is_config ask then Ok (Runs ask) else Err fault.Config
+
+abbrev pub run_in : List Row → Result Wish WordsFault
+run_in options = judged (ask_in options)

@@ -1,0 +1,57 @@
+//! The words of a command line.
+
+ghost use Rattle.std.specs.Prelude.{map};
+ghost use Rattle.clap.specs.Words.{kind_of, subcommand_rows_of};
+ghost use Rattle.command_words.specs.Arguments.{IsRead, IsRefusal, IsRequestOf, wish_in};
+
+use crate::command_line::program_command;
+use crate::fault::WordsFault;
+use crate::options::{price_plan, replay_opening};
+use crate::request::Request;
+use crate::run_words::run_request;
+use clap::error::ErrorKind;
+use clap::{ArgMatches, Error};
+use std::alloc::Global;
+use std::convert::AsStr;
+
+/// What the words after the program's name ask for. `Arguments` where they ask for nothing that the
+/// program does, a number out of its range among them; `Config` where only a time of `run` is out
+/// of its range.
+pub fn read_words<S: AsStr>(alloc: Global, words: &[S]) -> Result<Request, WordsFault>
+    ensures { IsRead (map S.text words.now) result }
+{
+    let matches = match program_command(alloc)?.try_get_matches_from(words) {
+        Ok(matches) => matches,
+        Err(error) => return refusal(alloc, &error),
+    };
+    asked(&matches)
+}
+
+/// What the command that the words name asks for, if its options say it.
+fn asked(matches: &ArgMatches<'_>) -> Result<Request, WordsFault>
+    ensures { IsRequestOf (wish_in (subcommand_rows_of matches.now)) result }
+{
+    match matches.subcommand() {
+        Some(("price", options)) => match price_plan(options) {
+            Some(plan) => Ok(Request::Price(plan)),
+            None => Err(WordsFault::Arguments),
+        },
+        Some(("replay", options)) => match replay_opening(options) {
+            Some(account) => Ok(Request::Replay(account)),
+            None => Err(WordsFault::Arguments),
+        },
+        Some(("run", options)) => run_request(options),
+        Some(_) | None => Err(WordsFault::Arguments),
+    }
+}
+
+/// What is answered where `clap` gives no matches: its help where that was asked for.
+fn refusal(alloc: Global, error: &Error) -> Result<Request, WordsFault>
+    ensures { IsRefusal (kind_of error.now) result }
+{
+    match error.kind() {
+        ErrorKind::DisplayHelp => Ok(Request::Help(error.to_string(alloc)?)),
+        ErrorKind::OutOfMemory => Err(WordsFault::OutOfMemory),
+        _ => Err(WordsFault::Arguments),
+    }
+}

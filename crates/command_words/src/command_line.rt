@@ -1,0 +1,227 @@
+//! The command line, as `clap` knows it.
+
+ghost use Rattle.std.specs.Prelude.{◌≡◌, false, IfOk};
+ghost use Rattle.clap.specs.Words.{app_of, new_app, rule_of, with_rule};
+ghost use Rattle.clap.specs.declared.builder.command.Command.TheViews.{out-Command as fields_of};
+ghost use Rattle.command_words.specs.CommandLine.{bare_app, flag_rule, option_rule, other_rules, price_app, program_app, replay_app, required_rule, run_app, service_rules, switch_rules, with_rules};
+
+use clap::{Arg, ArgAction, Command};
+use std::alloc::{AllocError, Global};
+
+/// An input of `price`.
+const REPORTS: &str = "\
+Input, for example:
+
+  before,after
+  0,0
+  600,0
+  600,300";
+
+/// An input of `replay`.
+const OPS: &str = "\
+Input, for example:
+
+  seat,op,call,x1,x2,x3,x4,x5
+  0,reserve,1,50,1000,400,600,50
+  0,settle,1,0,n,300,,
+  0,return,1,,,,,";
+
+/// An input of `run`.
+const SCRIPT: &str = "\
+Times are in units of 100 ms. Input, for example:
+
+  prefix,from,fee,rate
+  49,00:00,50,1000
+  %%
+  kind,key,value
+  account,7,1500
+  subscriber,491700001,7
+  %%
+  moment,call,what,x,y
+  0,1,start,491700001,4930
+  100,1,answer,,
+  400,1,disconnect,1,";
+
+/// The program, with its commands.
+#[tactic(auto, unfolding(crate::specs::CommandLine::program_app))]
+pub(crate) fn program_command<'a>(alloc: Global) -> Result<Command<'a>, AllocError>
+    ensures app { IfOk result (λ command. app_of command ≡ program_app) }
+{
+    bare_command(alloc)
+        .subcommand(price_command(alloc)?)?
+        .subcommand(replay_command(alloc)?)?
+        .subcommand(run_command(alloc)?)
+}
+
+/// The program without its commands.
+fn bare_command<'a>(alloc: Global) -> Command<'a>
+    ensures { app_of result ≡ bare_app }
+{
+    let about = "Prepaid call control: prices, accounts and calls";
+    new_command(alloc, "prepaid", about)
+        .no_binary_name(true)
+        .subcommand_required(true)
+}
+
+#[tactic(auto, unfolding(crate::specs::CommandLine::price_app))]
+fn price_command<'a>(alloc: Global) -> Result<Command<'a>, AllocError>
+    ensures app { IfOk result (λ command. app_of command ≡ price_app) }
+    ensures local { IfOk result (λ command. (fields_of command).has_globals ≡ false) }
+{
+    let about = "Prints what each report adds to the price of a call";
+    let command = input_command(alloc, "price", about, REPORTS);
+    let command = add(
+        command,
+        required(alloc, "fee", "The fee, in units of money"),
+    )?;
+    let before = required(alloc, "before", "The rate a minute before the switch");
+    let command = add(command, before)?;
+    add(
+        command,
+        option(alloc, "after", "The rate a minute after the switch"),
+    )
+}
+
+#[tactic(auto, unfolding(crate::specs::CommandLine::replay_app))]
+fn replay_command<'a>(alloc: Global) -> Result<Command<'a>, AllocError>
+    ensures app { IfOk result (λ command. app_of command ≡ replay_app) }
+    ensures local { IfOk result (λ command. (fields_of command).has_globals ≡ false) }
+{
+    let about = "Prints what an account replies to each operation";
+    let command = input_command(alloc, "replay", about, OPS);
+    let opening = required(alloc, "opening", "The opening credit, in units of money");
+    let command = add(command, opening)?;
+    add(
+        command,
+        option(alloc, "limit", "How many entries its history may have"),
+    )
+}
+
+#[tactic(auto, unfolding(crate::specs::CommandLine::run_app))]
+fn run_command<'a>(alloc: Global) -> Result<Command<'a>, AllocError>
+    ensures app { IfOk result (λ command. app_of command ≡ run_app) }
+    ensures local { IfOk result (λ command. (fields_of command).has_globals ≡ false) }
+{
+    let about = "Plays a script of calls, and prints what its accounts come to";
+    let command = input_command(alloc, "run", about, SCRIPT);
+    let command = add_service_options(alloc, command)?;
+    let command = add_switch_options(alloc, command)?;
+    add_other_options(alloc, command)
+}
+
+/// What the service asks for.
+fn add_service_options<'a>(alloc: Global, command: Command<'a>) -> Result<Command<'a>, AllocError>
+    requires { (fields_of command).has_globals ≡ false }
+    ensures app { IfOk result (λ more. app_of more
+        ≡ with_rules (app_of command.entry) service_rules) }
+    ensures local { IfOk result (λ more. (fields_of more).has_globals ≡ false) }
+{
+    let wanted = option(alloc, "wanted", "The time that the service asks for [600]");
+    let command = add(command, wanted)?;
+    add(
+        command,
+        option(alloc, "least", "The least time that it takes [50]"),
+    )
+}
+
+/// How the switches wait.
+fn add_switch_options<'a>(alloc: Global, command: Command<'a>) -> Result<Command<'a>, AllocError>
+    requires { (fields_of command).has_globals ≡ false }
+    ensures app { IfOk result (λ more. app_of more
+        ≡ with_rules (app_of command.entry) switch_rules) }
+    ensures local { IfOk result (λ more. (fields_of more).has_globals ≡ false) }
+{
+    let tssf = option(alloc, "tssf", "How long a switch waits for orders [100]");
+    let command = add(command, tssf)?;
+    let command = add(
+        command,
+        option(alloc, "tccd", "How long it waits for more time [50]"),
+    )?;
+    add(
+        command,
+        option(alloc, "delay", "How long orders take to it [2]"),
+    )
+}
+
+/// How many serve the run, what comes of a call without orders, and what is printed.
+fn add_other_options<'a>(alloc: Global, command: Command<'a>) -> Result<Command<'a>, AllocError>
+    requires { (fields_of command).has_globals ≡ false }
+    ensures app { IfOk result (λ more. app_of more
+        ≡ with_rules (app_of command.entry) other_rules) }
+    ensures local { IfOk result (λ more. (fields_of more).has_globals ≡ false) }
+{
+    let workers = option(alloc, "workers", "How many workers serve it, 1 to 16 [2]");
+    let command = add(command, workers)?;
+    let handling = "Without orders: proceed, release [release]";
+    let command = add(command, named(alloc, "default", "WORD", handling))?;
+    add(
+        command,
+        flag(alloc, "book", "Prints the book, in place of the lines"),
+    )
+}
+
+/// A command, and what its help says that it does.
+fn new_command<'a>(alloc: Global, name: &'a str, about: &'a str) -> Command<'a>
+    ensures app { app_of result ≡ new_app name.entry.now }
+    ensures local { (fields_of result).has_globals ≡ false }
+{
+    Command::new(alloc, name).about(about)
+}
+
+/// The same of a command that reads an input, which its help shows.
+fn input_command<'a>(alloc: Global, name: &'a str, about: &'a str, input: &'a str) -> Command<'a>
+    ensures app { app_of result ≡ new_app name.entry.now }
+    ensures local { (fields_of result).has_globals ≡ false }
+{
+    new_command(alloc, name, about).after_help(input)
+}
+
+/// The command with an option besides.
+fn add<'a>(command: Command<'a>, arg: Arg<'a>) -> Result<Command<'a>, AllocError>
+    requires command { (fields_of command).has_globals ≡ false }
+    requires arg { arg.global ≡ false }
+    ensures app { IfOk result (λ more. app_of more
+        ≡ with_rule (app_of command.entry) (rule_of arg.entry)) }
+    ensures local { IfOk result (λ more. (fields_of more).has_globals ≡ false) }
+{
+    command.arg(arg)
+}
+
+/// `--name N`
+fn option<'a>(alloc: Global, name: &'a str, help: &'a str) -> Arg<'a>
+    ensures rule { rule_of result ≡ option_rule name.entry.now }
+    ensures local { result.global ≡ false }
+{
+    named(alloc, name, "N", help)
+}
+
+/// `--name N`, which may not be left out.
+fn required<'a>(alloc: Global, name: &'a str, help: &'a str) -> Arg<'a>
+    ensures rule { rule_of result ≡ required_rule name.entry.now }
+    ensures local { result.global ≡ false }
+{
+    option(alloc, name, help).required(true)
+}
+
+/// `--name VALUE`
+fn named<'a>(alloc: Global, name: &'a str, value: &'a str, help: &'a str) -> Arg<'a>
+    ensures rule { rule_of result ≡ option_rule name.entry.now }
+    ensures local { result.global ≡ false }
+{
+    Arg::new(alloc, name)
+        .long(name)
+        .value_name(value)
+        .help(help)
+        .action(ArgAction::Set)
+}
+
+/// `--name`
+fn flag<'a>(alloc: Global, name: &'a str, help: &'a str) -> Arg<'a>
+    ensures rule { rule_of result ≡ flag_rule name.entry.now }
+    ensures local { result.global ≡ false }
+{
+    Arg::new(alloc, name)
+        .long(name)
+        .help(help)
+        .action(ArgAction::SetTrue)
+}

@@ -1,0 +1,13 @@
+//! What the words of a command line ask of the program `prepaid`.
+#![tactic(auto)]
+
+mod arguments;
+mod command_line;
+mod fault;
+mod options;
+mod request;
+mod run_words;
+
+pub use arguments::read_words;
+pub use fault::WordsFault;
+pub use request::{Opening, Request};

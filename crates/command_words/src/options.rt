@@ -1,0 +1,75 @@
+//! The options of `price` and of `replay`.
+
+ghost use Rattle.std.specs.Prelude.{◌≡◌, ◌≤◌, option_map, unwrap_or, IfSome};
+ghost use Rattle.clap.specs.Words.{first_of, found_of, rows_of};
+ghost use Rattle.tariff_core.specs.RatesOf.{rates_of};
+ghost use Rattle.command_words.specs.Options.{number_in, optional_number_in, plan_in, replay_in};
+ghost use Rattle.command_words.specs.Wishes.{Replays};
+
+use crate::request::Opening;
+use account_core::MAX_MONEY;
+use clap::ArgMatches;
+use table_core::decimal;
+use tariff_core::{MAX_RATE, Plan};
+
+/// The fewest and the most entries that a history may be limited to.
+const MIN_LIMIT: u64 = 3;
+
+const MAX_LIMIT: u64 = 1_000_000;
+
+/// The plan that the options of `price` give.
+pub(crate) fn price_plan(options: &ArgMatches<'_>) -> Option<Plan>
+    ensures { option_map rates_of result ≡ plan_in (rows_of (found_of options.now)) }
+{
+    let fee = number(options, "fee", MAX_RATE)?;
+    let before = number(options, "before", MAX_RATE)?;
+    let after = optional_number(options, "after", MAX_RATE)?;
+    Plan::new(fee, before, after).ok()
+}
+
+/// The account that the options of `replay` open.
+pub(crate) fn replay_opening(options: &ArgMatches<'_>) -> Option<Opening>
+    ensures { option_map (λ account. Replays account.opening account.limit) result
+        ≡ replay_in (rows_of (found_of options.now)) }
+{
+    let opening = number(options, "opening", MAX_MONEY)?;
+    let limit = optional_number(options, "limit", MAX_LIMIT)?.unwrap_or(MAX_LIMIT);
+    if limit < MIN_LIMIT {
+        return None;
+    }
+    Some(Opening {
+        opening,
+        limit: limit as u32,
+    })
+}
+
+/// The text of an option, none where it is left out.
+pub(crate) fn option_text<'a>(options: &ArgMatches<'a>, name: &str) -> Option<&'a str>
+    ensures { option_map (λ text. text.now) result
+        ≡ first_of name.now (rows_of (found_of options.now)) }
+{
+    options.get_str(name)
+}
+
+/// The number of an option, from 0 to `most`.
+fn number(options: &ArgMatches<'_>, name: &str, most: u64) -> Option<u64>
+    ensures value { result ≡ number_in (rows_of (found_of options.now)) name.now most }
+    ensures within { IfSome result (λ number. number ≤ most) }
+{
+    decimal(options.get_str(name)?.as_bytes(), most)
+}
+
+/// The same of an option that may be left out.
+pub(crate) fn optional_number(
+    options: &ArgMatches<'_>,
+    name: &str,
+    most: u64,
+) -> Option<Option<u64>>
+    ensures value { result ≡ optional_number_in (rows_of (found_of options.now)) name.now most }
+    ensures within { IfSome result (λ number. unwrap_or number 0 ≤ most) }
+{
+    match options.get_str(name) {
+        Some(text) => Some(Some(decimal(text.as_bytes(), most)?)),
+        None => Some(None),
+    }
+}

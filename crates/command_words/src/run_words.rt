@@ -1,0 +1,128 @@
+//! The options of `run`.
+
+ghost use Rattle.std.specs.Prelude.{◌≡◌, ◌<◌, option_map};
+ghost use Rattle.std.specs.Char.{is_ascii_digit};
+ghost use Rattle.std.specs.List.{list_all};
+ghost use Rattle.clap.specs.Words.{found_of, rows_of};
+ghost use Rattle.table_core.specs.Decimals.{is_decimal};
+ghost use Rattle.command_words.specs.Arguments.{IsRequestOf};
+ghost use Rattle.command_words.specs.Capped.{capped, capped_ask};
+ghost use Rattle.command_words.specs.RunWords.{ask_in, handling_of, is_yes, number_of, number_or, run_in, workers_in};
+
+use crate::fault::WordsFault;
+use crate::options::{option_text, optional_number};
+use crate::request::Request;
+use clap::ArgMatches;
+use run_options::{RunAsk, RunOptions};
+use ssf_core::DefaultHandling;
+use table_core::decimal;
+
+/// The most workers that may be asked for. A run has fewer.
+const MAX_WORKERS: u64 = 99;
+
+/// The most digits of a number.
+const MAX_DIGITS: usize = 20;
+
+/// The run that the options ask for. `Config` where a time is out of its range, however large;
+/// `Arguments` where an option has no number or word of its own.
+pub(crate) fn run_request(options: &ArgMatches<'_>) -> Result<Request, WordsFault>
+    ensures { IsRequestOf (run_in (rows_of (found_of options.now))) result }
+{
+    let Some(ask) = run_ask(options) else {
+        return Err(WordsFault::Arguments);
+    };
+    match RunOptions::new(ask) {
+        Some(options) => Ok(Request::Run(options)),
+        None => Err(WordsFault::Config),
+    }
+}
+
+/// What the options say.
+#[tactic(auto, unfolding(crate::specs::RunWords::ask_in))]
+fn run_ask(options: &ArgMatches<'_>) -> Option<RunAsk>
+    ensures { result ≡ option_map capped_ask (ask_in (rows_of (found_of options.now))) }
+{
+    let workers = workers(options)?;
+    let wanted = setting(option_text(options, "wanted"), 600)?;
+    let least = setting(option_text(options, "least"), 50)?;
+    let tssf = setting(option_text(options, "tssf"), 100)?;
+    let tccd = setting(option_text(options, "tccd"), 50)?;
+    let delay = setting(option_text(options, "delay"), 2)?;
+    let default_handling = handling(option_text(options, "default"))?;
+    let book = is_yes(option_text(options, "book"));
+    Some(RunAsk {
+        workers,
+        wanted,
+        least,
+        tssf,
+        tccd,
+        delay,
+        default_handling,
+        book,
+    })
+}
+
+/// How many workers there are to be, 0 to 99.
+fn workers(options: &ArgMatches<'_>) -> Option<u32>
+    ensures { result ≡ workers_in (rows_of (found_of options.now)) }
+{
+    let workers = optional_number(options, "workers", MAX_WORKERS)?;
+    Some(workers.unwrap_or(2) as u32)
+}
+
+/// The number that a text writes, `default` where there is none; `u32::MAX` stands for all above.
+fn setting(text: Option<&str>, default: u32) -> Option<u32>
+    requires { default < 1000 }
+    ensures { result ≡ option_map capped (number_or default (option_map (λ t. t.now) text.entry)) }
+{
+    match text {
+        Some(text) => number(text.as_bytes()),
+        None => Some(default),
+    }
+}
+
+/// The number that 1 to 20 digits write; `u32::MAX` stands for all above it.
+fn number(text: &[u8]) -> Option<u32>
+    ensures { result ≡ option_map capped (number_of text.now) }
+{
+    if !is_decimal(text) {
+        return None;
+    }
+    let number = decimal(text, u64::from(u32::MAX));
+    Some(number.unwrap_or(u64::from(u32::MAX)) as u32)
+}
+
+/// Whether a text is 1 to 20 digits.
+fn is_decimal(text: &[u8]) -> bool
+    ensures { result ≡ is_decimal text.now }
+{
+    !text.is_empty() && text.len() <= MAX_DIGITS && are_digits(text)
+}
+
+fn are_digits(text: &[u8]) -> bool
+    ensures { result ≡ list_all is_ascii_digit text.now }
+{
+    text.iter().all(|byte| byte.is_ascii_digit())
+}
+
+/// What is to become of a call without instructions.
+fn handling(text: Option<&str>) -> Option<DefaultHandling>
+    ensures { result ≡ handling_of (option_map (λ t. t.now) text.entry) }
+{
+    match text {
+        None => Some(DefaultHandling::Release),
+        Some("release") => Some(DefaultHandling::Release),
+        Some("proceed") => Some(DefaultHandling::Proceed),
+        Some(_) => None,
+    }
+}
+
+/// Whether a flag was given.
+fn is_yes(text: Option<&str>) -> bool
+    ensures { result ≡ is_yes (option_map (λ t. t.now) text.entry) }
+{
+    match text {
+        Some(text) => text == "true",
+        None => false,
+    }
+}

@@ -1,0 +1,2 @@
+pub mod Configs
+pub mod Options

@@ -1,0 +1,50 @@
+//! The options of a run.
+
+ghost use Rattle.std.specs.Prelude.{◌≡◌, ◌≤◌, ◌↔◌, true, IsSome, IfSome};
+ghost use Rattle.run_options.specs.Configs.{is_config};
+
+use crate::RunAsk;
+use dialogue_core::ServiceConfig;
+use ssf_core::SsfConfig;
+
+/// The options of a run, each in its range.
+#[derive(Clone, Copy)]
+pub struct RunOptions {
+    /// How many workers serve the run. A run has 1 to 16.
+    pub workers: u32,
+    /// What the service asks accounts for.
+    pub service: ServiceConfig,
+    /// How the switches are set up.
+    pub ssf: SsfConfig,
+    /// How long after a message the operations of its answer reach the switch, in units of 100 ms:
+    /// at least 1, and no longer than a switch waits for a further period.
+    pub delay: u32,
+    /// Whether the book is printed, in place of the accounts and calls.
+    pub book: bool,
+    pub ghost delay_positive: { 1 ≤ delay },
+    pub ghost delay_within_tccd: { delay ≤ ssf.tccd },
+}
+
+impl RunOptions {
+    ghost use Rattle.run_options.specs.Options.{ask_of};
+
+    /// The options that are asked for; none where a time is out of its range. The workers aren't
+    /// judged here.
+    pub fn new(ask: RunAsk) -> Option<RunOptions>
+        ensures made { IsSome result ↔ (is_config ask ≡ true) }
+        ensures options { IfSome result (λ options. ask_of options ≡ ask) }
+    {
+        let service = ServiceConfig::new(ask.wanted, ask.least, ask.tccd).ok()?;
+        let ssf = SsfConfig::new(ask.tssf, ask.tccd, ask.default_handling).ok()?;
+        if ask.delay < 1 || ask.delay > ask.tccd {
+            return None;
+        }
+        Some(RunOptions {
+            workers: ask.workers,
+            service,
+            ssf,
+            delay: ask.delay,
+            book: ask.book,
+        })
+    }
+}
