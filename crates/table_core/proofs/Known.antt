@@ -1,0 +1,14 @@
+-- What holds where a reader's bytes are known.
+use Rattle.std.proofs.Common.{◌≡◌, Option, Some, None, refl}
+use Rattle.std.specs.Prelude.{IfSome}
+
+pub if_known : {X : Type 0} (known : Option X) (P : X → Type 0) → ((x : X) → known ≡ Some x → P x) → IfSome known P
+if_known None P holds = tt
+if_known (Some x) P holds = holds x refl
+
+pub at_known : {X : Type 0} (known : Option X) (P : X → Type 0) (x : X) → known ≡ Some x → IfSome known P → P x
+at_known known P x is holds = rw is at holds
+
+pub map_known : {X : Type 0} (known : Option X) (P Q : X → Type 0) → IfSome known P → ((x : X) → P x → Q x) → IfSome known Q
+map_known None P Q holds so = tt
+map_known (Some x) P Q holds so = so x holds
