@@ -24,6 +24,9 @@ pub width_of_header : (headers : List Fields) (fields : Fields) (header : ℕ) �
 width_of_header headers fields header is =
     as_long bytes_eq fields (get_or headers header []) (position-Some (λ names. is_header names fields) headers header [] is).1
 
+pub header_there : (headers : List Fields) (fields : Fields) (header : ℕ) → which_header headers fields ≡ Some header → header < length headers
+header_there headers fields header is = (position-Some (λ names. is_header names fields) headers header [] is).0
+
 position_or_len-map : {A B : Type 0} (p : B → Bool) (f : A → B) (xs : List A) → position_or_len p (map f xs) ≡ position_or_len (λ x. p (f x)) xs
 position_or_len-map p f [] = refl
 position_or_len-map p f (x ∷ xs) = rw (position_or_len-map p f xs) refl

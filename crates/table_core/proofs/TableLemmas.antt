@@ -5,6 +5,7 @@ use Rattle.std.specs.Prelude.{◌==◌, IfSome, IsErrAnd, ⊤, ok_or, not, nat_l
 use Rattle.std.proofs.lemmas.Bool.Decides.{nat_tests}
 use Rattle.csv.specs.Records.{fields_of}
 use Rattle.table_core.proofs.Known.{map_known}
+use Rattle.table_core.specs.Faults.{Gives, Refuses}
 use Rattle.table_core.specs.Reading.{HasRows, IsAtFirst, IsNextRow, IsRefused, IsSameTable, Moves, Opens, Steps, StepsBy, first_header}
 use Rattle.table_core.specs.Rows.{Fields, HasLeft, rows_of}
 use Rattle.table_core.specs.Tables.{TableForm, below, own_fault, rows_from, table_of, then_rows, unless_own, which_header, width_at}
@@ -60,6 +61,20 @@ Stops form (fault.Row refused) meaning = meaning ≡ Err (form.fault_at refused.
 Stops form fault.Device meaning = ⊤
 Stops form fault.OutOfMemory meaning = ⊤
 
+-- where a form tells faults as they are, they are the table's
+pub refuses : {S Y : Type 0} (form : TableForm S RowKind RowFault) → ((row : ℕ) (why : RowKind) → form.fault_at row (form.kind_of why) ≡ record { row = row; kind = why })
+    → (next : Result S RowFault → Result Y RowFault) → ((why : RowFault) → next (Err why) ≡ Err why)
+    → (why : TableFault) (meaning : Result S RowFault) → Stops form why meaning → Refuses why (next meaning)
+refuses form plain next passes (fault.Row refused) meaning is = rw (is, plain refused.row refused.kind) (passes refused)
+refuses form plain next passes fault.Device meaning is = tt
+refuses form plain next passes fault.OutOfMemory meaning is = tt
+
+-- a fault that a table's reader passes on is that of the meaning
+pub told : {X Y : Type 0} (known : Option (List ℕ)) (view : X → Y) (answer : Result X TableFault) (why : TableFault) (P : List ℕ → Type 0) (meaning : List ℕ → Result Y RowFault)
+    → IsErrAnd answer (λ met. met ≡ why) → IfSome known P → ((text : List ℕ) → P text → Refuses why (meaning text)) → IfSome known (λ text. Gives view answer (meaning text))
+told known view (Ok x) why P meaning met holds so = absurd met
+told known view (Err other) why P meaning met holds so = map_known known P _ holds (λ text at. rw met (so text at))
+
 module _ {R S K F : Type 0} (form : TableForm S K F) (remaining : R → Option (List ℕ)) where
   -- what was read so far and what is read from the rows that are left are what is read from the table
   pub record IsSoFar (table : Table R) (read : S) (text : List ℕ) : Type 0 where
@@ -69,6 +84,7 @@ module _ {R S K F : Type 0} (form : TableForm S K F) (remaining : R → Option (
 
   pub record IsRead (known : Option (List ℕ)) (table : Table R) (read : S) : Type 0 where
     pub limit : table.limit ≡ form.limit
+    pub header : table.header < length form.headers
     pub width : table.width ≡ width_at form.headers table.header
     pub so_far : IfSome known (IsSoFar table read)
 
@@ -78,6 +94,7 @@ module _ {R S K F : Type 0} (form : TableForm S K F) (remaining : R → Option (
     unfolding table_of
     opened table first opens = record {
       limit = first.limit;
+      header = first.header;
       width = first.width;
       so_far = map_known known _ _ opens (λ text (header, left, rows_are, which, width, has). record {
         left = left;
@@ -100,6 +117,14 @@ module _ {R S K F : Type 0} (form : TableForm S K F) (remaining : R → Option (
     not_opened why opens = map_known known _ _ opens (λ text. not_opened_by why (rows_of text))
 
     module _ (before after : Table R) (read : S) (was : IsRead known before read) where
+      only_header : (header : ℕ) (names : Fields) → header < length (names ∷ []) → width_at (names ∷ []) header ≡ length names
+      only_header header names there = let zeroth : header ≡ 0 = omega (arith, there) in rw zeroth refl
+
+      -- a row of a table with one header has as many fields as that
+      pub row_width : (names : Fields) → form.headers ≡ names ∷ [] → IsNextRow before after → length (fields_of after.rows.row) ≡ length names
+      row_width names one next =
+          next.width ∙ next.same.width ∙ was.width ∙ rw one (only_header before.header names (rw one at was.header))
+
       by_rows : {left rows : List Fields} → left ≡ rows
           → rows_from form before.header before.width (before.number + 1) read left ≡ rows_from form before.header before.width (before.number + 1) read rows
       by_rows same = ap (rows_from form before.header before.width (before.number + 1) read) same
@@ -121,6 +146,7 @@ module _ {R S K F : Type 0} (form : TableForm S K F) (remaining : R → Option (
       pub taken : (now : S) → IsNextRow before after → Steps remaining before after (Ok true) → form.judge before.header read (fields_of after.rows.row) ≡ Ok now → IsRead known after now
       taken now next steps is = record {
         limit = next.same.limit ∙ was.limit;
+        header = rw next.same.header was.header;
         width = rw (next.same.width, next.same.header) was.width;
         so_far = map_known known _ _ was.so_far (λ text so_far.
             let (rest, left_are, has) = steps so_far.left so_far.has in
@@ -150,27 +176,28 @@ module _ {R S K F : Type 0} (form : TableForm S K F) (remaining : R → Option (
       pub stopped : (why : TableFault) → Steps remaining before after (Err why) → IfSome known (λ text. Stops form why (table_of form (rows_of text)))
       stopped why steps = map_known known _ _ was.so_far (λ text so_far. stopped_by why text so_far (steps so_far.left so_far.has))
 
-  -- ---- what each row keeps, the whole table has
+-- ---- what each row keeps, the whole table has
 
-  module _ (P : S → Type 0) (step : (header : ℕ) (read next : S) (fields : Fields) → form.judge header read fields ≡ Ok next → P read → P next) where
-    rows_keep_by : (number : ℕ) (own : Option RowKind) (header : ℕ) (read all : S) (fields : Fields) (judged : Result S K) (rest : S → Result S F) → form.judge header read fields ≡ judged → P read
-        → ((next : S) → P next → rest next ≡ Ok all → P all) → then_rows form number (unless_own form own judged) rest ≡ Ok all → P all
-    rows_keep_by number None header read all fields (Ok next) rest is holds later whole = later next (step header read next fields is holds) whole
-    rows_keep_by number None header read all fields (Err why) rest is holds later whole = cc
-    rows_keep_by number (Some why) header read all fields judged rest is holds later whole = cc
+module _ {S K F : Type 0} (form : TableForm S K F) (P : S → Type 0)
+    (step : (header : ℕ) (read next : S) (fields : Fields) → form.judge header read fields ≡ Ok next → P read → P next) where
+  rows_keep_by : (number : ℕ) (own : Option RowKind) (header : ℕ) (read all : S) (fields : Fields) (judged : Result S K) (rest : S → Result S F) → form.judge header read fields ≡ judged → P read
+      → ((next : S) → P next → rest next ≡ Ok all → P all) → then_rows form number (unless_own form own judged) rest ≡ Ok all → P all
+  rows_keep_by number None header read all fields (Ok next) rest is holds later whole = later next (step header read next fields is holds) whole
+  rows_keep_by number None header read all fields (Err why) rest is holds later whole = cc
+  rows_keep_by number (Some why) header read all fields judged rest is holds later whole = cc
 
-    rows_keep : (header width number : ℕ) (read all : S) (rows : List Fields) → P read → rows_from form header width number read rows ≡ Ok all → P all
-    unfolding rows_from
-    rows_keep header width number read all [] holds is = let same : read ≡ all = cc in rw (← same) holds
-    rows_keep header width number read all (fields ∷ rows) holds is =
-        rows_keep_by number (own_fault form.limit width number fields) header read all fields (form.judge header read fields) (λ next. rows_from form header width (number + 1) next rows) refl holds
-        (λ next held. rows_keep header width (number + 1) next all rows held) is
+  rows_keep : (header width number : ℕ) (read all : S) (rows : List Fields) → P read → rows_from form header width number read rows ≡ Ok all → P all
+  unfolding rows_from
+  rows_keep header width number read all [] holds is = let same : read ≡ all = cc in rw (← same) holds
+  rows_keep header width number read all (fields ∷ rows) holds is =
+      rows_keep_by number (own_fault form.limit width number fields) header read all fields (form.judge header read fields) (λ next. rows_from form header width (number + 1) next rows) refl holds
+      (λ next held. rows_keep header width (number + 1) next all rows held) is
 
-    below_keep : (first : Fields) (rows : List Fields) (all : S) (which : Option ℕ) → P form.start → below form first rows which ≡ Ok all → P all
-    below_keep first rows all None holds is = cc
-    below_keep first rows all (Some header) holds is = rows_keep header (length first) 2 form.start all rows holds is
+  below_keep : (first : Fields) (rows : List Fields) (all : S) (which : Option ℕ) → P form.start → below form first rows which ≡ Ok all → P all
+  below_keep first rows all None holds is = cc
+  below_keep first rows all (Some header) holds is = rows_keep header (length first) 2 form.start all rows holds is
 
-    pub table_keeps : (rows : List Fields) (all : S) → P form.start → table_of form rows ≡ Ok all → P all
-    unfolding table_of
-    table_keeps [] all holds is = cc
-    table_keeps (first ∷ rows) all holds is = below_keep first rows all (which_header form.headers first) holds is
+  pub table_keeps : (rows : List Fields) (all : S) → P form.start → table_of form rows ≡ Ok all → P all
+  unfolding table_of
+  table_keeps [] all holds is = cc
+  table_keeps (first ∷ rows) all holds is = below_keep first rows all (which_header form.headers first) holds is

@@ -1,5 +1,5 @@
 -- What a clause reads of a reader of rows, and of a table.
-use Rattle.std.specs.Prelude.{◌≡◌, ◌≤◌, ◌+◌, ◌-◌, ℕ, Bool, true, false, List, [], ◌∷◌, length, Option, Some, None, Result, Ok, Err, ⊤}
+use Rattle.std.specs.Prelude.{◌≡◌, ◌<◌, ◌≤◌, ◌+◌, ◌-◌, ℕ, Bool, true, false, List, [], ◌∷◌, length, Option, Some, None, Result, Ok, Err, ⊤}
 use Rattle.csv.specs.Records.{Row, fields_of}
 use Rattle.table_core.specs.Rows.{Fields, HasLeft}
 use Rattle.table_core.specs.Tables.{own_fault, which_header, width_at}
@@ -54,6 +54,7 @@ HasRows remaining table left = (table.fault ≡ None) × HasLeft remaining table
 pub record IsAtFirst {R : Type 0} (headers : List Fields) (most : ℕ) (table : Table R) : Type 0 where
   pub limit : table.limit ≡ most
   pub number : table.number ≡ 1
+  pub header : table.header < length headers
   pub width : table.width ≡ width_at headers table.header
 
 -- the first header that the first row is

@@ -2,7 +2,7 @@ use Rattle.std.proofs.Common.{◌∙◌, None, refl, sym, arith}
 use Rattle.csv.specs.Records.{fields_of}
 use Rattle.table_core.specs.Rows.{rows_of}
 use Rattle.table_core.specs.Tables.{headers_of}
-use Rattle.table_core.proofs.HeaderLemmas.{which_is, width_of_header}
+use Rattle.table_core.proofs.HeaderLemmas.{header_there, which_is, width_of_header}
 use Rattle.table_core.proofs.Known.{if_known, at_known}
 use Rattle.table_core.proofs.TableLemmas.{opens_at, opens_none}
 use Rattle.table_core.proofs.table.Table.open.Goals as goal
@@ -32,5 +32,6 @@ returns-clause-first g c =
     record {
       limit = refl;
       number = refl;
+      header = header_there (headers_of c.args.headers.now) (fields_of c.row.result.now) c.in_ok-header.header which;
       width = c.len.ensures ∙ rw (c.row-2.ensures, ← c.row.ensures) (width_of_header (headers_of c.args.headers.now) _ _ which);
     }
