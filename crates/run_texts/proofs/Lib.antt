@@ -4,4 +4,3 @@ pub mod IndexLemmas
 pub mod Known
 pub mod PartLemmas
 pub mod ScriptLemmas
-pub mod SetupLemmas
