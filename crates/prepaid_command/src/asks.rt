@@ -1,16 +1,15 @@
 //! The ops table of `replay`: what is asked of one account, row after row.
 
-ghost use Rattle.std.specs.Prelude.{◌≡◌};
+ghost use Rattle.std.specs.Prelude.{◌≡◌, length};
 ghost use Rattle.std.specs.Result.{result_map_both};
 ghost use Rattle.csv.specs.Records.{fields_of};
-ghost use Rattle.prepaid_command.specs.Asks.{ask_at, is_header};
+ghost use Rattle.prepaid_command.specs.Asks.{ask_in};
 ghost use Rattle.prepaid_command.specs.AskingOf.{asking_of};
 
 use crate::operations::{is_known, read_operation};
-use crate::tables::LAST_ROW;
 use account_core::Op;
 use csv::ByteRecord;
-use table_core::{RowKind, is_word, number};
+use table_core::{RowKind, number};
 
 /// The highest number of a seat.
 const LAST_SEAT: u64 = 15;
@@ -24,31 +23,12 @@ pub struct Ask {
     pub op: Op,
 }
 
-pub fn is_header(row: &ByteRecord) -> bool
-    ensures { result ≡ is_header (fields_of row.now) }
+/// What a row asks.
+#[tactic(auto, unfolding(crate::specs::Asks::ask_in))]
+pub fn read_ask(row: &ByteRecord) -> Result<Ask, RowKind>
+    requires { length (fields_of row.now) ≡ 8 }
+    ensures { result_map_both asking_of (λ kind. kind) result ≡ ask_in (fields_of row.now) }
 {
-    row.len() == 8
-        && is_word(row, 0, "seat")
-        && is_word(row, 1, "op")
-        && is_word(row, 2, "call")
-        && is_word(row, 3, "x1")
-        && is_word(row, 4, "x2")
-        && is_word(row, 5, "x3")
-        && is_word(row, 6, "x4")
-        && is_word(row, 7, "x5")
-}
-
-/// What the row of this number asks.
-#[tactic(auto, unfolding(crate::specs::Asks::ask_at))]
-pub fn read_ask(row_number: u32, row: &ByteRecord) -> Result<Ask, RowKind>
-    ensures { result_map_both asking_of (λ kind. kind) result ≡ ask_at row_number (fields_of row.now) }
-{
-    if row.len() != 8 {
-        return Err(RowKind::Csv);
-    }
-    if row_number > LAST_ROW {
-        return Err(RowKind::TooManyRows);
-    }
     if !is_known(row, 1) {
         return Err(RowKind::What);
     }

@@ -7,12 +7,13 @@ ghost use Rattle.table_core.specs.Faults.{Gives};
 ghost use Rattle.table_core.specs.Rows.{rows_of};
 ghost use Rattle.table_core.specs.declared.fault.TableFault.TheVariants as out;
 
-use crate::asks::{is_header, read_ask};
+use crate::asks::read_ask;
 use crate::replay_lines::{write_refused, write_reply};
+use crate::tables::MAX_ROWS;
 use account_core::{Account, AccountFault, Reply};
 use std::alloc::Global;
 use std::io::Read;
-use table_core::{RowFault, RowKind, Rows, TableFault};
+use table_core::{Table, TableFault};
 
 /// One line a row: the account's reply, or the fault that refused the operation. The account opens
 /// with this credit, and its history may have as many entries as `limit`.
@@ -26,23 +27,20 @@ pub fn replay<I: Read + Drop>(
     ensures { IfSome (I.remaining reader) (λ text.
         Gives string_bytes result (replayed opening limit (rows_of text))) }
 {
-    let mut rows = Rows::new(alloc, reader);
-    if !rows.next_row()? || !is_header(rows.row()) {
-        return Err(TableFault::Row(RowFault {
-            row: 1,
-            kind: RowKind::Header,
-        }));
-    }
+    let mut table = Table::open(
+        alloc,
+        reader,
+        &[&["seat", "op", "call", "x1", "x2", "x3", "x4", "x5"]],
+        MAX_ROWS,
+    )?;
     let mut account = Account::new(alloc, opening, limit);
     let mut text = String::new(alloc);
-    let mut number = 2;
-    while rows.next_row()? {
-        let ask = match read_ask(number, rows.row()) {
+    while table.next_row()? {
+        let ask = match read_ask(table.row()) {
             Ok(ask) => ask,
-            Err(kind) => return Err(TableFault::Row(RowFault { row: number, kind })),
+            Err(kind) => return Err(table.fault(kind)),
         };
         write_answer(&mut text, account.apply(ask.seat, ask.op))?;
-        number += 1;
     }
     Ok(text)
 }

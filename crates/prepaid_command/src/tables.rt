@@ -1,4 +1,4 @@
 //! What the tables of the program share.
 
-/// The last row that a table may have, its header counted: 10,000 rows besides it.
-pub const LAST_ROW: u32 = 10_001;
+/// The most rows that a table may have, its header not counted.
+pub const MAX_ROWS: u32 = 10_000;

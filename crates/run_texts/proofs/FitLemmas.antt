@@ -1,6 +1,6 @@
 -- A run can be set up with the rows that were read.
 use Rattle.std.proofs.Common.{◌≡◌, ◌==◌, ◌+◌, ◌<◌, ◌≤◌, ℕ, Bool, true, false, List, [], ◌∷◌, ◌++◌, length, Option, Some, None, Result, Ok, Err, refl, sym, ◌∙◌, append_assoc, append-nil, length-append, arith}
-use Rattle.std.specs.Prelude.{◌&&◌, ◌||◌, cond, if◌then◌else◌, is_some, nat_le, nat_lt, not}
+use Rattle.std.specs.Prelude.{◌&&◌, ◌||◌, cond, if◌then◌else◌, is_some, nat_le, nat_lt}
 use Rattle.std.specs.Option.{option_or}
 use Rattle.std.specs.Str.{bytes_eq}
 use Rattle.std.proofs.lemmas.Bool.Decides.{nat_tests}
@@ -176,21 +176,18 @@ by_subscriber earlier named (Ok digits) (Ok account) is = stand_subscriber earli
 by_subscriber earlier named (Ok digits) (Err why) is = cc
 by_subscriber earlier named (Err why) account is = cc
 
-by_words : (earlier : Setup) (named : Named) (fields : List (List ℕ)) (wide late first full second : Bool) → nat_le 1000 (length earlier.accounts) ≡ full
-    → (if wide then Err kind.Csv else if late || (first && full) then Err kind.TooManyRows
+by_words : (earlier : Setup) (named : Named) (fields : List (List ℕ)) (first full second : Bool) → nat_le 1000 (length earlier.accounts) ≡ full
+    → (if first && full then Err kind.TooManyRows
     else after (if first then account_row fields else if second then subscriber_row fields else Err kind.What) (judged earlier)) ≡ Ok named
     → MayStand earlier named
-by_words earlier named fields true late first full second is_full is = cc
-by_words earlier named fields false true first full second is_full is = cc
-by_words earlier named fields false false true true second is_full is = cc
-by_words earlier named fields false false true false second is_full is = by_account earlier named _ _ is_full is
-by_words earlier named fields false false false full true is_full is = by_subscriber earlier named _ _ is
-by_words earlier named fields false false false full false is_full is = cc
+by_words earlier named fields true true second is_full is = cc
+by_words earlier named fields true false second is_full is = by_account earlier named _ _ is_full is
+by_words earlier named fields false full true is_full is = by_subscriber earlier named _ _ is
+by_words earlier named fields false full false is_full is = cc
 
-pub may_stand : (number : ℕ) (earlier : Setup) (fields : List (List ℕ)) (named : Named) → row_at number earlier fields ≡ Ok named → MayStand earlier named
+pub may_stand : (earlier : Setup) (fields : List (List ℕ)) (named : Named) → row_at earlier fields ≡ Ok named → MayStand earlier named
 unfolding row_at
-may_stand number earlier fields named is =
-    by_words earlier named fields (not (length fields == 3)) (nat_lt 10001 number) (has_word fields 0 _) (nat_le 1000 (length earlier.accounts)) (has_word fields 0 _) refl is
+may_stand earlier fields named is = by_words earlier named fields (has_word fields 0 _) (nat_le 1000 (length earlier.accounts)) (has_word fields 0 _) refl is
 
 -- ---- the rows and one more
 

@@ -1,7 +1,5 @@
 pub mod FieldLemmas
 pub mod FitLemmas
 pub mod IndexLemmas
-pub mod Known
 pub mod PartLemmas
 pub mod ScriptLemmas
-pub mod SetupLemmas

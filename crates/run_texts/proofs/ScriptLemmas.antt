@@ -1,16 +1,16 @@
--- What was said so far, and what the rows that are left say, is what the script says.
+-- What a reader of a script keeps beside the rows.
 use Rattle.std.proofs.Common.{◌≡◌, ◌==◌, ◌+◌, ◌<◌, ◌≤◌, ℕ, Bool, true, false, List, [], ◌∷◌, ◌++◌, length, get_or, take, Result, Ok, Err, refl, sym, ap, append_assoc, append-nil, reverse, arith}
 use Rattle.std.specs.Prelude.{◌||◌, ◌&&◌, cond, map, nat_le}
 use Rattle.std.specs.BTreeSet.{BTreeSet, Updates, contains}
 use Rattle.std.specs.Ordering.{is_eq, nat_cmp}
 use Rattle.std.proofs.lemmas.Bool.Decides.{nat_tests}
-use Rattle.std.proofs.lemmas.List.{map-append, reverse-append}
+use Rattle.std.proofs.lemmas.List.{map-append, reverse-append, reverse-reverse}
 use Rattle.std.proofs.lemmas.List.Folds.{list_any_more}
 use Rattle.table_core.specs.Judging.{with_front}
 use Rattle.table_core.specs.declared.fault.RowKind.{RowKind}
 use Rattle.table_core.specs.declared.fault.RowKind.TheVariants as kind
 use Rattle.run_texts.specs.Happenings.{Event, Happens, Meets, Recharges, Starts}
-use Rattle.run_texts.specs.Scripts.{is_header, is_started, row_at, rows_from, script_of, starts}
+use Rattle.run_texts.specs.Scripts.{is_started, starts}
 use Rattle.run_texts.specs.Setups.{has_account}
 use Rattle.run_texts.specs.Starts.{HasAccounts, HasCalls, Notes}
 use Rattle.run_texts.specs.Views.{are_in_order, event_of}
@@ -95,43 +95,6 @@ order_more start (first ∷ rows) row ordered after =
 
 -- ---- the rows
 
-with_front-nil : {X E : Type 0} (rest : Result (List X) E) → with_front [] rest ≡ rest
-with_front-nil (Ok rest) = refl
-with_front-nil (Err why) = refl
-
-with_front-with_front : {X E : Type 0} (xs ys : List X) (rest : Result (List X) E) → with_front xs (with_front ys rest) ≡ with_front (xs ++ ys) rest
-with_front-with_front xs ys (Ok rest) = ap Ok (sym (append_assoc xs ys rest))
-with_front-with_front xs ys (Err why) = refl
-
-pub header_missing : (accounts : Accounts) (rows : List Fields) → rows ≡ [] → script_of accounts rows ≡ Err (record { row = 1; kind = kind.Header })
-unfolding script_of
-header_missing accounts rows none = rw none refl
-
-pub header_wrong : (accounts : Accounts) (rows rest : List Fields) (header : Fields) → rows ≡ header ∷ rest → is_header header ≡ false
-    → script_of accounts rows ≡ Err (record { row = 1; kind = kind.Header })
-unfolding script_of
-header_wrong accounts rows rest header rows_are wrong = rw (rows_are, wrong) refl
-
-pub header_read : (accounts : Accounts) (rows rest : List Fields) (header : Fields) → rows ≡ header ∷ rest → is_header header ≡ true
-    → script_of accounts rows ≡ with_front [] (rows_from accounts 2 [] rest)
-unfolding script_of
-header_read accounts rows rest header rows_are right = rw (rows_are, right) (sym (with_front-nil _))
-
-pub row_read : (accounts : Accounts) (number : ℕ) (so_far : List ScriptRow) (row : ScriptRow) (left rest : List Fields) (fields : Fields)
-    → left ≡ fields ∷ rest → row_at accounts number (earlier_of so_far) fields ≡ Ok (event_of row)
-    → with_front (map event_of so_far) (rows_from accounts number (earlier_of so_far) left)
-    ≡ with_front (map event_of (so_far ++ row ∷ [])) (rows_from accounts (number + 1) (earlier_of (so_far ++ row ∷ [])) rest)
-unfolding rows_from
-row_read accounts number so_far row left rest fields left_are is =
-    rw (left_are, is, earlier_more so_far row, events_more so_far row) (with_front-with_front (map event_of so_far) (event_of row ∷ []) _)
-
-pub row_refused : (accounts : Accounts) (number : ℕ) (earlier : List Event) (events : List Event) (left rest : List Fields) (fields : Fields) (why : RowKind)
-    → left ≡ fields ∷ rest → row_at accounts number earlier fields ≡ Err why
-    → with_front events (rows_from accounts number earlier left) ≡ Err (record { row = number; kind = why })
-unfolding rows_from
-row_refused accounts number earlier events left rest fields why left_are is = rw (left_are, is) refl
-
-pub none_left : (accounts : Accounts) (number : ℕ) (earlier : List Event) (events : List Event) (left : List Fields) → left ≡ []
-    → with_front events (rows_from accounts number earlier left) ≡ Ok events
-unfolding rows_from
-none_left accounts number earlier events left none = rw none (ap Ok (append-nil events))
+-- the rows so far, in turn
+pub rows_in_turn : (rows : List ScriptRow) → reverse (earlier_of rows) ≡ map event_of rows
+rows_in_turn rows = reverse-reverse (map event_of rows)

@@ -1,10 +1,11 @@
 -- The meaning of a script: what happens in a run, or the first fault.
-use Rattle.std.specs.Prelude.{◌+◌, ◌==◌, ◌&&◌, ◌||◌, ℕ, Bool, false, not, List, [], ◌∷◌, length, Result, Ok, Err, if◌then◌else◌, nat_lt, codes}
+use Rattle.std.specs.Prelude.{◌+◌, ◌==◌, ◌&&◌, ◌||◌, ℕ, Bool, false, not, List, [], ◌∷◌, length, reverse, Result, Ok, Err, if◌then◌else◌, nat_lt, codes}
 use Rattle.cap_values.specs.declared.leg.Leg.TheVariants as leg
 use Rattle.ssf_core.specs.declared.bcsm_event.BcsmEvent.{BcsmEvent}
 use Rattle.ssf_core.specs.declared.bcsm_event.BcsmEvent.TheVariants as bcsm
 use Rattle.table_core.specs.Fields.{has_word, is_blank, number_in}
-use Rattle.table_core.specs.Judging.{after, after_row, with_front}
+use Rattle.table_core.specs.Judging.{after}
+use Rattle.table_core.specs.Tables.{TableForm, table_form, table_of}
 use Rattle.table_core.specs.declared.fault.RowFault.{RowFault}
 use Rattle.table_core.specs.declared.fault.RowKind.{RowKind}
 use Rattle.table_core.specs.declared.fault.RowKind.TheVariants as kind
@@ -14,12 +15,6 @@ use Rattle.run_texts.specs.declared.word.Word.{Word}
 use Rattle.run_texts.specs.declared.word.Word.TheVariants as word
 
 -- ---- words
-
--- `moment,call,what,x,y`
-abbrev pub is_header : List (List ℕ) → Bool
-is_header fields =
-    (length fields == 5) && has_word fields 0 (codes "moment") && has_word fields 1 (codes "call") && has_word fields 2 (codes "what")
-    && has_word fields 3 (codes "x") && has_word fields 4 (codes "y")
 
 -- the word in a row
 abbrev pub word_in : List (List ℕ) → Result Word RowKind
@@ -76,6 +71,10 @@ read_in fields = after (word_in fields) (λ word. after (number_in fields 0 1000
 
 -- ---- rows; the earlier ones newest first
 
+-- the rows from the first on
+abbrev pub first_to_last : {E : Type 0} → Result (List Event) E → Result (List Event) E
+first_to_last events = after events (λ newest_first. Ok (reverse newest_first))
+
 -- the moment of the row before, 0 at the first
 abbrev pub last_moment : List Event → ℕ
 last_moment [] = 0
@@ -102,19 +101,16 @@ judged_by accounts earlier event (Recharges account amount) = if has_account acc
 abbrev pub judged : List (ℕ × ℕ) → List Event → Event → Result Event RowKind
 judged accounts earlier event = if nat_lt event.at (last_moment earlier) then Err kind.Order else judged_by accounts earlier event event.what
 
--- what the row of this number says, after the earlier rows; there are 1,000,000 rows at most, the header not counted
-unfoldable pub row_at : List (ℕ × ℕ) → ℕ → List Event → List (List ℕ) → Result Event RowKind
-row_at accounts number earlier fields =
-    if not (length fields == 5) then Err kind.Csv else if nat_lt 1000001 number then Err kind.TooManyRows else
-    after (read_in fields) (judged accounts earlier)
+-- what a row of five fields says, after the earlier rows
+unfoldable pub row_at : List (ℕ × ℕ) → List Event → List (List ℕ) → Result Event RowKind
+row_at accounts earlier fields = after (read_in fields) (judged accounts earlier)
 
--- what the rows from this number on say
-unfoldable pub rows_from : List (ℕ × ℕ) → ℕ → List Event → List (List (List ℕ)) → Result (List Event) RowFault
-rows_from accounts number earlier [] = Ok []
-rows_from accounts number earlier (fields ∷ rows) =
-    after_row number (row_at accounts number earlier fields) (λ event. with_front (event ∷ []) (rows_from accounts (number + 1) (event ∷ earlier) rows))
+-- `moment,call,what,x,y`, and 1,000,000 rows at most; each says what happens after the earlier ones
+abbrev pub script_form : List (ℕ × ℕ) → TableForm (List Event) RowKind RowFault
+script_form accounts =
+    table_form ((codes "moment" ∷ codes "call" ∷ codes "what" ∷ codes "x" ∷ codes "y" ∷ []) ∷ []) 1000000 []
+    (λ header earlier fields. after (row_at accounts earlier fields) (λ event. Ok (event ∷ earlier)))
 
 -- what a script says, where these are the accounts of the setup
-unfoldable pub script_of : List (ℕ × ℕ) → List (List (List ℕ)) → Result (List Event) RowFault
-script_of accounts [] = Err (record { row = 1; kind = kind.Header })
-script_of accounts (header ∷ rows) = if is_header header then rows_from accounts 2 [] rows else Err (record { row = 1; kind = kind.Header })
+abbrev pub script_of : List (ℕ × ℕ) → List (List (List ℕ)) → Result (List Event) RowFault
+script_of accounts rows = first_to_last (table_of (script_form accounts) rows)

@@ -1,10 +1,11 @@
 -- The meaning of a setup: its accounts and subscribers, or the first fault.
-use Rattle.std.specs.Prelude.{◌+◌, ◌==◌, ◌&&◌, ◌||◌, ℕ, Bool, not, List, [], ◌∷◌, ◌++◌, length, Result, Ok, Err, if◌then◌else◌, nat_le, nat_lt, codes}
+use Rattle.std.specs.Prelude.{◌==◌, ◌&&◌, ℕ, Bool, List, [], ◌∷◌, ◌++◌, length, Result, Ok, Err, if◌then◌else◌, nat_le, codes}
 use Rattle.std.specs.List.{list_any}
 use Rattle.std.specs.Str.{bytes_eq}
 use Rattle.cap_values.specs.Numbers.{is_number}
 use Rattle.table_core.specs.Fields.{field_in, has_word, number_in}
-use Rattle.table_core.specs.Judging.{after, after_row}
+use Rattle.table_core.specs.Judging.{after}
+use Rattle.table_core.specs.Tables.{TableForm, table_form, table_of}
 use Rattle.table_core.specs.declared.fault.RowFault.{RowFault}
 use Rattle.table_core.specs.declared.fault.RowKind.{RowKind}
 use Rattle.table_core.specs.declared.fault.RowKind.TheVariants as kind
@@ -28,10 +29,6 @@ abbrev pub has_subscriber : List ℕ → List (List ℕ × ℕ) → Bool
 has_subscriber digits subscribers = list_any (λ other. bytes_eq other.0 digits) subscribers
 
 -- ---- fields
-
--- `kind,key,value`
-abbrev pub is_header : List (List ℕ) → Bool
-is_header fields = (length fields == 3) && has_word fields 0 (codes "kind") && has_word fields 1 (codes "key") && has_word fields 2 (codes "value")
 
 -- the number of a party in the field at a place: 1 to 15 digits
 abbrev pub party_in : List (List ℕ) → ℕ → Result (List ℕ) RowKind
@@ -68,29 +65,25 @@ judged earlier (Subscriber digits account) =
     if has_subscriber digits earlier.subscribers then Err kind.Repeated
     else if has_account account earlier.accounts then Ok (Subscriber digits account) else Err kind.Unknown
 
--- more than 10,000 rows, the header not counted, or more than 1,000 accounts
-abbrev pub is_too_many : ℕ → Setup → List (List ℕ) → Bool
-is_too_many number earlier fields = nat_lt 10001 number || (has_word fields 0 (codes "account") && nat_le 1000 (length earlier.accounts))
+-- one account more than the 1,000 that a run may have
+abbrev pub is_too_many : Setup → List (List ℕ) → Bool
+is_too_many earlier fields = has_word fields 0 (codes "account") && nat_le 1000 (length earlier.accounts)
 
--- what the row of this number names, after the earlier rows
-unfoldable pub row_at : ℕ → Setup → List (List ℕ) → Result Named RowKind
-row_at number earlier fields =
-    if not (length fields == 3) then Err kind.Csv else if is_too_many number earlier fields then Err kind.TooManyRows else
-    after (named_in fields) (judged earlier)
+-- what a row of three fields names, after the earlier rows
+unfoldable pub row_at : Setup → List (List ℕ) → Result Named RowKind
+row_at earlier fields = if is_too_many earlier fields then Err kind.TooManyRows else after (named_in fields) (judged earlier)
 
 -- the earlier rows and one more
 abbrev pub with_row : Setup → Named → Setup
 with_row earlier (Account account opening) = record earlier { accounts = earlier.accounts ++ (account, opening) ∷ [] }
 with_row earlier (Subscriber digits account) = record earlier { subscribers = earlier.subscribers ++ (digits, account) ∷ [] }
 
--- the earlier rows, and those from this number on
-unfoldable pub rows_from : ℕ → Setup → List (List (List ℕ)) → Result Setup RowFault
-rows_from number earlier [] = Ok earlier
-rows_from number earlier (fields ∷ rows) =
-    after_row number (row_at number earlier fields) (λ named. rows_from (number + 1) (with_row earlier named) rows)
+-- `kind,key,value`, and 10,000 rows at most; each names what comes to the earlier ones
+abbrev pub setup_form : TableForm Setup RowKind RowFault
+setup_form =
+    table_form ((codes "kind" ∷ codes "key" ∷ codes "value" ∷ []) ∷ []) 10000 (record { accounts = []; subscribers = [] })
+    (λ header earlier fields. after (row_at earlier fields) (λ named. Ok (with_row earlier named)))
 
 -- the setup of a table
-unfoldable pub setup_of : List (List (List ℕ)) → Result Setup RowFault
-setup_of [] = Err (record { row = 1; kind = kind.Header })
-setup_of (header ∷ rows) =
-    if is_header header then rows_from 2 (record { accounts = []; subscribers = [] }) rows else Err (record { row = 1; kind = kind.Header })
+abbrev pub setup_of : List (List (List ℕ)) → Result Setup RowFault
+setup_of rows = table_of setup_form rows

@@ -5,7 +5,7 @@ ghost use Rattle.std.specs.Result.{result_map_both};
 ghost use Rattle.csv.specs.Records.{fields_of};
 ghost use Rattle.table_core.specs.Faults.{Gives};
 ghost use Rattle.table_core.specs.Rows.{rows_of};
-ghost use Rattle.run_texts.specs.Scripts.{is_header, judged_by, last_moment, row_at, script_of};
+ghost use Rattle.run_texts.specs.Scripts.{judged_by, last_moment, row_at, script_of};
 ghost use Rattle.run_texts.specs.Starts.{HasAccounts, HasCalls, Notes};
 ghost use Rattle.run_texts.specs.Views.{are_in_order, event_of, happens_of};
 
@@ -16,10 +16,10 @@ use ssf_core::Moment;
 use std::alloc::{AllocError, Global};
 use std::collections::BTreeSet;
 use std::io::Read;
-use table_core::{RowFault, RowKind, Rows, TableFault, is_word};
+use table_core::{RowKind, Table, TableFault};
 
-/// The last row that a script may have, its header counted: 1,000,000 rows besides it.
-const LAST_ROW: u32 = 1_000_001;
+/// The most rows of a script, its header not counted.
+const MAX_ROWS: u32 = 1_000_000;
 
 /// What a script says, a table with the header `moment,call,what,x,y`, where these are the accounts
 /// of the setup.
@@ -44,40 +44,22 @@ pub fn read_script<I: Read + Drop>(
     ensures in_range { IfOk result (λ rows. All (λ row. row.at ≤ 1000000000000) rows.items) }
     ensures in_order { IfOk result (λ rows. are_in_order 0 rows.items ≡ true) }
 {
-    let mut table = Rows::new(alloc, reader);
-    if !table.next_row()? || !is_header(table.row()) {
-        return Err(TableFault::Row(RowFault {
-            row: 1,
-            kind: RowKind::Header,
-        }));
-    }
+    let headers: &[&[&str]] = &[&["moment", "call", "what", "x", "y"]];
+    let mut table = Table::open(alloc, reader, headers, MAX_ROWS)?;
     let listed = numbers_of(alloc, accounts)?;
     let mut calls = BTreeSet::new(alloc);
     let mut rows = Vec::new(alloc);
     let mut last = 0;
-    let mut number = 2;
     while table.next_row()? {
-        let row = match judge(&listed, &calls, last, number, table.row()) {
+        let row = match judge(&listed, &calls, last, table.row()) {
             Ok(row) => row,
-            Err(kind) => return Err(TableFault::Row(RowFault { row: number, kind })),
+            Err(kind) => return Err(table.fault(kind)),
         };
         note(&mut calls, row.what)?;
         rows.push(row)?;
         last = row.at;
-        number += 1;
     }
     Ok(rows)
-}
-
-fn is_header(row: &ByteRecord) -> bool
-    ensures { result ≡ is_header (fields_of row.now) }
-{
-    row.len() == 5
-        && is_word(row, 0, "moment")
-        && is_word(row, 1, "call")
-        && is_word(row, 2, "what")
-        && is_word(row, 3, "x")
-        && is_word(row, 4, "y")
 }
 
 /// The numbers of these accounts.
@@ -91,30 +73,23 @@ fn numbers_of(alloc: Global, accounts: &[(u32, u64)]) -> Result<BTreeSet<u32>, A
     Ok(numbers)
 }
 
-/// What the row of this number says, after a row of the moment `last` and the calls that have
+/// What a row says, after a row of the moment `last` and the calls that have
 /// started.
 #[tactic(auto, unfolding(crate::specs::Scripts::row_at))]
 fn judge(
     accounts: &BTreeSet<u32>,
     calls: &BTreeSet<u64>,
     last: Moment,
-    number: u32,
     row: &ByteRecord,
 ) -> Result<ScriptRow, RowKind>
+    requires { length (fields_of row.now) ≡ 5 }
     ensures says { (listed : _) (earlier : _) → HasAccounts accounts.now listed
         → HasCalls calls.now earlier → last ≡ last_moment earlier
         → result_map_both event_of (λ kind. kind) result
-        ≡ row_at listed number earlier (fields_of row.now) }
-    ensures early { IfOk result (λ row. number ≤ 1000001) }
+        ≡ row_at listed earlier (fields_of row.now) }
     ensures in_range { IfOk result (λ row. row.at ≤ 1000000000000) }
     ensures in_order { IfOk result (λ row. last ≤ row.at) }
 {
-    if row.len() != 5 {
-        return Err(RowKind::Csv);
-    }
-    if number > LAST_ROW {
-        return Err(RowKind::TooManyRows);
-    }
     let row = read_row(row)?;
     if row.at < last {
         return Err(RowKind::Order);

@@ -7,7 +7,7 @@ ghost use Rattle.table_core.specs.Faults.{Gives};
 ghost use Rattle.table_core.specs.Rows.{rows_of};
 ghost use Rattle.run_texts.specs.Fits.{IsAffordable, SetsUp};
 ghost use Rattle.run_texts.specs.Indexes.{Knows, named_of};
-ghost use Rattle.run_texts.specs.Setups.{account_row, is_header, judged, named_in, row_at, setup_of, subscriber_row};
+ghost use Rattle.run_texts.specs.Setups.{account_row, judged, named_in, row_at, setup_of, subscriber_row};
 ghost use Rattle.run_texts.specs.Views.{setup_in};
 
 use crate::SetupRows;
@@ -19,10 +19,10 @@ use csv::ByteRecord;
 use std::alloc::Global;
 use std::collections::BTreeSet;
 use std::io::Read;
-use table_core::{RowFault, RowKind, Rows, TableFault, is_word};
+use table_core::{RowKind, Table, TableFault, is_word};
 
-/// The last row that a setup may have, its header counted: 10,000 rows besides it.
-const LAST_ROW: u32 = 10_001;
+/// The most rows of a setup, its header not counted.
+const MAX_ROWS: u32 = 10_000;
 
 /// The most accounts of a run.
 const MOST_ACCOUNTS: usize = 1_000;
@@ -41,13 +41,7 @@ pub fn read_setup<I: Read + Drop>(alloc: Global, reader: I) -> Result<SetupRows,
         (λ text. Gives setup_in result (setup_of (rows_of text))) }
     ensures sets_up { IfOk result SetsUp }
 {
-    let mut table = Rows::new(alloc, reader);
-    if !table.next_row()? || !is_header(table.row()) {
-        return Err(TableFault::Row(RowFault {
-            row: 1,
-            kind: RowKind::Header,
-        }));
-    }
+    let mut table = Table::open(alloc, reader, &[&["kind", "key", "value"]], MAX_ROWS)?;
     let mut rows = SetupRows {
         accounts: Vec::new(alloc),
         subscribers: Vec::new(alloc),
@@ -56,37 +50,26 @@ pub fn read_setup<I: Read + Drop>(alloc: Global, reader: I) -> Result<SetupRows,
         accounts: BTreeSet::new(alloc),
         parties: BTreeSet::new(alloc),
     };
-    let mut number = 2;
     while table.next_row()? {
-        let entry = match judge(&rows, &index, number, table.row()) {
+        let entry = match judge(&rows, &index, table.row()) {
             Ok(entry) => entry,
-            Err(kind) => return Err(TableFault::Row(RowFault { row: number, kind })),
+            Err(kind) => return Err(table.fault(kind)),
         };
         keep(&mut rows, &mut index, entry)?;
-        number += 1;
     }
     Ok(rows)
 }
 
-fn is_header(row: &ByteRecord) -> bool
-    ensures { result ≡ is_header (fields_of row.now) }
-{
-    row.len() == 3 && is_word(row, 0, "kind") && is_word(row, 1, "key") && is_word(row, 2, "value")
-}
-
-/// What the row of this number names, after the rows so far.
+/// What a row names, after the rows so far.
 #[tactic(auto, unfolding(crate::specs::Setups::row_at))]
-fn judge(rows: &SetupRows, index: &Index, number: u32, row: &ByteRecord) -> Result<Entry, RowKind>
-    requires { Knows index.now (setup_in rows.now) }
+fn judge(rows: &SetupRows, index: &Index, row: &ByteRecord) -> Result<Entry, RowKind>
+    requires fields { length (fields_of row.now) ≡ 3 }
+    requires knows { Knows index.now (setup_in rows.now) }
     ensures names { result_map_both named_of (λ kind. kind) result
-        ≡ row_at number (setup_in rows.now) (fields_of row.now) }
+        ≡ row_at (setup_in rows.now) (fields_of row.now) }
     ensures affordable { IfOk result IsAffordable }
 {
-    if row.len() != 3 {
-        return Err(RowKind::Csv);
-    }
-    let is_account = is_word(row, 0, "account");
-    if number > LAST_ROW || (is_account && rows.accounts.len() >= MOST_ACCOUNTS) {
+    if is_word(row, 0, "account") && rows.accounts.len() >= MOST_ACCOUNTS {
         return Err(RowKind::TooManyRows);
     }
     let entry = read_entry(row)?;

@@ -1,3 +1,6 @@
 pub mod DecimalLemmas
 pub mod FieldLemmas
+pub mod HeaderLemmas
+pub mod Known
 pub mod RowLemmas
+pub mod TableLemmas

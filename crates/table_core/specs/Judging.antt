@@ -1,5 +1,5 @@
 -- How the meaning of a table is put together from the meanings of its rows.
-use Rattle.std.specs.Prelude.{ℕ, List, ◌++◌, Result, Ok, Err}
+use Rattle.std.specs.Prelude.{ℕ, List, [], ◌∷◌, ◌++◌, Result, Ok, Err}
 use Rattle.table_core.specs.declared.fault.RowFault.{RowFault}
 use Rattle.table_core.specs.declared.fault.RowKind.{RowKind}
 
@@ -17,3 +17,7 @@ after_row number (Err kind) next = Err (record { row = number; kind = kind })
 abbrev pub with_front : {X E : Type 0} → List X → Result (List X) E → Result (List X) E
 with_front front (Ok rest) = Ok (front ++ rest)
 with_front front (Err why) = Err why
+
+-- what was read so far, and one more
+abbrev pub adds : {X K : Type 0} → (List X → List (List ℕ) → Result X K) → List X → List (List ℕ) → Result (List X) K
+adds one earlier fields = after (one earlier fields) (λ x. Ok (earlier ++ x ∷ []))

@@ -4,3 +4,4 @@ pub mod Fields
 pub mod Judging
 pub mod Reading
 pub mod Rows
+pub mod Tables

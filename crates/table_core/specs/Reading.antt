@@ -1,8 +1,15 @@
--- What a clause reads of a reader of rows.
-use Rattle.std.specs.Prelude.{Option}
-use Rattle.csv.specs.Records.{Row}
+-- What a clause reads of a reader of rows, and of a table.
+use Rattle.std.specs.Prelude.{◌≡◌, ◌<◌, ◌≤◌, ◌+◌, ◌-◌, ℕ, Bool, true, false, List, [], ◌∷◌, length, Option, Some, None, Result, Ok, Err, ⊤}
+use Rattle.csv.specs.Records.{Row, fields_of}
+use Rattle.table_core.specs.Rows.{Fields, HasLeft}
+use Rattle.table_core.specs.Tables.{own_fault, which_header, width_at}
+use Rattle.table_core.specs.declared.fault.RowKind.{RowKind}
+use Rattle.table_core.specs.declared.fault.RowKind.TheVariants as kind
+use Rattle.table_core.specs.declared.fault.TableFault.{TableFault}
+use Rattle.table_core.specs.declared.fault.TableFault.TheVariants as fault
 use Rattle.table_core.specs.declared.rows.ReadFault.{ReadFault}
 use Rattle.table_core.specs.declared.rows.Rows.{Rows}
+use Rattle.table_core.specs.declared.table.Table.{Table}
 
 -- the row that was taken last
 abbrev pub row_of : {R : Type 0} → Rows R → Row
@@ -11,3 +18,94 @@ row_of rows = rows.row
 -- the fault that reading has met
 abbrev pub fault_of : {R : Type 0} → Rows R → Option ReadFault
 fault_of rows = rows.fault
+
+-- ---- tables
+
+-- the row that was taken last, its number, and how many fields the header has
+abbrev pub row_of_table : {R : Type 0} → Table R → Row
+row_of_table table = table.rows.row
+
+abbrev pub number_of : {R : Type 0} → Table R → ℕ
+number_of table = table.number
+
+abbrev pub width_of : {R : Type 0} → Table R → ℕ
+width_of table = table.width
+
+-- which of the headers the table has, and how many rows it may have besides
+abbrev pub header_of : {R : Type 0} → Table R → ℕ
+header_of table = table.header
+
+abbrev pub limit_of : {R : Type 0} → Table R → ℕ
+limit_of table = table.limit
+
+-- the fault that reading has met
+abbrev pub stopped_by : {R : Type 0} → Table R → Option TableFault
+stopped_by table = table.fault
+
+-- how many rows more a table may have
+abbrev pub room_of : {R : Type 0} → Table R → ℕ
+room_of table = table.limit + 1 - table.number
+
+-- the rows that are left to a table, where the bytes below are known
+abbrev pub HasRows : {R : Type 0} → (R → Option (List ℕ)) → Table R → List Fields → Type 0
+HasRows remaining table left = (table.fault ≡ None) × HasLeft remaining table.rows left
+
+-- a table stands below the header that it has
+pub record IsAtFirst {R : Type 0} (headers : List Fields) (most : ℕ) (table : Table R) : Type 0 where
+  pub limit : table.limit ≡ most
+  pub number : table.number ≡ 1
+  pub header : table.header < length headers
+  pub width : table.width ≡ width_at headers table.header
+
+-- the first header that the first row is
+abbrev pub first_header : List Fields → List Fields → Option ℕ
+first_header headers [] = None
+first_header headers (first ∷ rows) = which_header headers first
+
+-- a table has the header that the first of the rows is, and the others are left. A fault of its own is that the first is no header
+abbrev pub Opens : {R : Type 0} → (R → Option (List ℕ)) → List Fields → Result (Table R) TableFault → List Fields → Type 0
+Opens remaining headers (Ok table) rows =
+    (first : Fields) × (left : List Fields) × (rows ≡ first ∷ left) × (which_header headers first ≡ Some table.header) × (table.width ≡ length first)
+    × HasRows remaining table left
+Opens remaining headers (Err (fault.Row refused)) rows = (refused ≡ record { row = 1; kind = kind.Header }) × (first_header headers rows ≡ None)
+Opens remaining headers (Err fault.Device) rows = ⊤
+Opens remaining headers (Err fault.OutOfMemory) rows = ⊤
+
+-- the first of the rows that are left has the fault
+pub record IsRefused {R : Type 0} (table : Table R) (left : List Fields) (row : ℕ) (why : RowKind) : Type 0 where
+  pub fields : Fields
+  pub rest : List Fields
+  pub left_are : left ≡ fields ∷ rest
+  pub row_is : row ≡ table.number + 1
+  pub has : own_fault table.limit table.width (table.number + 1) fields ≡ Some why
+
+-- a row was found: it was the first of those left. None was found: none was left. It was refused: the first of those left has the fault
+abbrev pub StepsBy : {R : Type 0} → (R → Option (List ℕ)) → Table R → Table R → List Fields → Result Bool TableFault → Type 0
+StepsBy remaining before after left (Ok true) = (rest : List Fields) × (left ≡ fields_of after.rows.row ∷ rest) × HasRows remaining after rest
+StepsBy remaining before after left (Ok false) = left ≡ []
+StepsBy remaining before after left (Err (fault.Row refused)) = IsRefused before left refused.row refused.kind
+StepsBy remaining before after left (Err fault.Device) = ⊤
+StepsBy remaining before after left (Err fault.OutOfMemory) = ⊤
+
+-- the same, whatever rows were left before
+abbrev pub Steps : {R : Type 0} → (R → Option (List ℕ)) → Table R → Table R → Result Bool TableFault → Type 0
+Steps remaining before after found = (left : List Fields) → HasRows remaining before left → StepsBy remaining before after left found
+
+-- a table has the same header and the same limit
+pub record IsSameTable {R : Type 0} (before after : Table R) : Type 0 where
+  pub header : after.header ≡ before.header
+  pub width : after.width ≡ before.width
+  pub limit : after.limit ≡ before.limit
+
+-- the next row is one that the table may have
+pub record IsNextRow {R : Type 0} (before after : Table R) : Type 0 where
+  pub same : IsSameTable before after
+  pub number : after.number ≡ before.number + 1
+  pub within : after.number ≤ after.limit + 1
+  pub width : length (fields_of after.rows.row) ≡ after.width
+
+-- where no row was taken, the number stays
+abbrev pub Moves : {R : Type 0} → Table R → Table R → Result Bool TableFault → Type 0
+Moves before after (Ok true) = IsNextRow before after
+Moves before after (Ok false) = IsSameTable before after × (after.number ≡ before.number)
+Moves before after (Err why) = IsSameTable before after × (after.number ≡ before.number)

@@ -1,25 +1,10 @@
 //! How a table that is read ends where its reader fails.
 
+use crate::failing::Failing;
 use crate::looking::gives;
 use crate::tariffs::{TABLE, fault_of};
-use std::io::{self, ErrorKind, Read};
 use table_core::{ReadFault, Rows};
 use tariff_core::{TariffFault, TariffKind};
-
-/// A reader that gives some bytes and then fails.
-#[derive(Drop)]
-struct Failing<'a> {
-    bytes: &'a [u8],
-}
-
-impl Read for Failing<'_> {
-    fn read(&mut self, buf: &mut [u8]) -> io::Result<usize> {
-        if self.bytes.is_empty() {
-            return Err(io::Error::from(ErrorKind::Other));
-        }
-        self.bytes.read(buf)
-    }
-}
 
 #[test]
 fn rows_keep_the_fault(rt: HostRuntime) {

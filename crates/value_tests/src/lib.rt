@@ -5,11 +5,15 @@
 #[cfg(test)]
 mod failed_readers;
 #[cfg(test)]
+mod failing;
+#[cfg(test)]
 mod faults;
 #[cfg(test)]
 mod looking;
 #[cfg(test)]
 mod prices;
+#[cfg(test)]
+mod table_reading;
 #[cfg(test)]
 mod tables;
 #[cfg(test)]

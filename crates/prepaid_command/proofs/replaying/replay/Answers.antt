@@ -1,71 +1,66 @@
-use Rattle.std.proofs.Common.{◌∙◌, refl, reverse, string_bytes, sym, arith}
+use Rattle.std.proofs.Common.{[], ◌∷◌, ◌++◌, ap, refl, string_bytes, sym}
 use Rattle.account_core.specs.Events.{asked_of}
-use Rattle.csv.specs.Records.{fields_of}
 use Rattle.table_core.specs.Rows.{rows_of}
-use Rattle.prepaid_command.proofs.Known.{at_known, if_known}
-use Rattle.prepaid_command.proofs.ReplayLemmas.{IsStepOf, header_missing, header_read, header_wrong, is_early, none_left, row_asks, row_refused, step, step_of}
+use Rattle.table_core.proofs.Known.{map_known}
+use Rattle.table_core.proofs.TableLemmas.{ended, not_opened, opened, refused, refuses, row_width, stopped, taken, told}
+use Rattle.prepaid_command.specs.AskingOf.{asking_of}
+use Rattle.prepaid_command.specs.Asks.{asks_form, asks_of}
+use Rattle.prepaid_command.specs.Replays.{lines_of, replayed}
+use Rattle.prepaid_command.proofs.ReplayLemmas.{none_replayed, one_replayed, step}
 use Rattle.prepaid_command.proofs.replaying.replay.Goals as goal
-use Rattle.prepaid_command.proofs.replaying.replay.Goals.{then-not-branch-via-then-not-branch, then-not-branch-via-else-not-branch+then-not-is_header}
 
-pub returns-then-not-branch : goal.returns-then-not-branch
-returns-then-not-branch g c = if_known _ _ (λ text known.
-    let has = at_known _ _ text known c.new-rows.ensures.all in
-    let takes = c.in_ok-next_row.ensures.takes (rows_of text) has in
-    elim c.then-not-branch.branch [
-      | then-not-branch-via-then-not-branch w ↦ header_missing c.args.opening c.args.limit (rows_of text) (rw w.if-not-branch.true at takes)
-      | then-not-branch-via-else-not-branch+then-not-is_header w ↦
-          let (rest, rows, left) = rw w.if-not-branch.false at takes in
-          header_wrong c.args.opening c.args.limit (rows_of text) rest (fields_of c.next_row.new.self.row) rows (rw w.row.ensures at (sym w.if-not-is_header.ensures))
-    ])
+pub returns-in_err-table : goal.returns-in_err-table
+returns-in_err-table g c =
+    told (g.I.Read.remaining c.args.reader) _ c.from_residual.result c.in_err-table.field-0.0 _ (λ text. replayed c.args.opening c.args.limit (rows_of text)) c.from_residual.ensures.1
+    (not_opened asks_form g.I.Read.remaining _ c.in_err-table.field-0.0 c.in_err-table.ensures.opens)
+    (λ text. refuses asks_form (λ row why. refl) (lines_of c.args.opening c.args.limit []) (λ why. refl) c.in_err-table.field-0.0 (asks_of (rows_of text)))
 
 pub loop-text-init : goal.loop-text-init
 loop-text-init g c = (
-  omega arith,
-  rw c.new-account.ensures refl,
-  rw c.new-account.ensures refl,
-  λ text known.
-      let has = at_known _ _ text known c.new-rows.ensures.all in
-      let (rest, rows, left) = rw c.if-not-branch.false at c.in_ok-next_row.ensures.takes (rows_of text) has in
-      let header = rw c.row.ensures at (sym c.if-not-is_header.ensures) in (
-        rest,
-        left,
-        rw (c.new-text.ensures.bytes, c.new-account.ensures)
-            (header_read c.args.opening c.args.limit (rows_of text) rest (fields_of c.next_row.new.self.row) rows header),
-      ),
+  [],
+  opened asks_form g.I.Read.remaining _ c.in_ok-table.table c.in_ok-table.ensures.first c.in_ok-table.ensures.opens,
+  rw c.new-text.ensures.bytes
+      (none_replayed c.args.opening c.args.limit c.new-account.result (rw c.new-account.ensures refl) (rw c.new-account.ensures refl) (rw c.new-account.ensures refl)),
 )
 
-pub returns-in-Err : goal.returns-in-Err
-returns-in-Err g c = if_known _ _ (λ text known.
-    let (left, has, so_far) = c.loop-text.invariant.3 text known in
-    let (rest, rows, more) = rw c.if-branch.true at c.in_ok-next_row-2.ensures.takes left has in
-    let refused = rw c.row-in-loop-text.ensures at (sym c.in-Err.ensures) in
-    so_far ∙ row_refused c.args.opening c.args.limit c.loop-text.number _ (string_bytes c.loop-text.text) left rest _ c.in-Err.kind rows refused)
+pub returns-in_err-next_row : goal.returns-in_err-next_row
+returns-in_err-next_row g c =
+    let (asks, read, replay) = c.loop-text.invariant in
+    told (g.I.Read.remaining c.args.reader) _ c.from_residual-in_err-next_row.result c.in_err-next_row.field-0.0 _ (λ text. replayed c.args.opening c.args.limit (rows_of text)) c.from_residual-in_err-next_row.ensures.1
+    (stopped asks_form g.I.Read.remaining _ c.loop-text.table c.next_row.new.self asks read c.in_err-next_row.field-0.0 c.in_err-next_row.ensures.steps)
+    (λ text. refuses asks_form (λ row why. refl) (lines_of c.args.opening c.args.limit []) (λ why. refl) c.in_err-next_row.field-0.0 (asks_of (rows_of text)))
 
-pub loop-text-smaller : goal.loop-text-smaller
-loop-text-smaller g c = omega (arith, is_early c.loop-text.number _ _ (sym c.in-Ok.ensures))
+pub read_ask-requires : goal.read_ask-requires
+read_ask-requires g c =
+    let (asks, read, replay) = c.loop-text.invariant in
+    rw c.row.ensures (row_width asks_form g.I.Read.remaining _ c.loop-text.table c.next_row.new.self asks read _ refl (rw c.if-branch.true at c.in_ok-next_row.ensures.moves))
+
+pub returns-in-Err : goal.returns-in-Err
+returns-in-Err g c =
+    let (asks, read, replay) = c.loop-text.invariant in
+    let why = rw c.row.ensures at (sym c.in-Err.ensures) in
+    rw c.fault.ensures (map_known (g.I.Read.remaining c.args.reader) _ _
+    (refused asks_form g.I.Read.remaining _ c.loop-text.table c.next_row.new.self asks read c.in-Err.kind
+    (rw c.if-branch.true at c.in_ok-next_row.ensures.moves) (rw c.if-branch.true at c.in_ok-next_row.ensures.steps) (rw why refl))
+    (λ text is. ap (lines_of c.args.opening c.args.limit []) is))
 
 pub loop-text-preserved : goal.loop-text-preserved
 loop-text-preserved g c =
+    let (asks, read, replay) = c.loop-text.invariant in
     let ask = c.in-Ok.ask in
-    let stepped : IsStepOf c.args.opening c.args.limit c.loop-text.account c.apply.new.self (record { seat = ask.seat; asked = asked_of ask.op }) c.apply.result =
-    step_of c.args.opening c.args.limit c.loop-text.account c.apply.new.self _ c.apply.result c.loop-text.invariant.1 c.loop-text.invariant.2
-    (step c.loop-text.account c.apply.new.self ask.seat (asked_of ask.op) c.apply.result
-    c.apply.ensures.answered c.apply.ensures.entered c.apply.ensures.admitted c.apply.ensures.kept c.apply.ensures.refused c.in_ok-write_answer.ensures.told) in (
-      omega (arith, is_early c.loop-text.number _ _ (sym c.in-Ok.ensures)),
-      stepped.opened,
-      stepped.limited,
-      λ text known.
-          let (left, has, so_far) = c.loop-text.invariant.3 text known in
-          let (rest, rows, more) = rw c.if-branch.true at c.in_ok-next_row-2.ensures.takes left has in
-          let read = rw c.row-in-loop-text.ensures at (sym c.in-Ok.ensures) in (
-            rest,
-            more,
-            rw (c.in_ok-write_answer.ensures.line, stepped.line, stepped.history)
-                (so_far ∙ row_asks c.args.opening c.args.limit c.loop-text.number (reverse c.loop-text.account.history) (string_bytes c.loop-text.text) left rest _ _ rows read),
-          ),
+    let asked = rw c.row.ensures at (sym c.in-Ok.ensures) in (
+      asks ++ asking_of ask ∷ [],
+      taken asks_form g.I.Read.remaining _ c.loop-text.table c.next_row.new.self asks read (asks ++ asking_of ask ∷ [])
+          (rw c.if-branch.true at c.in_ok-next_row.ensures.moves) (rw c.if-branch.true at c.in_ok-next_row.ensures.steps) (rw asked refl),
+      rw c.in_ok-write_answer.ensures.line
+          (one_replayed c.args.opening c.args.limit (string_bytes c.loop-text.text) c.loop-text.account c.apply.new.self asks (asking_of ask) c.apply.result replay
+          (step c.loop-text.account c.apply.new.self ask.seat (asked_of ask.op) c.apply.result
+          c.apply.ensures.answered c.apply.ensures.entered c.apply.ensures.admitted c.apply.ensures.kept c.apply.ensures.refused c.in_ok-write_answer.ensures.told)),
     )
 
 pub returns : goal.returns
-returns g c = if_known _ _ (λ text known.
-    let (left, has, so_far) = c.loop-text.invariant.3 text known in
-    so_far ∙ none_left c.args.opening c.args.limit c.loop-text.number _ (string_bytes c.loop-text.text) left (rw c.if-branch.false at c.in_ok-next_row-2.ensures.takes left has))
+returns g c =
+    let (asks, read, replay) = c.loop-text.invariant in
+    map_known (g.I.Read.remaining c.args.reader) _ _
+    (ended asks_form g.I.Read.remaining _ c.loop-text.table c.next_row.new.self asks read (rw c.if-branch.false at c.in_ok-next_row.ensures.steps))
+    (λ text is. rw (is, replay.lines) refl)

@@ -1,62 +1,53 @@
-use Rattle.std.proofs.Common.{◌∙◌, sym, arith}
-use Rattle.csv.specs.Records.{fields_of}
+use Rattle.std.proofs.Common.{refl, sym}
 use Rattle.table_core.specs.Rows.{rows_of}
+use Rattle.table_core.specs.Tables.{table_of}
+use Rattle.table_core.proofs.TableLemmas.{ended, not_opened, opened, refused, refuses, row_width, stopped, taken, told}
 use Rattle.tariff_core.specs.RatesOf.{rates_of}
-use Rattle.prepaid_command.proofs.Known.{at_known, if_known}
-use Rattle.prepaid_command.proofs.ReportLemmas.{header_missing, header_read, header_wrong, is_report, none_left, row_read, row_refused}
+use Rattle.prepaid_command.specs.Reports.{last_after, reports_form, reports_of}
+use Rattle.prepaid_command.proofs.ReportLemmas.{last_more}
 use Rattle.prepaid_command.proofs.reports.read_reports.Goals as goal
-use Rattle.prepaid_command.proofs.reports.read_reports.Goals.{then-not-branch-via-then-not-branch, then-not-branch-via-else-not-branch+then-not-is_header}
 
-pub returns-then-not-branch : goal.returns-then-not-branch
-returns-then-not-branch g c = if_known _ _ (λ text known.
-    let has = at_known _ _ text known c.new-rows.ensures.all in
-    let takes = c.in_ok-next_row.ensures.takes (rows_of text) has in
-    let plan = rates_of c.args.plan.now in
-    elim c.then-not-branch.branch [
-      | then-not-branch-via-then-not-branch w ↦ header_missing plan (rows_of text) (rw w.if-not-branch.true at takes)
-      | then-not-branch-via-else-not-branch+then-not-is_header w ↦
-          let (rest, rows, left) = rw w.if-not-branch.false at takes in
-          header_wrong plan (rows_of text) rest (fields_of c.next_row.new.self.row) rows (rw w.row.ensures at (sym w.if-not-is_header.ensures))
-    ])
+pub returns-in_err-table : goal.returns-in_err-table
+returns-in_err-table g c =
+    let form = reports_form (rates_of c.args.plan.now) in
+    told (g.I.Read.remaining c.args.reader) _ c.from_residual.result c.in_err-table.field-0.0 _ (λ text. reports_of (rates_of c.args.plan.now) (rows_of text)) c.from_residual.ensures.1
+    (not_opened form g.I.Read.remaining _ c.in_err-table.field-0.0 c.in_err-table.ensures.opens)
+    (λ text. refuses form (λ row why. refl) (λ all. all) (λ why. refl) c.in_err-table.field-0.0 (table_of form (rows_of text)))
 
 pub loop-reports-init : goal.loop-reports-init
-loop-reports-init g c = (
-  omega arith,
-  λ text known.
-      let has = at_known _ _ text known c.new-rows.ensures.all in
-      let (rest, rows, left) = rw c.if-not-branch.false at c.in_ok-next_row.ensures.takes (rows_of text) has in
-      let header = rw c.row.ensures at (sym c.if-not-is_header.ensures) in
-      (rest, left, rw c.new-reports.ensures.items (header_read (rates_of c.args.plan.now) (rows_of text) rest (fields_of c.next_row.new.self.row) rows header)),
-)
+unfolding last_after
+loop-reports-init g c =
+    rw c.new-reports.ensures.items
+    (refl, opened (reports_form (rates_of c.args.plan.now)) g.I.Read.remaining _ c.in_ok-table.table c.in_ok-table.ensures.first c.in_ok-table.ensures.opens)
+
+pub returns-in_err-next_row : goal.returns-in_err-next_row
+returns-in_err-next_row g c =
+    let form = reports_form (rates_of c.args.plan.now) in
+    told (g.I.Read.remaining c.args.reader) _ c.from_residual-in_err-next_row.result c.in_err-next_row.field-0.0 _ (λ text. reports_of (rates_of c.args.plan.now) (rows_of text)) c.from_residual-in_err-next_row.ensures.1
+    (stopped form g.I.Read.remaining _ c.loop-reports.table c.next_row.new.self _ c.loop-reports.invariant.1 c.in_err-next_row.field-0.0 c.in_err-next_row.ensures.steps)
+    (λ text. refuses form (λ row why. refl) (λ all. all) (λ why. refl) c.in_err-next_row.field-0.0 (table_of form (rows_of text)))
+
+pub report-requires : goal.report-requires
+report-requires g c =
+    rw c.row.ensures (row_width (reports_form (rates_of c.args.plan.now)) g.I.Read.remaining _ c.loop-reports.table c.next_row.new.self _ c.loop-reports.invariant.1 _ refl
+    (rw c.if-branch.true at c.in_ok-next_row.ensures.moves))
 
 pub returns-in-Err : goal.returns-in-Err
-returns-in-Err g c = if_known _ _ (λ text known.
-    let (left, has, so_far) = c.loop-reports.invariant.1 text known in
-    let (rest, rows, more) = rw c.if-branch.true at c.in_ok-next_row-2.ensures.takes left has in
-    let refused = rw c.row-in-loop-reports.ensures at (sym c.in-Err.ensures) in
-    so_far ∙ row_refused _ c.loop-reports.number c.loop-reports.last c.loop-reports.reports.items left rest _ c.in-Err.kind rows refused)
-
-pub loop-reports-smaller : goal.loop-reports-smaller
-loop-reports-smaller g c =
-    let row = is_report (rates_of c.args.plan.now) c.loop-reports.number c.loop-reports.last c.in-Ok.times _ (sym c.in-Ok.ensures) in
-    omega (arith, row.within)
+returns-in-Err g c =
+    let read = rw (c.row.ensures, c.loop-reports.invariant.0) at (sym c.in-Err.ensures) in
+    rw c.fault.ensures (refused (reports_form (rates_of c.args.plan.now)) g.I.Read.remaining _ c.loop-reports.table c.next_row.new.self _ c.loop-reports.invariant.1 c.in-Err.kind
+    (rw c.if-branch.true at c.in_ok-next_row.ensures.moves) (rw c.if-branch.true at c.in_ok-next_row.ensures.steps) (rw read refl))
 
 pub loop-reports-preserved : goal.loop-reports-preserved
 loop-reports-preserved g c =
-    let row = is_report (rates_of c.args.plan.now) c.loop-reports.number c.loop-reports.last c.in-Ok.times _ (sym c.in-Ok.ensures) in (
-      omega (arith, row.within),
-      λ text known.
-          let (left, has, so_far) = c.loop-reports.invariant.1 text known in
-          let (rest, rows, more) = rw c.if-branch.true at c.in_ok-next_row-2.ensures.takes left has in
-          let read = rw c.row-in-loop-reports.ensures at (sym c.in-Ok.ensures) in (
-            rest,
-            more,
-            rw c.in_ok-push.ensures.items
-                (so_far ∙ row_read _ c.loop-reports.number c.loop-reports.last c.in-Ok.times c.loop-reports.reports.items left rest _ rows read),
-          ),
+    let read = rw (c.row.ensures, c.loop-reports.invariant.0) at (sym c.in-Ok.ensures) in
+    rw c.in_ok-push.ensures.items (
+      sym (last_more _ c.loop-reports.reports.items c.in-Ok.times),
+      taken (reports_form (rates_of c.args.plan.now)) g.I.Read.remaining _ c.loop-reports.table c.next_row.new.self _ c.loop-reports.invariant.1 _
+          (rw c.if-branch.true at c.in_ok-next_row.ensures.moves) (rw c.if-branch.true at c.in_ok-next_row.ensures.steps) (rw read refl),
     )
 
 pub returns : goal.returns
-returns g c = if_known _ _ (λ text known.
-    let (left, has, so_far) = c.loop-reports.invariant.1 text known in
-    so_far ∙ none_left _ c.loop-reports.number c.loop-reports.last c.loop-reports.reports.items left (rw c.if-branch.false at c.in_ok-next_row-2.ensures.takes left has))
+returns g c =
+    ended (reports_form (rates_of c.args.plan.now)) g.I.Read.remaining _ c.loop-reports.table c.next_row.new.self _ c.loop-reports.invariant.1
+    (rw c.if-branch.false at c.in_ok-next_row.ensures.steps)

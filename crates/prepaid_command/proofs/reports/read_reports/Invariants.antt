@@ -1,18 +1,17 @@
-use Rattle.std.proofs.Common.{◌≡◌, ◌-◌, ◌≤◌, ℕ, List, Some}
-use Rattle.table_core.specs.Judging.{with_front}
-use Rattle.table_core.specs.Rows.{HasLeft, rows_of}
+use Rattle.std.proofs.Common.{◌≡◌}
+use Rattle.table_core.specs.Reading.{room_of}
+use Rattle.table_core.proofs.TableLemmas.{IsRead}
 use Rattle.tariff_core.specs.RatesOf.{rates_of}
-use Rattle.prepaid_command.specs.Reports.{reports_from, reports_of}
+use Rattle.tariff_core.specs.Times.{no_times}
+use Rattle.prepaid_command.specs.Reports.{last_after, reports_form}
 use Rattle.prepaid_command.proofs.reports.read_reports.Given as goal
 
--- the reports so far and those in the rows that are left are the reports of the table
+-- the reports so far
 abbrev pub invariant-loop-reports : goal.invariant-loop-reports
 invariant-loop-reports g l =
-    (l.number ≤ 10002)
-    × ((text : List ℕ) → g.I.Read.remaining l.fn.reader ≡ Some text
-    → (left : List (List (List ℕ))) × HasLeft g.I.Read.remaining l.rows left
-    × (reports_of (rates_of l.plan) (rows_of text) ≡ with_front l.reports.items (reports_from (rates_of l.plan) l.number l.last left)))
+    (l.last ≡ last_after no_times l.reports.items)
+    × IsRead (reports_form (rates_of l.plan)) g.I.Read.remaining (g.I.Read.remaining l.fn.reader) l.table l.reports.items
 
 -- a row past the last one that a table may have is refused
 abbrev pub decreases-loop-reports : goal.decreases-loop-reports
-decreases-loop-reports g l = 10002 - l.number
+decreases-loop-reports g l = room_of l.table

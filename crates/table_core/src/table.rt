@@ -1,0 +1,175 @@
+//! A table that is read row after row: its header first, and then the rows that it may have.
+
+ghost use Rattle.std.specs.Prelude.{◌≡◌, ◌≤◌, ◌+◌, Some, IfErr, IfOk, IfSome};
+ghost use Rattle.std.specs.List.{position};
+ghost use Rattle.csv.specs.Records.{fields_of};
+ghost use Rattle.table_core.specs.Rows.{rows_of};
+ghost use Rattle.table_core.specs.Tables.{headers_of, is_header, names_of};
+ghost use Rattle.table_core.specs.declared.fault.TableFault.TheVariants as out;
+
+use crate::{RowFault, RowKind, Rows, TableFault, is_word};
+use csv::ByteRecord;
+use std::alloc::Global;
+use std::io::Read;
+
+/// The rows of a table below its header, judged one after another: each has as many fields as the
+/// header, and there are no more of them than the table may have.
+///
+/// The header is row 1. After a fault no row is read: each later call answers the fault again.
+pub struct Table<R> {
+    rows: Rows<R>,
+    header: usize,
+    width: usize,
+    limit: u32,
+    number: u32,
+    fault: Option<TableFault>,
+    ghost within: { number ≤ limit + 1 },
+    ghost counted: { limit ≤ 4294967293 },
+}
+
+// Written out, since a derived one is proved field by field again wherever a table is let go.
+impl<R: Drop> Drop for Table<R> {
+    fn drop(self) {
+        let Table {
+            rows: _rows,
+            header: _header,
+            width: _width,
+            limit: _limit,
+            number: _number,
+            fault: _fault,
+        } = self;
+    }
+}
+
+impl<R: Read + Drop> Table<R> {
+    ghost use Rattle.table_core.specs.Reading.{IsAtFirst, Moves, Opens, Steps, header_of, number_of, row_of_table, stopped_by};
+
+    /// The table of `reader`, whose first row is one of these headers, and which has at most `limit`
+    /// rows besides it. `Header` is the fault of row 1.
+    pub fn open(
+        alloc: Global,
+        reader: R,
+        headers: &[&[&str]],
+        limit: u32,
+    ) -> Result<Table<R>, TableFault>
+        requires { limit ≤ 4294967293 }
+        ensures opens { IfSome (R.remaining reader)
+            (λ text. Opens R.remaining (headers_of headers.now) result (rows_of text)) }
+        ensures first { IfOk result (IsAtFirst (headers_of headers.now) limit) }
+    {
+        let no_header = TableFault::Row(RowFault {
+            row: 1,
+            kind: RowKind::Header,
+        });
+        let mut rows = Rows::new(alloc, reader);
+        if !rows.next_row()? {
+            return Err(no_header);
+        }
+        let header = which_header(headers, rows.row()).ok_or(no_header)?;
+        Ok(Table {
+            width: rows.row().len(),
+            rows,
+            header,
+            limit,
+            number: 1,
+            fault: None,
+        })
+    }
+
+    /// Takes the next row, which is then `row`, or answers false where none is left.
+    ///
+    /// A row has the fault `Csv` where it has another number of fields than the header, and then
+    /// `TooManyRows` where the table has more rows than it may have.
+    pub fn next_row(&mut self) -> Result<bool, TableFault>
+        ensures steps { Steps R.remaining self.old self.new result }
+        ensures moves { Moves self.old self.new result }
+        ensures fault { IfErr result (λ fault. stopped_by self.new ≡ Some fault) }
+        ensures stays { IfSome (stopped_by self.old) (λ fault. result ≡ Err fault) }
+    {
+        if let Some(fault) = self.fault {
+            return Err(fault);
+        }
+        let found = self.take_row();
+        self.fault = found.err();
+        found
+    }
+
+    fn take_row(&mut self) -> Result<bool, TableFault>
+        ensures steps { Steps R.remaining self.old self.new result }
+        ensures moves { Moves self.old self.new result }
+        ensures same { stopped_by self.new ≡ stopped_by self.old }
+    {
+        if !self.rows.next_row()? {
+            return Ok(false);
+        }
+        let row = self.number + 1;
+        if self.rows.row().len() != self.width {
+            return Err(TableFault::Row(RowFault {
+                row,
+                kind: RowKind::Csv,
+            }));
+        }
+        if self.number > self.limit {
+            return Err(TableFault::Row(RowFault {
+                row,
+                kind: RowKind::TooManyRows,
+            }));
+        }
+        self.number = row;
+        Ok(true)
+    }
+
+    /// The row that was taken last.
+    pub fn row(&self) -> &ByteRecord
+        ensures { result.now ≡ row_of_table self.now }
+    {
+        self.rows.row()
+    }
+
+    /// The number of that row.
+    pub fn number(&self) -> u32
+        ensures { result ≡ number_of self.now }
+    {
+        self.number
+    }
+
+    /// Which of the headers the table has, from 0.
+    pub fn header(&self) -> usize
+        ensures { result ≡ header_of self.now }
+    {
+        self.header
+    }
+
+    /// The fault of the row that was taken last.
+    pub fn fault(&self, kind: RowKind) -> TableFault
+        ensures { result ≡ out.Row (record { row = number_of self.now; kind = kind }) }
+    {
+        TableFault::Row(RowFault {
+            row: self.number,
+            kind,
+        })
+    }
+}
+
+/// The first of these headers that a row is.
+fn which_header(headers: &[&[&str]], row: &ByteRecord) -> Option<usize>
+    ensures { result
+        ≡ position (λ names. is_header (names_of names.now) (fields_of row.now)) headers.now }
+{
+    headers.iter().position(|names| is_header(names, row))
+}
+
+/// Whether a row has these fields, in this order.
+fn is_header(names: &[&str], row: &ByteRecord) -> bool
+    ensures { result ≡ is_header (names_of names.now) (fields_of row.now) }
+{
+    if row.len() != names.len() {
+        return false;
+    }
+    for (place, name) in names.iter().enumerate() {
+        if !is_word(row, place, name) {
+            return false;
+        }
+    }
+    true
+}

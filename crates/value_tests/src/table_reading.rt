@@ -1,0 +1,77 @@
+//! A table with two headers, read to its end or to its first fault.
+
+use crate::failing::Failing;
+use crate::looking::gives;
+use std::alloc::Global;
+use std::io::Read;
+use table_core::{RowFault, RowKind, Table, TableFault, number};
+
+/// What a table comes to: its header, the number of its last row, and the last field of that row.
+type Last = (usize, u32, u64);
+
+/// Texts of tables that may have three rows, and what each comes to, or its fault.
+const TABLES: [(&[u8], Result<Last, (u32, RowKind)>); 16] = [
+    (b"a,b\n", Ok((0, 1, 0))),
+    (b"a,b\n1,2\n", Ok((0, 2, 2))),
+    (b"a,b,c\n1,2,3\n1,2,4\n", Ok((1, 3, 4))),
+    (b"a,b\n1,2\n1,3\n1,4\n", Ok((0, 4, 4))),
+    (b"\n\na,b\r\n\r\n1,2", Ok((0, 2, 2))),
+    (b"", Err((1, RowKind::Header))),
+    (b"1,2\n", Err((1, RowKind::Header))),
+    (b"b,a\n", Err((1, RowKind::Header))),
+    (b"a,b,c,d\n", Err((1, RowKind::Header))),
+    (b"a,b \n", Err((1, RowKind::Header))),
+    (b"a,b\n1,2,3\n", Err((2, RowKind::Csv))),
+    (b"a,b,c\n1,2,3\n1,2\n", Err((3, RowKind::Csv))),
+    (b"a,b\n1,x\n1,2,3\n", Err((2, RowKind::Number))),
+    (b"a,b\n1,2\n1,3\n1,4\n1,5\n", Err((5, RowKind::TooManyRows))),
+    (b"a,b\n1,2\n1,3\n1,4\n1\n", Err((5, RowKind::Csv))),
+    (b"a,b\n1,2\n1,3\n1,4\n1,x\n", Err((5, RowKind::TooManyRows))),
+];
+
+/// The last field of a table's last row. A table that is refused tells its fault again when it is
+/// read on.
+fn read<R: Read + Drop>(alloc: Global, reader: R) -> Result<Last, TableFault> {
+    let mut table = Table::open(alloc, reader, &[&["a", "b"], &["a", "b", "c"]], 3)?;
+    let mut last = 0;
+    for _ in 0..10 {
+        match table.next_row() {
+            Ok(true) => {}
+            Ok(false) => return Ok((table.header(), table.number(), last)),
+            Err(_) => return table.next_row().map(|_| (9, 9, 9)),
+        }
+        let row = table.row();
+        let found = match row.len() {
+            2 => number(row, 1, 1_000),
+            3 => number(row, 2, 1_000),
+            _ => Err(RowKind::What),
+        };
+        match found {
+            Ok(number) => last = number,
+            Err(kind) => return Err(table.fault(kind)),
+        }
+    }
+    Ok((9, 9, 9))
+}
+
+#[test]
+fn tables_are_read_to_their_ends(rt: HostRuntime) {
+    for &(text, want) in &TABLES {
+        let want = want.map_err(|(row, kind)| TableFault::Row(RowFault { row, kind }));
+        gives(&rt, &text, &read(rt.alloc(), text), &want);
+    }
+}
+
+#[test]
+fn a_failed_reader_is_no_end(rt: HostRuntime) {
+    let (text, _) = TABLES[3];
+    for length in 0..text.len() {
+        let bytes = &text[..length];
+        gives(
+            &rt,
+            &length,
+            &read(rt.alloc(), Failing { bytes }),
+            &Err(TableFault::Device),
+        );
+    }
+}
