@@ -76,7 +76,7 @@ def operations(it):
 
 def runs(it):
     """A run of small times, so that rows, deliveries and timers often come at one moment."""
-    delay = it.choice([1, 2, 2, 3, 7])
+    delay = it.choice([1, 2, 3, 5, 12, 40])
     tccd = delay + it.choice([0, 0, 1, 3, 10])
     least = tccd + it.choice([0, 1, 10, 40])
     wanted = least + it.choice([0, 5, 40, 500])

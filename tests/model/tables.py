@@ -197,9 +197,8 @@ def read_script(text, accounts):
         else:
             empty += [x, y]
         fail(("Number", None in numbers), ("Empty", any(empty)))
-        fail(("Repeated", word == "start" and numbers[1] in started))
-        fail(("Unknown", numbers[1] not in (accounts if word == "recharge" else started | {numbers[1]} if word == "start" else started)))
-        fail(("Order", numbers[0] < last))
+        fail(("Order", numbers[0] < last), ("Repeated", word == "start" and numbers[1] in started))
+        fail(("Unknown", word != "start" and numbers[1] not in (accounts if word == "recharge" else started)))
         last = numbers[0]
         if word == "start":
             started.add(numbers[1])
