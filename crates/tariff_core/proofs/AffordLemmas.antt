@@ -1,5 +1,5 @@
 -- The ceiling grows with the units, so the last that the money covers is found by halving.
-use Rattle.std.proofs.Common.{◌≡◌, ℕ, zero, suc, ◌+◌, ◌<◌, ◌≤◌, Bool, true, false, refl, sym, ap, ◌∙◌, inl, inr, arith}
+use Rattle.std.proofs.Common.{◌≡◌, ℕ, zero, suc, ◌+◌, ◌<◌, ◌≤◌, Bool, true, false, refl, sym, inl, inr, arith}
 use Rattle.std.specs.Prelude.{◌⊎◌, if◌then◌else◌, nat_le}
 use Rattle.std.proofs.lemmas.Bool.{le-leb, leb-false, leb-true, lt-leb}
 use Rattle.tariff_core.specs.Afford.{units_covered}

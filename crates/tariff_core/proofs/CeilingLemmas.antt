@@ -1,5 +1,5 @@
 -- The greatest price is attained, and is the price of one of two times.
-use Rattle.std.proofs.Common.{◌≡◌, ℕ, zero, suc, ◌+◌, ◌*◌, ◌-◌, ◌≤◌, Bool, true, false, Option, Some, None, max, refl, sym, ap, ◌∙◌, inl, inr, arith}
+use Rattle.std.proofs.Common.{◌≡◌, ℕ, zero, suc, ◌+◌, ◌*◌, ◌-◌, ◌≤◌, Bool, true, false, Option, None, max, refl, sym, ◌∙◌, inl, inr, arith}
 use Rattle.std.specs.Prelude.{◌⊎◌, if◌then◌else◌, IsSome, is_some}
 use Rattle.std.proofs.Math.Nat.{le-max_left, le-max_right, max-le, mul-le-mul_left, mul-le-mul_right}
 use Rattle.tariff_core.specs.Ceiling.{are_times, ceiling_of, greatest, may_come, price_if_lawful}

@@ -1,85 +1,50 @@
 -- The rows so far and those that are left are the rows of the table.
-use Rattle.std.proofs.Common.{◌≡◌, ℕ, ◌+◌, ◌≤◌, Bool, true, false, List, [], ◌∷◌, ◌++◌, length, Option, Some, None, Result, Ok, Err, refl, arith}
-use Rattle.std.specs.Prelude.{◌==◌, IsErrAnd, not, nat_lt, if◌then◌else◌}
-use Rattle.std.proofs.lemmas.Bool.Decides.{nat_tests}
+use Rattle.std.proofs.Common.{◌≡◌, ℕ, ◌+◌, ◌≤◌, Bool, true, false, List, [], ◌∷◌, length, Option, Some, None, Result, Ok, Err, refl, arith}
+use Rattle.std.specs.Prelude.{IsErrAnd, if◌then◌else◌}
 use Rattle.table_core.specs.Judging.{after}
+use Rattle.table_core.specs.Rows.{Fields, rows_of}
+use Rattle.table_core.specs.Tables.{below, own_fault, rows_from, table_of, then_rows, unless_own, which_header}
+use Rattle.table_core.specs.declared.fault.TableFault.{TableFault}
+use Rattle.table_core.specs.declared.fault.TableFault.TheVariants as fault
+use Rattle.table_core.specs.Reading.{header_of, number_of, width_of}
+use Rattle.table_core.specs.declared.table.Table.{Table}
+use Rattle.table_core.proofs.TableLemmas.{IsRead, Stops}
+use Rattle.tariff_core.proofs.Known.{at_known}
 use Rattle.tariff_core.specs.Bands.{Band, has_band}
-use Rattle.tariff_core.specs.TariffTable.{ComesBy, Gives, NotBefore, Refuses, after_row, band_in, bands_of, complete, complete_by, is_header, new_band, row_at, rows_from, without_midnight}
+use Rattle.tariff_core.specs.TariffFaults.{fault_from, kind_from}
+use Rattle.tariff_core.specs.TariffTable.{ComesBy, Gives, NotBefore, Refuses, band_in, bands_of, complete, complete_by, header, new_band, new_band_in, tariff_form, without_midnight}
 use Rattle.tariff_core.specs.declared.tariff_fault.TariffFault.{TariffFault}
 use Rattle.tariff_core.specs.declared.tariff_fault.TariffKind.{TariffKind}
 use Rattle.tariff_core.specs.declared.tariff_fault.TariffKind.TheVariants as kind
 
-abbrev Fields : Type 0
-Fields = List (List ℕ)
-
--- ---- the header
-
-pub header_missing : (rows : List Fields) → rows ≡ [] → bands_of rows ≡ Err (record { row = 1; kind = kind.Header })
-unfolding bands_of
-header_missing rows none = rw none refl
-
-pub header_wrong : (rows rest : List Fields) (header : Fields) → rows ≡ header ∷ rest → is_header header ≡ false
-    → bands_of rows ≡ Err (record { row = 1; kind = kind.Header })
-unfolding bands_of
-header_wrong rows rest header rows_are wrong = rw (rows_are, wrong) refl
-
-pub header_read : (rows rest : List Fields) (header : Fields) → rows ≡ header ∷ rest → is_header header ≡ true → bands_of rows ≡ rows_from 2 [] rest
-unfolding bands_of
-header_read rows rest header rows_are right = rw (rows_are, right) refl
-
 -- ---- one row
 
--- a row that was taken: within the rows of a table, and new
-pub record IsNew (number : ℕ) (earlier : List Band) (band : Band) : Type 0 where
-  pub within : number ≤ 10001
-  pub new : has_band band.prefix band.start earlier ≡ false
-
+-- a row that is read comes behind the earlier ones
 is_new_band : (earlier : List Band) (given band : Band) (b : Bool) → has_band given.prefix given.start earlier ≡ b
     → (if b then Err kind.Repeated else Ok given) ≡ Ok band → has_band band.prefix band.start earlier ≡ false
 is_new_band earlier given band true has is = cc
 is_new_band earlier given band false has is = let same : given ≡ band = cc in rw (← same) has
 
-fields_read : (earlier : List Band) (band : Band) (given : Result Band TariffKind) → after given (new_band earlier) ≡ Ok band
+is_new_in : (earlier : List Band) (band : Band) (given : Result Band TariffKind) → after given (new_band earlier) ≡ Ok band
     → has_band band.prefix band.start earlier ≡ false
-fields_read earlier band (Ok given) is = is_new_band earlier given band _ refl is
-fields_read earlier band (Err why) is = cc
+is_new_in earlier band (Ok given) is = is_new_band earlier given band _ refl is
+is_new_in earlier band (Err why) is = cc
 
-tests_passed : (number : ℕ) (earlier : List Band) (band : Band) (four late : Bool) (given : Result Band TariffKind) → nat_lt 10001 number ≡ late
-    → (if not four then Err kind.Csv else if late then Err kind.TooManyRows else after given (new_band earlier)) ≡ Ok band → IsNew number earlier band
-tests_passed number earlier band true true given early is = cc
-tests_passed number earlier band false late given early is = cc
-tests_passed number earlier band true false given early is = record { within = grind (arith, nat_tests); new = fields_read earlier band given is }
-
-pub is_new : (number : ℕ) (earlier : List Band) (fields : Fields) (band : Band) → row_at number earlier fields ≡ Ok band → IsNew number earlier band
-unfolding row_at
-is_new number earlier fields band is = tests_passed number earlier band (length fields == 4) _ (band_in fields) refl is
-
-pub row_read : (number : ℕ) (earlier : List Band) (band : Band) (left rest : List Fields) (fields : Fields)
-    → left ≡ fields ∷ rest → row_at number earlier fields ≡ Ok band → rows_from number earlier left ≡ rows_from (number + 1) (earlier ++ band ∷ []) rest
-unfolding rows_from
-row_read number earlier band left rest fields left_are is = rw (left_are, is) refl
-
-pub row_refused : (number : ℕ) (earlier : List Band) (left rest : List Fields) (fields : Fields) (why : TariffKind)
-    → left ≡ fields ∷ rest → row_at number earlier fields ≡ Err why → rows_from number earlier left ≡ Err (record { row = number; kind = why })
-unfolding rows_from
-row_refused number earlier left rest fields why left_are is = rw (left_are, is) refl
-
-pub none_left : (number : ℕ) (earlier : List Band) (left : List Fields) → left ≡ [] → rows_from number earlier left ≡ Ok earlier
-unfolding rows_from
-none_left number earlier left none = rw none refl
+pub is_new : (earlier : List Band) (fields : Fields) (band : Band) → new_band_in earlier fields ≡ Ok band → has_band band.prefix band.start earlier ≡ false
+is_new earlier fields band is = is_new_in earlier band (band_in fields) is
 
 -- a fault of the table's own
-pub refused : (why : TariffKind) (number : ℕ) (meaning : Result (List Band) TariffFault) → meaning ≡ Err (record { row = number; kind = why }) → Refuses why number meaning
-refused kind.Csv number meaning is = is
-refused kind.Header number meaning is = is
-refused kind.Digits number meaning is = is
-refused kind.From number meaning is = is
-refused kind.Money number meaning is = is
-refused kind.Repeated number meaning is = is
-refused kind.NoMidnightBand number meaning is = is
-refused kind.OutOfMemory number meaning is = rw is (omega arith)
-refused kind.Device number meaning is = rw is (omega arith)
-refused kind.TooManyRows number meaning is = is
+pub refused_at : (why : TariffKind) (number : ℕ) (meaning : Result (List Band) TariffFault) → meaning ≡ Err (record { row = number; kind = why }) → Refuses why number meaning
+refused_at kind.Csv number meaning is = is
+refused_at kind.Header number meaning is = is
+refused_at kind.Digits number meaning is = is
+refused_at kind.From number meaning is = is
+refused_at kind.Money number meaning is = is
+refused_at kind.Repeated number meaning is = is
+refused_at kind.NoMidnightBand number meaning is = is
+refused_at kind.OutOfMemory number meaning is = rw is (omega arith)
+refused_at kind.Device number meaning is = rw is (omega arith)
+refused_at kind.TooManyRows number meaning is = is
 
 -- ---- where a table that can't be read on may be given up
 
@@ -112,28 +77,43 @@ not_before_later : (meaning : Result (List Band) TariffFault) (low high : ℕ) �
 not_before_later (Ok bands) low high le by = tt
 not_before_later (Err fault) low high le by = comes_later fault.kind low high fault.row le by
 
-not_before_row : (number : ℕ) (row : Result Band TariffKind) (rest : Band → Result (List Band) TariffFault)
-    → ((band : Band) → NotBefore (number + 1) (rest band)) → NotBefore number (after_row number row rest)
-not_before_row number (Ok band) rest later = not_before_later (rest band) number (number + 1) (omega arith) (later band)
+not_before_row : (number : ℕ) (judged : Result (List Band) TariffKind) (rest : List Band → Result (List Band) TariffFault)
+    → ((read : List Band) → NotBefore (number + 1) (rest read)) → NotBefore number (then_rows tariff_form number judged rest)
+not_before_row number (Ok read) rest later = not_before_later (rest read) number (number + 1) (omega arith) (later read)
 not_before_row number (Err why) rest later = comes_at why number
 
 -- the rows from a number on have no fault before it
-pub rows_not_before : (number : ℕ) (earlier : List Band) (left : List Fields) → NotBefore number (rows_from number earlier left)
+pub rows_not_before : (which width number : ℕ) (earlier : List Band) (left : List Fields) → NotBefore number (rows_from tariff_form which width number earlier left)
 unfolding rows_from
-rows_not_before number earlier [] = tt
-rows_not_before number earlier (fields ∷ rows) =
-    not_before_row number (row_at number earlier fields) (λ band. rows_from (number + 1) (earlier ++ band ∷ []) rows)
-    (λ band. rows_not_before (number + 1) (earlier ++ band ∷ []) rows)
+rows_not_before which width number earlier [] = tt
+rows_not_before which width number earlier (fields ∷ rows) =
+    not_before_row number (unless_own tariff_form (own_fault 10000 width number fields) (tariff_form.judge which earlier fields)) (λ read. rows_from tariff_form which width (number + 1) read rows)
+    (λ read. rows_not_before which width (number + 1) read rows)
 
-not_before_header : (right : Bool) (rest : Result (List Band) TariffFault) → NotBefore 2 rest
-    → NotBefore 1 (if right then rest else Err (record { row = 1; kind = kind.Header }))
-not_before_header true rest by = not_before_later rest 1 2 (omega arith) by
-not_before_header false rest by = omega arith
+below_not_before : (first : Fields) (rows : List Fields) (which : Option ℕ) → NotBefore 1 (below tariff_form first rows which)
+below_not_before first rows None = omega arith
+below_not_before first rows (Some header) =
+    not_before_later (rows_from tariff_form header (length first) 2 [] rows) 1 2 (omega arith) (rows_not_before header (length first) 2 [] rows)
 
+-- a table has no fault before its header
 pub bands_not_before : (rows : List Fields) → NotBefore 1 (bands_of rows)
-unfolding bands_of
+unfolding table_of
 bands_not_before [] = omega arith
-bands_not_before (header ∷ rows) = not_before_header (is_header header) (rows_from 2 [] rows) (rows_not_before 2 [] rows)
+bands_not_before (first ∷ rows) = below_not_before first rows (which_header (header ∷ []) first)
+
+-- after the rows so far, none up to the next one has a fault
+pub none_before : {R : Type 0} (remaining : R → Option (List ℕ)) (known : Option (List ℕ)) (table : Table R) (read : List Band) (text : List ℕ) → known ≡ Some text
+    → IsRead tariff_form remaining known table read → NotBefore (number_of table + 1) (bands_of (rows_of text))
+none_before remaining known table read text is so_far =
+    let at = at_known known _ text is so_far.so_far in
+    rw at.is (rows_not_before (header_of table) (width_of table) (number_of table + 1) read at.left)
+
+-- a table that is given up at a row, with none refused before it
+pub given_up : (row : ℕ) (why : TableFault) (meaning : Result (List Band) TariffFault) → NotBefore row meaning → Stops tariff_form why meaning
+    → Gives (Err (fault_from row why)) meaning
+given_up row (fault.Row own) meaning by is = refused_at (kind_from own.kind) own.row meaning is
+given_up row fault.Device meaning by is = by
+given_up row fault.OutOfMemory meaning by is = by
 
 not_before_complete : (bands : List Band) (missing : Option ℕ) (row : ℕ) → NotBefore row (complete_by bands missing)
 not_before_complete bands None row = tt

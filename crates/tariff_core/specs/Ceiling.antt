@@ -1,5 +1,5 @@
 -- The most that a call can come to pay for what it was granted.
-use Rattle.std.specs.Prelude.{◌≡◌, ◌+◌, ◌==◌, ◌&&◌, ◌||◌, ℕ, Bool, true, false, max, if◌then◌else◌}
+use Rattle.std.specs.Prelude.{◌+◌, ◌==◌, ◌&&◌, ◌||◌, ℕ, Bool, true, false, max, if◌then◌else◌}
 use Rattle.std.proofs.Common.{zero, suc}
 use Rattle.tariff_core.specs.Lawful.{is_lawful}
 use Rattle.tariff_core.specs.Price.{price_at}

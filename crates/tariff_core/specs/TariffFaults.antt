@@ -1,6 +1,10 @@
 -- The faults of a tariff table: their numbers, their texts, and how an answer meets a table's meaning.
 use Rattle.std.specs.Prelude.{ℕ, List, ◌++◌, codes}
 use Rattle.std.specs.Fmt.{decimal}
+use Rattle.table_core.specs.declared.fault.RowKind.{RowKind}
+use Rattle.table_core.specs.declared.fault.RowKind.TheVariants as own
+use Rattle.table_core.specs.declared.fault.TableFault.{TableFault}
+use Rattle.table_core.specs.declared.fault.TableFault.TheVariants as fault
 use Rattle.tariff_core.specs.declared.tariff_fault.TariffFault.{TariffFault}
 use Rattle.tariff_core.specs.declared.tariff_fault.TariffKind.{TariffKind}
 use Rattle.tariff_core.specs.declared.tariff_fault.TariffKind.TheVariants as kind
@@ -34,3 +38,15 @@ name_of kind.TooManyRows = codes "TooManyRows"
 -- `row N: KIND`
 abbrev pub text_of : TariffFault → List ℕ
 text_of fault = codes "row " ++ (decimal fault.row ++ (codes ": " ++ name_of fault.kind))
+
+-- the kind of a fault that any table may have
+abbrev pub kind_from : RowKind → TariffKind
+kind_from own.Header = kind.Header
+kind_from own.TooManyRows = kind.TooManyRows
+kind_from _ = kind.Csv
+
+-- the fault of a table that is given up at a row
+abbrev pub fault_from : ℕ → TableFault → TariffFault
+fault_from row (fault.Row refused) = record { row = refused.row; kind = kind_from refused.kind }
+fault_from row fault.Device = record { row = row; kind = kind.Device }
+fault_from row fault.OutOfMemory = record { row = row; kind = kind.OutOfMemory }

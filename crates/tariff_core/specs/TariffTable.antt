@@ -1,19 +1,16 @@
 -- The meaning of a tariff table: its rows, or the first fault.
-use Rattle.std.specs.Prelude.{◌≡◌, ◌≤◌, ◌+◌, ◌*◌, ◌==◌, ◌&&◌, ℕ, Bool, not, List, [], ◌∷◌, ◌++◌, length, Option, Some, None, Result, Ok, Err, ⊤, if◌then◌else◌, nat_le, nat_lt, ok_or, slice_index, take, drop, codes}
+use Rattle.std.specs.Prelude.{◌≡◌, ◌≤◌, ◌+◌, ◌*◌, ◌==◌, ◌&&◌, ℕ, Bool, List, [], ◌∷◌, length, Option, Some, None, Result, Ok, Err, ⊤, if◌then◌else◌, nat_le, ok_or, slice_index, take, drop, codes}
 use Rattle.std.specs.Char.{is_ascii_digit}
 use Rattle.std.specs.List.{list_all}
 use Rattle.table_core.specs.Decimals.{decimal_of}
-use Rattle.table_core.specs.Fields.{field_in, has_word}
-use Rattle.table_core.specs.Judging.{after}
+use Rattle.table_core.specs.Fields.{field_in}
+use Rattle.table_core.specs.Judging.{adds, after}
+use Rattle.table_core.specs.Tables.{TableForm, table_of}
 use Rattle.tariff_core.specs.Bands.{Band, has_band}
+use Rattle.tariff_core.specs.TariffFaults.{kind_from}
 use Rattle.tariff_core.specs.declared.tariff_fault.TariffFault.{TariffFault}
 use Rattle.tariff_core.specs.declared.tariff_fault.TariffKind.{TariffKind}
 use Rattle.tariff_core.specs.declared.tariff_fault.TariffKind.TheVariants as kind
-
--- `prefix,from,fee,rate`
-abbrev pub is_header : List (List ℕ) → Bool
-is_header fields =
-    (length fields == 4) && has_word fields 0 (codes "prefix") && has_word fields 1 (codes "from") && has_word fields 2 (codes "fee") && has_word fields 3 (codes "rate")
 
 -- 0 to 15 digits
 abbrev pub is_prefix : List ℕ → Bool
@@ -50,27 +47,28 @@ band_in fields =
 abbrev pub new_band : List Band → Band → Result Band TariffKind
 new_band earlier band = if has_band band.prefix band.start earlier then Err kind.Repeated else Ok band
 
--- the row of this number, after the earlier ones
-unfoldable pub row_at : ℕ → List Band → List (List ℕ) → Result Band TariffKind
-row_at number earlier fields =
-    if not (length fields == 4) then Err kind.Csv else if nat_lt 10001 number then Err kind.TooManyRows else
-    after (band_in fields) (new_band earlier)
+-- what a row says, after the earlier ones
+abbrev pub new_band_in : List Band → List (List ℕ) → Result Band TariffKind
+new_band_in earlier fields = after (band_in fields) (new_band earlier)
 
--- what comes after a row; a row that is refused ends the table
-abbrev pub after_row : {X Y : Type 0} → ℕ → Result X TariffKind → (X → Result Y TariffFault) → Result Y TariffFault
-after_row number (Ok x) next = next x
-after_row number (Err why) next = Err (record { row = number; kind = why })
+-- `prefix,from,fee,rate`
+abbrev pub header : List (List ℕ)
+header = codes "prefix" ∷ codes "from" ∷ codes "fee" ∷ codes "rate" ∷ []
 
--- the earlier rows, and those from this number on
-unfoldable pub rows_from : ℕ → List Band → List (List (List ℕ)) → Result (List Band) TariffFault
-rows_from number earlier [] = Ok earlier
-rows_from number earlier (fields ∷ rows) =
-    after_row number (row_at number earlier fields) (λ band. rows_from (number + 1) (earlier ++ band ∷ []) rows)
+-- a tariff table of at most 10,000 rows
+abbrev pub tariff_form : TableForm (List Band) TariffKind TariffFault
+tariff_form = record {
+  headers = header ∷ [];
+  limit = 10000;
+  start = [];
+  judge = λ header. adds new_band_in;
+  kind_of = kind_from;
+  fault_at = λ row kind. record { row = row; kind = kind };
+}
 
 -- the rows of a table before they are judged as a whole
-unfoldable pub bands_of : List (List (List ℕ)) → Result (List Band) TariffFault
-bands_of [] = Err (record { row = 1; kind = kind.Header })
-bands_of (header ∷ rows) = if is_header header then rows_from 2 [] rows else Err (record { row = 1; kind = kind.Header })
+abbrev pub bands_of : List (List (List ℕ)) → Result (List Band) TariffFault
+bands_of rows = table_of tariff_form rows
 
 -- the first row, from this number on, whose prefix has no row from midnight on
 unfoldable pub without_midnight : List Band → ℕ → List Band → Option ℕ

@@ -1,31 +1,31 @@
 //! The rows of a tariff table, and an index that finds them.
 
-ghost use Rattle.std.specs.Prelude.{◌≡◌, ◌≤◌, ◌<◌, ◌+◌, ◌++◌, ◌∷◌, [], length, Some, None, IfNone, IfSome, IfOk, IfErr, OnOk, All};
+ghost use Rattle.std.specs.Prelude.{◌≡◌, ◌≤◌, ◌<◌, ◌+◌, ◌++◌, ◌∷◌, [], length, Some, None, IfNone, IfSome, IfOk, OnOk, All};
 ghost use Rattle.std.specs.BTreeMap.{Updates};
 ghost use Rattle.csv.specs.Records.{fields_of};
-ghost use Rattle.table_core.specs.Rows.{TakesRow, rows_of};
+ghost use Rattle.table_core.specs.Rows.{rows_of};
 ghost use Rattle.tariff_core.specs.Bands.{has_band};
 ghost use Rattle.tariff_core.specs.Places.{by_place};
 ghost use Rattle.tariff_core.specs.Prefixes.{digits_of};
 ghost use Rattle.tariff_core.specs.Routes.{IsBandAt, IsSoonest};
 ghost use Rattle.tariff_core.specs.Tariff.{Indexes, IsIndexed, Tells, Keeps, band_of};
-ghost use Rattle.tariff_core.specs.TariffTable.{Gives, NotBefore, bands_of, row_at, without_midnight};
+ghost use Rattle.tariff_core.specs.TariffTable.{Gives, bands_of, new_band_in, without_midnight};
 
 use crate::DAY;
 use crate::place::Place;
 use crate::prefix::Prefix;
 use crate::row::{Cost, Row};
-use crate::row_reading::{is_header, read_row};
+use crate::row_reading::read_row;
 use crate::tariff_fault::{TariffFault, TariffKind};
 use csv::ByteRecord;
 use std::alloc::{AllocError, Global};
 use std::collections::BTreeMap;
 use std::io::Read;
 use std::marker::Model;
-use table_core::{ReadFault, Rows};
+use table_core::Table;
 
-/// The last row that a table may have, its header counted.
-const LAST_ROW: u32 = 10_001;
+/// The most rows of a table, its header not counted.
+const MAX_ROWS: u32 = 10_000;
 
 /// The rows of a tariff table in their order, no two for the same prefix and start.
 #[derive(Drop)]
@@ -52,32 +52,38 @@ impl Bands {
     pub fn read<R: Read + Drop>(alloc: Global, reader: R) -> Result<Bands, TariffFault>
         ensures { IfSome (R.remaining reader) (λ text. Gives result (bands_of (rows_of text))) }
     {
-        let mut records = Rows::new(alloc, reader);
-        if !next_record(&mut records, 1)? || !is_header(records.row()) {
-            return Err(TariffFault {
-                row: 1,
-                kind: TariffKind::Header,
-            });
-        }
+        let headers: &[&[&str]] = &[&["prefix", "from", "fee", "rate"]];
+        let mut table = match Table::open(alloc, reader, headers, MAX_ROWS) {
+            Ok(table) => table,
+            Err(fault) => return Err(TariffFault::at(1, fault)),
+        };
         let mut rows = Vec::new(alloc);
         let mut index = BTreeMap::new(alloc);
-        let mut number = 2;
-        while next_record(&mut records, number)? {
-            let row = match judge(&index, number, records.row()) {
+        loop {
+            let found = match table.next_row() {
+                Ok(found) => found,
+                Err(fault) => return Err(TariffFault::at(table.number() + 1, fault)),
+            };
+            if !found {
+                return Ok(Bands { rows, index });
+            }
+            let row = match judge(&index, table.row()) {
                 Ok(row) => row,
-                Err(kind) => return Err(TariffFault { row: number, kind }),
+                Err(kind) => return Err(TariffFault {
+                    row: table.number(),
+                    kind,
+                }),
             };
             match keep(&mut rows, &mut index, row) {
-                Ok(()) => number += 1,
+                Ok(()) => {}
                 Err(_) => {
                     return Err(TariffFault {
-                        row: number,
+                        row: table.number(),
                         kind: TariffKind::OutOfMemory,
                     });
                 }
             }
         }
-        Ok(Bands { rows, index })
     }
 
     /// The number of the first row whose prefix has no row from midnight on.
@@ -139,37 +145,12 @@ impl Bands {
     }
 }
 
-/// Takes the row of this number, or answers false where none is left.
-fn next_record<R: Read + Drop>(records: &mut Rows<R>, number: u32) -> Result<bool, TariffFault>
-    ensures takes { IfOk result (TakesRow R.remaining records.old records.new) }
-    ensures fault { IfErr result
-        (λ fault. (meaning : _) → NotBefore number meaning → Gives (Err fault) meaning) }
-{
-    match records.next_row() {
-        Ok(found) => Ok(found),
-        Err(ReadFault::Device) => Err(TariffFault {
-            row: number,
-            kind: TariffKind::Device,
-        }),
-        Err(ReadFault::OutOfMemory) => Err(TariffFault {
-            row: number,
-            kind: TariffKind::OutOfMemory,
-        }),
-    }
-}
-
-/// The row of this number, after the rows that are in the index.
-#[tactic(auto, unfolding(crate::specs::TariffTable::row_at))]
-fn judge(index: &BTreeMap<Place, Cost>, number: u32, fields: &ByteRecord) -> Result<Row, TariffKind>
+/// The row that these fields say, after the rows that are in the index.
+fn judge(index: &BTreeMap<Place, Cost>, fields: &ByteRecord) -> Result<Row, TariffKind>
+    requires { length (fields_of fields.now) ≡ 4 }
     ensures { (bands : _) → Indexes index.now bands
-        → Tells band_of result (row_at number bands (fields_of fields.now)) }
+        → Tells band_of result (new_band_in bands (fields_of fields.now)) }
 {
-    if fields.len() != 4 {
-        return Err(TariffKind::Csv);
-    }
-    if number > LAST_ROW {
-        return Err(TariffKind::TooManyRows);
-    }
     let row = read_row(fields)?;
     if index.contains_key(&row.place) {
         return Err(TariffKind::Repeated);

@@ -5,7 +5,7 @@ ghost use Rattle.std.specs.Char.{is_ascii_digit};
 ghost use Rattle.std.specs.List.{list_all};
 ghost use Rattle.csv.specs.Records.{fields_of};
 ghost use Rattle.tariff_core.specs.Tariff.{Tells, band_of};
-ghost use Rattle.tariff_core.specs.TariffTable.{band_in, is_header, is_prefix, time_of};
+ghost use Rattle.tariff_core.specs.TariffTable.{band_in, is_prefix, time_of};
 
 use crate::place::Place;
 use crate::plan::MAX_RATE;
@@ -13,18 +13,7 @@ use crate::prefix::{PREFIX_DIGITS, Prefix};
 use crate::row::{Cost, Row};
 use crate::tariff_fault::TariffKind;
 use csv::ByteRecord;
-use table_core::{decimal, field, is_word};
-
-/// Whether a row is the header `prefix,from,fee,rate`.
-pub(crate) fn is_header(fields: &ByteRecord) -> bool
-    ensures { result ≡ is_header (fields_of fields.now) }
-{
-    fields.len() == 4
-        && is_word(fields, 0, "prefix")
-        && is_word(fields, 1, "from")
-        && is_word(fields, 2, "fee")
-        && is_word(fields, 3, "rate")
-}
+use table_core::{decimal, field};
 
 /// The row of these four fields.
 pub(crate) fn read_row(fields: &ByteRecord) -> Result<Row, TariffKind>

@@ -1,10 +1,11 @@
 //! The faults of a tariff table.
 
 ghost use Rattle.std.specs.Prelude.{◌≡◌, Some};
-ghost use Rattle.tariff_core.specs.TariffFaults.{code_of, name_of, text_of};
+ghost use Rattle.tariff_core.specs.TariffFaults.{code_of, fault_from, kind_from, name_of, text_of};
 
 use std::error::Error;
 use std::fmt;
+use table_core::{RowFault, RowKind, TableFault};
 
 /// What is wrong with a row of a tariff table, or why it could not be read.
 #[derive(Clone, Copy, Debug, PartialEq, Eq)]
@@ -67,6 +68,39 @@ pub struct TariffFault {
     pub row: u32,
     /// What is wrong with it.
     pub kind: TariffKind,
+}
+
+impl TariffFault {
+    /// The fault of a table that is given up at this row, where it isn't a row's own.
+    pub(crate) fn at(row: u32, fault: TableFault) -> TariffFault
+        ensures { result ≡ fault_from row fault }
+    {
+        match fault {
+            TableFault::Row(RowFault { row, kind }) => TariffFault {
+                row,
+                kind: own_kind(kind),
+            },
+            TableFault::Device => TariffFault {
+                row,
+                kind: TariffKind::Device,
+            },
+            TableFault::OutOfMemory => TariffFault {
+                row,
+                kind: TariffKind::OutOfMemory,
+            },
+        }
+    }
+}
+
+/// The kind of a fault that any table may have: Csv, Header or TooManyRows.
+fn own_kind(kind: RowKind) -> TariffKind
+    ensures { result ≡ kind_from kind }
+{
+    match kind {
+        RowKind::Header => TariffKind::Header,
+        RowKind::TooManyRows => TariffKind::TooManyRows,
+        _ => TariffKind::Csv,
+    }
 }
 
 impl fmt::Display for TariffFault {

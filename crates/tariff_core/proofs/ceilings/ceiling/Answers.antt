@@ -1,4 +1,4 @@
-use Rattle.std.proofs.Common.{◌∙◌, ap, refl, sym}
+use Rattle.std.proofs.Common.{◌∙◌, refl, sym}
 use Rattle.tariff_core.specs.RatesOf.{rates_of}
 use Rattle.tariff_core.proofs.CeilingLemmas.{ceiling_double, ceiling_single, ceiling_switched, unswitched_by}
 use Rattle.tariff_core.proofs.ceilings.ceiling.Goals as goal

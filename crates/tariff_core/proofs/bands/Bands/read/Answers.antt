@@ -1,87 +1,68 @@
-use Rattle.std.proofs.Common.{◌∙◌, refl, sym, arith}
-use Rattle.std.specs.Prelude.{map}
+use Rattle.std.proofs.Common.{Err, refl, arith}
+use Rattle.csv.specs.Records.{fields_of}
+use Rattle.table_core.specs.Reading.{row_of_table}
 use Rattle.table_core.specs.Rows.{rows_of}
+use Rattle.table_core.proofs.TableLemmas.{ended, not_opened, opened, refused, row_width, stopped, taken}
 use Rattle.tariff_core.specs.Tariff.{band_of}
-use Rattle.tariff_core.specs.TariffTable.{bands_of}
+use Rattle.tariff_core.specs.TariffTable.{Gives, bands_of, tariff_form}
+use Rattle.tariff_core.specs.declared.tariff_fault.TariffKind.TheVariants as kind
 use Rattle.tariff_core.proofs.IndexLemmas.{count_more, indexes_none, keeps_indexed, rows_more}
 use Rattle.tariff_core.proofs.Known.{at_known, if_known}
-use Rattle.tariff_core.proofs.TableLemmas.{bands_not_before, header_missing, header_read, header_wrong, is_new, none_left, passed_on, refused, row_read, row_refused, rows_not_before}
+use Rattle.tariff_core.proofs.TableLemmas.{bands_not_before, given_up, is_new, none_before, refused_at}
 use Rattle.tariff_core.proofs.bands.Bands.read.Goals as goal
-use Rattle.tariff_core.proofs.bands.Bands.read.Goals.{then-not-branch-via-then-not-branch, then-not-branch-via-else-not-branch+then-not-is_header}
-
-pub returns-then-not-branch : goal.returns-then-not-branch
-returns-then-not-branch g c = if_known _ _ (λ text known.
-    let has = at_known _ _ text known c.new-records.ensures.all in
-    let takes = c.in_ok-next_record.ensures.takes (rows_of text) has in
-    elim c.then-not-branch.branch [
-      | then-not-branch-via-then-not-branch w ↦ header_missing (rows_of text) (rw w.if-not-branch.true at takes)
-      | then-not-branch-via-else-not-branch+then-not-is_header w ↦
-          let (rest, rows, left) = rw w.if-not-branch.false at takes in
-          header_wrong (rows_of text) rest _ rows (rw w.row.ensures at (sym w.if-not-is_header.ensures))
-    ])
-
-pub loop-index-init : goal.loop-index-init
-loop-index-init g c = record {
-  counted = rw c.new-rows.ensures.items refl;
-  within = omega arith;
-  indexed = indexes_none c.new-index.result c.new-rows.result.items c.new-index.ensures.empty c.new-rows.ensures.items;
-  so_far = λ text known.
-      let has = at_known _ _ text known c.new-records.ensures.all in
-      let (rest, rows, left) = rw c.if-not-branch.false at c.in_ok-next_record.ensures.takes (rows_of text) has in
-      let header = rw c.row.ensures at (sym c.if-not-is_header.ensures) in
-      (rest, left, rw c.new-rows.ensures.items (header_read (rows_of text) rest _ rows header));
-}
 
 pub returns-in-Err : goal.returns-in-Err
-returns-in-Err g c = if_known _ _ (λ text known.
-    let (left, has, so_far) = c.loop-index.invariant.so_far text known in
-    let (rest, rows, more) = rw c.if-branch.true at c.in_ok-next_record-2.ensures.takes left has in
-    let why = rw c.row-in-loop-index.ensures at (c.in-Err.ensures _ c.loop-index.invariant.indexed) in
-    refused c.in-Err.kind c.loop-index.number _
-    (so_far ∙ row_refused c.loop-index.number (map band_of c.loop-index.rows.items) left rest _ c.in-Err.kind rows why))
+returns-in-Err g c = if_known (g.R.Read.remaining c.args.reader) (λ text. Gives (Err c.at.result) (bands_of (rows_of text))) (λ text known.
+    rw c.at.ensures (given_up 1 c.in-Err.fault (bands_of (rows_of text)) (bands_not_before (rows_of text))
+    (at_known _ _ text known (not_opened tariff_form g.R.Read.remaining _ c.in-Err.fault c.in-Err.ensures.opens))))
 
-pub loop-index-smaller : goal.loop-index-smaller
-loop-index-smaller g c =
-    let row = is_new c.loop-index.number _ _ (band_of c.in-Ok.row) (c.in-Ok.ensures _ c.loop-index.invariant.indexed) in
-    omega (arith, row.within)
+pub loop-found-init : goal.loop-found-init
+loop-found-init g c = record {
+  counted = rw (c.new-rows.ensures.items, c.in-Ok.ensures.first.number) refl;
+  within = omega (arith, c.in-Ok.ensures.first.number);
+  indexed = indexes_none c.new-index.result c.new-rows.result.items c.new-index.ensures.empty c.new-rows.ensures.items;
+  so_far = rw c.new-rows.ensures.items (opened tariff_form g.R.Read.remaining _ c.in-Ok.table c.in-Ok.ensures.first c.in-Ok.ensures.opens);
+}
 
-pub loop-index-preserved : goal.loop-index-preserved
-loop-index-preserved g c =
-    let read = c.in-Ok.ensures _ c.loop-index.invariant.indexed in
-    let row = is_new c.loop-index.number _ _ (band_of c.in-Ok.row) read in
-    let kept = c.in-Ok-keep.ensures in
-    record {
-      counted = omega (arith, c.loop-index.invariant.counted, count_more _ _ c.in-Ok.row kept.rows);
-      within = omega (arith, row.within);
-      indexed = keeps_indexed _ _ _ _ c.in-Ok.row c.loop-index.invariant.indexed kept row.new;
-      so_far = λ text known.
-          let (left, has, so_far) = c.loop-index.invariant.so_far text known in
-          let (rest, rows, more) = rw c.if-branch.true at c.in_ok-next_record-2.ensures.takes left has in
-          let next = rw c.row-in-loop-index.ensures at read in (
-            rest,
-            more,
-            rw (rows_more _ _ c.in-Ok.row kept.rows)
-                (so_far ∙ row_read c.loop-index.number (map band_of c.loop-index.rows.items) (band_of c.in-Ok.row) left rest _ rows next),
-          );
-    }
+pub returns-in-Err-next_row : goal.returns-in-Err-next_row
+returns-in-Err-next_row g c = if_known (g.R.Read.remaining c.args.reader) (λ text. Gives (Err c.at-in-Err-next_row.result) (bands_of (rows_of text))) (λ text known.
+    let so_far = c.loop-found.invariant.so_far in
+    rw (c.at-in-Err-next_row.ensures, c.number.ensures, c.in-Err-next_row.ensures.moves.1)
+    (given_up _ c.in-Err-next_row.fault (bands_of (rows_of text)) (none_before g.R.Read.remaining _ _ _ text known so_far)
+    (at_known _ _ text known (stopped tariff_form g.R.Read.remaining _ c.loop-found.table c.next_row.new.self _ so_far c.in-Err-next_row.fault c.in-Err-next_row.ensures.steps))))
 
-pub returns : goal.returns
-returns g c = if_known _ _ (λ text known.
-    let (left, has, so_far) = c.loop-index.invariant.so_far text known in
-    so_far ∙ none_left c.loop-index.number (map band_of c.loop-index.rows.items) left (rw c.if-branch.false at c.in_ok-next_record-2.ensures.takes left has))
+pub returns-then-not-found : goal.returns-then-not-found
+returns-then-not-found g c =
+    ended tariff_form g.R.Read.remaining _ c.loop-found.table c.next_row.new.self _ c.loop-found.invariant.so_far
+    (rw c.if-not-found.true at c.in-Ok-next_row.ensures.steps)
 
-pub returns-in_err-next_record : goal.returns-in_err-next_record
-returns-in_err-next_record g c = if_known _ _ (λ text known.
-    passed_on c.from_residual.result c.in_err-next_record.field-0.0 (bands_of (rows_of text)) c.from_residual.ensures.1
-    (c.in_err-next_record.ensures.fault _ (bands_not_before (rows_of text))))
+pub judge-requires : goal.judge-requires
+judge-requires g c =
+    rw c.row.ensures (row_width tariff_form g.R.Read.remaining _ c.loop-found.table c.next_row.new.self _ c.loop-found.invariant.so_far _ refl
+    (rw c.if-not-found.false at c.in-Ok-next_row.ensures.moves))
 
-pub returns-in_err-next_record-2 : goal.returns-in_err-next_record-2
-returns-in_err-next_record-2 g c = if_known _ _ (λ text known.
-    let (left, has, so_far) = c.loop-index.invariant.so_far text known in
-    rw so_far (passed_on c.from_residual-in_err-next_record-2.result c.in_err-next_record-2.field-0.0 _ c.from_residual-in_err-next_record-2.ensures.1
-    (c.in_err-next_record-2.ensures.fault _ (rows_not_before c.loop-index.number (map band_of c.loop-index.rows.items) left))))
+pub returns-in-Err-judge : goal.returns-in-Err-judge
+returns-in-Err-judge g c = if_known (g.R.Read.remaining c.args.reader) (λ text. Gives (Err (record { row = c.number-in-Err-judge.result; kind = c.in-Err-judge.kind })) (bands_of (rows_of text))) (λ text known.
+    let why = rw c.row.ensures at (c.in-Err-judge.ensures _ c.loop-found.invariant.indexed) in
+    rw c.number-in-Err-judge.ensures (refused_at c.in-Err-judge.kind _ (bands_of (rows_of text))
+    (at_known _ _ text known (refused tariff_form g.R.Read.remaining _ c.loop-found.table c.next_row.new.self _ c.loop-found.invariant.so_far c.in-Err-judge.kind
+    (rw c.if-not-found.false at c.in-Ok-next_row.ensures.moves) (rw c.if-not-found.false at c.in-Ok-next_row.ensures.steps) (rw why refl)))))
 
 pub returns-in-Err-keep : goal.returns-in-Err-keep
-returns-in-Err-keep g c = if_known _ _ (λ text known.
-    let (left, has, so_far) = c.loop-index.invariant.so_far text known in
-    rw so_far (rows_not_before c.loop-index.number (map band_of c.loop-index.rows.items) left))
+returns-in-Err-keep g c = if_known (g.R.Read.remaining c.args.reader) (λ text. Gives (Err (record { row = c.number-in-Err-keep.result; kind = kind.OutOfMemory })) (bands_of (rows_of text))) (λ text known.
+    let next = rw c.if-not-found.false at c.in-Ok-next_row.ensures.moves in
+    rw (c.number-in-Err-keep.ensures, next.number) (none_before g.R.Read.remaining _ _ _ text known c.loop-found.invariant.so_far))
+
+pub loop-found-preserved : goal.loop-found-preserved
+loop-found-preserved g c =
+    let read = rw c.row.ensures at (c.in-Ok-judge.ensures _ c.loop-found.invariant.indexed) in
+    let kept = c.in-Ok-keep.ensures in
+    let next = rw c.if-not-found.false at c.in-Ok-next_row.ensures.moves in
+    record {
+      counted = omega (arith, next.number, c.loop-found.invariant.counted, count_more _ _ c.in-Ok-judge.row kept.rows);
+      within = omega (arith, next.within, next.same.limit, c.loop-found.invariant.so_far.limit);
+      indexed = keeps_indexed _ _ _ _ c.in-Ok-judge.row c.loop-found.invariant.indexed kept (is_new _ (fields_of (row_of_table c.next_row.new.self)) (band_of c.in-Ok-judge.row) read);
+      so_far = rw (rows_more _ _ c.in-Ok-judge.row kept.rows)
+          (taken tariff_form g.R.Read.remaining _ c.loop-found.table c.next_row.new.self _ c.loop-found.invariant.so_far _
+          next (rw c.if-not-found.false at c.in-Ok-next_row.ensures.steps) (rw read refl));
+    }

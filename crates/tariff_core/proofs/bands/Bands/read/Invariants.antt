@@ -1,21 +1,20 @@
-use Rattle.std.proofs.Common.{◌≡◌, ◌+◌, ◌-◌, ◌≤◌, ℕ, List, Some, length}
+use Rattle.std.proofs.Common.{◌≡◌, ◌+◌, ◌≤◌, length}
 use Rattle.std.specs.Prelude.{map}
-use Rattle.table_core.specs.Rows.{HasLeft, rows_of}
+use Rattle.table_core.specs.Reading.{number_of, room_of}
+use Rattle.table_core.proofs.TableLemmas.{IsRead}
 use Rattle.tariff_core.specs.Tariff.{Indexes, band_of}
-use Rattle.tariff_core.specs.TariffTable.{bands_of, rows_from}
+use Rattle.tariff_core.specs.TariffTable.{tariff_form}
 use Rattle.tariff_core.proofs.bands.Bands.read.Given as goal
 
--- the rows so far and those that are left are the rows of the table
-abbrev pub invariant-loop-index : goal.invariant-loop-index
-invariant-loop-index g l = record {
-  counted : l.number ≡ length l.rows.items + 2;
-  within : l.number ≤ 10002;
+-- the rows so far
+abbrev pub invariant-loop-found : goal.invariant-loop-found
+invariant-loop-found g l = record {
+  counted : number_of l.table ≡ length l.rows.items + 1;
+  within : number_of l.table ≤ 10001;
   indexed : Indexes l.index (map band_of l.rows.items);
-  so_far : (text : List ℕ) → g.R.Read.remaining l.fn.reader ≡ Some text
-      → (left : List (List (List ℕ))) × HasLeft g.R.Read.remaining l.records left
-      × (bands_of (rows_of text) ≡ rows_from l.number (map band_of l.rows.items) left);
+  so_far : IsRead tariff_form g.R.Read.remaining (g.R.Read.remaining l.fn.reader) l.table (map band_of l.rows.items);
 }
 
 -- a row past the last one that a table may have is refused
-abbrev pub decreases-loop-index : goal.decreases-loop-index
-decreases-loop-index g l = 10002 - l.number
+abbrev pub decreases-loop-found : goal.decreases-loop-found
+decreases-loop-found g l = room_of l.table
