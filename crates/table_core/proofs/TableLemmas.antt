@@ -1,12 +1,12 @@
 -- A table goes down its rows, and a loop over it makes of them what its form says.
-use Rattle.std.proofs.Common.{◌≡◌, ◌≢◌, ℕ, ◌+◌, ◌-◌, ◌<◌, ◌≤◌, Bool, true, false, List, [], ◌∷◌, length, Option, Some, None, Result, Ok, Err, refl, sym, ap, ◌∙◌, arith}
+use Rattle.std.proofs.Common.{◌≡◌, ℕ, ◌+◌, ◌<◌, ◌≤◌, Bool, true, false, List, [], ◌∷◌, length, Option, Some, None, Result, Ok, Err, refl, ap, ◌∙◌, arith}
 use Rattle.std.specs.Result.{result_err}
-use Rattle.std.specs.Prelude.{◌==◌, IfSome, IsErrAnd, ⊤, ok_or, not, nat_lt, if◌then◌else◌}
+use Rattle.std.specs.Prelude.{IfSome, IsErrAnd, ⊤, ok_or}
 use Rattle.std.proofs.lemmas.Bool.Decides.{nat_tests}
 use Rattle.csv.specs.Records.{fields_of}
 use Rattle.table_core.proofs.Known.{map_known}
 use Rattle.table_core.specs.Faults.{Gives, Refuses}
-use Rattle.table_core.specs.Reading.{HasRows, IsAtFirst, IsNextRow, IsRefused, IsSameTable, Moves, Opens, Steps, StepsBy, first_header}
+use Rattle.table_core.specs.Reading.{HasRows, IsAtFirst, IsNextRow, Opens, Steps, StepsBy, first_header}
 use Rattle.table_core.specs.Rows.{Fields, HasLeft, rows_of}
 use Rattle.table_core.specs.Tables.{TableForm, below, own_fault, rows_from, table_of, then_rows, unless_own, which_header, width_at}
 use Rattle.table_core.specs.declared.fault.RowFault.{RowFault}

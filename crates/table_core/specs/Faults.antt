@@ -6,8 +6,6 @@ use Rattle.table_core.specs.declared.fault.RowKind.{RowKind}
 use Rattle.table_core.specs.declared.fault.RowKind.TheVariants as kind
 use Rattle.table_core.specs.declared.fault.TableFault.{TableFault}
 use Rattle.table_core.specs.declared.fault.TableFault.TheVariants as fault
-use Rattle.table_core.specs.declared.rows.ReadFault.{ReadFault}
-use Rattle.table_core.specs.declared.rows.ReadFault.TheVariants as read
 
 -- the name of a kind
 abbrev pub name_of : RowKind → List ℕ
@@ -31,10 +29,11 @@ told_of (fault.Row refused) = text_of refused
 told_of fault.Device = codes "the reader failed"
 told_of fault.OutOfMemory = codes "out of memory"
 
--- what a table answers where its rows can't be read
-abbrev pub fault_of_read : ReadFault → TableFault
-fault_of_read read.Device = fault.Device
-fault_of_read read.OutOfMemory = fault.OutOfMemory
+-- why rows can't be read, which is no fault of a row
+abbrev pub IsOfReading : TableFault → Type 0
+IsOfReading (fault.Row refused) = ⊥
+IsOfReading fault.Device = ⊤
+IsOfReading fault.OutOfMemory = ⊤
 
 -- a refused row is the one that the table's meaning refuses; a failed reader and want of memory may come at any table
 abbrev pub Refuses : {Y : Type 0} → TableFault → Result Y RowFault → Type 0

@@ -7,17 +7,12 @@ use Rattle.table_core.specs.declared.fault.RowKind.{RowKind}
 use Rattle.table_core.specs.declared.fault.RowKind.TheVariants as kind
 use Rattle.table_core.specs.declared.fault.TableFault.{TableFault}
 use Rattle.table_core.specs.declared.fault.TableFault.TheVariants as fault
-use Rattle.table_core.specs.declared.rows.ReadFault.{ReadFault}
 use Rattle.table_core.specs.declared.rows.Rows.{Rows}
 use Rattle.table_core.specs.declared.table.Table.{Table}
 
 -- the row that was taken last
 abbrev pub row_of : {R : Type 0} → Rows R → Row
 row_of rows = rows.row
-
--- the fault that reading has met
-abbrev pub fault_of : {R : Type 0} → Rows R → Option ReadFault
-fault_of rows = rows.fault
 
 -- ---- tables
 

@@ -1,10 +1,9 @@
 //! The faults of a table and of its rows.
 
 ghost use Rattle.std.specs.Prelude.{◌≡◌, Some};
-ghost use Rattle.table_core.specs.Faults.{fault_of_read, name_of, text_of, told_of};
+ghost use Rattle.table_core.specs.Faults.{name_of, text_of, told_of};
 ghost use Rattle.table_core.specs.declared.fault.TableFault.TheVariants as out;
 
-use crate::ReadFault;
 use std::alloc::{AllocError, AllocFailed};
 use std::error::Error;
 use std::fmt;
@@ -95,17 +94,6 @@ impl fmt::Display for TableFault {
 }
 
 impl Error for TableFault {}
-
-impl From<ReadFault> for TableFault {
-    ghost from_gives = { λ read fault. fault ≡ fault_of_read read };
-
-    fn from(fault: ReadFault) -> TableFault {
-        match fault {
-            ReadFault::Device => TableFault::Device,
-            ReadFault::OutOfMemory => TableFault::OutOfMemory,
-        }
-    }
-}
 
 impl From<AllocError> for TableFault {
     ghost from_gives = { λ _ fault. fault ≡ out.OutOfMemory };

@@ -14,5 +14,4 @@ mod table;
 pub use decimals::decimal;
 pub use fault::{RowFault, RowKind, TableFault};
 pub use fields::{field, is_blank, is_word, number, optional};
-pub use rows::{ReadFault, Rows};
 pub use table::Table;

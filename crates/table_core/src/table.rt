@@ -7,7 +7,8 @@ ghost use Rattle.table_core.specs.Rows.{rows_of};
 ghost use Rattle.table_core.specs.Tables.{headers_of, is_header, names_of};
 ghost use Rattle.table_core.specs.declared.fault.TableFault.TheVariants as out;
 
-use crate::{RowFault, RowKind, Rows, TableFault, is_word};
+use crate::rows::Rows;
+use crate::{RowFault, RowKind, TableFault, is_word};
 use csv::ByteRecord;
 use std::alloc::Global;
 use std::io::Read;

@@ -3,26 +3,35 @@
 use crate::failing::Failing;
 use crate::looking::gives;
 use crate::tariffs::{TABLE, fault_of};
-use table_core::{ReadFault, Rows};
+use std::io::Read;
+use std::process::Abort;
+use table_core::{Table, TableFault};
 use tariff_core::{TariffFault, TariffKind};
 
 #[test]
-fn rows_keep_the_fault(rt: HostRuntime) {
+fn tables_keep_the_fault(rt: HostRuntime) {
     for length in 0..9 {
         let bytes = &b"a,b\n1,2\n"[..length];
-        let mut rows = Rows::new(rt.alloc(), Failing { bytes });
-        let mut ended = false;
-        for _ in 0..4 {
-            match rows.next_row() {
-                Ok(found) => assert!(rt; found && !ended, "after {length}"),
-                Err(fault) => {
-                    gives(&rt, &length, &fault, &ReadFault::Device);
-                    ended = true;
-                }
+        match Table::open(rt.alloc(), Failing { bytes }, &[&["a", "b"]], 100) {
+            Ok(mut table) => ends_with_device(&rt, length, &mut table),
+            Err(fault) => gives(&rt, &length, &fault, &TableFault::Device),
+        }
+    }
+}
+
+/// Tries that a table whose reader fails says so, and again at each later call.
+fn ends_with_device<R: Read + Drop>(rt: &impl Abort, length: usize, table: &mut Table<R>) {
+    let mut ended = false;
+    for _ in 0..4 {
+        match table.next_row() {
+            Ok(found) => assert!(rt; found && !ended, "after {length}"),
+            Err(fault) => {
+                gives(rt, &length, &fault, &TableFault::Device);
+                ended = true;
             }
         }
-        assert!(rt; ended, "after {length}");
     }
+    assert!(rt; ended, "after {length}");
 }
 
 #[test]

@@ -2,7 +2,7 @@
 
 use crate::looking::gives;
 use cap_values::ValueFault;
-use table_core::{ReadFault, RowFault, RowKind, TableFault};
+use table_core::{RowFault, RowKind, TableFault};
 use tariff_core::{TariffFault, TariffKind};
 
 const KINDS: [(TariffKind, u8, &str); 10] = [
@@ -26,8 +26,8 @@ fn faults_have_texts_and_numbers(rt: HostRuntime) {
     };
     let faults = [
         (TableFault::Row(order), "row 3: Order"),
-        (TableFault::from(ReadFault::Device), "the reader failed"),
-        (TableFault::from(ReadFault::OutOfMemory), "out of memory"),
+        (TableFault::Device, "the reader failed"),
+        (TableFault::OutOfMemory, "out of memory"),
     ];
     for &(fault, want) in &faults {
         let text = fault.to_string(rt.alloc()).expect(&rt, "memory");

@@ -1,4 +1,4 @@
-use Rattle.std.proofs.Common.{◌≡◌, ℕ, drop, length}
+use Rattle.std.proofs.Common.{◌≡◌, drop, length}
 use Rattle.csv.specs.Records.{fields_of}
 use Rattle.table_core.specs.Tables.{is_header, names_of}
 use Rattle.table_core.proofs.table.is_header.Given as goal

@@ -2,8 +2,8 @@ use Rattle.std.proofs.Common.{inr, refl, ◌∙◌}
 use Rattle.table_core.proofs.RowLemmas.{has_all}
 use Rattle.table_core.proofs.rows.Rows.new.Goals as goal
 
-pub returns-clause-all : goal.returns-clause-all
-returns-clause-all g c =
+pub returns : goal.returns
+returns g c =
     let reader = c.from_reader-reader.ensures in
     let built = c.flexible.ensures in
     let headers = c.has_headers.ensures in

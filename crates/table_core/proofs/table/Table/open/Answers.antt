@@ -9,7 +9,7 @@ use Rattle.table_core.proofs.table.Table.open.Goals as goal
 
 pub returns-in_err-header-clause-opens : goal.returns-in_err-header-clause-opens
 returns-in_err-header-clause-opens g c = if_known _ _ (λ text known.
-    let has = at_known _ _ text known c.new-rows.ensures.all in
+    let has = at_known _ _ text known c.new-rows.ensures in
     let (rest, rows, left) = rw c.if-not-branch.false at c.in_ok-next_row.ensures.takes (rows_of text) has in
     let which = which_is c.args.headers.now (fields_of c.row.result.now) ∙ sym c.which_header.ensures in
     opens_none g.R.Read.remaining (headers_of c.args.headers.now) c.from_residual-in_err-header.result c.in_err-header.field-0.0 (rows_of text) rest
@@ -18,7 +18,7 @@ returns-in_err-header-clause-opens g c = if_known _ _ (λ text known.
 
 pub returns-clause-opens : goal.returns-clause-opens
 returns-clause-opens g c = if_known (g.R.Read.remaining c.args.reader) _ (λ text known.
-    let has = at_known _ _ text known c.new-rows.ensures.all in
+    let has = at_known _ _ text known c.new-rows.ensures in
     let (rest, rows, left) = rw c.if-not-branch.false at c.in_ok-next_row.ensures.takes (rows_of text) has in
     let found = rw c.in_ok-header.was at c.ok_or.ensures.ok_part in
     let which = which_is c.args.headers.now (fields_of c.row.result.now) ∙ sym c.which_header.ensures ∙ found in
