@@ -14,6 +14,7 @@ use Rattle.account_core.specs.declared.entry.Reply.{Reply}
 use Rattle.account_core.specs.declared.entry.Reply.TheVariants as reply
 use Rattle.account_core.specs.declared.fault.AccountFault.{AccountFault}
 use Rattle.account_core.specs.declared.fault.AccountFault.TheVariants as fault
+use Rattle.tariff_core.specs.declared.money.TheConstants.{MAX_MONEY}
 
 -- a Settle and a Return are of an open call, and a Reserve isn't of one that was returned
 abbrev pub misplaced : Known → Asked → Option AccountFault
@@ -44,7 +45,7 @@ accepted_times known info = if known.forfeited then None else lawful_times known
 
 -- the replies, but for the credit that they show, which is 0 here
 abbrev pub credit_verdict : ℕ → ℕ → Reply
-credit_verdict funds amount = if nat_le (funds + amount) 1000000000000000 then reply.Credited 0 else reply.CreditOver 0
+credit_verdict funds amount = if nat_le (funds + amount) MAX_MONEY then reply.Credited 0 else reply.CreditOver 0
 
 abbrev pub reserve_verdict : ℕ → ℕ → ℕ → Bool → Reply
 reserve_verdict units wanted least forfeited =

@@ -2,6 +2,8 @@
 use Rattle.std.specs.Prelude.{◌≡◌, ◌&&◌, ℕ, Bool, true, nat_le}
 use Rattle.tariff_core.specs.Rates.{Rates}
 use Rattle.tariff_core.specs.declared.time_info.TimeInfo.{TimeInfo}
+use Rattle.tariff_core.specs.declared.money.TheConstants.{MAX_MONEY}
+use Rattle.tariff_core.specs.declared.times.TheConstants.{DAY}
 
 -- an operation: money is added, held for more time of a call, settled as a report tells, and given back
 pub data Asked : Type 0 where
@@ -17,10 +19,10 @@ call_of (Reserves call plan wanted least) = call
 call_of (Settles call number info) = call
 call_of (Returns call) = call
 
--- whether an amount is 1 to 10^15, and a time is a day at most
+-- whether an amount is 1 to `MAX_MONEY`, and a time is a day at most
 abbrev pub is_in_range : Asked → Bool
-is_in_range (Credits amount) = nat_le 1 amount && nat_le amount 1000000000000000
-is_in_range (Reserves call plan wanted least) = nat_le 1 wanted && nat_le wanted 864000 && nat_le least 864000
+is_in_range (Credits amount) = nat_le 1 amount && nat_le amount MAX_MONEY
+is_in_range (Reserves call plan wanted least) = nat_le 1 wanted && nat_le wanted DAY && nat_le least DAY
 is_in_range (Settles call number info) = true
 is_in_range (Returns call) = true
 

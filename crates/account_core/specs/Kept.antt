@@ -11,6 +11,7 @@ use Rattle.account_core.specs.Events.{Event}
 use Rattle.account_core.specs.Known.{Known, known}
 use Rattle.account_core.specs.Places.{owed}
 use Rattle.account_core.specs.declared.standing.Standing.{Standing}
+use Rattle.tariff_core.specs.declared.money.TheConstants.{MAX_MONEY}
 
 -- what a standing says of its call
 abbrev pub known_of : Standing → Known
@@ -34,7 +35,7 @@ TellsEach standings h = (call : ℕ) → known_of (unwrap_or (get nat_cmp standi
 
 -- the history is legal and within its limit, with a place for each that is owed, in memory too, and the map and the totals are those of the history
 pub record IsKept (opening limit : ℕ) (h : List Event) (standings : BTreeMap ℕ Standing) (funds credit places capacity : ℕ) : Type 0 where
-  pub small : opening ≤ 1000000000000000
+  pub small : opening ≤ MAX_MONEY
   pub legal : IsLegalPast opening h
   pub within_limit : length h + places ≤ limit
   pub room : length h + places ≤ capacity

@@ -11,10 +11,11 @@ use Rattle.account_core.specs.Available.{available, credits, taken_by_all}
 use Rattle.account_core.specs.Events.{Event}
 use Rattle.account_core.specs.Known.{Deed, Ends, deed, known}
 use Rattle.account_core.specs.Standing.{IsKindly}
+use Rattle.tariff_core.specs.declared.money.TheConstants.{MAX_MONEY}
 
 -- no balance is negative: at no place of a legal history do all calls take more than the opening and the credits accepted so far
 abbrev pub NoBalanceIsNegative : Type 0
-NoBalanceIsNegative = (opening : ℕ) (history later : List Event) → opening ≤ 1000000000000000 → IsLegal opening (history ++ later)
+NoBalanceIsNegative = (opening : ℕ) (history later : List Event) → opening ≤ MAX_MONEY → IsLegal opening (history ++ later)
     → taken_by_all (reverse history) ≤ opening + credits (reverse history)
 
 -- what the Returned of a call told that it paid in all
@@ -34,7 +35,7 @@ pub record IsClosed (call : ℕ) (plan : Rates) (h : List Event) : Type 0 where
 
 -- it has paid exactly the price of its times
 abbrev pub ClosedCallsPayTheTariff : Type 0
-ClosedCallsPayTheTariff = (opening : ℕ) (history : List Event) (call : ℕ) (plan : Rates) → opening ≤ 1000000000000000 → IsLegal opening history
+ClosedCallsPayTheTariff = (opening : ℕ) (history : List Event) (call : ℕ) (plan : Rates) → opening ≤ MAX_MONEY → IsLegal opening history
     → IsClosed call plan (reverse history) → told call (reverse history) ≡ Some (price_at plan (known call (reverse history)).times)
 
 -- the last report of a call, whatever was answered
@@ -52,7 +53,7 @@ AreReported None times = times ≡ no_times
 AreReported (Some info) times = (before : Elapsed) × (times_read before info ≡ Some times)
 
 abbrev pub TimesAreReported : Type 0
-TimesAreReported = (opening : ℕ) (history : List Event) (call : ℕ) → opening ≤ 1000000000000000 → IsLegal opening history
+TimesAreReported = (opening : ℕ) (history : List Event) (call : ℕ) → opening ≤ MAX_MONEY → IsLegal opening history
     → (known call (reverse history)).forfeited ≡ false → AreReported (last_report call (reverse history)) (known call (reverse history)).times
 
 -- a Settle changes nothing of what is available
@@ -61,10 +62,10 @@ IsSettle (Settles call number info) = Unit {0}
 IsSettle asked = ⊥
 
 abbrev pub SettlesKeepTheCredit : Type 0
-SettlesKeepTheCredit = (opening : ℕ) (history : List Event) (event : Event) → opening ≤ 1000000000000000 → IsLegal opening (history ++ event ∷ []) → IsSettle event.asked
+SettlesKeepTheCredit = (opening : ℕ) (history : List Event) (event : Event) → opening ≤ MAX_MONEY → IsLegal opening (history ++ event ∷ []) → IsSettle event.asked
     → available opening (reverse (history ++ event ∷ [])) ≡ available opening (reverse history)
 
 -- the answer to an admissible operation is of its kind, whatever its call
 abbrev pub AnswersAreKindly : Type 0
-AnswersAreKindly = (opening : ℕ) (history : List Event) (call : ℕ) (asked : Asked) → opening ≤ 1000000000000000 → IsLegal opening history
+AnswersAreKindly = (opening : ℕ) (history : List Event) (call : ℕ) (asked : Asked) → opening ≤ MAX_MONEY → IsLegal opening history
     → inadmissible (reverse history) asked ≡ None → IsKindly call (known call (reverse history)) asked (answer opening (reverse history) asked)

@@ -8,10 +8,11 @@ use Rattle.account_core.specs.Asked.{Asked, Credits, Reserves, Returns, Settles}
 use Rattle.account_core.specs.Known.{Known, paid_of, plan_in_force, price_under, taken_of}
 use Rattle.account_core.specs.declared.entry.Reply.{Reply}
 use Rattle.account_core.specs.declared.entry.Reply.TheVariants as reply
+use Rattle.tariff_core.specs.declared.money.TheConstants.{MAX_MONEY}
 
 -- an amount is added where the funds stay within the largest money
 abbrev pub credit_reply : ℕ → ℕ → ℕ → Reply
-credit_reply credit funds amount = if nat_le (funds + amount) 1000000000000000 then reply.Credited (credit + amount) else reply.CreditOver credit
+credit_reply credit funds amount = if nat_le (funds + amount) MAX_MONEY then reply.Credited (credit + amount) else reply.CreditOver credit
 
 -- of the credit and what the call holds already, the ceiling of its new units is held
 abbrev pub reserve_reply : ℕ → Known → Rates → ℕ → ℕ → ℕ → Reply

@@ -8,6 +8,8 @@ use Rattle.account_core.specs.Asked.{Asked, call_of}
 use Rattle.account_core.specs.Available.{available, credits, taken_by_all}
 use Rattle.account_core.specs.Events.{Event}
 use Rattle.account_core.specs.Known.{Deed, Grants, Known, deed_of, known, known_after, nothing_known, taken_of}
+use Rattle.tariff_core.specs.declared.money.TheConstants.{MAX_MONEY}
+use Rattle.tariff_core.specs.declared.times.TheConstants.{DAY}
 
 -- a call that was granted something: its times may have come from those at its last grant, within a day, and its top is the ceiling of that grant
 pub record IsHeld (plan : Rates) (call : Known) : Type 0 where
@@ -16,7 +18,7 @@ pub record IsHeld (plan : Rates) (call : Known) : Type 0 where
   pub granted_is : call.granted ≡ base.before + base.after + units
   pub top_is : call.top ≡ ceiling_of plan base units
   pub comes : may_come plan base (base.before + base.after + units) call.times ≡ true
-  pub within_day : base.before + base.after + units ≤ 864000
+  pub within_day : base.before + base.after + units ≤ DAY
 
 abbrev pub IsSoundUnder : Option Rates → Known → Type 0
 IsSoundUnder None call = call ≡ nothing_known
@@ -26,18 +28,18 @@ IsSoundUnder (Some plan) call = IsHeld plan call
 abbrev pub IsSound : Known → Type 0
 IsSound call = IsSoundUnder call.plan call
 
--- every call is sound, the calls take no more than there is, and that is at most 10^15
+-- every call is sound, the calls take no more than there is, and that is at most `MAX_MONEY`
 pub record IsSoundPast (opening : ℕ) (h : List Event) : Type 0 where
   pub each : (call : ℕ) → IsSound (known call h)
   pub covered : taken_by_all h ≤ opening + credits h
-  pub capped : opening + credits h ≤ 1000000000000000
+  pub capped : opening + credits h ≤ MAX_MONEY
 
 abbrev pub LegalPastsAreSound : Type 0
-LegalPastsAreSound = (opening : ℕ) (h : List Event) → opening ≤ 1000000000000000 → IsLegalPast opening h → IsSoundPast opening h
+LegalPastsAreSound = (opening : ℕ) (h : List Event) → opening ≤ MAX_MONEY → IsLegalPast opening h → IsSoundPast opening h
 
 -- a grant goes no further than a day
 abbrev pub HasRoom : Known → Deed → Type 0
-HasRoom call (Grants plan units) = call.times.before + call.times.after + units ≤ 864000
+HasRoom call (Grants plan units) = call.times.before + call.times.after + units ≤ DAY
 HasRoom call deed = Unit {0}
 
 -- what an answer does goes no further than a day, and takes no more than there is

@@ -7,13 +7,14 @@ use Rattle.account_core.specs.Ledger.{event_by}
 use Rattle.account_core.specs.declared.entry.Reply.{Reply}
 use Rattle.account_core.specs.declared.entry.Reply.TheVariants as reply
 use Rattle.account_core.specs.declared.fault.AccountFault.{AccountFault}
+use Rattle.tariff_core.specs.declared.times.TheConstants.{DAY}
 
 -- the units of a grant: some, at least the least and at most those wanted, and within a day with the times of the call
 pub record IsGrant (known : Known) (wanted least units : ℕ) : Type 0 where
   pub some : 1 ≤ units
   pub enough : least ≤ units
   pub within : units ≤ wanted
-  pub day : known.times.before + known.times.after + units ≤ 864000
+  pub day : known.times.before + known.times.after + units ≤ DAY
 
 -- a reply is of its operation's kind. A grant is made, or not, at will; a report is settled exactly where it is lawful
 abbrev pub IsReplyTo : Known → Asked → Reply → Type 0

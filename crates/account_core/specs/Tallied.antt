@@ -5,10 +5,11 @@ use Rattle.account_core.specs.Available.{available, credits}
 use Rattle.account_core.specs.Events.{Event}
 use Rattle.account_core.specs.Kept.{TellsEach}
 use Rattle.account_core.specs.declared.tally.Tally.{Tally}
+use Rattle.tariff_core.specs.declared.money.TheConstants.{MAX_MONEY}
 
 -- the history is legal from this opening, and the map and the totals are those of the history
 pub record IsTallied (h : List Event) (tally : Tally) : Type 0 where
-  pub small : tally.opening ≤ 1000000000000000
+  pub small : tally.opening ≤ MAX_MONEY
   pub legal : IsLegalPast tally.opening h
   pub tells : TellsEach tally.calls h
   pub funds_are : tally.funds ≡ tally.opening + credits h

@@ -21,6 +21,7 @@ use crate::{AccountFault, Entry, Op, Reply};
 use std::alloc::Global;
 use std::collections::BTreeMap;
 use std::marker::Model;
+use tariff_core::MAX_MONEY;
 
 /// An account: a history of entries, each the one right answer of a sequential account in its place.
 ///
@@ -57,7 +58,7 @@ impl Account {
     /// An account with an opening credit of 0 to `MAX_MONEY`, an empty history, and the number of
     /// entries that this may grow to. It takes no memory yet.
     pub fn new(alloc: Global, opening: u64, limit: u32) -> Account
-        requires { opening ≤ 1000000000000000 }
+        requires { opening ≤ MAX_MONEY }
         ensures { result ≡ record { opening = opening; limit = limit; history = [] } }
     {
         Account {
@@ -110,7 +111,7 @@ impl Account {
     pub fn history(&self) -> &[Entry]
         ensures value { map event_of result.now ≡ self.now.history }
         ensures legal { IsLegal self.now.opening self.now.history }
-        ensures small { self.now.opening ≤ 1000000000000000 }
+        ensures small { self.now.opening ≤ MAX_MONEY }
     {
         self.entries.as_slice()
     }

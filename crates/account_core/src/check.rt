@@ -7,6 +7,7 @@ ghost use Rattle.account_core.specs.Events.{event_of};
 use crate::tally::Tally;
 use crate::{Account, Entry};
 use std::alloc::{AllocError, Global};
+use tariff_core::MAX_MONEY;
 
 impl Account {
     /// Whether a list of entries, oldest first, is a legal history of an opening credit of 0 to
@@ -14,7 +15,7 @@ impl Account {
     /// account there. The seats and the length of the list aren't judged. The only error is want of
     /// memory, which is taken for each call that is new.
     pub fn check(alloc: Global, opening: u64, entries: &[Entry]) -> Result<bool, AllocError>
-        requires { opening ≤ 1000000000000000 }
+        requires { opening ≤ MAX_MONEY }
         ensures legal { result ≡ Ok true → IsLegal opening (map event_of entries.now) }
         ensures illegal { result ≡ Ok false → IsLegal opening (map event_of entries.now) → ⊥ }
     {

@@ -5,7 +5,7 @@ ghost use Rattle.account_core.specs.Answers.{shown_by};
 ghost use Rattle.account_core.specs.Asked.{call_of};
 ghost use Rattle.account_core.specs.Available.{credited};
 
-use tariff_core::{Plan, TimeInfo};
+use tariff_core::{DAY, Plan, TimeInfo};
 
 /// An operation on an account. Times are in units of 100 ms, amounts in units of money.
 #[derive(Clone, Copy, Debug, PartialEq, Eq)]
@@ -21,9 +21,9 @@ pub enum Op {
         call: u64,
         /// What it is charged by. A call that is open keeps its first plan.
         plan: Plan,
-        /// The time that is asked for, 1 to 864000.
+        /// The time that is asked for, 1 to DAY.
         wanted: u32,
-        /// The least time that is of use, 0 to 864000.
+        /// The least time that is of use, 0 to DAY.
         least: u32,
     },
     /// Tells what an open call has used, as its charging report states it.

@@ -11,8 +11,8 @@ ghost use Rattle.account_core.specs.Replies.{credit_reply, reply_for};
 ghost use Rattle.account_core.specs.Sound.{IsSound};
 
 use crate::standing::Standing;
-use crate::{AccountFault, MAX_MONEY, Op, Reply};
-use tariff_core::DAY;
+use crate::{AccountFault, Op, Reply};
+use tariff_core::{DAY, MAX_MONEY};
 
 /// Why an operation is refused, if it is: out of range, else out of place, else over the limit.
 pub(crate) fn judge(
@@ -64,8 +64,8 @@ fn is_in_range(op: &Op) -> bool
 /// credits, and so much of them is available.
 pub(crate) fn reply(op: Op, standing: &Standing, funds: u64, available: u64) -> Reply
     requires sound { IsSound (known_of standing.now) }
-    requires money { available + taken_of (known_of standing.now) ≤ 1000000000000000 }
-    requires capped { funds ≤ 1000000000000000 }
+    requires money { available + taken_of (known_of standing.now) ≤ MAX_MONEY }
+    requires capped { funds ≤ MAX_MONEY }
     requires ranged { is_in_range (asked_of op) ≡ true }
     ensures { result ≡ reply_for available funds (known_of standing.now) (asked_of op) }
 {
@@ -84,9 +84,9 @@ pub(crate) fn reply(op: Op, standing: &Standing, funds: u64, available: u64) -> 
 
 /// The reply to a Credit: it is added where the funds stay within the largest money.
 fn credit(amount: u64, funds: u64, available: u64) -> Reply
-    requires amount { amount ≤ 1000000000000000 }
-    requires capped { funds ≤ 1000000000000000 }
-    requires money { available ≤ 1000000000000000 }
+    requires amount { amount ≤ MAX_MONEY }
+    requires capped { funds ≤ MAX_MONEY }
+    requires money { available ≤ MAX_MONEY }
     ensures { result ≡ credit_reply available funds amount }
 {
     if funds + amount <= MAX_MONEY {

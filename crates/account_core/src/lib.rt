@@ -11,7 +11,6 @@ mod fault;
 mod judging;
 mod laws;
 mod list_account;
-mod money;
 mod port;
 mod sharing_laws;
 mod standing;
@@ -28,6 +27,5 @@ pub use laws::{
     settles_keep_the_credit,
 };
 pub use list_account::ListAccount;
-pub use money::MAX_MONEY;
 pub use port::Port;
 pub use sharing_laws::{accounts_have_no_gate, places_go_with_entries};

@@ -17,6 +17,7 @@ use crate::walks::{funds_in, owed_in, standing_in, taken_in};
 use crate::{AccountFault, Entry, Op, Reply};
 use std::alloc::Global;
 use std::marker::Model;
+use tariff_core::MAX_MONEY;
 
 /// An account that keeps its entries alone, and walks them for every answer. It answers as
 /// `Account` does, in a time that grows with its history, and keeps no room for closing.
@@ -44,7 +45,7 @@ impl ListAccount {
     /// An account with an opening credit of 0 to `MAX_MONEY`, an empty history, and the number of
     /// entries that this may grow to. It takes no memory yet.
     pub fn new(alloc: Global, opening: u64, limit: u32) -> ListAccount
-        requires { opening ≤ 1000000000000000 }
+        requires { opening ≤ MAX_MONEY }
         ensures { result ≡ record { opening = opening; limit = limit; history = [] } }
     {
         ListAccount {

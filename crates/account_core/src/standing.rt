@@ -11,10 +11,7 @@ ghost use Rattle.account_core.specs.Sound.{HasRoom, IsSound};
 ghost use Rattle.tariff_core.specs.RatesOf.{rates_of};
 
 use crate::{Op, Reply};
-use tariff_core::{
-    Plan, TimeInfo, Times, afford, afforded_is_greatest, ceiling, ceiling_is_greatest, lawful,
-    price, read_times,
-};
+use tariff_core::{DAY, MAX_MONEY, Plan, TimeInfo, Times, afford, afforded_is_greatest, ceiling, ceiling_is_greatest, lawful, price, read_times};
 
 /// What an account knows of a call.
 #[derive(Clone, Copy, Debug)]
@@ -97,7 +94,7 @@ impl Standing {
     #[tactic(auto, unfolding(crate::specs::Answers::units_offered))]
     pub fn reserve(&self, plan: Plan, wanted: u32, least: u32, available: u64) -> Reply
         requires sound { IsSound (known_of self.now) }
-        requires money { available + taken_of (known_of self.now) ≤ 1000000000000000 }
+        requires money { available + taken_of (known_of self.now) ≤ MAX_MONEY }
         ensures { result ≡ reserve_reply available (known_of self.now) (rates_of plan) wanted least
             (units_offered available (known_of self.now) (rates_of plan) wanted) }
     {
@@ -135,7 +132,7 @@ impl Standing {
     /// The reply to a Return.
     pub fn give_back(&self, available: u64) -> Reply
         requires sound { IsSound (known_of self.now) }
-        requires money { available + taken_of (known_of self.now) ≤ 1000000000000000 }
+        requires money { available + taken_of (known_of self.now) ≤ MAX_MONEY }
         ensures { result ≡ return_reply available (known_of self.now) }
     {
         ceiling_is_greatest();
@@ -210,7 +207,7 @@ impl Standing {
     /// What is known after a grant.
     fn granted_more(self, plan: Plan, units: u32) -> Standing
         requires sound { IsSound (known_of self) }
-        requires room { self.times.before + self.times.after + units ≤ 864000 }
+        requires room { self.times.before + self.times.after + units ≤ DAY }
         ensures { known_of result ≡ known_after (known_of self) (Grants (rates_of plan) units) }
     {
         let plan = self.plan_in_force(plan);

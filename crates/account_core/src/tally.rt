@@ -13,6 +13,7 @@ use crate::standing::Standing;
 use crate::{Entry, Op, Reply};
 use std::alloc::{AllocError, Global};
 use std::collections::BTreeMap;
+use tariff_core::MAX_MONEY;
 
 /// What a legal history comes to: the standing of each call, the opening with the accepted credits,
 /// and the credit that is left. The history itself stands in the caller's list, whose first
@@ -28,7 +29,7 @@ pub(crate) struct Tally {
 impl Tally {
     /// That of the empty history.
     pub fn new(alloc: Global, opening: u64) -> Tally
-        requires { opening ≤ 1000000000000000 }
+        requires { opening ≤ MAX_MONEY }
         ensures tallied { IsTallied [] result }
         ensures opening { result.opening ≡ opening }
     {

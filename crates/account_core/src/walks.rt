@@ -12,6 +12,7 @@ ghost use Rattle.account_core.specs.Places.{owed};
 use crate::laws::legal_pasts_are_sound;
 use crate::standing::Standing;
 use crate::{Entry, Op, Reply};
+use tariff_core::MAX_MONEY;
 
 /// What a legal history says of a call.
 pub(crate) fn standing_in(history: &[Entry], call: u64) -> Standing
@@ -30,7 +31,7 @@ pub(crate) fn standing_in(history: &[Entry], call: u64) -> Standing
 
 /// The opening and the credits that a legal history accepted.
 pub(crate) fn funds_in(history: &[Entry], opening: u64) -> u64
-    requires small { opening ≤ 1000000000000000 }
+    requires small { opening ≤ MAX_MONEY }
     requires legal { IsLegal opening (map event_of history.now) }
     ensures { result ≡ opening + credits (reverse (map event_of history.now)) }
 {

@@ -3,11 +3,10 @@
 ghost use Rattle.std.specs.Prelude.{◌≡◌, ◌↔◌, ◌≤◌, IsOk, IfOk, IsErrOf, Some, None};
 ghost use Rattle.std.specs.Option.{ForSome};
 ghost use Rattle.cap_values.specs.Charges.{IsCharge};
+ghost use Rattle.tariff_core.specs.declared.times.TheConstants.{DAY};
 
 use crate::ValueFault;
-
-/// The longest call period, in units of 100 ms: a day.
-pub const MAX_PERIOD: u32 = 864_000;
+use tariff_core::DAY;
 
 /// The longest time to a tariff switch, in seconds: a day.
 pub const MAX_SWITCH: u32 = 86_400;
@@ -18,14 +17,14 @@ pub const MAX_SWITCH: u32 = 86_400;
 /// to the switch, and the one of a charging report, the 100 ms from the answer to the switch.
 #[derive(Clone, Copy, Debug, PartialEq, Eq)]
 pub struct Charge {
-    /// How long the call may be talked (maxCallPeriodDuration): 1 to `MAX_PERIOD`, in 100 ms.
+    /// How long the call may be talked (maxCallPeriodDuration): 1 to `DAY`, in 100 ms.
     pub period: u32,
     /// When the tariff switches (tariffSwitchInterval): 1 to `MAX_SWITCH` seconds from now.
     pub switch: Option<u32>,
     /// Whether the call is released at the end of the period (releaseIfDurationExceeded).
     pub release: bool,
     pub ghost period_positive: { 1 ≤ period },
-    pub ghost period_within_day: { period ≤ 864000 },
+    pub ghost period_within_day: { period ≤ DAY },
     pub ghost switch_in_range: { ForSome switch (λ seconds. (1 ≤ seconds) × (seconds ≤ 86400)) },
 }
 
@@ -43,7 +42,7 @@ impl Charge {
         ensures release { IfOk result (λ charge. charge.release ≡ release) }
     {
         let period = period.ok_or(ValueFault::MissingParameter)?;
-        let is_period = 1 <= period && period <= MAX_PERIOD;
+        let is_period = 1 <= period && period <= DAY;
         if !is_period || !switch.is_none_or(|seconds| 1 <= seconds && seconds <= MAX_SWITCH) {
             return Err(ValueFault::ParameterOutOfRange);
         }

@@ -17,7 +17,7 @@ mod operation;
 pub use arming::{Arming, Point};
 pub use arms::Arms;
 pub use cause::Cause;
-pub use charge::{Charge, MAX_PERIOD, MAX_SWITCH};
+pub use charge::{Charge, MAX_SWITCH};
 pub use event::Event;
 pub use fault::ValueFault;
 pub use leg::Leg;

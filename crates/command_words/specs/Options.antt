@@ -4,6 +4,7 @@ use Rattle.clap.specs.Words.{Row, Text, first_of}
 use Rattle.table_core.specs.Decimals.{decimal_of}
 use Rattle.tariff_core.specs.Rates.{Rates}
 use Rattle.command_words.specs.Wishes.{Wish, Replays}
+use Rattle.tariff_core.specs.declared.money.TheConstants.{MAX_MONEY}
 
 -- the number of an option, where it is given and at most `most`
 abbrev pub number_in : List Row → Text → ℕ → Option ℕ
@@ -31,6 +32,6 @@ at_least least number = if nat_le least number then Some number else None
 abbrev pub limit_in : List Row → Option ℕ
 limit_in options = option_and_then (λ limit. at_least 3 (unwrap_or limit 1000000)) (optional_number_in options (codes "limit") 1000000)
 
--- the account of `replay`: its opening credit, at most 10^15, and its limit
+-- the account of `replay`: its opening credit, at most `MAX_MONEY`, and its limit
 abbrev pub replay_in : List Row → Option Wish
-replay_in options = option_and_then (λ opening. option_map (λ limit. Replays opening limit) (limit_in options)) (number_in options (codes "opening") 1000000000000000)
+replay_in options = option_and_then (λ opening. option_map (λ limit. Replays opening limit) (limit_in options)) (number_in options (codes "opening") MAX_MONEY)

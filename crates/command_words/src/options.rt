@@ -7,10 +7,9 @@ ghost use Rattle.command_words.specs.Options.{number_in, optional_number_in, pla
 ghost use Rattle.command_words.specs.Wishes.{Replays};
 
 use crate::request::Opening;
-use account_core::MAX_MONEY;
 use clap::ArgMatches;
 use table_core::decimal;
-use tariff_core::{MAX_RATE, Plan};
+use tariff_core::{MAX_MONEY, MAX_RATE, Plan};
 
 /// The fewest and the most entries that a history may be limited to.
 const MIN_LIMIT: u64 = 3;

@@ -1,9 +1,10 @@
 //! What a command line asks for.
 
 ghost use Rattle.std.specs.Prelude.{◌≤◌};
+ghost use Rattle.tariff_core.specs.declared.money.TheConstants.{MAX_MONEY};
 
 use run_options::RunOptions;
-use tariff_core::Plan;
+use tariff_core::{MAX_MONEY, Plan};
 
 /// What the words ask for.
 #[derive(Drop)]
@@ -25,5 +26,5 @@ pub struct Opening {
     pub opening: u64,
     /// How many entries its history may have, 3 to 1,000,000.
     pub limit: u32,
-    pub ghost opening_in_range: { opening ≤ 1000000000000000 },
+    pub ghost opening_in_range: { opening ≤ MAX_MONEY },
 }

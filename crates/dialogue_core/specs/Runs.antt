@@ -7,6 +7,7 @@ use Rattle.cap_values.specs.declared.message.SsfMsg.{SsfMsg}
 use Rattle.dialogue_core.specs.Phases.{Phase, Says, Ending, Closed, Asks}
 use Rattle.dialogue_core.specs.Table.{Step, begun, replied, told, unanswered}
 use Rattle.tariff_core.specs.declared.route.Route.{Route}
+use Rattle.tariff_core.specs.declared.times.TheConstants.{DAY}
 
 -- what a dialogue is handed
 pub data Input : Type 0 where
@@ -70,7 +71,7 @@ is_over _ = false
 
 -- a reply of the kind that an account gives to what was asked
 abbrev pub IsHonest : Asked → Reply → Type 0
-IsHonest (Reserves call plan wanted least) (Granted units last available) = (1 ≤ units) × (units ≤ 864000)
+IsHonest (Reserves call plan wanted least) (Granted units last available) = (1 ≤ units) × (units ≤ DAY)
 IsHonest (Reserves call plan wanted least) (Denied available) = ⊤
 IsHonest (Settles call number info) (Settled paid available) = ⊤
 IsHonest (Settles call number info) (Forfeit paid available) = ⊤

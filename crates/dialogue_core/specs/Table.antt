@@ -18,6 +18,7 @@ use Rattle.dialogue_core.specs.declared.fault.DialogueFault.{DialogueFault}
 use Rattle.dialogue_core.specs.declared.fault.DialogueFault.TheVariants.{Unexpected, NoAskPending, AskPending}
 use Rattle.tariff_core.specs.RatesOf.{rates_of}
 use Rattle.tariff_core.specs.declared.route.Route.{Route}
+use Rattle.tariff_core.specs.declared.times.TheConstants.{DAY}
 
 -- what is said, and where the dialogue stands then; or why the input is refused
 abbrev pub Step : Type 0
@@ -92,7 +93,7 @@ told Closed number message = Err Unexpected
 
 -- the units of a grant that may be given on
 abbrev pub are_units : ℕ → Bool
-are_units units = nat_le 1 units && nat_le units 864000
+are_units units = nat_le 1 units && nat_le units DAY
 
 -- the first period: the call is watched, charged, and goes on
 abbrev pub first_period : Conditions → ℕ → Bool → Says

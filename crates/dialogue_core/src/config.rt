@@ -2,6 +2,7 @@
 
 ghost use Rattle.std.specs.Prelude.{◌≡◌, ◌↔◌, ◌≤◌, IsOk, IfOk, IfErr};
 ghost use Rattle.dialogue_core.specs.Configs.{IsService};
+ghost use Rattle.tariff_core.specs.declared.times.TheConstants.{DAY};
 
 use cap_values::ValueFault;
 use tariff_core::DAY;
@@ -18,7 +19,7 @@ pub struct ServiceConfig {
     pub ghost tccd_positive: { 1 ≤ tccd },
     pub ghost tccd_within_least: { tccd ≤ least },
     pub ghost least_within_wanted: { least ≤ wanted },
-    pub ghost wanted_within_day: { wanted ≤ 864000 },
+    pub ghost wanted_within_day: { wanted ≤ DAY },
 }
 
 impl ServiceConfig {

@@ -14,7 +14,7 @@ use crate::terms::Terms;
 use crate::{DialogueFault, ServiceConfig, Turn};
 use account_core::{AccountFault, Reply};
 use cap_values::{Cause, SsfMsg};
-use tariff_core::Route;
+use tariff_core::{DAY, Route};
 
 /// The service's dialogue about one call.
 #[derive(Clone, Copy, Debug, PartialEq, Eq)]
@@ -26,14 +26,14 @@ impl Dialogue {
     /// The dialogue of a call that was triggered at `now`, and its first turn: the account is asked
     /// for time, or the call is cleared where it has no route.
     ///
-    /// A switch of the route lies 1 to 864000 units of 100 ms after `now`.
+    /// A switch of the route lies 1 to DAY units of 100 ms after `now`.
     pub fn begin(
         call: u64,
         now: u64,
         route: Option<Route>,
         config: &ServiceConfig,
     ) -> (Dialogue, Turn)
-        requires { ForSome route (λ route. ForSome route.switch_at (λ at. (now < at) × (at ≤ now + 864000))) }
+        requires { ForSome route (λ route. ForSome route.switch_at (λ at. (now < at) × (at ≤ now + DAY))) }
         ensures { begun call now config.now.wanted config.now.least route
             ≡ (says_of result.1, phase_of result.0) }
     {
@@ -153,7 +153,7 @@ fn unanswered(state: State) -> Result<(Turn, State), DialogueFault>
 
 /// The whole seconds to the switch, rounded up.
 fn seconds_to(now: u64, switch_at: Option<u64>) -> Option<u32>
-    requires { ForSome switch_at (λ at. (now < at) × (at ≤ now + 864000)) }
+    requires { ForSome switch_at (λ at. (now < at) × (at ≤ now + DAY)) }
     ensures value { result ≡ seconds_to now switch_at }
     ensures in_range { ForSome result (λ seconds. (1 ≤ seconds) × (seconds ≤ 86400)) }
 {

@@ -10,6 +10,7 @@ ghost use Rattle.dialogue_core.specs.Views.{says_of};
 use crate::Turn;
 use arrayvec::ArrayVec;
 use cap_values::{Arming, Arms, Cause, Charge, Event, Leg, Mode, ScfOp};
+use tariff_core::DAY;
 
 /// No operation.
 pub(crate) fn nothing() -> Turn
@@ -35,7 +36,7 @@ pub(crate) fn release(cause: Cause) -> Turn
 /// The first period of a call: its points are watched, it is charged, and it goes on.
 pub(crate) fn first_period(units: u32, switch: Option<u32>, last: bool) -> Turn
     requires positive { 1 ≤ units }
-    requires within_day { units ≤ 864000 }
+    requires within_day { units ≤ DAY }
     requires switch { ForSome switch (λ seconds. (1 ≤ seconds) × (seconds ≤ 86400)) }
     ensures { says_of result ≡ Sends (Watch service_arms ∷ Pay units switch last ∷ GoOn ∷ []) }
 {
@@ -53,7 +54,7 @@ pub(crate) fn first_period(units: u32, switch: Option<u32>, last: bool) -> Turn
 /// A further period of a call.
 pub(crate) fn further_period(units: u32, release: bool) -> Turn
     requires positive { 1 ≤ units }
-    requires within_day { units ≤ 864000 }
+    requires within_day { units ≤ DAY }
     ensures { says_of result ≡ Sends (Pay units None release ∷ []) }
 {
     one(ScfOp::ApplyCharging(Charge {

@@ -11,7 +11,8 @@ use crate::state::{State, Then};
 use crate::terms::Terms;
 use crate::{DialogueFault, Turn};
 use account_core::{Op, Reply};
-use cap_values::{Cause, MAX_PERIOD};
+use cap_values::Cause;
+use tariff_core::DAY;
 
 /// The reply to the first reserve.
 pub(crate) fn first_reply(terms: Terms, reply: Reply) -> Result<(Turn, State), DialogueFault>
@@ -94,5 +95,5 @@ pub(crate) fn reserve(terms: Terms) -> Turn
 fn are_units(units: u32) -> bool
     ensures { result ≡ are_units units }
 {
-    1 <= units && units <= MAX_PERIOD
+    1 <= units && units <= DAY
 }

@@ -5,12 +5,12 @@ ghost use Rattle.std.specs.Prelude.{◌≤◌, All};
 
 use crate::looking::gives;
 use crate::making::number;
-use account_core::{Account, AccountFault, AccountPort, MAX_MONEY, Op, Port, Reply};
+use account_core::{Account, AccountFault, AccountPort, Op, Port, Reply};
 use dialogue_core::ServiceConfig;
 use simulator::{CallEnd, DriveFault, drive_call};
 use ssf_core::{BcsmEvent, DefaultHandling, Moment, SsfConfig, State};
 use std::process::Abort;
-use tariff_core::{Plan, Route, TimeInfo};
+use tariff_core::{MAX_MONEY, Plan, Route, TimeInfo};
 
 /// What a port does in place of asking its account.
 #[derive(Clone, Copy)]

@@ -8,6 +8,7 @@ use crate::ssf_rows::{CALLS, Input, Row, Sent, Start};
 use cap_values::{Cause, Event, Mode, ScfOp, SsfMsg};
 use ssf_core::{BcsmEvent, DefaultHandling, Item, Moment, Out, Ssf, SsfConfig, State};
 use std::process::Abort;
+use tariff_core::HORIZON;
 
 /// The last moment that a gsmSSF takes.
 const LATEST: Moment = 2_000_000_000_000;
@@ -47,7 +48,7 @@ fn triggered(rt: &impl Abort, default_handling: DefaultHandling) -> Ssf {
 
 /// Armed, charged for 600 and continued at a moment.
 fn monitored(rt: &impl Abort, at: Moment, switch: Option<u32>, busy: Mode) -> Ssf
-    requires { at ≤ 2000000000000 }
+    requires { at ≤ HORIZON }
 {
     let mut ssf = triggered(rt, DefaultHandling::Release);
     let watched = ssf.operation(at, arms(rt, busy));
@@ -65,7 +66,7 @@ fn monitored(rt: &impl Abort, at: Moment, switch: Option<u32>, busy: Mode) -> Ss
 
 /// Answered at 100.
 fn answered(rt: &impl Abort, at: Moment, switch: Option<u32>) -> Ssf
-    requires { at ≤ 2000000000000 }
+    requires { at ≤ HORIZON }
 {
     let mut ssf = monitored(rt, at, switch, Mode::NotifyAndContinue);
     let step = ssf.event(100, BcsmEvent::Answer);

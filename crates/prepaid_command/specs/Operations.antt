@@ -7,6 +7,8 @@ use Rattle.table_core.specs.declared.fault.RowKind.{RowKind}
 use Rattle.table_core.specs.declared.fault.RowKind.TheVariants as kind
 use Rattle.tariff_core.specs.declared.time_info.TimeInfo.{TimeInfo}
 use Rattle.tariff_core.specs.declared.time_info.TimeInfo.TheVariants as info
+use Rattle.tariff_core.specs.declared.money.TheConstants.{MAX_MONEY}
+use Rattle.tariff_core.specs.declared.times.TheConstants.{DAY}
 
 -- ---- words
 
@@ -32,7 +34,7 @@ abbrev pub any_number_in : List (List ℕ) → ℕ → Result ℕ RowKind
 any_number_in fields place = number_in fields place 18446744073709551615
 
 abbrev pub units_in : List (List ℕ) → ℕ → Result ℕ RowKind
-units_in fields place = number_in fields place 864000
+units_in fields place = number_in fields place DAY
 
 abbrev pub rate_in : List (List ℕ) → ℕ → Result ℕ RowKind
 rate_in fields place = number_in fields place 1000000000
@@ -43,13 +45,13 @@ counted_interval None = Ok None
 counted_interval (Some interval) = if interval == 0 then Err kind.Number else Ok (Some interval)
 
 abbrev pub interval_in : List (List ℕ) → ℕ → Result (Option ℕ) RowKind
-interval_in fields place = after (optional_in fields place 864000) counted_interval
+interval_in fields place = after (optional_in fields place DAY) counted_interval
 
 -- ---- operations
 
 -- `credit`: x1 the amount
 unfoldable pub credit_in : List (List ℕ) → ℕ → Result Asked RowKind
-credit_in fields at = after (number_in fields (at + 2) 1000000000000000) (λ amount.
+credit_in fields at = after (number_in fields (at + 2) MAX_MONEY) (λ amount.
     when_blank (is_blank fields (at + 1) && last_are_blank fields at) (Credits amount))
 
 -- `reserve`: the call, x1 to x3 the fee and the rates, x4 the time wanted, x5 the least

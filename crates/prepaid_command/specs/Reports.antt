@@ -9,6 +9,7 @@ use Rattle.table_core.specs.declared.fault.RowKind.TheVariants as kind
 use Rattle.tariff_core.specs.Lawful.{is_lawful}
 use Rattle.tariff_core.specs.Rates.{Rates}
 use Rattle.tariff_core.specs.Times.{Elapsed, no_times}
+use Rattle.tariff_core.specs.declared.times.TheConstants.{DAY}
 
 -- times as reported: a time after the switch means that there was one
 abbrev pub reported : ℕ → ℕ → Elapsed
@@ -16,12 +17,12 @@ reported first second = record { before = first; after = second; switched = nat_
 
 -- the times, where a call that may talk a day may report them after the last
 abbrev pub judged : Rates → Elapsed → Elapsed → Result Elapsed RowKind
-judged plan last times = if is_lawful plan last times 864000 then Ok times else Err kind.Order
+judged plan last times = if is_lawful plan last times DAY then Ok times else Err kind.Order
 
 -- the report in a row of two fields, after the times before it
 abbrev pub report_in : Rates → Elapsed → List (List ℕ) → Result Elapsed RowKind
 report_in plan last fields =
-    after (number_in fields 0 864000) (λ first. after (number_in fields 1 864000) (λ second. judged plan last (reported first second)))
+    after (number_in fields 0 DAY) (λ first. after (number_in fields 1 DAY) (λ second. judged plan last (reported first second)))
 
 -- the times of the last report, and those before the first one
 unfoldable pub last_after : Elapsed → List Elapsed → Elapsed
@@ -40,4 +41,4 @@ reports_of plan rows = table_of (reports_form plan) rows
 -- each of the times is lawful after the one before it
 unfoldable pub AreInOrder : Rates → Elapsed → List Elapsed → Type 0
 AreInOrder plan last [] = ⊤
-AreInOrder plan last (times ∷ rest) = (is_lawful plan last times 864000 ≡ true) × AreInOrder plan times rest
+AreInOrder plan last (times ∷ rest) = (is_lawful plan last times DAY ≡ true) × AreInOrder plan times rest

@@ -7,10 +7,10 @@ ghost use Rattle.csv.specs.Records.{fields_of};
 ghost use Rattle.account_core.specs.Events.{asked_of};
 ghost use Rattle.prepaid_command.specs.Operations.{credit_in, info_in, interval_in, is_known, last_are_blank, operation_in, reserve_in, return_in, settle_in};
 
-use account_core::{MAX_MONEY, Op};
+use account_core::Op;
 use csv::ByteRecord;
 use table_core::{RowKind, is_blank, is_word, number, optional};
-use tariff_core::{DAY, MAX_RATE, Plan, TimeInfo};
+use tariff_core::{DAY, MAX_MONEY, MAX_RATE, Plan, TimeInfo};
 
 /// Whether the word at `at` names an operation, and for a settle x2 a kind of report.
 pub fn is_known(row: &ByteRecord, at: usize) -> bool

@@ -14,6 +14,7 @@ use account_core::{Account, AccountFault, Reply};
 use std::alloc::Global;
 use std::io::Read;
 use table_core::{Table, TableFault};
+use tariff_core::MAX_MONEY;
 
 /// One line a row: the account's reply, or the fault that refused the operation. The account opens
 /// with this credit, and its history may have as many entries as `limit`.
@@ -23,7 +24,7 @@ pub fn replay<I: Read + Drop>(
     limit: u32,
     reader: I,
 ) -> Result<String, TableFault>
-    requires { opening ≤ 1000000000000000 }
+    requires { opening ≤ MAX_MONEY }
     ensures { IfSome (I.remaining reader) (λ text.
         Gives string_bytes result (replayed opening limit (rows_of text))) }
 {

@@ -3,6 +3,7 @@
 use crate::program::{expect, expect_fault};
 use std::alloc::{AllocError, Global};
 use std::test::Fail;
+use tariff_core::MAX_MONEY;
 
 const OPENED: &str = "replay --opening 1500";
 
@@ -49,9 +50,9 @@ const ANSWERED: [(&str, &str, &str); 9] = [
         "granted 600 more available 450\ncredited available 1050\ngranted 600 more available 0\n",
     ),
     (
-        "replay --opening 1000000000000000",
+        "replay --opening MAX_MONEY",
         "0,credit,,1,,,,\n0,credit,,0,,,,\n",
-        "over available 1000000000000000\nrefused OutOfRange\n",
+        "over available MAX_MONEY\nrefused OutOfRange\n",
     ),
     (OPENED, "", ""),
 ];

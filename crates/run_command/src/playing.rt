@@ -23,7 +23,7 @@ use shared_account::{Book, OpenGate};
 use std::alloc::{AllocError, Global};
 use std::sync::Wait;
 use std::thread::Threads;
-use tariff_core::Tariff;
+use tariff_core::{LAST_MOMENT, Tariff};
 use workers_core::RunSetup;
 
 /// How many entries the history of an account may have.
@@ -37,7 +37,7 @@ pub(crate) fn play<R: Wait + Threads + Sync>(
     texts: RunTexts,
 ) -> Result<Vec<Book>, RunError>
     requires sets_up { SetsUp texts.setup }
-    requires in_range { All (λ row. row.at ≤ 1000000000000) texts.script.items }
+    requires in_range { All (λ row. row.at ≤ LAST_MOMENT) texts.script.items }
     requires in_order { are_in_order 0 texts.script.items ≡ true }
     ensures workers { IfOk result (λ _. are_workers options.now.workers ≡ true) }
     ensures books { IfOk result (λ books. (given : List (ℕ × Body))

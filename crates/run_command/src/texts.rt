@@ -15,7 +15,7 @@ ghost use Rattle.tariff_core.specs.TariffTable.{tariff_of};
 use crate::RunError;
 use run_texts::{Parts, ScriptRow, SetupRows, divide};
 use std::alloc::Global;
-use tariff_core::Tariff;
+use tariff_core::{LAST_MOMENT, Tariff};
 
 /// What the input of a run says.
 #[derive(Drop)]
@@ -30,7 +30,7 @@ pub(crate) fn read_texts(alloc: Global, input: &[u8]) -> Result<RunTexts, RunErr
     ensures means { Gives input_in result (input_of input.now) }
     ensures sets_up { IfOk result (λ texts. SetsUp texts.setup) }
     ensures in_range { IfOk result
-        (λ texts. All (λ row. row.at ≤ 1000000000000) texts.script.items) }
+        (λ texts. All (λ row. row.at ≤ LAST_MOMENT) texts.script.items) }
     ensures in_order { IfOk result (λ texts. are_in_order 0 texts.script.items ≡ true) }
 {
     let Parts {
@@ -74,7 +74,7 @@ fn read_script(
 ) -> Result<Vec<ScriptRow>, RunError>
     ensures means { Gives (λ rows. map event_of rows.items) result
         (told out.Script (script_of accounts.now (rows_of text.now))) }
-    ensures in_range { IfOk result (λ rows. All (λ row. row.at ≤ 1000000000000) rows.items) }
+    ensures in_range { IfOk result (λ rows. All (λ row. row.at ≤ LAST_MOMENT) rows.items) }
     ensures in_order { IfOk result (λ rows. are_in_order 0 rows.items ≡ true) }
 {
     match run_texts::read_script(alloc, accounts, text) {

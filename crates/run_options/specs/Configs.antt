@@ -1,9 +1,10 @@
 -- The ranges of a run's times.
 use Rattle.std.specs.Prelude.{◌&&◌, Bool, nat_le}
 use Rattle.run_options.specs.declared.ask.RunAsk.{RunAsk}
+use Rattle.tariff_core.specs.declared.times.TheConstants.{DAY}
 
 -- 1 ≤ delay ≤ tccd ≤ least ≤ wanted ≤ a day, and 1 ≤ tssf ≤ a day
 abbrev pub is_config : RunAsk → Bool
 is_config ask =
-    nat_le 1 ask.delay && nat_le ask.delay ask.tccd && nat_le ask.tccd ask.least && nat_le ask.least ask.wanted && nat_le ask.wanted 864000
-    && nat_le 1 ask.tssf && nat_le ask.tssf 864000
+    nat_le 1 ask.delay && nat_le ask.delay ask.tccd && nat_le ask.tccd ask.least && nat_le ask.least ask.wanted && nat_le ask.wanted DAY
+    && nat_le 1 ask.tssf && nat_le ask.tssf DAY

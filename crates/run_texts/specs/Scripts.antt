@@ -13,6 +13,7 @@ use Rattle.run_texts.specs.Happenings.{Event, Happens, Meets, Recharges, Starts}
 use Rattle.run_texts.specs.Setups.{account_in, amount_in, has_account, party_in}
 use Rattle.run_texts.specs.declared.word.Word.{Word}
 use Rattle.run_texts.specs.declared.word.Word.TheVariants as word
+use Rattle.tariff_core.specs.declared.times.TheConstants.{LAST_MOMENT}
 
 -- ---- words
 
@@ -65,9 +66,9 @@ happens_in fields (word.Event event) = event_in fields event
 happens_in fields word.Disconnect = disconnect_in fields
 happens_in fields word.Recharge = recharge_in fields
 
--- what happens in a row, and its moment of 0 to 10^12
+-- what happens in a row, and its moment of 0 to `LAST_MOMENT`
 abbrev pub read_in : List (List ℕ) → Result Event RowKind
-read_in fields = after (word_in fields) (λ word. after (number_in fields 0 1000000000000) (λ at. after (happens_in fields word) (λ what. Ok (record { at = at; what = what }))))
+read_in fields = after (word_in fields) (λ word. after (number_in fields 0 LAST_MOMENT) (λ at. after (happens_in fields word) (λ what. Ok (record { at = at; what = what }))))
 
 -- ---- rows; the earlier ones newest first
 

@@ -9,6 +9,7 @@ use Rattle.table_core.specs.Tables.{TableForm, table_form, table_of}
 use Rattle.table_core.specs.declared.fault.RowFault.{RowFault}
 use Rattle.table_core.specs.declared.fault.RowKind.{RowKind}
 use Rattle.table_core.specs.declared.fault.RowKind.TheVariants as kind
+use Rattle.tariff_core.specs.declared.money.TheConstants.{MAX_MONEY}
 
 -- accounts, each a number and its opening credit, and subscribers, each its digits and its account
 pub record Setup : Type 0 where
@@ -38,9 +39,9 @@ party_in fields place = if is_number (field_in fields place) then Ok (field_in f
 abbrev pub account_in : List (List ℕ) → ℕ → Result ℕ RowKind
 account_in fields place = number_in fields place 4294967295
 
--- the money in the field at a place: 0 to 10^15
+-- the money in the field at a place: 0 to `MAX_MONEY`
 abbrev pub amount_in : List (List ℕ) → ℕ → Result ℕ RowKind
-amount_in fields place = number_in fields place 1000000000000000
+amount_in fields place = number_in fields place MAX_MONEY
 
 -- `account,NUMBER,OPENING`
 abbrev pub account_row : List (List ℕ) → Result Named RowKind

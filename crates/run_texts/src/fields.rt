@@ -6,11 +6,11 @@ ghost use Rattle.cap_values.specs.NumberDigits.{digits_of};
 ghost use Rattle.csv.specs.Records.{fields_of};
 ghost use Rattle.run_texts.specs.Setups.{account_in, amount_in, party_in};
 
-use account_core::MAX_MONEY;
 use cap_values::Number;
 use csv::ByteRecord;
 use std::str;
 use table_core::{RowKind, field, number};
+use tariff_core::MAX_MONEY;
 
 /// The number of an account: a decimal of 32 bits.
 pub(crate) fn account(row: &ByteRecord, place: usize) -> Result<u32, RowKind>
@@ -24,7 +24,7 @@ pub(crate) fn account(row: &ByteRecord, place: usize) -> Result<u32, RowKind>
 pub(crate) fn amount(row: &ByteRecord, place: usize) -> Result<u64, RowKind>
     requires { place < length (fields_of row.now) }
     ensures value { result ≡ amount_in (fields_of row.now) place }
-    ensures within { IfOk result (λ amount. amount ≤ 1000000000000000) }
+    ensures within { IfOk result (λ amount. amount ≤ MAX_MONEY) }
 {
     number(row, place, MAX_MONEY)
 }

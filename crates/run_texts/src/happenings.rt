@@ -7,19 +7,19 @@ ghost use Rattle.run_texts.specs.Scripts.{call_in, disconnect_in, event_in, happ
 ghost use Rattle.run_texts.specs.Views.{event_of, happens_of};
 
 use crate::fields::{account, amount, party};
-use crate::script_row::LAST_MOMENT;
 use crate::word::{Word, read_word};
 use crate::{Happening, ScriptRow};
 use cap_values::Leg;
 use csv::ByteRecord;
 use ssf_core::BcsmEvent;
 use table_core::{RowKind, is_blank, number};
+use tariff_core::LAST_MOMENT;
 
 /// What a row of five fields says, wherever it stands.
 pub(crate) fn read_row(row: &ByteRecord) -> Result<ScriptRow, RowKind>
     requires { length (fields_of row.now) ≡ 5 }
     ensures says { result_map_both event_of (λ kind. kind) result ≡ read_in (fields_of row.now) }
-    ensures in_range { IfOk result (λ row. row.at ≤ 1000000000000) }
+    ensures in_range { IfOk result (λ row. row.at ≤ LAST_MOMENT) }
 {
     let word = read_word(row)?;
     let at = number(row, 0, LAST_MOMENT)?;

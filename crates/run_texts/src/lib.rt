@@ -15,6 +15,6 @@ mod word;
 
 pub use parts::{Parts, divide};
 pub use script::read_script;
-pub use script_row::{Happening, LAST_MOMENT, ScriptRow};
+pub use script_row::{Happening, ScriptRow};
 pub use setup::read_setup;
 pub use setup_rows::SetupRows;

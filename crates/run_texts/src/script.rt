@@ -17,6 +17,7 @@ use std::alloc::{AllocError, Global};
 use std::collections::BTreeSet;
 use std::io::Read;
 use table_core::{RowKind, Table, TableFault};
+use tariff_core::LAST_MOMENT;
 
 /// The most rows of a script, its header not counted.
 const MAX_ROWS: u32 = 1_000_000;
@@ -41,7 +42,7 @@ pub fn read_script<I: Read + Drop>(
 ) -> Result<Vec<ScriptRow>, TableFault>
     ensures means { IfSome (I.remaining reader) (λ text.
         Gives (λ rows. map event_of rows.items) result (script_of accounts.now (rows_of text))) }
-    ensures in_range { IfOk result (λ rows. All (λ row. row.at ≤ 1000000000000) rows.items) }
+    ensures in_range { IfOk result (λ rows. All (λ row. row.at ≤ LAST_MOMENT) rows.items) }
     ensures in_order { IfOk result (λ rows. are_in_order 0 rows.items ≡ true) }
 {
     let headers: &[&[&str]] = &[&["moment", "call", "what", "x", "y"]];
@@ -87,7 +88,7 @@ fn judge(
         → HasCalls calls.now earlier → last ≡ last_moment earlier
         → result_map_both event_of (λ kind. kind) result
         ≡ row_at listed earlier (fields_of row.now) }
-    ensures in_range { IfOk result (λ row. row.at ≤ 1000000000000) }
+    ensures in_range { IfOk result (λ row. row.at ≤ LAST_MOMENT) }
     ensures in_order { IfOk result (λ row. last ≤ row.at) }
 {
     let row = read_row(row)?;

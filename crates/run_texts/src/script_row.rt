@@ -3,9 +3,6 @@
 use cap_values::Number;
 use ssf_core::{BcsmEvent, Moment};
 
-/// The last moment that a script may name.
-pub const LAST_MOMENT: Moment = 1_000_000_000_000;
-
 /// What happens, and when.
 #[derive(Clone, Copy, Debug, PartialEq, Eq)]
 pub struct ScriptRow {
@@ -38,7 +35,7 @@ pub enum Happening {
     Recharge {
         /// The account's number.
         account: u32,
-        /// How much, 0 to `account_core::MAX_MONEY`.
+        /// How much, 0 to `tariff_core::MAX_MONEY`.
         amount: u64,
     },
 }

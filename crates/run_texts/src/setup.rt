@@ -33,7 +33,7 @@ const MOST_ACCOUNTS: usize = 1_000;
 /// Rows are judged in order as they are read, a row in this order: `Csv` where it hasn't three
 /// fields; `TooManyRows` past 10,000 rows and 1,000 accounts; `What` where its first word is
 /// another one; `Number` where an account's number isn't a decimal of 32 bits, an opening credit
-/// not one of 0 to `account_core::MAX_MONEY`, or a subscriber not 1 to 15 digits; `Repeated` where
+/// not one of 0 to `tariff_core::MAX_MONEY`, or a subscriber not 1 to 15 digits; `Repeated` where
 /// it names an account or a subscriber again; `Unknown` where no earlier row has a subscriber's
 /// account. `Header` is the fault of row 1.
 pub fn read_setup<I: Read + Drop>(alloc: Global, reader: I) -> Result<SetupRows, TableFault>

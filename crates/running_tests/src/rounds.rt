@@ -1,10 +1,12 @@
 //! A driver whose rounds are known beforehand.
 
 ghost use Rattle.std.specs.Prelude.{◌≡◌, ◌≤◌, ◌++◌, ◌∷◌, [], false, All, OnOk};
+ghost use Rattle.tariff_core.specs.declared.times.TheConstants.{HORIZON};
 
 use runs_core::Driver;
 use std::alloc::{AllocError, Global};
 use workers_core::{Answer, Body};
+use tariff_core::HORIZON;
 
 /// Gives one or two bodies in each round, all at moment 0, and counts the answers and the strays
 /// among them. It takes an answer only with the number of its post.
@@ -16,7 +18,7 @@ pub(crate) struct Rounds<'a> {
     answered: usize,
     strays: usize,
     ended: bool,
-    ghost in_range: { All (λ item. item.0 ≤ 2000000000000) given.items },
+    ghost in_range: { All (λ item. item.0 ≤ HORIZON) given.items },
 }
 
 impl<'a> Rounds<'a> {

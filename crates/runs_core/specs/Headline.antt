@@ -8,6 +8,7 @@ use Rattle.account_core.specs.Laws.{AreReported, IsClosed, last_report, told}
 use Rattle.shared_account.specs.Closed.{Closed}
 use Rattle.tariff_core.specs.Price.{price_at}
 use Rattle.tariff_core.specs.Rates.{Rates}
+use Rattle.tariff_core.specs.declared.money.TheConstants.{MAX_MONEY}
 
 -- no balance is negative: at no place do all calls take more than the opening and the credits accepted so far
 abbrev pub IsSolvent : Closed → Type 0
@@ -30,4 +31,4 @@ pub record IsRight (book : Closed) : Type 0 where
 
 -- a book whose history is legal is right; each book of a run has one, and the opening credit of its account
 abbrev pub BooksAreRight : Type 0
-BooksAreRight = (book : Closed) → book.opening ≤ 1000000000000000 → IsLegal book.opening book.history → IsRight book
+BooksAreRight = (book : Closed) → book.opening ≤ MAX_MONEY → IsLegal book.opening book.history → IsRight book

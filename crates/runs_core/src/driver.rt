@@ -2,6 +2,7 @@
 
 use std::alloc::AllocError;
 use workers_core::{Answer, Body};
+use tariff_core::HORIZON;
 
 /// Gives the posts of a run, round by round.
 ///
@@ -19,10 +20,10 @@ pub trait Driver {
 
     ghost plan: { Self → Self.Plan };
 
-    /// All that it has given, each with its moment, 0 to 2,000,000,000,000.
+    /// All that it has given, each with its moment, 0 to `tariff_core::HORIZON`.
     fn given(&self) -> &[(u64, Body)]
         ensures items { result.now ≡ given self.now }
-        ensures moments { All (λ item. item.0 ≤ 2000000000000) result.now };
+        ensures moments { All (λ item. item.0 ≤ HORIZON) result.now };
 
     /// Whether it has ended.
     fn ended(&self) -> bool

@@ -8,6 +8,7 @@ use crate::dealing::deal;
 use shared_account::Shared;
 use std::alloc::{AllocError, Global};
 use workers_core::RunSetup;
+use tariff_core::MAX_MONEY;
 
 /// The accounts of a run, in order, and the seats of each worker, one of each account.
 #[derive(Drop)]
@@ -51,7 +52,7 @@ fn open_account<S: Shared, R>(
     limit: u32,
     workers: u32,
 ) -> Result<(S, Vec<S::Seat>), RunFault>
-    requires opening { account.1 ≤ 1000000000000000 }
+    requires opening { account.1 ≤ MAX_MONEY }
     requires some { 1 ≤ workers }
     requires few { workers ≤ 16 }
     ensures terms { IfOk result (λ made. S.terms made.0 ≡ record {

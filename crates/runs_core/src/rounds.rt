@@ -12,6 +12,7 @@ use shared_account::{Gate, Shared};
 use std::alloc::Global;
 use std::sync::Wait;
 use workers_core::{Answer, Body, Post};
+use tariff_core::HORIZON;
 
 /// Plays rounds until the driver has ended.
 pub(crate) fn play<D: Driver, S: Shared, R: Wait, G: Gate>(
@@ -73,7 +74,7 @@ fn hand_out<S: Shared, R: Wait, G: Gate>(
 ) -> Result<(), RunFault>
     requires some { 0 < length lines.old.items }
     requires within { first ≤ length given.now }
-    requires moments { All (λ item. item.0 ≤ 2000000000000) given.now }
+    requires moments { All (λ item. item.0 ≤ HORIZON) given.now }
     requires sent { AreSent (take first given.now) lines.old.items }
     ensures sent { OnOk result (AreSent given.now lines.new.items) }
     ensures promises { promises_of lines.new.items ≡ promises_of lines.old.items }
@@ -90,7 +91,7 @@ fn hand_out<S: Shared, R: Wait, G: Gate>(
 /// The item at a place, as a post of that number.
 fn post_at(given: &[(u64, Body)], place: usize) -> Post
     requires within { place < length given.now }
-    requires moments { All (λ item. item.0 ≤ 2000000000000) given.now }
+    requires moments { All (λ item. item.0 ≤ HORIZON) given.now }
     ensures { HoldsAt (λ item. item_of result ≡ item_at place item) given.now place }
 {
     let (at, body) = given[place];

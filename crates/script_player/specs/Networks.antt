@@ -8,6 +8,7 @@ use Rattle.ssf_core.specs.declared.config.SsfConfig.{SsfConfig}
 use Rattle.ssf_core.specs.declared.item.Out.{Out}
 use Rattle.workers_core.specs.declared.post.Body.{Body}
 use Rattle.script_player.specs.Posts.{items_of, posts_of, recharges_in}
+use Rattle.tariff_core.specs.declared.times.TheConstants.{HORIZON}
 
 -- what a network shows: the configuration of its gsmSSFs, and all that was given
 pub record Shown : Type 0 where
@@ -25,14 +26,14 @@ pub record IsTold (config : SsfConfig) (call : ℕ) (given : List (ℕ × Body))
 -- each gsmSSF is told so; a call without one has no items
 pub record AreTold (config : SsfConfig) (calls : BTreeMap ℕ View) (given : List (ℕ × Body)) : Type 0 where
   pub told : (call : ℕ) → MatchOption (get nat_cmp calls call) (items_of call given ≡ []) (IsTold config call given)
-  pub in_range : All (λ item. item.0 ≤ 2000000000000) given
+  pub in_range : All (λ item. item.0 ≤ HORIZON) given
 
 -- from a trace that it stands for, a gsmSSF goes on and sends this
 pub record SendsFrom (after : View) (trace : List Happening) (sent : List Out) : Type 0 where
   pub further : List Happening
   pub stands : Stands after further
   pub sends : sent_in further ≡ sent_in trace ++ sent
-  pub in_range : All (λ out. out.at ≤ 2000000000000) sent
+  pub in_range : All (λ out. out.at ≤ HORIZON) sent
 
 -- a gsmSSF goes on and sends this
 pub record GoesOn (before after : View) (sent : List Out) : Type 0 where

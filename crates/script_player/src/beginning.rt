@@ -6,6 +6,7 @@ ghost use Rattle.script_player.specs.Beginnings.{HasBegun};
 use arrayvec::ArrayVec;
 use cap_values::Number;
 use ssf_core::{Moment, Out, Ssf, SsfConfig};
+use tariff_core::HORIZON;
 
 /// A gsmSSF that was started, and what it has sent.
 #[derive(Drop)]
@@ -22,7 +23,7 @@ pub(crate) fn begin(
     calling: Number,
     called: Number,
 ) -> Begun
-    requires { now ≤ 2000000000000 }
+    requires { now ≤ HORIZON }
     ensures { HasBegun config now call calling called result.ssf result.sent.items }
 {
     let mut ssf = Ssf::new(config);

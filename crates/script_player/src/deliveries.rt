@@ -12,6 +12,7 @@ use ssf_core::Moment;
 use std::alloc::AllocError;
 use std::collections::VecDeque;
 use workers_core::{Answer, Body};
+use tariff_core::{DAY, HORIZON};
 
 /// An operation on its way.
 #[derive(Clone, Copy)]
@@ -32,8 +33,8 @@ pub(crate) fn put_down(
     given: &[(u64, Body)],
     answers: &[Answer],
 ) -> Result<(), AllocError>
-    requires delay { delay ≤ 864000 }
-    requires in_range { All (λ item. item.0 ≤ 2000000000000) given.now }
+    requires delay { delay ≤ DAY }
+    requires in_range { All (λ item. item.0 ≤ HORIZON) given.now }
     ensures { OnOk result (deliveries.new.items
         ≡ deliveries.old.items ++ deliveries_of delay given.now answers.now) }
 {
@@ -52,8 +53,8 @@ fn send_to(
     item: (u64, Body),
     ops: &[ScfOp],
 ) -> Result<(), AllocError>
-    requires delay { delay ≤ 864000 }
-    requires in_range { item.0 ≤ 2000000000000 }
+    requires delay { delay ≤ DAY }
+    requires in_range { item.0 ≤ HORIZON }
     ensures { OnOk result (deliveries.new.items
         ≡ deliveries.old.items ++ deliveries_to delay ops.now item.0 item.1) }
 {
@@ -86,7 +87,7 @@ pub(crate) fn deliver(
     deliveries: &mut VecDeque<Delivery>,
     now: Moment,
 ) -> Result<(), AllocError>
-    requires { now ≤ 2000000000000 }
+    requires { now ≤ HORIZON }
     ensures grows { Grows network.old network.new }
     ensures left { OnOk result (ForSome (next_delivery deliveries.new.items) (λ at. now < at)) }
 {

@@ -7,6 +7,7 @@ use crate::input::Input;
 use arrayvec::ArrayVec;
 use ssf_core::{Moment, Out, Ssf, Step};
 use std::collections::BTreeMap;
+use tariff_core::HORIZON;
 
 /// What an input came to: what was sent, and when a timer was due before it and after it.
 #[derive(Drop)]
@@ -23,7 +24,7 @@ pub(crate) fn feed(
     call: u64,
     input: Input,
 ) -> Option<Fed>
-    requires { now ≤ 2000000000000 }
+    requires { now ≤ HORIZON }
     ensures none { IfNone result (calls.new ≡ calls.old) }
     ensures some { IfSome result (λ fed. Moves calls.old calls.new call fed.sent.items) }
 {
@@ -40,7 +41,7 @@ pub(crate) fn feed(
 
 /// Gives a gsmSSF an input at a moment. What it refuses is ignored.
 fn step(ssf: &mut Ssf, now: Moment, input: Input) -> Step
-    requires { now ≤ 2000000000000 }
+    requires { now ≤ HORIZON }
     ensures { GoesOn ssf.old ssf.new result.sent.items }
 {
     match input {

@@ -5,11 +5,7 @@ ghost use Rattle.std.specs.Option.{ForSome};
 ghost use Rattle.script_player.specs.Moments.{in_reach, sooner};
 
 use ssf_core::Moment;
-
-/// The last moment that a gsmSSF takes: a run would break off there. The last row lies at half of
-/// it at most, and what follows that one takes a few days: the periods of a call, a day together,
-/// and its timers.
-const HORIZON: Moment = 2_000_000_000_000;
+use tariff_core::HORIZON;
 
 /// The least of three moments, where there are any, up to the last one that a gsmSSF takes.
 pub(crate) fn next_moment(
@@ -18,7 +14,7 @@ pub(crate) fn next_moment(
     due: Option<Moment>,
 ) -> Option<Moment>
     ensures least { result ≡ in_reach (sooner (sooner row delivery) due) }
-    ensures in_range { ForSome result (λ moment. moment ≤ 2000000000000) }
+    ensures in_range { ForSome result (λ moment. moment ≤ HORIZON) }
 {
     let next = sooner(sooner(row, delivery), due)?;
     if HORIZON < next {

@@ -10,6 +10,7 @@ use std::alloc::{AllocError, Global};
 use std::collections::{BTreeMap, BTreeSet};
 use std::marker::Model;
 use workers_core::Body;
+use tariff_core::HORIZON;
 
 /// The most that a gsmSSF sends at one input.
 const MOST_SENT: usize = 8;
@@ -57,7 +58,7 @@ impl Network {
     /// All items, each with its moment.
     pub fn given(&self) -> &[(u64, Body)]
         ensures items { result.now ≡ self.now.given }
-        ensures in_range { All (λ item. item.0 ≤ 2000000000000) result.now }
+        ensures in_range { All (λ item. item.0 ≤ HORIZON) result.now }
         ensures calls { (call : ℕ) → IsPlayed self.now.config call self.now.given }
     {
         self.given.as_slice()
@@ -77,7 +78,7 @@ impl Network {
         calling: Number,
         called: Number,
     ) -> Result<(), AllocError>
-        requires { now ≤ 2000000000000 }
+        requires { now ≤ HORIZON }
         ensures config { self.new.config ≡ self.old.config }
         ensures started { OnOk result
             (Starts self.old.given self.new.given call (initial now call calling called)) }
@@ -96,7 +97,7 @@ impl Network {
 
     /// Gives the gsmSSF of a call an input at a moment. Nothing happens where it has none.
     pub fn give(&mut self, now: Moment, call: u64, input: Input) -> Result<(), AllocError>
-        requires { now ≤ 2000000000000 }
+        requires { now ≤ HORIZON }
         ensures { Grows self.old self.new }
     {
         self.given.reserve(MOST_SENT)?;
@@ -109,7 +110,7 @@ impl Network {
 
     /// Adds a recharge.
     pub fn recharge(&mut self, now: Moment, account: u32, amount: u64) -> Result<(), AllocError>
-        requires { now ≤ 2000000000000 }
+        requires { now ≤ HORIZON }
         ensures config { self.new.config ≡ self.old.config }
         ensures added { OnOk result
             (self.new.given ≡ self.old.given ++ (now, body.Recharge account amount) ∷ []) }
@@ -121,7 +122,7 @@ impl Network {
 
     /// Lets the timers run that are due by a moment, in ascending order of the calls.
     pub fn advance(&mut self, now: Moment) -> Result<(), AllocError>
-        requires { now ≤ 2000000000000 }
+        requires { now ≤ HORIZON }
         ensures { Grows self.old self.new }
     {
         for _ in 0..self.dues.len() {

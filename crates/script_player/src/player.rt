@@ -11,6 +11,7 @@ use std::alloc::{AllocError, Global};
 use std::collections::VecDeque;
 use std::marker::Model;
 use workers_core::{Answer, Body};
+use tariff_core::{DAY, HORIZON, LAST_MOMENT};
 
 /// Plays a script: it drives a run by the rows of a script, with one gsmSSF for each call that has
 /// started.
@@ -26,7 +27,7 @@ use workers_core::{Answer, Body};
 /// started, and a further start of one that has.
 ///
 /// It ends where no row, delivery or due moment is left. A run would break off at the last moment
-/// that a gsmSSF takes, 2,000,000,000,000. The last row lies at half of it at most, and what
+/// that a gsmSSF takes, `HORIZON`. The last row lies at half of it at most, and what
 /// follows that one takes a few days: the periods of a call, a day together, and its timers.
 #[derive(Drop)]
 pub struct ScriptPlayer {
@@ -69,8 +70,8 @@ impl ScriptPlayer {
         delay: u32,
     ) -> Result<ScriptPlayer, AllocError>
         requires delay_positive { 1 ≤ delay }
-        requires delay_within_day { delay ≤ 864000 }
-        requires in_range { All (λ row. row.at ≤ 1000000000000) rows.items }
+        requires delay_within_day { delay ≤ DAY }
+        requires in_range { All (λ row. row.at ≤ LAST_MOMENT) rows.items }
         requires in_order { are_in_order 0 rows.items ≡ true }
         ensures config { IfOk result (λ player. player.config ≡ config) }
         ensures taken { IfOk result (λ player. player.taken ≡ []) }
@@ -108,7 +109,7 @@ impl Driver for ScriptPlayer {
     /// All that it has given: the messages of the gsmSSFs, and the recharges of the rows taken.
     fn given(&self) -> &[(u64, Body)]
         ensures items { result.now ≡ self.now.given }
-        ensures moments { All (λ item. item.0 ≤ 2000000000000) result.now }
+        ensures moments { All (λ item. item.0 ≤ HORIZON) result.now }
         ensures calls { (call : ℕ) → IsPlayed self.now.config call self.now.given }
         ensures begins { (call : ℕ)
             → Begins (opening_of call self.now.taken) (items_of call self.now.given) }

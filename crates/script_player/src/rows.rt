@@ -10,6 +10,7 @@ use crate::network::Network;
 use run_texts::{Happening, ScriptRow};
 use ssf_core::Moment;
 use std::alloc::AllocError;
+use tariff_core::LAST_MOMENT;
 
 /// The moment of the first row that wasn't taken yet.
 pub(crate) fn next_row(rows: &[ScriptRow], taken: usize) -> Option<Moment>
@@ -28,7 +29,7 @@ pub(crate) fn take_rows(
     taken: &mut usize,
     now: Moment,
 ) -> Result<(), AllocError>
-    requires in_range { All (λ row. row.at ≤ 1000000000000) rows.now }
+    requires in_range { All (λ row. row.at ≤ LAST_MOMENT) rows.now }
     requires within { taken.old ≤ length rows.now }
     requires follows { FollowsRows (take taken.old rows.now) network.old.given }
     ensures within { taken.new ≤ length rows.now }
@@ -45,7 +46,7 @@ pub(crate) fn take_rows(
 
 /// Takes a row.
 fn take_row(network: &mut Network, row: ScriptRow) -> Result<(), AllocError>
-    requires { row.at ≤ 1000000000000 }
+    requires { row.at ≤ LAST_MOMENT }
     ensures taken { OnOk result (TakesRow network.old network.new row.at row.what) }
     ensures failed { OnErr result (Grows network.old network.new) }
 {

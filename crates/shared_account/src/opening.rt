@@ -10,6 +10,7 @@ use crate::steps::next_chair;
 use account_core::{Account, AccountFault};
 use atomic_table::Refused;
 use std::alloc::{AllocError, Global};
+use tariff_core::MAX_MONEY;
 
 /// A board with a new account in its slot, and its first chair.
 pub(crate) fn lay_board(
@@ -17,7 +18,7 @@ pub(crate) fn lay_board(
     opening: u64,
     limit: u32,
 ) -> Result<(Board, Chair), AccountFault>
-    requires { opening ≤ 1000000000000000 }
+    requires { opening ≤ MAX_MONEY }
     ensures words { IfOk result (λ made. made.0.shared.table_id.words ≡ 3) }
     ensures slots { IfOk result (λ made. made.0.shared.table_id.slots ≡ 1) }
     ensures table { IfOk result (λ made. made.1.table_id ≡ made.0.shared.table_id) }

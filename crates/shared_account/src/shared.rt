@@ -4,6 +4,7 @@ use crate::{Book, CloseFault, Gate};
 use account_core::{AccountFault, Op, Reply};
 use std::alloc::Global;
 use std::sync::Wait;
+use tariff_core::MAX_MONEY;
 
 /// An account that is asked from several seats, each in a thread of its own.
 ///
@@ -60,7 +61,7 @@ pub trait Shared: Sync + Drop {
         limit: u32,
         seats: u32,
     ) -> Result<(Self, Vec<Self::Seat>), AccountFault>
-        requires opening { opening ≤ 1000000000000000 }
+        requires opening { opening ≤ MAX_MONEY }
         requires some_seats { 1 ≤ seats }
         requires few_seats { seats ≤ 16 }
         ensures terms { IfOk result (λ made. terms made.0 ≡ record {

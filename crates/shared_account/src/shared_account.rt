@@ -18,6 +18,7 @@ use account_core::{Account, AccountFault, Op, Reply};
 use std::alloc::{AllocError, Global};
 use std::marker::Model;
 use std::sync::{Mutex, Wait};
+use tariff_core::MAX_MONEY;
 
 /// An account under its lock, asked from the seats that were made with it.
 ///
@@ -54,7 +55,7 @@ impl SharedAccount {
         limit: u32,
         seats: u32,
     ) -> Result<(SharedAccount, Vec<Seat>), AccountFault>
-        requires opening { opening ≤ 1000000000000000 }
+        requires opening { opening ≤ MAX_MONEY }
         requires some_seats { 1 ≤ seats }
         requires few_seats { seats ≤ 16 }
         ensures terms { IfOk result (λ made. made.0 ≡ record {

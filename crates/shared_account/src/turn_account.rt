@@ -26,6 +26,7 @@ use account_core::{Account, AccountFault, Entry, Op, Reply};
 use std::alloc::Global;
 use std::marker::Model;
 use std::sync::{Mutex, Wait};
+use tariff_core::MAX_MONEY;
 
 /// An account that its seats hand on by turns.
 ///
@@ -71,7 +72,7 @@ impl TurnAccount {
         limit: u32,
         seats: u32,
     ) -> Result<(TurnAccount, Vec<TurnSeat>), AccountFault>
-        requires opening { opening ≤ 1000000000000000 }
+        requires opening { opening ≤ MAX_MONEY }
         requires some_seats { 1 ≤ seats }
         requires few_seats { seats ≤ 16 }
         ensures terms { IfOk result (λ made. made.0.terms ≡ record {

@@ -5,13 +5,13 @@ ghost use Rattle.std.specs.Prelude.{◌≡◌, ◌≤◌};
 use crate::forms::{
     Answer, Form, close, credit, credited, granted, plan, reserve, returned, settled, two_seats,
 };
-use account_core::{Account, AccountFault, CallSum, Fate, MAX_MONEY, Op, Port, Reply};
+use account_core::{Account, AccountFault, CallSum, Fate, Op, Port, Reply};
 use shared_account::{Book, CloseFault, Gate, OpenGate, SharedAccount, SharedPort, TurnAccount};
 use std::alloc::Global;
 use std::process::Abort;
 use std::sync::Wait;
 use std::test::Fail;
-use tariff_core::TimeInfo;
+use tariff_core::{MAX_MONEY, TimeInfo};
 
 /// Closes accounts with all seats, with seats in another order, and with a seat too few.
 fn closes_in_order<S: Form, R: Abort>(rt: &R, alloc: Global) -> Result<(), Fail> {
@@ -92,7 +92,7 @@ fn book_of<S: Form, R: Abort + Wait>(
     rows: &[Row],
     made: (usize, usize),
 ) -> Result<Book, Fail>
-    requires { opening ≤ 1000000000000000 }
+    requires { opening ≤ MAX_MONEY }
 {
     let (account, mut first, mut second) = two_seats::<S, R>(rt, alloc, 1, opening)?;
     for (seat, gate, op, want) in rows {

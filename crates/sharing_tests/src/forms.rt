@@ -7,7 +7,7 @@ use shared_account::{Book, CloseFault, Seat, Shared, SharedAccount, TurnAccount,
 use std::alloc::{AllocError, Global};
 use std::process::Abort;
 use std::test::Fail;
-use tariff_core::{Plan, PlanRange};
+use tariff_core::{MAX_MONEY, Plan, PlanRange};
 
 pub(crate) type Answer = Result<Reply, AccountFault>;
 
@@ -36,7 +36,7 @@ pub(crate) fn two_seats<S: Form, R: Abort>(
     number: u32,
     opening: u64,
 ) -> Result<(S, S::Seat, S::Seat), Fail>
-    requires { opening ≤ 1000000000000000 }
+    requires { opening ≤ MAX_MONEY }
     ensures first { IfOk result (λ made. S.key_of made.1 ≡ S.key made.0) }
     ensures second { IfOk result (λ made. S.key_of made.2 ≡ S.key made.0) }
 {

@@ -10,6 +10,7 @@ use Rattle.ssf_core.specs.Meters.{Meter}
 use Rattle.tariff_core.specs.Rates.{Rates}
 use Rattle.tariff_core.specs.Times.{Elapsed, no_times}
 use Rattle.tariff_core.specs.declared.time_info.TimeInfo.{TimeInfo}
+use Rattle.tariff_core.specs.declared.times.TheConstants.{DAY}
 
 -- the units that queued orders pay for
 abbrev pub units_in : List Paid → ℕ
@@ -45,7 +46,7 @@ pub record IsCovered (meter : Meter) (queued : List Paid) (kept : Known) : Type 
   pub plan : Rates
   pub is_plan : kept.plan ≡ Some plan
   pub covers : meter.granted + units_in queued ≤ kept.granted
-  pub within_day : kept.granted ≤ 864000
+  pub within_day : kept.granted ≤ DAY
   pub single : IsSingle meter plan queued
   pub agrees : (kept.times ≡ no_times) ⊎ IsTold meter kept.times
   pub rated : meter.awaited ≡ true → is_some plan.after ≡ true

@@ -1,5 +1,6 @@
 -- The moments of a driven call.
 use Rattle.std.specs.Prelude.{ℕ, Option, Some, None, min, nat_lt, if◌then◌else◌}
+use Rattle.tariff_core.specs.declared.times.TheConstants.{HORIZON}
 
 -- the lesser of two moments, where there are two
 abbrev pub sooner : Option ℕ → Option ℕ → Option ℕ
@@ -10,4 +11,4 @@ sooner (Some first) (Some second) = Some (min first second)
 -- a moment that a gsmSSF takes, or none
 abbrev pub in_reach : Option ℕ → Option ℕ
 in_reach None = None
-in_reach (Some moment) = if nat_lt 2000000000000 moment then None else Some moment
+in_reach (Some moment) = if nat_lt HORIZON moment then None else Some moment

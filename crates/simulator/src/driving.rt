@@ -14,7 +14,7 @@ use cap_values::Number;
 use dialogue_core::ServiceConfig;
 use ssf_core::{BcsmEvent, Moment, SsfConfig};
 use std::alloc::Global;
-use tariff_core::Route;
+use tariff_core::{DAY, LAST_MOMENT, Route};
 
 /// Drives one call (its number, the calling and the called party) from its start until no event,
 /// delivery or due moment is left, and says what it came to.
@@ -32,8 +32,8 @@ use tariff_core::Route;
 /// the delay isn't 1 to the gsmSSF's `tccd`: then nothing is done. `OutOfMemory` where the queue of
 /// deliveries can't grow: what the port was asked by then stands.
 ///
-/// Both configurations have the same `tccd`. The start and the events lie at 0 to 1,000,000,000,000,
-/// and a switch of the route 1 to 864000 units after the start.
+/// Both configurations have the same `tccd`. The start and the events lie at 0 to `LAST_MOMENT`,
+/// and a switch of the route 1 to DAY units after the start.
 pub fn drive_call<P: Port>(
     alloc: Global,
     config: SsfConfig,
@@ -46,10 +46,10 @@ pub fn drive_call<P: Port>(
     port: &mut P,
 ) -> Result<CallEnd, DriveFault>
     requires tccd { config.tccd ≡ service.now.tccd }
-    requires start { start ≤ 1000000000000 }
-    requires script { All (λ next. next.0 ≤ 1000000000000) script.now }
+    requires start { start ≤ LAST_MOMENT }
+    requires script { All (λ next. next.0 ≤ LAST_MOMENT) script.now }
     requires route { ForSome route (λ route.
-        ForSome route.switch_at (λ at. (start < at) × (at ≤ start + 864000))) }
+        ForSome route.switch_at (λ at. (start < at) × (at ≤ start + DAY))) }
     ensures forfeits { P.standing port.old call.0 ≡ Some nothing_known
         → IfOk result (λ end. end.forfeits ≡ 0) }
     ensures backwards { IsErrOf result DriveFault.Backwards

@@ -12,11 +12,7 @@ use crate::deliveries::{Delivery, next_delivery};
 use crate::script::next_event;
 use ssf_core::{BcsmEvent, Moment, Ssf};
 use std::collections::VecDeque;
-
-/// The last moment that a gsmSSF takes: a call would break off there. The last event lies at half of
-/// it at most, and what follows that one takes a few days: the periods of a call, a day together,
-/// and its timers.
-const HORIZON: Moment = 2_000_000_000_000;
+use tariff_core::HORIZON;
 
 /// The moment of the next input: the least of the next delivery's, the next event's and that at
 /// which a timer is due. None where there is none of them.
@@ -26,7 +22,7 @@ pub(crate) fn next_moment(
     script: &[(Moment, BcsmEvent)],
     played: usize,
 ) -> Option<Moment>
-    ensures in_range { ForSome result (λ moment. moment ≤ 2000000000000) }
+    ensures in_range { ForSome result (λ moment. moment ≤ HORIZON) }
     ensures least { (t : List Happening) → Stands ssf.now t → (due : Option ℕ)
         × (IsNextDue ssf.now.config t due
         × (result ≡ in_reach (sooner

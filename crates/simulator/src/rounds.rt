@@ -18,7 +18,7 @@ use dialogue_core::{Dialogue, ServiceConfig};
 use ssf_core::{BcsmEvent, Moment, Ssf, SsfConfig};
 use std::alloc::Global;
 use std::collections::VecDeque;
-use tariff_core::Route;
+use tariff_core::{DAY, HORIZON, LAST_MOMENT, Route};
 
 /// Plays a call from its start until no event, delivery or due moment is left. The operations of an
 /// answer are delivered after a delay.
@@ -33,9 +33,9 @@ pub(crate) fn play<P: Port>(
     script: &[(Moment, BcsmEvent)],
     port: &mut P,
 ) -> Result<CallEnd, DriveFault>
-    requires start { start ≤ 1000000000000 }
+    requires start { start ≤ LAST_MOMENT }
     requires route { ForSome route (λ route.
-        ForSome route.switch_at (λ at. (start < at) × (at ≤ start + 864000))) }
+        ForSome route.switch_at (λ at. (start < at) × (at ≤ start + DAY))) }
     ensures forfeits { P.standing port.old call.0 ≡ Some nothing_known
         → IfOk result (λ end. end.forfeits ≡ 0) }
     ensures fault { IfErr result (λ fault. fault ≡ DriveFault.OutOfMemory) }
@@ -68,7 +68,7 @@ pub(crate) fn play<P: Port>(
 
 /// Invokes a new gsmSSF and triggers it.
 fn started(config: SsfConfig, start: Moment, call: (u64, Number, Number)) -> (Ssf, Tally)
-    requires { start ≤ 2000000000000 }
+    requires { start ≤ HORIZON }
     ensures started { IsStarted result.0 }
     ensures none { result.1.forfeits ≡ 0 }
 {

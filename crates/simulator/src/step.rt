@@ -10,6 +10,7 @@ use crate::deliveries::{Delivery, take_due};
 use crate::script::take_event;
 use ssf_core::{BcsmEvent, Moment, Ssf, Step};
 use std::collections::VecDeque;
+use tariff_core::HORIZON;
 
 /// Gives the gsmSSF its next input at a moment: a delivery that is due, else an event that is, else
 /// the time alone.
@@ -20,7 +21,7 @@ pub(crate) fn step(
     played: &mut usize,
     now: Moment,
 ) -> Step
-    requires { now ≤ 2000000000000 }
+    requires { now ≤ HORIZON }
     ensures next { (given : Given)
         × IsNext now deliveries.old.items (drop played.old script.now)
         given deliveries.new.items (drop played.new script.now) }

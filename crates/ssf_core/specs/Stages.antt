@@ -12,6 +12,7 @@ use Rattle.ssf_core.specs.declared.stage.Switch.TheVariants as switch
 use Rattle.ssf_core.specs.declared.timer.Expiry.{Expiry}
 use Rattle.ssf_core.specs.declared.timer.Timer.{Timer}
 use Rattle.ssf_core.specs.declared.timer.Timer.TheVariants.{Tsw, Tcp, Tccd, Tssf}
+use Rattle.tariff_core.specs.declared.times.TheConstants.{DAY, HORIZON}
 
 -- the Tsw rule
 abbrev pub started : Switch → ℕ → Option ℕ → Switch
@@ -94,7 +95,7 @@ IsChargingTimely now end (charging.Over moment) = now ≤ moment
 -- an active call that is timely
 pub record IsActiveTimely (now : ℕ) (active : Active) : Type 0 where
   pub answered : active.answered ≤ now
-  pub granted : active.granted ≤ 864000
+  pub granted : active.granted ≤ DAY
   pub charging : IsChargingTimely now (active.answered + active.granted) active.charging
   pub switch : IsSwitchTimely now active.switch
 
@@ -118,7 +119,7 @@ IsBounded stage.Unused = Unit {0}
 IsBounded stage.Requested = Unit {0}
 IsBounded (stage.Initial setup moment) = Unit {0}
 IsBounded (stage.Setup setup) = Unit {0}
-IsBounded (stage.Active active) = (active.answered ≤ 2000000000000) × (active.granted ≤ 864000)
+IsBounded (stage.Active active) = (active.answered ≤ HORIZON) × (active.granted ≤ DAY)
 IsBounded (stage.Down moment) = Unit {0}
 IsBounded stage.Ended = Unit {0}
 

@@ -31,6 +31,7 @@ use Rattle.ssf_core.specs.declared.item.Item.{Item}
 use Rattle.ssf_core.specs.declared.item.Item.TheVariants.{Msg, Proceed, Clear}
 use Rattle.ssf_core.specs.declared.timer.Timer.{Timer}
 use Rattle.ssf_core.specs.declared.timer.Timer.TheVariants.{Tsw, Tcp, Tccd, Tssf}
+use Rattle.tariff_core.specs.declared.times.TheConstants.{DAY}
 
 -- what is sent, in order, and the phase that follows
 pub record Effect : Type 0 where
@@ -117,7 +118,7 @@ first_period (Some release) phase = unexpected
 
 -- a further period fits where a day isn't passed in all and its end lies ahead
 abbrev pub is_fitting : ℕ → ℕ → ℕ → ℕ → Bool
-is_fitting answer total period now = nat_le (total + period) 864000 && nat_lt now (answer + total + period)
+is_fitting answer total period now = nat_le (total + period) DAY && nat_lt now (answer + total + period)
 
 -- a further period, while Tccd runs
 abbrev pub further_period : Option ℕ → Bool → Result Effect SsfFault

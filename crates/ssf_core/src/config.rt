@@ -2,11 +2,10 @@
 
 ghost use Rattle.std.specs.Prelude.{◌≡◌, ◌↔◌, ◌≤◌, IsTrue, IsOk, IfOk, IfErr};
 ghost use Rattle.ssf_core.specs.Configs.{IsTimer};
+ghost use Rattle.tariff_core.specs.declared.times.TheConstants.{DAY};
 
 use crate::SsfFault;
-
-/// The longest timer, in units of 100 ms: a day.
-pub const MAX_TIMER: u32 = 864_000;
+use tariff_core::DAY;
 
 /// What becomes of a call whose service doesn't answer in time.
 #[derive(Clone, Copy, Debug, PartialEq, Eq)]
@@ -20,16 +19,16 @@ pub enum DefaultHandling {
 /// The timers that a gsmSSF is set up with, and its default handling.
 #[derive(Clone, Copy, Debug, PartialEq, Eq)]
 pub struct SsfConfig {
-    /// How long instructions are waited for: 1 to `MAX_TIMER`, in units of 100 ms.
+    /// How long instructions are waited for: 1 to `DAY`, in units of 100 ms.
     pub tssf: u32,
-    /// How long a further period is waited for: 1 to `MAX_TIMER`, in units of 100 ms.
+    /// How long a further period is waited for: 1 to `DAY`, in units of 100 ms.
     pub tccd: u32,
     /// What becomes of the call when `tssf` has passed.
     pub default_handling: DefaultHandling,
     pub ghost tssf_positive: { 1 ≤ tssf },
-    pub ghost tssf_within_day: { tssf ≤ 864000 },
+    pub ghost tssf_within_day: { tssf ≤ DAY },
     pub ghost tccd_positive: { 1 ≤ tccd },
-    pub ghost tccd_within_day: { tccd ≤ 864000 },
+    pub ghost tccd_within_day: { tccd ≤ DAY },
 }
 
 impl SsfConfig {
@@ -59,5 +58,5 @@ impl SsfConfig {
 fn is_timer(units: u32) -> bool
     ensures { IsTrue result ↔ IsTimer units }
 {
-    1 <= units && units <= MAX_TIMER
+    1 <= units && units <= DAY
 }

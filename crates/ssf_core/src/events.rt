@@ -12,6 +12,7 @@ use crate::stage::{Active, Charging, Setup, Stage};
 use crate::{BcsmEvent, Moment, Out, SsfConfig, SsfFault};
 use arrayvec::ArrayVec;
 use cap_values::{Charge, Event, Leg, Mode, Point};
+use tariff_core::HORIZON;
 
 /// Takes an event.
 pub(crate) fn meet(
@@ -21,7 +22,7 @@ pub(crate) fn meet(
     now: Moment,
     event: BcsmEvent,
 ) -> Result<Stage, SsfFault>
-    requires moment { now ≤ 2000000000000 }
+    requires moment { now ≤ HORIZON }
     requires room { array_vec_len sent.old ≤ 5 }
     requires timely { IsTimely now stage }
     ensures stage { result ≡ stage_of (met_event config.now.tssf stage now event) }
@@ -114,7 +115,7 @@ fn fail(
     event: Event,
     point: Point,
 ) -> Result<Stage, SsfFault>
-    requires moment { now ≤ 2000000000000 }
+    requires moment { now ≤ HORIZON }
     requires room { array_vec_len sent.old ≤ 5 }
     ensures stage { result ≡ stage_of (failed config.now.tssf stage now event point) }
     ensures items { sent.new.items ≡ outs_of sent.old.items now (failed config.now.tssf stage now event point) }
@@ -161,7 +162,7 @@ fn disconnect(
     now: Moment,
     leg: Leg,
 ) -> Result<Stage, SsfFault>
-    requires moment { now ≤ 2000000000000 }
+    requires moment { now ≤ HORIZON }
     requires room { array_vec_len sent.old ≤ 5 }
     requires timely { IsTimely now stage }
     ensures stage { result ≡ stage_of (disconnected config.now.tssf stage now leg) }

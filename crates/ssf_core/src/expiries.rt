@@ -12,6 +12,7 @@ use crate::timer::{Expiry, Timer};
 use crate::{DefaultHandling, Moment, Out, SsfConfig};
 use arrayvec::ArrayVec;
 use cap_values::Cause;
+use tariff_core::{DAY, HORIZON};
 
 /// When Tsw is due: at the tariff switch.
 fn tsw_due(stage: &Stage) -> Option<Moment>
@@ -46,8 +47,8 @@ fn tcp_due(stage: &Stage) -> Option<Moment>
 }
 
 fn period_end(active: &Active) -> Option<Moment>
-    requires answered { active.now.answered ≤ 2000000000000 }
-    requires granted { active.now.granted ≤ 864000 }
+    requires answered { active.now.answered ≤ HORIZON }
+    requires granted { active.now.granted ≤ DAY }
     ensures { result ≡ tcp_due_of (active.now.answered + active.now.granted) active.now.charging }
 {
     match active.charging {
@@ -167,7 +168,7 @@ pub(crate) fn expire(
     sent: &mut ArrayVec<Out, 8>,
     expiry: Expiry,
 ) -> Stage
-    requires moment { expiry.due ≤ 2000000000000 }
+    requires moment { expiry.due ≤ HORIZON }
     requires room { array_vec_len sent.old ≤ 5 }
     requires timely { IsTimely expiry.due stage }
     ensures stage { result ≡ (expired config.now stage expiry.due expiry.timer).stage }
@@ -205,7 +206,7 @@ fn switch_over(stage: Stage, now: Moment) -> Stage
 /// Tcp: the period is over. With the wish to release, a last report, and the call is cleared; else
 /// a report, and Tccd starts.
 fn end_period(config: &SsfConfig, stage: Stage, sent: &mut ArrayVec<Out, 8>, now: Moment) -> Stage
-    requires moment { now ≤ 2000000000000 }
+    requires moment { now ≤ HORIZON }
     requires room { array_vec_len sent.old ≤ 5 }
     requires timely { IsTimely now stage }
     ensures stage { result ≡ (period_over_in config.now.tccd stage now).stage }
@@ -223,7 +224,7 @@ fn end_active_period(
     sent: &mut ArrayVec<Out, 8>,
     now: Moment,
 ) -> Stage
-    requires moment { now ≤ 2000000000000 }
+    requires moment { now ≤ HORIZON }
     requires room { array_vec_len sent.old ≤ 5 }
     requires timely { IsActiveTimely now active }
     ensures stage { result ≡ (period_over config.now.tccd active now active.charging).stage }

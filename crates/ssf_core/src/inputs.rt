@@ -14,6 +14,7 @@ use crate::stage::{Setup, Stage, Switch};
 use crate::{Item, Moment, Out, SsfConfig, SsfFault};
 use arrayvec::ArrayVec;
 use cap_values::{Number, SsfMsg};
+use tariff_core::HORIZON;
 
 /// Takes an input.
 pub(crate) fn take(
@@ -23,7 +24,7 @@ pub(crate) fn take(
     now: Moment,
     input: Input,
 ) -> Result<Stage, SsfFault>
-    requires moment { now ≤ 2000000000000 }
+    requires moment { now ≤ HORIZON }
     requires room { array_vec_len sent.old ≤ 5 }
     requires timely { IsTimely now stage }
     ensures stage { result ≡ stage_of (moved config.now.tssf stage now input) }
@@ -61,7 +62,7 @@ fn trigger(
     calling: Number,
     called: Number,
 ) -> Result<Stage, SsfFault>
-    requires moment { now ≤ 2000000000000 }
+    requires moment { now ≤ HORIZON }
     requires room { array_vec_len sent.old ≤ 5 }
     ensures stage { result ≡ stage_of (triggered config.now.tssf stage now call calling called) }
     ensures items { sent.new.items ≡ outs_of sent.old.items now (triggered config.now.tssf stage now call calling called) }

@@ -4,7 +4,7 @@ use crate::SsfFault;
 use arrayvec::ArrayVec;
 use cap_values::{Cause, SsfMsg};
 
-/// A moment, in units of 100 ms from the caller's origin: 0 to 2,000,000,000,000.
+/// A moment, in units of 100 ms from the caller's origin: 0 to `HORIZON`.
 pub type Moment = u64;
 
 /// What the gsmSSF sends: a message to the service, or an instruction to the switch.

@@ -21,7 +21,7 @@ mod timer;
 mod timers;
 
 pub use bcsm_event::BcsmEvent;
-pub use config::{DefaultHandling, MAX_TIMER, SsfConfig};
+pub use config::{DefaultHandling, SsfConfig};
 pub use fault::SsfFault;
 pub use item::{Item, Moment, Out, Step};
 pub use laws::{each_report_fits, the_answer_stays, the_switch_stays};

@@ -14,7 +14,7 @@ use crate::stage::{Active, Charging, Setup, Stage, started};
 use crate::{Item, Moment, Out, SsfConfig, SsfFault};
 use arrayvec::ArrayVec;
 use cap_values::{Arms, Cause, Charge, ScfOp};
-use tariff_core::DAY;
+use tariff_core::{DAY, HORIZON};
 
 /// Takes an operation.
 pub(crate) fn operate(
@@ -24,7 +24,7 @@ pub(crate) fn operate(
     now: Moment,
     op: ScfOp,
 ) -> Result<Stage, SsfFault>
-    requires moment { now ≤ 2000000000000 }
+    requires moment { now ≤ HORIZON }
     requires room { array_vec_len sent.old ≤ 5 }
     requires timely { IsTimely now stage }
     ensures stage { result ≡ stage_of (operated config.now.tssf stage now op) }
@@ -45,7 +45,7 @@ fn request_report(
     now: Moment,
     arms: &Arms,
 ) -> Result<Stage, SsfFault>
-    requires { now ≤ 2000000000000 }
+    requires { now ≤ HORIZON }
     ensures { result ≡ requested config.now.tssf stage now arms.now }
 {
     match stage {
@@ -80,7 +80,7 @@ fn apply_charging(
     now: Moment,
     charge: Charge,
 ) -> Result<Stage, SsfFault>
-    requires moment { now ≤ 2000000000000 }
+    requires moment { now ≤ HORIZON }
     requires timely { IsTimely now stage }
     ensures { result ≡ charged config.now.tssf stage now charge }
 {
@@ -99,7 +99,7 @@ fn apply_charging(
 
 /// A first period, where none is pending.
 fn charge_setup(setup: Setup, now: Moment, charge: Charge) -> Result<Setup, SsfFault>
-    requires { now ≤ 2000000000000 }
+    requires { now ≤ HORIZON }
     ensures { result ≡ charged_setup setup.charge setup now charge }
 {
     match setup.charge {
@@ -114,9 +114,9 @@ fn charge_setup(setup: Setup, now: Moment, charge: Charge) -> Result<Setup, SsfF
 
 /// A further period, while Tccd runs: it begins where the last one ended.
 fn charge_active(active: Active, now: Moment, charge: Charge) -> Result<Active, SsfFault>
-    requires moment { now ≤ 2000000000000 }
+    requires moment { now ≤ HORIZON }
     requires answered { active.answered ≤ now }
-    requires granted { active.granted ≤ 864000 }
+    requires granted { active.granted ≤ DAY }
     ensures { result ≡ charged_active active.charging (is_fitting active.answered active.granted charge.period now) active now charge }
 {
     match active.charging {
@@ -126,9 +126,9 @@ fn charge_active(active: Active, now: Moment, charge: Charge) -> Result<Active, 
 }
 
 fn lengthened(active: Active, now: Moment, charge: Charge) -> Result<Active, SsfFault>
-    requires moment { now ≤ 2000000000000 }
+    requires moment { now ≤ HORIZON }
     requires answered { active.answered ≤ now }
-    requires granted { active.granted ≤ 864000 }
+    requires granted { active.granted ≤ DAY }
     ensures { result ≡ charged_active (Charging.Over 0) (is_fitting active.answered active.granted charge.period now) active now charge }
 {
     if !fits(&active, now, charge.period) {
@@ -147,9 +147,9 @@ fn lengthened(active: Active, now: Moment, charge: Charge) -> Result<Active, Ssf
 
 /// Whether a further period keeps within a day in all and ends in the future.
 fn fits(active: &Active, now: Moment, period: u32) -> bool
-    requires answered { active.now.answered ≤ 2000000000000 }
-    requires granted { active.now.granted ≤ 864000 }
-    requires period { period ≤ 864000 }
+    requires answered { active.now.answered ≤ HORIZON }
+    requires granted { active.now.granted ≤ DAY }
+    requires period { period ≤ DAY }
     ensures { result ≡ is_fitting active.now.answered active.now.granted period now }
 {
     let total = active.granted + period;

@@ -12,12 +12,12 @@ use crate::stage::{Active, Charging, Switch};
 use crate::{Item, Moment, Out};
 use arrayvec::ArrayVec;
 use cap_values::SsfMsg;
-use tariff_core::TimeInfo;
+use tariff_core::{DAY, TimeInfo};
 
 /// The time from the answer to a moment of the same day, split at the switch.
 fn times(answered: Moment, switch: Switch, now: Moment) -> TimeInfo
     requires answered { answered ≤ now }
-    requires within_day { now ≤ answered + 864000 }
+    requires within_day { now ≤ answered + DAY }
     requires switch { IsSwitchTimely now switch }
     ensures { result ≡ split answered (passed switch) now }
 {
@@ -32,7 +32,7 @@ fn times(answered: Moment, switch: Switch, now: Moment) -> TimeInfo
 /// The times after the switch came.
 fn switched_times(answered: Moment, switch: Moment, now: Moment) -> TimeInfo
     requires answered { answered ≤ now }
-    requires within_day { now ≤ answered + 864000 }
+    requires within_day { now ≤ answered + DAY }
     requires switch { switch ≤ now }
     ensures { result ≡ split answered (Some switch) now }
 {

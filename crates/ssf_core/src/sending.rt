@@ -11,6 +11,7 @@ use crate::stage::Stage;
 use crate::{Item, Moment, Out, SsfConfig};
 use arrayvec::ArrayVec;
 use cap_values::{Cause, Event, Leg, Mode, SsfMsg};
+use tariff_core::HORIZON;
 
 /// Sends an item as of a moment.
 pub(crate) fn send(sent: &mut ArrayVec<Out, 8>, now: Moment, item: Item)
@@ -95,7 +96,7 @@ pub(crate) fn by_mode(
     leg: Option<Leg>,
     mode: Mode,
 ) -> Stage
-    requires moment { now ≤ 2000000000000 }
+    requires moment { now ≤ HORIZON }
     requires room { array_vec_len sent.old ≤ 6 }
     ensures stage { result ≡ (met_by config.now.tssf now event leg mode).stage }
     ensures items { sent.new.items ≡ send_all sent.old.items now (met_by config.now.tssf now event leg mode).sent }

@@ -9,6 +9,7 @@ use crate::{BcsmEvent, Moment, SsfConfig, SsfFault, State, Step};
 use arrayvec::ArrayVec;
 use cap_values::{Number, ScfOp};
 use std::marker::Model;
+use tariff_core::HORIZON;
 
 /// The gsmSSF of one call. Once its dialogue has ended it stays Idle and refuses every input but
 /// `advance`.
@@ -27,12 +28,13 @@ impl Model for Ssf {
     ghost use Rattle.std.specs.Prelude.{◌≤◌};
     ghost use Rattle.ssf_core.specs.Calls.{View};
     ghost use Rattle.ssf_core.specs.Stages.{IsTimely};
+    ghost use Rattle.tariff_core.specs.declared.times.TheConstants.{HORIZON};
 
     ghost Value = { View };
 
     ghost view = { λ s. record { config = s.config; last = s.last; stage = s.stage } };
 
-    ghost invariant = { λ s. (s.last ≤ 2000000000000) × IsTimely s.last s.stage };
+    ghost invariant = { λ s. (s.last ≤ HORIZON) × IsTimely s.last s.stage };
 }
 
 impl Ssf {
@@ -74,7 +76,7 @@ impl Ssf {
 
     /// The switch invokes it.
     pub fn invoke(&mut self, now: Moment) -> Step
-        requires { now ≤ 2000000000000 }
+        requires { now ≤ HORIZON }
         ensures backwards { now < self.old.last → (self.new ≡ self.old) × (result.fault ≡ Some SsfFault.TimeBackwards) × (result.sent.items ≡ []) }
         ensures moment { self.old.last ≤ now → (self.new.last ≡ now) × (self.new.config ≡ self.old.config) }
         ensures trace { self.old.last ≤ now → (t : List Happening) → Stands self.old t → Takes self.old self.new now taken.Invoke t result.sent.items result.fault }
@@ -85,7 +87,7 @@ impl Ssf {
 
     /// A call triggers it: InitialDp is sent.
     pub fn trigger(&mut self, now: Moment, call: u64, calling: Number, called: Number) -> Step
-        requires { now ≤ 2000000000000 }
+        requires { now ≤ HORIZON }
         ensures backwards { now < self.old.last → (self.new ≡ self.old) × (result.fault ≡ Some SsfFault.TimeBackwards) × (result.sent.items ≡ []) }
         ensures moment { self.old.last ≤ now → (self.new.last ≡ now) × (self.new.config ≡ self.old.config) }
         ensures trace { self.old.last ≤ now → (t : List Happening) → Stands self.old t → Takes self.old self.new now (taken.Trigger call calling called) t result.sent.items result.fault }
@@ -103,7 +105,7 @@ impl Ssf {
 
     /// The service sends an operation.
     pub fn operation(&mut self, now: Moment, op: ScfOp) -> Step
-        requires { now ≤ 2000000000000 }
+        requires { now ≤ HORIZON }
         ensures backwards { now < self.old.last → (self.new ≡ self.old) × (result.fault ≡ Some SsfFault.TimeBackwards) × (result.sent.items ≡ []) }
         ensures moment { self.old.last ≤ now → (self.new.last ≡ now) × (self.new.config ≡ self.old.config) }
         ensures trace { self.old.last ≤ now → (t : List Happening) → Stands self.old t → Takes self.old self.new now (taken.Operate op) t result.sent.items result.fault }
@@ -114,7 +116,7 @@ impl Ssf {
 
     /// The call meets an event.
     pub fn event(&mut self, now: Moment, event: BcsmEvent) -> Step
-        requires { now ≤ 2000000000000 }
+        requires { now ≤ HORIZON }
         ensures backwards { now < self.old.last → (self.new ≡ self.old) × (result.fault ≡ Some SsfFault.TimeBackwards) × (result.sent.items ≡ []) }
         ensures moment { self.old.last ≤ now → (self.new.last ≡ now) × (self.new.config ≡ self.old.config) }
         ensures trace { self.old.last ≤ now → (t : List Happening) → Stands self.old t → Takes self.old self.new now (taken.Meet event) t result.sent.items result.fault }
@@ -125,7 +127,7 @@ impl Ssf {
 
     /// Time passes.
     pub fn advance(&mut self, now: Moment) -> Step
-        requires { now ≤ 2000000000000 }
+        requires { now ≤ HORIZON }
         ensures backwards { now < self.old.last → (self.new ≡ self.old) × (result.fault ≡ Some SsfFault.TimeBackwards) × (result.sent.items ≡ []) }
         ensures moment { self.old.last ≤ now → (self.new.last ≡ now) × (self.new.config ≡ self.old.config) × (result.fault ≡ None) }
         ensures trace { self.old.last ≤ now → (t : List Happening) → Stands self.old t → Advances self.old self.new now t result.sent.items }
@@ -144,7 +146,7 @@ impl Ssf {
     }
 
     fn input(&mut self, now: Moment, input: Input) -> Step
-        requires { now ≤ 2000000000000 }
+        requires { now ≤ HORIZON }
         ensures backwards { now < self.old.last → (self.new ≡ self.old) × (result.fault ≡ Some SsfFault.TimeBackwards) × (result.sent.items ≡ []) }
         ensures moment { self.old.last ≤ now → (self.new.last ≡ now) × (self.new.config ≡ self.old.config) }
         ensures trace { self.old.last ≤ now → (t : List Happening) → Stands self.old t → Takes self.old self.new now input t result.sent.items result.fault }

@@ -8,6 +8,7 @@ ghost use Rattle.ssf_core.specs.Stands.{phase_of};
 use crate::modes::Modes;
 use crate::{Moment, State};
 use cap_values::Charge;
+use tariff_core::HORIZON;
 
 /// A state of the table, with its phase.
 #[derive(Clone, Copy)]
@@ -73,7 +74,7 @@ pub(crate) enum Switch {
 /// The Tsw rule: an interval, in seconds, starts Tsw anew unless it has expired; without one Tsw is
 /// left as it is.
 pub(crate) fn started(switch: Switch, now: Moment, seconds: Option<u32>) -> Switch
-    requires { now ≤ 2000000000000 }
+    requires { now ≤ HORIZON }
     ensures { result ≡ started switch now seconds }
 {
     match (switch, seconds) {

@@ -10,6 +10,7 @@ use crate::expiries::{expire, next_expiry_by};
 use crate::stage::Stage;
 use crate::{Moment, Out, SsfConfig};
 use arrayvec::ArrayVec;
+use tariff_core::HORIZON;
 
 /// Lets all timers expire that are due by now, each as of its due moment.
 pub(crate) fn run_timers(
@@ -19,7 +20,7 @@ pub(crate) fn run_timers(
     last: Moment,
     now: Moment,
 ) -> Stage
-    requires moment { now ≤ 2000000000000 }
+    requires moment { now ≤ HORIZON }
     requires last { last ≤ now }
     requires timely { IsTimely last stage }
     requires empty { sent.old.items ≡ [] }

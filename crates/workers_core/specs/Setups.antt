@@ -11,6 +11,7 @@ use Rattle.dialogue_core.specs.declared.config.ServiceConfig.{ServiceConfig}
 use Rattle.tariff_core.specs.Bands.{Band}
 use Rattle.workers_core.specs.declared.setup_fault.SetupFault.{SetupFault}
 use Rattle.workers_core.specs.declared.setup_fault.SetupFault.TheVariants as fault
+use Rattle.tariff_core.specs.declared.money.TheConstants.{MAX_MONEY}
 
 -- the opening credit of an account, in a list of accounts with theirs
 abbrev pub opening_of : ℕ → List (ℕ × ℕ) → Option ℕ
@@ -30,9 +31,9 @@ abbrev pub counts_fault : ℕ → ℕ → ℕ → Option SetupFault
 counts_fault limit accounts subscribers =
     if nat_lt limit 3 || nat_lt 1000000 limit || nat_lt 1000 accounts || nat_lt 10000 subscribers then Some fault.OutOfRange else None
 
--- an account has an opening credit of 0 to 10^15, and a number that isn't named before
+-- an account has an opening credit of 0 to `MAX_MONEY`, and a number that isn't named before
 abbrev pub account_fault : Bool → ℕ → Option SetupFault
-account_fault is_named opening = if nat_lt 1000000000000000 opening then Some fault.OutOfRange else if is_named then Some fault.Repeated else None
+account_fault is_named opening = if nat_lt MAX_MONEY opening then Some fault.OutOfRange else if is_named then Some fault.Repeated else None
 
 abbrev pub judge_account : List (ℕ × ℕ) → ℕ × ℕ → Option SetupFault
 judge_account earlier account = account_fault (is_some (opening_of account.0 earlier)) account.1

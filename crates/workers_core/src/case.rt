@@ -12,6 +12,7 @@ use crate::{Body, Post, RunSetup};
 use cap_values::{Number, SsfMsg};
 use dialogue_core::{Dialogue, Turn};
 use std::collections::BTreeMap;
+use tariff_core::HORIZON;
 
 /// What a post comes to.
 #[derive(Drop)]
@@ -28,7 +29,7 @@ pub(crate) enum Case {
 
 /// Judges a post by the setup and the dialogues. Nothing is changed yet.
 pub(crate) fn judge(setup: &RunSetup, talks: &BTreeMap<u64, Talk>, post: &Post) -> Case
-    requires { post.now.at ≤ 2000000000000 }
+    requires { post.now.at ≤ HORIZON }
     ensures { IsCase setup.now post.now.at
         (verdict setup.now (standings_in talks.now) post.now) result }
 {
@@ -73,7 +74,7 @@ fn go_on(talk: Talk, number: u64, call: u64, msg: SsfMsg) -> Case
 
 /// A message of a call without dialogue: an InitialDp begins one where the caller is a subscriber.
 fn begin(setup: &RunSetup, at: u64, call: u64, msg: SsfMsg) -> Case
-    requires { at ≤ 2000000000000 }
+    requires { at ≤ HORIZON }
     ensures { IsCase setup.now at (fresh setup.now call msg) result }
 {
     let SsfMsg::InitialDp {

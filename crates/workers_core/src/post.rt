@@ -1,6 +1,7 @@
 //! What is sent to a worker.
 
 ghost use Rattle.std.specs.Prelude.{◌≤◌};
+ghost use Rattle.tariff_core.specs.declared.times.TheConstants.{HORIZON};
 
 use cap_values::SsfMsg;
 
@@ -28,11 +29,11 @@ pub enum Body {
 pub struct Post {
     /// Counted from 0 in the order in which the driver gave them.
     pub number: u64,
-    /// The moment, in units of 100 ms: 0 to 2,000,000,000,000.
+    /// The moment, in units of 100 ms: 0 to `tariff_core::HORIZON`.
     pub at: u64,
     /// What it is about.
     pub body: Body,
-    pub ghost in_range: { at ≤ 2000000000000 },
+    pub ghost in_range: { at ≤ HORIZON },
 }
 
 /// What a mailbox carries.

@@ -13,13 +13,12 @@ ghost use Rattle.workers_core.specs.Setups.{AreAscending, account_fault, account
 
 use crate::SetupFault;
 use crate::calling::Calling;
-use account_core::MAX_MONEY;
 use cap_values::Number;
 use dialogue_core::ServiceConfig;
 use std::alloc::{AllocError, Global};
 use std::collections::BTreeMap;
 use std::marker::Model;
-use tariff_core::Tariff;
+use tariff_core::{MAX_MONEY, Tariff};
 
 /// The least and the most entries that the history of an account may be limited to.
 const LEAST_LIMIT: u32 = 3;
@@ -49,13 +48,14 @@ impl Model for RunSetup {
     ghost use Rattle.std.specs.Ordering.{nat_cmp};
     ghost use Rattle.workers_core.specs.Indexes.{listed};
     ghost use Rattle.workers_core.specs.Setups.{Setup};
+    ghost use Rattle.tariff_core.specs.declared.money.TheConstants.{MAX_MONEY};
 
     ghost Value = { Setup };
 
     ghost view = { λ s. record { accounts = s.accounts.items; subscribers = listed s.subscribers.entries; tariff = s.tariff; service = s.service; limit = s.limit } };
 
     ghost invariant = { λ s. IsStrictlySortedBy nat_cmp (keys_of s.accounts.items)
-        × All (λ account. account.1 ≤ 1000000000000000) s.accounts.items };
+        × All (λ account. account.1 ≤ MAX_MONEY) s.accounts.items };
 }
 
 impl RunSetup {
@@ -124,7 +124,7 @@ impl RunSetup {
     pub fn opening(&self, place: usize) -> u64
         requires { place < length self.now.accounts }
         ensures value { HoldsAt (λ account. account.1 ≡ result) self.now.accounts place }
-        ensures range { result ≤ 1000000000000000 }
+        ensures range { result ≤ MAX_MONEY }
     {
         self.accounts[place].1
     }
@@ -268,7 +268,7 @@ fn ascending(alloc: Global, openings: &BTreeMap<u32, u64>) -> Result<Vec<(u32, u
     ensures ordered { IfOk result
         (λ accounts. IsStrictlySortedBy nat_cmp (keys_of accounts.items)) }
     ensures in_range { IfOk result
-        (λ accounts. All (λ account. account.1 ≤ 1000000000000000) accounts.items) }
+        (λ accounts. All (λ account. account.1 ≤ MAX_MONEY) accounts.items) }
 {
     let mut accounts = Vec::new(alloc);
     for (number, opening) in openings {
