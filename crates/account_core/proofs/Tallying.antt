@@ -1,21 +1,25 @@
 -- What is kept of a legal history is kept as legal entries are added to it.
-use Rattle.std.proofs.Common.{◌≡◌, ℕ, ◌+◌, ◌≤◌, ◌<◌, Some, List, [], ◌∷◌, get_or, length, sym, ap, ◌∙◌, refl, arith, subst}
-use Rattle.std.specs.Prelude.{map}
-use Rattle.std.specs.BTreeMap.{BTreeMap, IsEmpty, Updates}
+use Rattle.std.proofs.Common.{◌≡◌, ℕ, ◌+◌, ◌≤◌, Option, Some, None, List, [], ◌∷◌, sym, ap, ◌∙◌, refl, arith, subst}
+use Rattle.std.specs.Prelude.{false, true, is_some, unwrap_or}
+use Rattle.std.specs.BTreeMap.{BTreeMap, IsEmpty, Updates, get}
 use Rattle.std.specs.Ordering.{nat_cmp}
-use Rattle.account_core.specs.Answers.{IsAnswered, IsLegal, IsLegalPast, shown_by}
+use Rattle.account_core.specs.Answers.{IsAnswered, IsLegalPast, answer, inadmissible, inadmissible_for, shown_by}
 use Rattle.account_core.specs.Available.{credited}
-use Rattle.account_core.specs.Events.{Event, event_of}
-use Rattle.account_core.specs.Kept.{known_of}
-use Rattle.account_core.specs.Known.{known, known_after}
-use Rattle.account_core.specs.Tallied.{IsTallied}
-use Rattle.account_core.specs.declared.entry.Entry.{Entry}
+use Rattle.account_core.specs.Events.{Event}
+use Rattle.account_core.specs.Kept.{TellsEach, known_of, unknown}
+use Rattle.account_core.specs.Known.{Known, known, known_after, taken_of}
+use Rattle.account_core.specs.Replies.{reply_for}
+use Rattle.account_core.specs.Sound.{HasRoom, LegalPastsAreSound, SoundPastsAnswer}
+use Rattle.account_core.specs.Tallied.{IsTallied, IsToldOf}
+use Rattle.account_core.specs.declared.entry.Reply.{Reply}
+use Rattle.account_core.specs.declared.fault.AccountFault.{AccountFault}
 use Rattle.account_core.specs.declared.standing.Standing.{Standing}
 use Rattle.account_core.specs.declared.tally.Tally.{Tally}
+use Rattle.account_core.proofs.Answering.{money_kept, reply_is_answer}
 use Rattle.account_core.proofs.Entering.{nothing_taken_yet, tells_renewed}
 use Rattle.account_core.proofs.Fitting.{answer_shows}
-use Rattle.account_core.proofs.Moves.{its_call, its_deed}
-use Rattle.account_core.proofs.Walking.{answered_at, past_more, past_to, past_whole}
+use Rattle.account_core.proofs.Moves.{its_call, its_deed, known_here}
+use Rattle.account_core.proofs.Walking.{room_walk}
 
 pub tallied_new : (opening : ℕ) (m : BTreeMap ℕ Standing) → opening ≤ 1000000000000000 → IsEmpty m
     → IsTallied [] (record { opening = opening; calls = m; funds = opening; available = opening })
@@ -27,45 +31,88 @@ tallied_new opening m small empty = record {
   credit_is = sym (nothing_taken_yet opening);
 }
 
--- an entry that was answered
+-- ---- an entry, by what is known of its call
+
+none_by : {A : Type 0} (found : Option A) → is_some found ≡ false → found ≡ None
+none_by None not = refl
+none_by (Some a) not = cc
+
+pub not_some : {A : Type 0} (found : Option A) → found ≡ None → is_some found ≡ true → ⊥
+not_some None none some = cc
+not_some (Some a) none some = cc
+
+module _ (opening : ℕ) (h : List Event) (event : Event) (call : Known) (funds credit : ℕ) (told : IsToldOf opening h event call funds credit) where
+  pub told_money : LegalPastsAreSound → credit + taken_of call ≤ 1000000000000000
+  told_money sounds = money_kept opening h (sounds opening h told.small told.legal) event.asked call told.call_is credit told.credit_is
+
+  admissible_is : inadmissible_for call event.asked ≡ inadmissible h event.asked
+  admissible_is = ap (λ k. inadmissible_for k event.asked) told.call_is
+
+  -- of an admissible entry, the reply by what is kept is the answer
+  told_answer : LegalPastsAreSound → SoundPastsAnswer → inadmissible h event.asked ≡ None
+      → (reply : Reply) → reply ≡ reply_for credit funds call event.asked → reply ≡ answer opening h event.asked
+  told_answer sounds fits admissible reply reply_is =
+      let sound = sounds opening h told.small told.legal in
+      reply_is_answer opening h sound (fits opening h sound) event.asked call told.call_is credit funds told.credit_is told.funds_are admissible reply reply_is
+
+  pub told_legal : LegalPastsAreSound → SoundPastsAnswer → (fault : Option AccountFault) → fault ≡ inadmissible_for call event.asked → is_some fault ≡ false
+      → (reply : Reply) → reply ≡ reply_for credit funds call event.asked → reply ≡ event.reply → IsAnswered opening h event
+  told_legal sounds fits fault fault_is none reply reply_is same =
+      let admissible : inadmissible h event.asked ≡ None = sym admissible_is ∙ (sym fault_is ∙ none_by fault none) in
+      record { admissible = admissible; answered = sym same ∙ told_answer sounds fits admissible reply reply_is }
+
+  -- a legal entry is admissible by what is kept, and its reply is the one by what is kept
+  pub admissible_told : IsAnswered opening h event → inadmissible_for call event.asked ≡ None
+  admissible_told answered = admissible_is ∙ answered.admissible
+
+  pub reply_told : LegalPastsAreSound → SoundPastsAnswer → IsAnswered opening h event
+      → (reply : Reply) → reply ≡ reply_for credit funds call event.asked → reply ≡ event.reply
+  reply_told sounds fits answered reply reply_is = told_answer sounds fits answered.admissible reply reply_is ∙ sym answered.answered
+
+  pub told_room : LegalPastsAreSound → SoundPastsAnswer → IsAnswered opening h event → HasRoom call (its_deed event)
+  told_room sounds fits answered = room_walk sounds fits opening h told.small told.legal event answered call (its_call event) told.call_is refl
+
+  pub told_after : known_after call (its_deed event) ≡ known (its_call event) (event ∷ h)
+  told_after = ap (λ k. known_after k (its_deed event)) told.call_is ∙ sym (known_here h event)
+
+-- ---- an entry, by the standings of all calls
+
+module _ (opening : ℕ) (h : List Event) (m : BTreeMap ℕ Standing) (funds credit : ℕ) (event : Event)
+    (tallied : IsTallied h (record { opening = opening; calls = m; funds = funds; available = credit })) where
+  told_by : (standing : Standing) → unwrap_or (get nat_cmp m (its_call event)) unknown ≡ standing → IsToldOf opening h event (known_of standing) funds credit
+  told_by standing is = record {
+    small = tallied.small;
+    legal = tallied.legal;
+    call_is = sym (ap known_of is) ∙ tallied.tells (its_call event);
+    funds_are = tallied.funds_are;
+    credit_is = tallied.credit_is;
+  }
+
+  pub told_found : (call : ℕ) (standing : Standing) → call ≡ its_call event → Some standing ≡ get nat_cmp m call → IsToldOf opening h event (known_of standing) funds credit
+  told_found call standing here found =
+      told_by standing (ap (λ c. unwrap_or (get nat_cmp m c) unknown) (sym here) ∙ ap (λ o. unwrap_or o unknown) (sym found))
+
+  pub told_new : (call : ℕ) → call ≡ its_call event → get nat_cmp m call ≡ None → IsToldOf opening h event (known_of unknown) funds credit
+  told_new call here none = told_by unknown (ap (λ c. unwrap_or (get nat_cmp m c) unknown) (sym here) ∙ ap (λ o. unwrap_or o unknown) none)
+
+  pub tells_after : (n : BTreeMap ℕ Standing) (call : ℕ) (after : Standing) → call ≡ its_call event → Updates nat_cmp m n call (Some after)
+      → known_of after ≡ known (its_call event) (event ∷ h) → TellsEach n (event ∷ h)
+  tells_after n call after here updates after_is =
+      let U : ℕ → Type 0 = λ c. Updates nat_cmp m n c (Some after) in
+      tells_renewed m n h event after (subst U here updates) tallied.tells (after_is ∙ known_here h event)
+
+-- ---- an entry that was answered
+
 module _ (h : List Event) (tally : Tally) (event : Event) (tallied : IsTallied h tally) (answered : IsAnswered tally.opening h event) where
-  pub tallied_more : (m : BTreeMap ℕ Standing) (call added credit : ℕ) (before after : Standing) → call ≡ its_call event
-      → known_of before ≡ known call h → known_of after ≡ known_after (known_of before) (its_deed event) → Updates nat_cmp tally.calls m call (Some after)
-      → added ≡ credited event.asked event.reply → credit ≡ shown_by event.reply
+  pub funds_more : LegalPastsAreSound → tally.funds + credited event.asked event.reply ≤ 1000000000000000
+  funds_more sounds = omega (arith, tallied.funds_are, (sounds tally.opening (event ∷ h) tallied.small (tallied.legal, answered)).capped)
+
+  pub tallied_more : (m : BTreeMap ℕ Standing) (added credit : ℕ) → TellsEach m (event ∷ h) → added ≡ credited event.asked event.reply → credit ≡ shown_by event.reply
       → IsTallied (event ∷ h) (record { opening = tally.opening; calls = m; funds = tally.funds + added; available = credit })
-  tallied_more m call added credit before after here before_is after_is updates added_is shows =
-      let U : ℕ → Type 0 = λ c. Updates nat_cmp tally.calls m c (Some after) in
-      let known_is : known_of before ≡ known (its_call event) h = before_is ∙ ap (λ c. known c h) here in
-      record {
-        small = tallied.small;
-        legal = (tallied.legal, answered);
-        tells = tells_renewed tally.calls m h event after (subst U here updates) tallied.tells (after_is ∙ ap (λ k. known_after k (its_deed event)) known_is);
-        funds_are = omega (arith, tallied.funds_are, added_is);
-        credit_is = shows ∙ answer_shows tally.opening h event answered.answered;
-      }
-
--- ---- the entries of a list, one after another
-
--- the first entries are those of a legal history from this opening
-abbrev pub IsCounted : ℕ → List Entry → ℕ → Tally → Type 0
-IsCounted opening entries at tally = (tally.opening ≡ opening) × IsTallied (past_to entries at) tally
-
-pub counted_more : (opening : ℕ) (entries : List Entry) (at : ℕ) (entry : Entry) (tally later : Tally) → at < length entries → entry ≡ get_or entries at entry
-    → tally.opening ≡ opening → later.opening ≡ tally.opening → IsTallied (event_of entry ∷ past_to entries at) later → IsCounted opening entries (at + 1) later
-counted_more opening entries at entry tally later within is here same tallied =
-    let P : List Event → Type 0 = λ h. IsTallied h later in
-    (same ∙ here, subst P (sym (past_more entries at entry within is)) tallied)
-
-pub counted_whole : (opening : ℕ) (entries : List Entry) (at : ℕ) (tally : Tally) → at ≡ length entries → IsCounted opening entries at tally
-    → IsLegal opening (map event_of entries)
-counted_whole opening entries at tally ended counted =
-    let P : ℕ → Type 0 = λ n. IsLegalPast n (past_to entries at) in
-    let Q : List Event → Type 0 = λ h. IsLegalPast opening h in
-    subst Q (ap (past_to entries) ended ∙ past_whole entries) (subst P counted.0 counted.1.legal)
-
--- one that isn't answered in its place makes the whole illegal
-pub counted_not : (opening : ℕ) (entries : List Entry) (at : ℕ) (entry : Entry) (tally : Tally) → at < length entries → entry ≡ get_or entries at entry
-    → tally.opening ≡ opening → (IsAnswered tally.opening (past_to entries at) (event_of entry) → ⊥) → IsLegal opening (map event_of entries) → ⊥
-counted_not opening entries at entry tally within is here wrong legal =
-    let P : ℕ → Type 0 = λ n. IsAnswered n (past_to entries at) (event_of entry) in
-    wrong (subst P (sym here) (answered_at opening entries at entry within is legal))
+  tallied_more m added credit tells added_is shows = record {
+    small = tallied.small;
+    legal = (tallied.legal, answered);
+    tells = tells;
+    funds_are = omega (arith, tallied.funds_are, added_is);
+    credit_is = shows ∙ answer_shows tally.opening h event answered.answered;
+  }

@@ -1,6 +1,7 @@
 pub mod Answers
 pub mod Asked
 pub mod Available
+pub mod Checked
 pub mod Events
 pub mod Faults
 pub mod Kept

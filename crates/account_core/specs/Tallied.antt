@@ -1,9 +1,11 @@
 -- What is kept of a legal history while its entries are judged one after another.
-use Rattle.std.specs.Prelude.{◌≡◌, ◌+◌, ◌≤◌, List}
+use Rattle.std.specs.Prelude.{◌≡◌, ◌+◌, ◌≤◌, ℕ, List}
 use Rattle.account_core.specs.Answers.{IsLegalPast}
+use Rattle.account_core.specs.Asked.{call_of}
 use Rattle.account_core.specs.Available.{available, credits}
 use Rattle.account_core.specs.Events.{Event}
 use Rattle.account_core.specs.Kept.{TellsEach}
+use Rattle.account_core.specs.Known.{Known, known}
 use Rattle.account_core.specs.declared.tally.Tally.{Tally}
 use Rattle.tariff_core.specs.declared.money.TheConstants.{MAX_MONEY}
 
@@ -14,3 +16,11 @@ pub record IsTallied (h : List Event) (tally : Tally) : Type 0 where
   pub tells : TellsEach tally.calls h
   pub funds_are : tally.funds ≡ tally.opening + credits h
   pub credit_is : tally.available ≡ available tally.opening h
+
+-- the history is legal from this opening, and what is known of the entry's call, the funds and the credit are those of the history
+pub record IsToldOf (opening : ℕ) (h : List Event) (event : Event) (call : Known) (funds credit : ℕ) : Type 0 where
+  pub small : opening ≤ 1000000000000000
+  pub legal : IsLegalPast opening h
+  pub call_is : call ≡ known (call_of event.asked) h
+  pub funds_are : funds ≡ opening + credits h
+  pub credit_is : credit ≡ available opening h

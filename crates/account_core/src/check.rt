@@ -4,8 +4,7 @@ ghost use Rattle.std.specs.Prelude.{◌≡◌, ◌≤◌, Ok, true, false, map};
 ghost use Rattle.account_core.specs.Answers.{IsLegal};
 ghost use Rattle.account_core.specs.Events.{event_of};
 
-use crate::tally::Tally;
-use crate::{Account, Entry};
+use crate::{Account, Entry, HistoryCheck};
 use std::alloc::{AllocError, Global};
 use tariff_core::MAX_MONEY;
 
@@ -19,15 +18,10 @@ impl Account {
         ensures legal { result ≡ Ok true → IsLegal opening (map event_of entries.now) }
         ensures illegal { result ≡ Ok false → IsLegal opening (map event_of entries.now) → ⊥ }
     {
-        let mut tally = Tally::new(alloc, opening);
-        for at in 0..entries.len() {
-            let past = &entries[..at];
-            let entry = entries[at];
-            if !tally.allows(past, &entry) {
-                return Ok(false);
-            }
-            tally.add(past, entry)?;
+        let mut check = HistoryCheck::new(alloc, opening);
+        for entry in entries {
+            check.hear(*entry)?;
         }
-        Ok(true)
+        Ok(check.is_legal())
     }
 }

@@ -8,6 +8,7 @@ mod call_sum;
 mod check;
 mod entry;
 mod fault;
+mod history_check;
 mod judging;
 mod laws;
 mod list_account;
@@ -22,6 +23,7 @@ pub use account_port::AccountPort;
 pub use call_sum::{CallSum, Fate};
 pub use entry::{Entry, Op, Reply};
 pub use fault::AccountFault;
+pub use history_check::HistoryCheck;
 pub use laws::{
     answers_are_kindly, closed_calls_pay_the_tariff, no_balance_is_negative,
     settles_keep_the_credit,

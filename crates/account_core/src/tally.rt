@@ -1,23 +1,26 @@
 //! What a legal history comes to, while its entries are judged one after another.
 
-ghost use Rattle.std.specs.Prelude.{◌≡◌, ◌≤◌, ◌∷◌, [], None, true, false, map, reverse, OnOk};
-ghost use Rattle.account_core.specs.Answers.{IsAnswered, answer, inadmissible};
-ghost use Rattle.account_core.specs.Events.{asked_of, event_of};
-ghost use Rattle.account_core.specs.Kept.{known_of};
-ghost use Rattle.account_core.specs.Known.{known};
-ghost use Rattle.account_core.specs.Tallied.{IsTallied};
+ghost use Rattle.std.specs.Prelude.{◌≡◌, ◌≤◌, ◌∷◌, [], ℕ, List, None, true, false, IfNone, IfOk, IfSome, OnErr};
+ghost use Rattle.std.specs.BTreeMap.{IsUnchanged, get};
+ghost use Rattle.std.specs.Ordering.{nat_cmp};
+ghost use Rattle.account_core.specs.Answers.{IsAnswered};
+ghost use Rattle.account_core.specs.Asked.{call_of};
+ghost use Rattle.account_core.specs.Events.{Event, asked_of, event_of};
+ghost use Rattle.account_core.specs.Kept.{TellsEach, known_of};
+ghost use Rattle.account_core.specs.Known.{known, nothing_known};
+ghost use Rattle.account_core.specs.Tallied.{IsTallied, IsToldOf};
 
+use crate::Entry;
 use crate::judging::{inadmissible, reply};
 use crate::laws::legal_pasts_are_sound;
 use crate::standing::Standing;
-use crate::{Entry, Op, Reply};
 use std::alloc::{AllocError, Global};
 use std::collections::BTreeMap;
 use tariff_core::MAX_MONEY;
 
 /// What a legal history comes to: the standing of each call, the opening with the accepted credits,
-/// and the credit that is left. The history itself stands in the caller's list, whose first
-/// entries, those so far, each function takes beside it.
+/// and the credit that is left. The history itself isn't kept: each clause speaks of every history
+/// that comes to this.
 #[derive(Drop)]
 pub(crate) struct Tally {
     pub opening: u64,
@@ -41,52 +44,79 @@ impl Tally {
         }
     }
 
-    /// Whether an entry is legal after those so far.
-    pub fn allows(&self, past: &[Entry], entry: &Entry) -> bool
-        requires { IsTallied (reverse (map event_of past.now)) self.now }
-        ensures yes { result ≡ true → IsAnswered self.now.opening (reverse (map event_of past.now)) (event_of entry.now) }
-        ensures no { result ≡ false → IsAnswered self.now.opening (reverse (map event_of past.now)) (event_of entry.now) → ⊥ }
-    {
-        let standing = self.standing(past, entry.op.call());
-        inadmissible(&entry.op, &standing).is_none() && self.answer(past, entry.op) == entry.reply
-    }
-
-    /// Adds a legal entry to those so far. It takes memory where its call is new, which is 0 at a
-    /// Credit.
-    pub fn add(&mut self, past: &[Entry], entry: Entry) -> Result<(), AllocError>
-        requires tallied { IsTallied (reverse (map event_of past.now)) self.old }
-        requires answered { IsAnswered self.old.opening (reverse (map event_of past.now)) (event_of entry) }
-        ensures tallied { OnOk result (IsTallied (event_of entry ∷ reverse (map event_of past.now)) self.new) }
+    /// Adds an entry to those so far where it is legal after them, and tells whether it is. Memory
+    /// is taken where the entry's call is new, which is 0 at a Credit.
+    pub fn hear(&mut self, entry: Entry) -> Result<bool, AllocError>
+        requires { (h : List Event) × IsTallied h self.old }
+        ensures legal { IfOk result (λ legal. legal ≡ true →
+            (h : List Event) → IsTallied h self.old → IsTallied (event_of entry ∷ h) self.new) }
+        ensures illegal { IfOk result (λ legal. legal ≡ false →
+            (h : List Event) → IsTallied h self.old → IsAnswered self.old.opening h (event_of entry) → ⊥) }
         ensures opening { self.new.opening ≡ self.old.opening }
+        ensures kept { OnErr result ((h : List Event) → IsTallied h self.old → IsTallied h self.new) }
+        ensures fresh { OnErr result ((h : List Event) → IsTallied h self.old →
+            known (call_of (asked_of entry.op)) h ≡ nothing_known) }
     {
         legal_pasts_are_sound();
-        let call = entry.op.call();
-        let after = self.standing(past, call).after(entry.op, entry.reply);
-        self.calls.insert(call, after)?;
+        if !renew_standing(&mut self.calls, entry, self.funds, self.available)? {
+            return Ok(false);
+        }
         self.funds += entry.credited();
         self.available = entry.reply.available();
-        Ok(())
+        Ok(true)
     }
+}
 
-    /// The answer to an admissible operation.
-    fn answer(&self, past: &[Entry], op: Op) -> Reply
-        requires tallied { IsTallied (reverse (map event_of past.now)) self.now }
-        requires admissible { inadmissible (reverse (map event_of past.now)) (asked_of op) ≡ None }
-        ensures { result ≡ answer self.now.opening (reverse (map event_of past.now)) (asked_of op) }
-    {
-        legal_pasts_are_sound();
-        let standing = self.standing(past, op.call());
-        reply(op, &standing, self.funds, self.available)
-    }
+/// Keeps what is known of a call after an entry of it, where the entry is legal after a history
+/// with these funds, of which so much is available; tells whether it is.
+fn renew_standing(
+    calls: &mut BTreeMap<u64, Standing>,
+    entry: Entry,
+    funds: u64,
+    available: u64,
+) -> Result<bool, AllocError>
+    requires { (opening : ℕ) × (h : List Event) × IsTallied h (record { opening = opening; calls = calls.old; funds = funds; available = available }) }
+    ensures legal { IfOk result (λ legal. legal ≡ true → (opening : ℕ) (h : List Event) →
+        IsTallied h (record { opening = opening; calls = calls.old; funds = funds; available = available }) →
+        IsAnswered opening h (event_of entry) × TellsEach calls.new (event_of entry ∷ h)) }
+    ensures illegal { IfOk result (λ legal. legal ≡ false → (opening : ℕ) (h : List Event) →
+        IsTallied h (record { opening = opening; calls = calls.old; funds = funds; available = available }) →
+        IsAnswered opening h (event_of entry) → ⊥) }
+    ensures kept { OnErr result (IsUnchanged calls.old calls.new) }
+    ensures fresh { OnErr result (get nat_cmp calls.old (call_of (asked_of entry.op)) ≡ None) }
+{
+    let call = entry.op.call();
+    let Some(standing) = calls.get_mut(&call) else {
+        let Some(after) = after_legal(entry, &Standing::UNKNOWN, funds, available) else {
+            return Ok(false);
+        };
+        calls.insert(call, after)?;
+        return Ok(true);
+    };
+    let Some(after) = after_legal(entry, standing, funds, available) else {
+        return Ok(false);
+    };
+    *standing = after;
+    Ok(true)
+}
 
-    /// What the entries so far say of a call.
-    fn standing(&self, _past: &[Entry], call: u64) -> Standing
-        requires { IsTallied (reverse (map event_of _past.now)) self.now }
-        ensures { known_of result ≡ known call (reverse (map event_of _past.now)) }
-    {
-        match self.calls.get(&call) {
-            Some(standing) => *standing,
-            None => Standing::UNKNOWN,
-        }
+/// What is known of a call after an entry of it, where the entry is legal after a history with
+/// these funds, of which so much is available.
+fn after_legal(entry: Entry, standing: &Standing, funds: u64, available: u64) -> Option<Standing>
+    requires { (opening : ℕ) × (h : List Event) × IsToldOf opening h (event_of entry) (known_of standing.now) funds available }
+    ensures legal { IfSome result (λ after. (opening : ℕ) (h : List Event) →
+        IsToldOf opening h (event_of entry) (known_of standing.now) funds available →
+        IsAnswered opening h (event_of entry) × (known_of after ≡ known (call_of (asked_of entry.op)) (event_of entry ∷ h))) }
+    ensures illegal { IfNone result ((opening : ℕ) (h : List Event) →
+        IsToldOf opening h (event_of entry) (known_of standing.now) funds available →
+        IsAnswered opening h (event_of entry) → ⊥) }
+{
+    legal_pasts_are_sound();
+    if inadmissible(&entry.op, standing).is_some() {
+        return None;
     }
+    if reply(entry.op, standing, funds, available) != entry.reply {
+        return None;
+    }
+    Some(standing.after(entry.op, entry.reply))
 }

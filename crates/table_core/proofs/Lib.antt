@@ -2,5 +2,6 @@ pub mod DecimalLemmas
 pub mod FieldLemmas
 pub mod HeaderLemmas
 pub mod Known
+pub mod PrintedLemmas
 pub mod RowLemmas
 pub mod TableLemmas

@@ -2,6 +2,7 @@ pub mod Decimals
 pub mod Faults
 pub mod Fields
 pub mod Judging
+pub mod Printed
 pub mod Reading
 pub mod Rows
 pub mod Tables

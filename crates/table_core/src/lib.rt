@@ -8,10 +8,12 @@
 mod decimals;
 mod fault;
 mod fields;
+mod printed;
 mod rows;
 mod table;
 
 pub use decimals::decimal;
 pub use fault::{RowFault, RowKind, TableFault};
 pub use fields::{field, is_blank, is_word, number, optional};
+pub use printed::{printed_decimals_are_read, printed_tables_are_read};
 pub use table::Table;

@@ -1,5 +1,6 @@
-use Rattle.account_core.proofs.Tallying.{IsCounted}
+use Rattle.account_core.specs.Checked.{IsCheckOf}
+use Rattle.account_core.proofs.Walking.{past_to}
 use Rattle.account_core.proofs.account.Account.check.Given as goal
 
-abbrev pub invariant-loop-at : goal.invariant-loop-at
-invariant-loop-at l = IsCounted l.opening l.entries l.at l.tally
+abbrev pub invariant-loop-entry : goal.invariant-loop-entry
+invariant-loop-entry l = IsCheckOf l.opening (past_to l.entries l.entry-index) l.check

@@ -1,0 +1,60 @@
+//! Whether a history that is told entry by entry is legal.
+
+ghost use Rattle.std.specs.Prelude.{◌≡◌, ◌≤◌, ◌∷◌, [], ℕ, List, OnErr, OnOk};
+ghost use Rattle.std.specs.Bool.{Decides};
+ghost use Rattle.account_core.specs.Answers.{IsLegalPast};
+ghost use Rattle.account_core.specs.Asked.{call_of};
+ghost use Rattle.account_core.specs.Checked.{IsCheckOf};
+ghost use Rattle.account_core.specs.Events.{Event, asked_of, event_of};
+ghost use Rattle.account_core.specs.Known.{known, nothing_known};
+
+use crate::Entry;
+use crate::tally::Tally;
+use std::alloc::{AllocError, Global};
+
+/// The check of a history that is told entry by entry, oldest first. The entries aren't kept, but
+/// what they come to while they are legal.
+#[derive(Drop)]
+pub struct HistoryCheck {
+    tally: Option<Tally>,
+}
+
+impl HistoryCheck {
+    /// The check of the empty history of an account with an opening credit of 0 to `MAX_MONEY`. It
+    /// takes no memory yet.
+    pub fn new(alloc: Global, opening: u64) -> HistoryCheck
+        requires { opening ≤ 1000000000000000 }
+        ensures { IsCheckOf opening [] result }
+    {
+        HistoryCheck {
+            tally: Some(Tally::new(alloc, opening)),
+        }
+    }
+
+    /// Takes one entry more, from any seat. The only error is want of memory, which is taken for a
+    /// call that is new; the check is then still that of the entries before.
+    pub fn hear(&mut self, entry: Entry) -> Result<(), AllocError>
+        requires { (opening : ℕ) × (h : List Event) × IsCheckOf opening h self.old }
+        ensures heard { OnOk result ((opening : ℕ) (h : List Event) → IsCheckOf opening h self.old →
+            IsCheckOf opening (event_of entry ∷ h) self.new) }
+        ensures kept { OnErr result ((opening : ℕ) (h : List Event) → IsCheckOf opening h self.old →
+            IsCheckOf opening h self.new) }
+        ensures fresh { OnErr result ((opening : ℕ) (h : List Event) → IsCheckOf opening h self.old →
+            known (call_of (asked_of entry.op)) h ≡ nothing_known) }
+    {
+        if let Some(tally) = &mut self.tally {
+            if !tally.hear(entry)? {
+                self.tally = None;
+            }
+        }
+        Ok(())
+    }
+
+    /// Whether the entries so far are a legal history.
+    pub fn is_legal(&self) -> bool
+        ensures { (opening : ℕ) (h : List Event) → IsCheckOf opening h self.now →
+            Decides result (IsLegalPast opening h) }
+    {
+        self.tally.is_some()
+    }
+}
