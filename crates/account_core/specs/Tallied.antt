@@ -8,6 +8,7 @@ use Rattle.account_core.specs.Kept.{TellsEach}
 use Rattle.account_core.specs.Known.{Known, known}
 use Rattle.account_core.specs.declared.tally.Tally.{Tally}
 use Rattle.tariff_core.specs.declared.money.TheConstants.{MAX_MONEY}
+use Rattle.tariff_core.specs.declared.money.TheConstants.{MAX_MONEY}
 
 -- the history is legal from this opening, and the map and the totals are those of the history
 pub record IsTallied (h : List Event) (tally : Tally) : Type 0 where
@@ -19,7 +20,7 @@ pub record IsTallied (h : List Event) (tally : Tally) : Type 0 where
 
 -- the history is legal from this opening, and what is known of the entry's call, the funds and the credit are those of the history
 pub record IsToldOf (opening : ℕ) (h : List Event) (event : Event) (call : Known) (funds credit : ℕ) : Type 0 where
-  pub small : opening ≤ 1000000000000000
+  pub small : opening ≤ MAX_MONEY
   pub legal : IsLegalPast opening h
   pub call_is : call ≡ known (call_of event.asked) h
   pub funds_are : funds ≡ opening + credits h

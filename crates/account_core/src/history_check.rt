@@ -11,6 +11,7 @@ ghost use Rattle.account_core.specs.Known.{known, nothing_known};
 use crate::Entry;
 use crate::tally::Tally;
 use std::alloc::{AllocError, Global};
+use tariff_core::MAX_MONEY;
 
 /// The check of a history that is told entry by entry, oldest first. The entries aren't kept, but
 /// what they come to while they are legal.
@@ -23,7 +24,7 @@ impl HistoryCheck {
     /// The check of the empty history of an account with an opening credit of 0 to `MAX_MONEY`. It
     /// takes no memory yet.
     pub fn new(alloc: Global, opening: u64) -> HistoryCheck
-        requires { opening ≤ 1000000000000000 }
+        requires { opening ≤ MAX_MONEY }
         ensures { IsCheckOf opening [] result }
     {
         HistoryCheck {
