@@ -1,11 +1,10 @@
 //! The numbers of the parties.
 
 ghost use Rattle.std.specs.Prelude.{◌≡◌, ◌↔◌, ◌≤◌, ◌-◌, IsTrue, IsOk, IfOk, IfErr, take, drop, replicate};
-ghost use Rattle.std.specs.Char.{is_ascii_digit};
-ghost use Rattle.std.specs.List.{list_all};
 ghost use Rattle.cap_values.specs.Numbers.{is_number};
 
 use crate::ValueFault;
+use table_core::are_digits;
 
 /// The most digits that a number has.
 pub const MAX_DIGITS: usize = 15;
@@ -53,10 +52,4 @@ fn is_number(text: &[u8]) -> bool
     ensures { result ≡ is_number text.now }
 {
     1 <= text.len() && text.len() <= MAX_DIGITS && are_digits(text)
-}
-
-fn are_digits(text: &[u8]) -> bool
-    ensures { result ≡ list_all is_ascii_digit text.now }
-{
-    text.iter().all(|byte| byte.is_ascii_digit())
 }
