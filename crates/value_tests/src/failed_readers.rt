@@ -27,7 +27,7 @@ fn rows_keep_the_fault(rt: HostRuntime) {
 
 #[test]
 fn a_tariff_tells_the_row(rt: HostRuntime) {
-    for length in 0..TABLE.len() {
+    for length in 0..=TABLE.len() {
         let bytes = &TABLE[..length];
         let fault = fault_of(rt.alloc(), Failing { bytes });
         let row = 1 + bytes.iter().filter(|byte| **byte == b'\n').count().min(9) as u32;
