@@ -1,4 +1,3 @@
 pub mod BookTexts
-pub mod Columns
 pub mod Laws
 pub mod RunTexts

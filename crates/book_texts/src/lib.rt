@@ -3,7 +3,6 @@
 #![tactic(auto)]
 
 mod calls;
-mod columns;
 mod laws;
 mod lines;
 mod table;
