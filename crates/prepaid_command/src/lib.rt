@@ -4,7 +4,6 @@
 mod asks;
 mod fault;
 mod input;
-mod operations;
 mod price_lines;
 mod program;
 mod replay_lines;

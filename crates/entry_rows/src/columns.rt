@@ -1,8 +1,8 @@
-//! The columns of the table of books.
+//! What is written of an operation and of a reply, in the columns of the table of books.
 
 ghost use Rattle.std.specs.Prelude.{◌≡◌, ◌++◌, OnOk, string_bytes};
 ghost use Rattle.account_core.specs.Events.{asked_of};
-ghost use Rattle.book_texts.specs.Columns.{answer_of, answer_text, operation_of, operation_text, settle_of};
+ghost use Rattle.entry_rows.specs.Columns.{answer_of, answer_text, operation_of, operation_text, settle_of};
 
 use account_core::{Op, Reply};
 use std::alloc::AllocError;
@@ -15,7 +15,7 @@ struct Field(Option<u64>);
 
 impl fmt::Display for Field {
     ghost use Rattle.std.specs.Prelude.{Some};
-    ghost use Rattle.book_texts.specs.Columns.{number_or_empty};
+    ghost use Rattle.entry_rows.specs.Columns.{number_or_empty};
 
     ghost output = { λ field. Some (number_or_empty field.0) };
 

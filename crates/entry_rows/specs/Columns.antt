@@ -1,11 +1,12 @@
--- The columns of the table of books.
-use Rattle.std.specs.Prelude.{ℕ, true, false, Option, Some, None, List, [], ◌++◌, codes}
+-- The columns of an entry: what is asked, and what is answered.
+use Rattle.std.specs.Prelude.{◌+◌, ℕ, true, false, Option, Some, None, List, [], ◌++◌, codes}
 use Rattle.std.specs.Fmt.{decimal}
 use Rattle.tariff_core.specs.declared.time_info.TimeInfo.{TimeInfo}
 use Rattle.tariff_core.specs.declared.time_info.TimeInfo.TheVariants as info
 use Rattle.account_core.specs.Asked.{Asked, Credits, Reserves, Returns, Settles}
 use Rattle.account_core.specs.declared.entry.Reply.{Reply}
 use Rattle.account_core.specs.declared.entry.Reply.TheVariants as reply
+use Rattle.table_core.specs.Fields.{field_in}
 
 -- what is asked, and with what
 pub record Operation : Type 0 where
@@ -23,6 +24,26 @@ pub record Answer : Type 0 where
   pub y1 : List ℕ
   pub y2 : List ℕ
   pub y3 : List ℕ
+
+-- the columns of an operation, and of an answer, in the fields of a row, where their word stands at a place
+abbrev pub operation_at : List (List ℕ) → ℕ → Operation
+operation_at fields at = record {
+  op = field_in fields at;
+  call = field_in fields (at + 1);
+  x1 = field_in fields (at + 2);
+  x2 = field_in fields (at + 3);
+  x3 = field_in fields (at + 4);
+  x4 = field_in fields (at + 5);
+  x5 = field_in fields (at + 6);
+}
+
+abbrev pub answer_at : List (List ℕ) → ℕ → Answer
+answer_at fields at = record {
+  reply = field_in fields at;
+  y1 = field_in fields (at + 1);
+  y2 = field_in fields (at + 2);
+  y3 = field_in fields (at + 3);
+}
 
 -- a field that isn't named is empty
 abbrev pub no_operation : Operation
