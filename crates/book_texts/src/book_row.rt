@@ -8,13 +8,14 @@ ghost use Rattle.entry_rows.specs.Columns.{answer_at};
 ghost use Rattle.book_texts.specs.BookRows.{account_of, columns_in, entry_in, is_no_answer, is_opening_blank, opening_in, said_in};
 ghost use Rattle.book_texts.specs.SaidOf.{IsAffordable, said_of};
 
-use account_core::{Entry, MAX_MONEY};
+use account_core::Entry;
 use csv::ByteRecord;
 use entry_rows::{
     are_last_blank, is_op_blank, is_reply_blank, read_op, read_op_word, read_reply,
     read_reply_word, read_seat,
 };
 use table_core::{RowKind, is_blank, is_word, number};
+use tariff_core::MAX_MONEY;
 
 /// Where the columns stand, and where those of the operation and of the reply begin.
 const ACCOUNT: usize = 0;

@@ -14,6 +14,7 @@ use std::alloc::{AllocError, Global};
 use std::collections::BTreeMap;
 use std::io::Read;
 use table_core::{RowKind, Table, TableFault};
+use tariff_core::MAX_MONEY;
 
 /// The most rows of a table of books, its header not counted.
 const MAX_ROWS: u32 = 1_000_000;
@@ -65,7 +66,7 @@ fn open(
     account: u32,
     opening: u64,
 ) -> Result<Option<RowKind>, AllocError>
-    requires { opening ≤ 1000000000000000 }
+    requires { opening ≤ MAX_MONEY }
     ensures { IfOk result (λ refused. (books : Books) → AreChecks books checks.old.entries
         → Comes refused (opened account opening books (told_of account books)) checks.new.entries) }
 {

@@ -5,6 +5,9 @@ use Rattle.table_core.specs.Fields.{present}
 use Rattle.table_core.specs.Judging.{after}
 use Rattle.table_core.specs.declared.fault.RowKind.{RowKind}
 use Rattle.table_core.specs.declared.fault.RowKind.TheVariants as kind
+use Rattle.tariff_core.specs.declared.money.TheConstants.{MAX_MONEY}
+use Rattle.tariff_core.specs.declared.plan.TheConstants.{MAX_RATE}
+use Rattle.tariff_core.specs.declared.times.TheConstants.{DAY}
 
 -- whether a column is empty
 abbrev pub is_empty : List ℕ → Bool
@@ -28,19 +31,19 @@ any_number_of text = number_of 18446744073709551615 text
 
 -- a time of a day at most
 abbrev pub units_of : List ℕ → Result ℕ RowKind
-units_of text = number_of 864000 text
+units_of text = number_of DAY text
 
 -- money: 0 to 10^15
 abbrev pub money_of : List ℕ → Result ℕ RowKind
-money_of text = number_of 1000000000000000 text
+money_of text = number_of MAX_MONEY text
 
 -- a fee or a rate
 abbrev pub rate_of : List ℕ → Result ℕ RowKind
-rate_of text = number_of 1000000000 text
+rate_of text = number_of MAX_RATE text
 
 -- a rate that there may not be
 abbrev pub optional_rate_of : List ℕ → Result (Option ℕ) RowKind
-optional_rate_of text = optional_of 1000000000 text
+optional_rate_of text = optional_of MAX_RATE text
 
 -- an interval, which is at least 1 where there is one
 abbrev pub counted_interval : Option ℕ → Result (Option ℕ) RowKind
@@ -48,4 +51,4 @@ counted_interval None = Ok None
 counted_interval (Some interval) = if interval == 0 then Err kind.Number else Ok (Some interval)
 
 abbrev pub interval_of : List ℕ → Result (Option ℕ) RowKind
-interval_of text = after (optional_of 864000 text) counted_interval
+interval_of text = after (optional_of DAY text) counted_interval

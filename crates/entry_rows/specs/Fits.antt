@@ -7,23 +7,26 @@ use Rattle.account_core.specs.declared.entry.Reply.TheVariants as reply
 use Rattle.tariff_core.specs.Rates.{Rates}
 use Rattle.tariff_core.specs.declared.time_info.TimeInfo.{TimeInfo}
 use Rattle.tariff_core.specs.declared.time_info.TimeInfo.TheVariants as info
+use Rattle.tariff_core.specs.declared.money.TheConstants.{MAX_MONEY}
+use Rattle.tariff_core.specs.declared.plan.TheConstants.{MAX_RATE}
+use Rattle.tariff_core.specs.declared.times.TheConstants.{DAY}
 
 -- a number of 64 bits, a time of a day at most, money, a fee or a rate
 abbrev pub IsWide : ℕ → Type 0
 IsWide number = number ≤ 18446744073709551615
 
 abbrev pub IsTime : ℕ → Type 0
-IsTime units = units ≤ 864000
+IsTime units = units ≤ DAY
 
 abbrev pub IsMoney : ℕ → Type 0
-IsMoney money = money ≤ 1000000000000000
+IsMoney money = money ≤ MAX_MONEY
 
 abbrev pub IsRate : ℕ → Type 0
-IsRate rate = rate ≤ 1000000000
+IsRate rate = rate ≤ MAX_RATE
 
 -- an interval before a switch: some time
 abbrev pub IsInterval : ℕ → Type 0
-IsInterval interval = (1 ≤ interval) × (interval ≤ 864000)
+IsInterval interval = (1 ≤ interval) × (interval ≤ DAY)
 
 -- each number of a plan, of a report, of an operation and of a reply is in its range
 pub record FitsPlan (plan : Rates) : Type 0 where

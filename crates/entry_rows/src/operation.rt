@@ -11,10 +11,10 @@ ghost use Rattle.entry_rows.specs.Operations.{are_last_empty, asked_in, credit_i
 
 use crate::places::{CALL, X1, X2, X3, X4, X5};
 use crate::words::OpWord;
-use account_core::{MAX_MONEY, Op};
+use account_core::Op;
 use csv::ByteRecord;
 use table_core::{RowKind, is_blank, number, optional};
-use tariff_core::{DAY, MAX_RATE, Plan, TimeInfo};
+use tariff_core::{DAY, MAX_MONEY, MAX_RATE, Plan, TimeInfo};
 
 /// The operation of this word whose columns begin at `at`; else `Number`. The columns that must be
 /// empty aren't judged.

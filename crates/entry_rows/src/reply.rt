@@ -10,9 +10,10 @@ ghost use Rattle.entry_rows.specs.Replies.{granted_in, is_reply_blank, reply_in}
 use crate::operation::read_units;
 use crate::places::{Y1, Y2, Y3};
 use crate::words::ReplyWord;
-use account_core::{MAX_MONEY, Reply};
+use account_core::Reply;
 use csv::ByteRecord;
 use table_core::{RowKind, is_blank, number};
+use tariff_core::MAX_MONEY;
 
 /// The reply of this word whose columns begin at `at`; else `Number`. The columns that must be
 /// empty aren't judged.
