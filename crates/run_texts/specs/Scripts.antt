@@ -1,5 +1,5 @@
 -- The meaning of a script: what happens in a run, or the first fault.
-use Rattle.std.specs.Prelude.{◌+◌, ◌==◌, ◌&&◌, ◌||◌, ℕ, Bool, false, not, List, [], ◌∷◌, length, reverse, Result, Ok, Err, if◌then◌else◌, nat_lt, codes}
+use Rattle.std.specs.Prelude.{◌==◌, ◌&&◌, ◌||◌, ℕ, Bool, false, List, [], ◌∷◌, reverse, Result, Ok, Err, if◌then◌else◌, nat_lt, codes}
 use Rattle.cap_values.specs.declared.leg.Leg.TheVariants as leg
 use Rattle.ssf_core.specs.declared.bcsm_event.BcsmEvent.{BcsmEvent}
 use Rattle.ssf_core.specs.declared.bcsm_event.BcsmEvent.TheVariants as bcsm
@@ -10,9 +10,10 @@ use Rattle.table_core.specs.declared.fault.RowFault.{RowFault}
 use Rattle.table_core.specs.declared.fault.RowKind.{RowKind}
 use Rattle.table_core.specs.declared.fault.RowKind.TheVariants as kind
 use Rattle.run_texts.specs.Happenings.{Event, Happens, Meets, Recharges, Starts}
-use Rattle.run_texts.specs.Setups.{account_in, amount_in, has_account, party_in}
+use Rattle.run_texts.specs.Setups.{account_in, amount_in, party_in}
 use Rattle.run_texts.specs.declared.word.Word.{Word}
 use Rattle.run_texts.specs.declared.word.Word.TheVariants as word
+use Rattle.workers_core.specs.Setups.{has_account}
 
 -- ---- words
 
