@@ -13,6 +13,7 @@ ghost use Rattle.workers_core.specs.declared.post.Body.{Body};
 
 use crate::RunError;
 use crate::texts::RunTexts;
+use account_core::MAX_LIMIT;
 use run_options::RunOptions;
 use runs_core::{Books, Driver, serve};
 use script_player::ScriptPlayer;
@@ -20,8 +21,8 @@ use shared_account::{Book, OpenGate};
 use std::alloc::Global;
 use std::sync::Wait;
 use std::thread::Threads;
-use workers_core::{MAX_LIMIT, RunSetup};
 use tariff_core::LAST_MOMENT;
+use workers_core::RunSetup;
 
 /// Plays a script over its accounts, and gives their books.
 pub(crate) fn play<R: Wait + Threads + Sync>(

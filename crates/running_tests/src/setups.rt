@@ -1,12 +1,13 @@
 //! Setups that are made, and setups that aren't.
 
+use account_core::MIN_LIMIT;
 use cap_values::Number;
 use dialogue_core::ServiceConfig;
 use run_texts::read_setup;
 use std::alloc::Global;
 use std::test::Fail;
 use tariff_core::Tariff;
-use workers_core::{Directory, MIN_LIMIT, RunSetup, SetupFault};
+use workers_core::{Directory, RunSetup, SetupFault};
 
 /// One band for called numbers that begin with 49.
 pub(crate) const BAND: &[u8] = b"prefix,from,fee,rate\n49,00:00,50,1000\n";

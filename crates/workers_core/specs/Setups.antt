@@ -12,7 +12,9 @@ use Rattle.dialogue_core.specs.declared.config.ServiceConfig.{ServiceConfig}
 use Rattle.tariff_core.specs.Bands.{Band}
 use Rattle.workers_core.specs.declared.setup_fault.SetupFault.{SetupFault}
 use Rattle.workers_core.specs.declared.setup_fault.SetupFault.TheVariants as fault
+use Rattle.account_core.specs.declared.limits.TheConstants.{MAX_LIMIT, MIN_LIMIT}
 use Rattle.tariff_core.specs.declared.money.TheConstants.{MAX_MONEY}
+use Rattle.workers_core.specs.declared.setup.TheConstants.{MAX_ACCOUNTS, MAX_SUBSCRIBERS}
 
 -- the opening credit of an account, in a list of accounts with theirs
 abbrev pub opening_of : ℕ → List (ℕ × ℕ) → Option ℕ
@@ -31,10 +33,10 @@ unfoldable pub first_fault : {X : Type 0} → (List X → X → Option SetupFaul
 first_fault judge earlier [] = None
 first_fault judge earlier (item ∷ items) = option_or (judge earlier item) (first_fault judge (earlier ++ item ∷ []) items)
 
--- the limit is 3 to 1,000,000, and there are at most 1,000 accounts and 10,000 subscribers
+-- the limit is `MIN_LIMIT` to `MAX_LIMIT`, and there are at most `MAX_ACCOUNTS` accounts and `MAX_SUBSCRIBERS` subscribers
 abbrev pub counts_fault : ℕ → ℕ → ℕ → Option SetupFault
 counts_fault limit accounts subscribers =
-    if nat_lt limit 3 || nat_lt 1000000 limit || nat_lt 1000 accounts || nat_lt 10000 subscribers then Some fault.OutOfRange else None
+    if nat_lt limit MIN_LIMIT || nat_lt MAX_LIMIT limit || nat_lt MAX_ACCOUNTS accounts || nat_lt MAX_SUBSCRIBERS subscribers then Some fault.OutOfRange else None
 
 -- an account has an opening credit of 0 to `MAX_MONEY`, and a number that isn't named before
 abbrev pub account_fault : Bool → ℕ → Option SetupFault
@@ -82,10 +84,10 @@ with_account listing number opening = record listing { accounts = insert_entry n
 abbrev pub with_subscriber : Listing → Number → ℕ → Listing
 with_subscriber listing number account = record listing { subscribers = insert_entry by_digits listing.subscribers number account }
 
--- a run may have 1,000 accounts and 10,000 subscribers at most
+-- a run may have `MAX_ACCOUNTS` accounts and `MAX_SUBSCRIBERS` subscribers at most
 pub record IsWithin (listing : Listing) : Type 0 where
-  pub accounts : length listing.accounts ≤ 1000
-  pub subscribers : length listing.subscribers ≤ 10000
+  pub accounts : length listing.accounts ≤ MAX_ACCOUNTS
+  pub subscribers : length listing.subscribers ≤ MAX_SUBSCRIBERS
 
 -- what a run is set up with: the accounts in ascending order, each with its opening credit; the subscribers, each with its account
 pub record Setup : Type 0 where

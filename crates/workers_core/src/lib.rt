@@ -23,7 +23,7 @@ pub use inbox::{Gone, Inbox};
 pub use opening::{compare, mailbox};
 pub use outbox::Outbox;
 pub use post::{Body, Mail, Post};
-pub use setup::{MAX_ACCOUNTS, MAX_LIMIT, MAX_SUBSCRIBERS, MIN_LIMIT, RunSetup};
+pub use setup::{MAX_ACCOUNTS, MAX_SUBSCRIBERS, RunSetup};
 pub use setup_fault::SetupFault;
 pub use worker::Worker;
 pub use worker_fault::WorkerFault;

@@ -9,18 +9,13 @@ ghost use Rattle.workers_core.specs.Verdicts.{place_of};
 ghost use Rattle.workers_core.specs.Setups.{AreAscending, IsWithin, account_of, counts_fault, items_fault, opening_of, setup_fault};
 
 use crate::{Directory, SetupFault};
+use account_core::{MAX_LIMIT, MIN_LIMIT};
 use cap_values::Number;
 use dialogue_core::ServiceConfig;
 use std::alloc::{AllocError, Global};
 use std::collections::BTreeMap;
 use std::marker::Model;
 use tariff_core::{MAX_MONEY, Tariff};
-
-/// The least number of entries that the history of an account may be limited to.
-pub const MIN_LIMIT: u32 = 3;
-
-/// The greatest number of entries that the history of an account may be limited to.
-pub const MAX_LIMIT: u32 = 1_000_000;
 
 /// How many accounts a run may have.
 pub const MAX_ACCOUNTS: usize = 1_000;
@@ -63,8 +58,8 @@ impl Model for RunSetup {
 
 impl RunSetup {
     /// The setup of these accounts, each a number and an opening credit of 0 to `MAX_MONEY`; of
-    /// these subscribers, each a number and one of the accounts; and of a limit of 3 to 1,000,000.
-    /// At most 1,000 accounts and 10,000 subscribers; there may be none.
+    /// these subscribers, each a number and one of the accounts; and of a limit of `MIN_LIMIT` to
+    /// `MAX_LIMIT`. At most 1,000 accounts and 10,000 subscribers; there may be none.
     ///
     /// The limit and the counts are judged first, then the accounts in order, then the subscribers
     /// in order; of one item OutOfRange, Repeated, Unknown. OutOfMemory comes where it happens.
@@ -103,8 +98,8 @@ impl RunSetup {
         limit: u32,
     ) -> Result<RunSetup, AllocError>
         requires within { IsWithin directory }
-        requires least { 3 ≤ limit }
-        requires most { limit ≤ 1000000 }
+        requires least { MIN_LIMIT ≤ limit }
+        requires most { limit ≤ MAX_LIMIT }
         ensures accounts { IfOk result (λ setup. setup.accounts ≡ directory.accounts) }
         ensures ordered { IfOk result
             (λ setup. IsStrictlySortedBy nat_cmp (keys_of setup.accounts)) }
