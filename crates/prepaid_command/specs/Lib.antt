@@ -7,3 +7,4 @@ pub mod PriceLines
 pub mod ReplayLines
 pub mod Replays
 pub mod Reports
+pub mod Tellings

@@ -1,6 +1,7 @@
 //! The program `prepaid` over any reader and writers: words and a text in, a text or a fault out.
 #![tactic(auto)]
 
+mod answer;
 mod asks;
 mod fault;
 mod input;
