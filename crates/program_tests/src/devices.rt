@@ -6,9 +6,9 @@ use std::test::Fail;
 
 /// A reader that gives some bytes and then fails.
 #[derive(Drop)]
-struct Failing<'a> {
-    bytes: &'a [u8],
-    kind: ErrorKind,
+pub(crate) struct Failing<'a> {
+    pub bytes: &'a [u8],
+    pub kind: ErrorKind,
 }
 
 impl Read for Failing<'_> {
@@ -60,9 +60,9 @@ fn tells_a_failed_input(rt: HostRuntime) -> Result<(), Fail> {
 
 /// A writer that takes some bytes and then fails.
 #[derive(Drop)]
-struct Full {
-    room: usize,
-    taken: usize,
+pub(crate) struct Full {
+    pub room: usize,
+    pub taken: usize,
 }
 
 impl Write for Full {

@@ -1,5 +1,6 @@
 //! Inputs of great length.
 
+use crate::looking::gives;
 use crate::program::{PRICE, expect, expect_refusal};
 use crate::runs::input_of;
 use std::alloc::{AllocError, Global};
@@ -51,27 +52,38 @@ fn bounds_the_rows(rt: HostRuntime) -> Result<(), Fail> {
     expect(&rt, "run --workers 1", input.as_str(), (0, books, ""))
 }
 
-/// A reader of so many zero bytes.
+/// A reader of so many zero bytes, which counts those that were taken.
 #[derive(Drop)]
-struct Zeros(u64);
+struct Zeros<'a> {
+    left: u64,
+    taken: &'a mut u64,
+}
 
-impl Read for Zeros {
+impl Read for Zeros<'_> {
     fn read(&mut self, buf: &mut [u8]) -> io::Result<usize> {
-        let count = (buf.len() as u64).min(self.0);
-        self.0 -= count;
+        let count = (buf.len() as u64).min(self.left);
+        self.left -= count;
+        *self.taken = self.taken.saturating_add(count);
         Ok(count as usize)
     }
 }
 
 #[test]
 fn bounds_the_input(rt: HostRuntime) -> Result<(), Fail> {
+    // How many bytes there are, how many of them are taken, and the fault.
     let rows = [
-        (16_777_216, "prepaid: reports row 1: Header\n"),
-        (16_777_217, "prepaid: input: TooLong\n"),
-        (20_000_000, "prepaid: input: TooLong\n"),
+        (16_777_216, 16_777_216, "prepaid: reports row 1: Header\n"),
+        (16_777_217, 16_777_217, "prepaid: input: TooLong\n"),
+        (20_000_000, 16_777_217, "prepaid: input: TooLong\n"),
     ];
-    for (length, fault) in rows {
-        expect_refusal(&rt, PRICE, Zeros(length), length, (1, fault))?;
+    for (left, want, fault) in rows {
+        let mut taken = 0;
+        let input = Zeros {
+            left,
+            taken: &mut taken,
+        };
+        expect_refusal(&rt, PRICE, input, left, (1, fault))?;
+        gives(&rt, &left, &taken, &want);
     }
     Ok(())
 }

@@ -3,9 +3,13 @@
 #![tactic(auto)]
 
 #[cfg(test)]
+mod broken;
+#[cfg(test)]
 mod devices;
 #[cfg(test)]
 mod lengths;
+#[cfg(test)]
+mod looking;
 #[cfg(test)]
 mod prices;
 #[cfg(test)]
