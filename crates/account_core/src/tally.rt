@@ -110,7 +110,7 @@ fn after_legal(entry: Entry, standing: &Standing, funds: u64, available: u64) ->
     ensures legal { IfSome result (λ after. (opening : ℕ) (h : List Event) →
         IsToldOf opening h (event_of entry) (known_of standing.now) funds available →
         IsAnswered opening h (event_of entry)
-            × (known_of after ≡ known (call_of (asked_of entry.op)) (event_of entry ∷ h))) }
+        × (known_of after ≡ known (call_of (asked_of entry.op)) (event_of entry ∷ h))) }
     ensures illegal { IfNone result ((opening : ℕ) (h : List Event) →
         IsToldOf opening h (event_of entry) (known_of standing.now) funds available →
         IsAnswered opening h (event_of entry) → ⊥) }
