@@ -13,6 +13,7 @@ use table_core::RowKind;
 
 /// Where the seat stands, and where the columns of the operation begin.
 const SEAT: usize = 0;
+
 const OP: usize = 1;
 
 /// What a seat asks.
