@@ -38,12 +38,14 @@ pub const TWO_RATES: Plan = Plan {
     fee: 50,
     before: 1000,
     after: Some(400),
+    free: 0,
 };
 
 const ONE_RATE: Plan = Plan {
     fee: 0,
     before: 1000,
     after: None,
+    free: 0,
 };
 
 const NOT_OPEN: Want = Want::Fault(AccountFault::NotOpen);
