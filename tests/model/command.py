@@ -3,13 +3,16 @@ import re
 
 from .account import DAY, MAX_MONEY, Account, Plan, price
 from .run import Options, Run
-from .tables import MAX_RATE, Fault, divide, read_ops, read_reports, read_script, read_setup, read_tariff
+from .tables import MAX_RATE, Fault, divide, read_book, read_ops, read_reports, read_script, read_setup, read_tariff
 
 MAX_INPUT = 16_777_216
+# More entries than an input has room for.
+NO_LIMIT = 2**32
 ARGUMENTS = Fault("prepaid: arguments")
 TAKEN = {
     "price": {"--fee", "--before", "--after"},
     "replay": {"--opening", "--limit"},
+    "audit": set(),
     "run": {"--workers", "--wanted", "--least", "--tssf", "--tccd", "--delay", "--default", "--book"},
 }
 
@@ -23,6 +26,8 @@ def command(words, text, book=None):
         if words[0] == "run":
             run = do_run(given, text, book)
             return 0, run.book() if "--book" in given else run.lines(), "", not run.is_contended
+        if words[0] == "audit":
+            return *do_audit(text), "", True
         return 0, (do_price if words[0] == "price" else do_replay)(given, text), "", True
     except Fault as fault:
         return fault.status, "", fault.line + "\n", True
@@ -83,6 +88,17 @@ def told(reply):
     elif rest:
         kind += f" paid {rest[0]}"
     return f"{kind} available {available}\n"
+
+
+def do_audit(text):
+    """Whether each account's entries are those of an account: their operations are taken, and answered so."""
+    lines, status = [], 0
+    for number, (opening, entries) in sorted(read_book(whole(text)).items()):
+        account = Account(opening, NO_LIMIT)
+        legal = all(account.apply(seat, op) == reply for seat, op, reply in entries)
+        status = status if legal else 3
+        lines.append(f"account {number} {'yes' if legal else 'no'}\n")
+    return status, "".join(lines)
 
 
 def do_run(given, text, book):

@@ -2,14 +2,18 @@
 import random
 
 from .account import DAY, MAX_MONEY
+from .command import command
 
 # Fields that are wrong in most places, and right at an end of a range in some.
 FIELDS = (
-    "|0|1|-1|+1| 1|1.0|x|00|007|n|s|start|answer|leave|credit|return|account|subscriber|%%|\"5\"|\"|15|16|2|3|864000|864001|1000000000|1000000001"
+    "|0|1|-1|+1| 1|1.0|x|00|007|n|s|start|answer|leave|credit|return|opening|reserve|settle|granted|last|more|over|account|subscriber|%%|\"5\"|\"|15|16|2|3|864000|864001|1000000000|1000000001"
     "|1000000000000|1000000000001|1000000000000000|1000000000000001|4294967295|4294967296|18446744073709551615|18446744073709551616"
     "|99999999999999999999|000000000000000000001|123456789012345|1234567890123456|24:00|23:59|23:60|8:00|00:00"
 ).split("|")
 BYTES = b'",\r\n%0a\x00\xff\xef'
+BOOK = "account,seat,op,call,x1,x2,x3,x4,x5,reply,y1,y2,y3".split(",")
+OPERATIONS = ["opening", "credit", "reserve", "settle", "return"]
+REPLIES = ["credited", "over", "granted", "denied", "settled", "forfeit", "returned"]
 NUMBERS = ["491700001", "491700002", "4930", "44", "123456789012345", "5"]
 PREFIXES = ["", "4", "49", "493", "44", "4930"]
 
@@ -17,8 +21,8 @@ PREFIXES = ["", "4", "49", "493", "44", "4930"]
 def make(seed):
     """The words and the input of this seed."""
     it = random.Random(seed)
-    kind = it.choices(["price", "replay", "run"], [2, 3, 9])[0]
-    words, text = {"price": prices, "replay": operations, "run": runs}[kind](it)
+    kind = it.choices(["price", "replay", "run", "audit"], [2, 3, 9, 5])[0]
+    words, text = {"price": prices, "replay": operations, "run": runs, "audit": books}[kind](it)
     if it.random() < 0.12:
         words = other_words(it, words)
     if it.random() < 0.35:
@@ -74,12 +78,12 @@ def operations(it):
     return list(map(str, words)), table(rows)
 
 
-def runs(it):
-    """A run of small times, so that rows, deliveries and timers often come at one moment."""
+def runs(it, few=False):
+    """A run of small times, so that rows, deliveries and timers often come at one moment; with few reservations a call."""
     delay = it.choice([1, 2, 3, 5, 12, 40])
     tccd = delay + it.choice([0, 0, 1, 3, 10])
     least = tccd + it.choice([0, 1, 10, 40])
-    wanted = least + it.choice([0, 5, 40, 500])
+    wanted = least + (500 if few else it.choice([0, 5, 40, 500]))
     tssf = it.choice([1, delay, delay + 1, 10, 30, 100])
     workers = it.choice([1, 1, 1, 2, 2, 3, 4, 16])
     given = {"workers": workers, "wanted": wanted, "least": least, "tssf": tssf, "tccd": tccd, "delay": delay}
@@ -141,6 +145,48 @@ def script(it, given, starts, accounts, subscribers):
     # a start stays before what its call meets: sorting keeps the order of one moment
     rows = [row for _, row in sorted(enumerate(rows), key=lambda row: (row[1][0], row[0]))]
     return table([("moment", "call", "what", "x", "y"), *rows])
+
+
+def books(it):
+    """The book of a run, in which a part was altered, or which was told otherwise."""
+    words, text = runs(it, few=True)
+    status, book, _, _ = command(words if "--book" in words else [*words, "--book"], text)
+    rows = [line.split(",") for line in book.split("\n")[:-1]] if status == 0 else [BOOK]
+    for _ in range(it.choice([0, 1, 1, 1, 2])):
+        at = it.randrange(1, len(rows)) if len(rows) > 1 else 0
+        what = it.randrange(8)
+        if what < 4:
+            place = it.choice([i for i, field in enumerate(rows[at]) if field] if it.random() < 0.9 else range(13))
+            rows[at][place] = altered(it, rows[at][place])
+        elif what == 4 and at:
+            other = it.randrange(1, len(rows))
+            rows[at], rows[other] = rows[other], rows[at]
+        elif what == 5 and at:
+            del rows[at]
+        elif what == 6 and at:
+            rows.insert(it.randrange(1, len(rows) + 1), list(rows[at]))
+        elif at:
+            other = it.choice(rows[1:])
+            rows[at][9:], other[9:] = other[9:], rows[at][9:]
+    if it.random() < 0.3:
+        # accounts by turns, each in its own order
+        left = {}
+        for row in rows[1:]:
+            left.setdefault(row[0], []).append(row)
+        order = [row[0] for row in rows[1:]]
+        it.shuffle(order)
+        rows[1:] = [left[account].pop(0) for account in order]
+    return ["audit"], table(rows)
+
+
+def altered(it, field):
+    """Another text for a field of a book: mostly one that it might have had."""
+    if field.isdigit() and it.random() < 0.8:
+        return str(it.choice([int(field) + 1, max(0, int(field) - 1), int(field) + 50, it.randrange(700), 0, DAY, DAY + 1, MAX_MONEY, MAX_MONEY + 1]))
+    for words in (["last", "more"], ["n", "s"], OPERATIONS, REPLIES):
+        if field in words and it.random() < 0.8:
+            return it.choice(words)
+    return it.choice(FIELDS)
 
 
 def other_words(it, words):

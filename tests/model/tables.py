@@ -6,6 +6,7 @@ from .account import DAY, MAX_MONEY, Plan, Times, lawful
 MAX_RATE = 10**9
 LAST_MOMENT = 10**12
 OPS = ["seat", "op", "call", "x1", "x2", "x3", "x4", "x5"]
+BOOK = ["account", *OPS, "reply", "y1", "y2", "y3"]
 
 
 class Fault(Exception):
@@ -90,40 +91,71 @@ def read_reports(text, plan):
     return read
 
 
+def operation(op, call, x):
+    """Whether the words of an operation are known, its numbers, the fields that must be empty, and what is asked."""
+    word = op.decode("latin-1")
+    if word == "credit":
+        amount = decimal(x[0], MAX_MONEY)
+        return True, [amount], [call, *x[1:]], ("credit", amount)
+    number = decimal(call, 2**64 - 1)
+    if word == "reserve":
+        second = None if x[2] == b"" else decimal(x[2], MAX_RATE)
+        rates = decimal(x[0], MAX_RATE), decimal(x[1], MAX_RATE), second
+        times = decimal(x[3], DAY), decimal(x[4], DAY)
+        numbers = [number, *rates[:2], 0 if x[2] == b"" else second, *times]
+        return True, numbers, [], ("reserve", number, Plan(*rates), *times)
+    if word == "settle" and x[1] in (b"n", b"s"):
+        mail, time = decimal(x[0], 2**64 - 1), decimal(x[2], DAY)
+        if x[1] == b"n":
+            return True, [number, mail, time], x[3:], ("settle", number, mail, ("n", time))
+        interval = None if x[3] == b"" else decimal(x[3], DAY, 1)
+        return True, [number, mail, time, 0 if x[3] == b"" else interval], x[4:], ("settle", number, mail, ("s", time, interval))
+    return word == "return", [number], x, ("return", number)
+
+
 def read_ops(text):
     """The seat and the operation of each row."""
     read = []
     for _, fields, fail in rows_of("ops", text, OPS, 10_000):
         seat, op, call, *x = fields
-        word = op.decode("latin-1")
-        used = {"credit": 1, "reserve": 5, "settle": 4 if x[1] == b"s" else 3, "return": 0}.get(word)
-        fail(("What", used is None or word == "settle" and x[1] not in (b"n", b"s")))
-        numbers = [decimal(seat, 15)]
-        if word != "credit":
-            numbers.append(decimal(call, 2**64 - 1))
-        if word == "credit":
-            numbers.append(decimal(x[0], MAX_MONEY))
-        elif word == "reserve":
-            second = None if x[2] == b"" else decimal(x[2], MAX_RATE)
-            numbers += [decimal(x[0], MAX_RATE), decimal(x[1], MAX_RATE), 0 if x[2] == b"" else second]
-            numbers += [decimal(x[3], DAY), decimal(x[4], DAY)]
-        elif word == "settle":
-            interval = None if x[3] == b"" else decimal(x[3], DAY, 1)
-            numbers += [decimal(x[0], 2**64 - 1), decimal(x[2], DAY)]
-            numbers.append(0 if x[1] == b"n" or x[3] == b"" else interval)
-        empty = [*([call] if word == "credit" else []), *x[used:]]
-        fail(("Number", None in numbers), ("Empty", any(empty)))
-        if word == "credit":
-            asked = ("credit", numbers[1])
-        elif word == "reserve":
-            asked = ("reserve", numbers[1], Plan(numbers[2], numbers[3], second), numbers[5], numbers[6])
-        elif word == "settle":
-            info = ("n", numbers[3]) if x[1] == b"n" else ("s", numbers[3], interval)
-            asked = ("settle", numbers[1], numbers[2], info)
-        else:
-            asked = ("return", numbers[1])
-        read.append((numbers[0], asked))
+        known, numbers, empty, asked = operation(op, call, x)
+        numbers.append(decimal(seat, 15))
+        fail(("What", not known), ("Number", None in numbers), ("Empty", any(empty)))
+        read.append((numbers[-1], asked))
     return read
+
+
+def answer(reply, y):
+    """Whether the words of a reply are known, its numbers, the fields that must be empty, and the reply."""
+    word, available = reply.decode("latin-1"), decimal(y[2], MAX_MONEY)
+    if word in ("credited", "over", "denied"):
+        return True, [available], y[:2], (word, available)
+    if word == "granted" and y[1] in (b"last", b"more"):
+        units = decimal(y[0], DAY)
+        return True, [units, available], [], (word, units, y[1] == b"last", available)
+    paid = decimal(y[0], MAX_MONEY)
+    return word in ("settled", "forfeit", "returned"), [paid, available], y[1:2], (word, paid, available)
+
+
+def read_book(text):
+    """The opening of each account, and its entries as (seat, operation, reply)."""
+    books = {}
+    for _, fields, fail in rows_of("book", text, BOOK, 1_000_000):
+        account, seat, op, call, *x = fields[:9]
+        reply, *y = fields[9:]
+        number = decimal(account, 2**32 - 1)
+        if op == b"opening":
+            opening = decimal(x[0], MAX_MONEY)
+            fail(("Number", None in (number, opening)), ("Empty", any([seat, call, *x[1:], reply, *y])))
+            fail(("Repeated", number in books))
+            books[number] = opening, []
+            continue
+        asked, answered = operation(op, call, x), answer(reply, y)
+        numbers = [number, decimal(seat, 15), *asked[1], *answered[1]]
+        fail(("What", not asked[0] or not answered[0]), ("Number", None in numbers), ("Empty", any([*asked[2], *answered[2]])))
+        fail(("Unknown", number not in books))
+        books[number][1].append((numbers[1], asked[3], answered[3]))
+    return books
 
 
 def read_tariff(text):

@@ -10,7 +10,7 @@ use Rattle.account_core.specs.Kept.{TellsEach, known_of, unknown}
 use Rattle.account_core.specs.Known.{Known, known, known_after, taken_of}
 use Rattle.account_core.specs.Replies.{reply_for}
 use Rattle.account_core.specs.Sound.{HasRoom, LegalPastsAreSound, SoundPastsAnswer}
-use Rattle.account_core.specs.Tallied.{IsTallied, IsToldOf}
+use Rattle.account_core.specs.Tallied.{IsTallied, IsToldOf, tally_of}
 use Rattle.account_core.specs.declared.entry.Reply.{Reply}
 use Rattle.account_core.specs.declared.fault.AccountFault.{AccountFault}
 use Rattle.account_core.specs.declared.standing.Standing.{Standing}
@@ -22,7 +22,7 @@ use Rattle.account_core.proofs.Moves.{its_call, its_deed, known_here}
 use Rattle.account_core.proofs.Walking.{room_walk}
 
 pub tallied_new : (opening : ℕ) (m : BTreeMap ℕ Standing) → opening ≤ 1000000000000000 → IsEmpty m
-    → IsTallied [] (record { opening = opening; calls = m; funds = opening; available = opening })
+    → IsTallied [] (tally_of opening m opening opening)
 tallied_new opening m small empty = record {
   small = small;
   legal = tt;
@@ -78,7 +78,7 @@ module _ (opening : ℕ) (h : List Event) (event : Event) (call : Known) (funds 
 -- ---- an entry, by the standings of all calls
 
 module _ (opening : ℕ) (h : List Event) (m : BTreeMap ℕ Standing) (funds credit : ℕ) (event : Event)
-    (tallied : IsTallied h (record { opening = opening; calls = m; funds = funds; available = credit })) where
+    (tallied : IsTallied h (tally_of opening m funds credit)) where
   told_by : (standing : Standing) → unwrap_or (get nat_cmp m (its_call event)) unknown ≡ standing → IsToldOf opening h event (known_of standing) funds credit
   told_by standing is = record {
     small = tallied.small;
@@ -108,7 +108,7 @@ module _ (h : List Event) (tally : Tally) (event : Event) (tallied : IsTallied h
   funds_more sounds = omega (arith, tallied.funds_are, (sounds tally.opening (event ∷ h) tallied.small (tallied.legal, answered)).capped)
 
   pub tallied_more : (m : BTreeMap ℕ Standing) (added credit : ℕ) → TellsEach m (event ∷ h) → added ≡ credited event.asked event.reply → credit ≡ shown_by event.reply
-      → IsTallied (event ∷ h) (record { opening = tally.opening; calls = m; funds = tally.funds + added; available = credit })
+      → IsTallied (event ∷ h) (tally_of tally.opening m (tally.funds + added) credit)
   tallied_more m added credit tells added_is shows = record {
     small = tallied.small;
     legal = (tallied.legal, answered);

@@ -36,12 +36,12 @@ impl HistoryCheck {
     /// call that is new; the check is then still that of the entries before.
     pub fn hear(&mut self, entry: Entry) -> Result<(), AllocError>
         requires { (opening : ℕ) × (h : List Event) × IsCheckOf opening h self.old }
-        ensures heard { OnOk result ((opening : ℕ) (h : List Event) → IsCheckOf opening h self.old →
-            IsCheckOf opening (event_of entry ∷ h) self.new) }
-        ensures kept { OnErr result ((opening : ℕ) (h : List Event) → IsCheckOf opening h self.old →
-            IsCheckOf opening h self.new) }
-        ensures fresh { OnErr result ((opening : ℕ) (h : List Event) → IsCheckOf opening h self.old →
-            known (call_of (asked_of entry.op)) h ≡ nothing_known) }
+        ensures heard { OnOk result ((opening : ℕ) (h : List Event) →
+            IsCheckOf opening h self.old → IsCheckOf opening (event_of entry ∷ h) self.new) }
+        ensures kept { OnErr result ((opening : ℕ) (h : List Event) →
+            IsCheckOf opening h self.old → IsCheckOf opening h self.new) }
+        ensures fresh { OnErr result ((opening : ℕ) (h : List Event) →
+            IsCheckOf opening h self.old → known (call_of (asked_of entry.op)) h ≡ nothing_known) }
     {
         if let Some(tally) = &mut self.tally {
             if !tally.hear(entry)? {

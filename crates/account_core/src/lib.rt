@@ -11,6 +11,7 @@ mod fault;
 mod history_check;
 mod judging;
 mod laws;
+mod limits;
 mod list_account;
 mod port;
 mod sharing_laws;
@@ -28,6 +29,7 @@ pub use laws::{
     answers_are_kindly, closed_calls_pay_the_tariff, no_balance_is_negative,
     settles_keep_the_credit,
 };
+pub use limits::{MAX_LIMIT, MIN_LIMIT};
 pub use list_account::ListAccount;
 pub use port::Port;
 pub use sharing_laws::{accounts_have_no_gate, places_go_with_entries};

@@ -8,7 +8,7 @@ ghost use Rattle.account_core.specs.Asked.{call_of};
 ghost use Rattle.account_core.specs.Events.{Event, asked_of, event_of};
 ghost use Rattle.account_core.specs.Kept.{TellsEach, known_of};
 ghost use Rattle.account_core.specs.Known.{known, nothing_known};
-ghost use Rattle.account_core.specs.Tallied.{IsTallied, IsToldOf};
+ghost use Rattle.account_core.specs.Tallied.{IsTallied, IsToldOf, tally_of};
 
 use crate::Entry;
 use crate::judging::{inadmissible, reply};
@@ -48,12 +48,13 @@ impl Tally {
     /// is taken where the entry's call is new, which is 0 at a Credit.
     pub fn hear(&mut self, entry: Entry) -> Result<bool, AllocError>
         requires { (h : List Event) × IsTallied h self.old }
-        ensures legal { IfOk result (λ legal. legal ≡ true →
-            (h : List Event) → IsTallied h self.old → IsTallied (event_of entry ∷ h) self.new) }
-        ensures illegal { IfOk result (λ legal. legal ≡ false →
-            (h : List Event) → IsTallied h self.old → IsAnswered self.old.opening h (event_of entry) → ⊥) }
+        ensures legal { IfOk result (λ legal. legal ≡ true → (h : List Event) →
+            IsTallied h self.old → IsTallied (event_of entry ∷ h) self.new) }
+        ensures illegal { IfOk result (λ legal. legal ≡ false → (h : List Event) →
+            IsTallied h self.old → IsAnswered self.old.opening h (event_of entry) → ⊥) }
         ensures opening { self.new.opening ≡ self.old.opening }
-        ensures kept { OnErr result ((h : List Event) → IsTallied h self.old → IsTallied h self.new) }
+        ensures kept { OnErr result ((h : List Event) →
+            IsTallied h self.old → IsTallied h self.new) }
         ensures fresh { OnErr result ((h : List Event) → IsTallied h self.old →
             known (call_of (asked_of entry.op)) h ≡ nothing_known) }
     {
@@ -75,12 +76,13 @@ fn renew_standing(
     funds: u64,
     available: u64,
 ) -> Result<bool, AllocError>
-    requires { (opening : ℕ) × (h : List Event) × IsTallied h (record { opening = opening; calls = calls.old; funds = funds; available = available }) }
+    requires { (opening : ℕ) × (h : List Event) ×
+        IsTallied h (tally_of opening calls.old funds available) }
     ensures legal { IfOk result (λ legal. legal ≡ true → (opening : ℕ) (h : List Event) →
-        IsTallied h (record { opening = opening; calls = calls.old; funds = funds; available = available }) →
+        IsTallied h (tally_of opening calls.old funds available) →
         IsAnswered opening h (event_of entry) × TellsEach calls.new (event_of entry ∷ h)) }
     ensures illegal { IfOk result (λ legal. legal ≡ false → (opening : ℕ) (h : List Event) →
-        IsTallied h (record { opening = opening; calls = calls.old; funds = funds; available = available }) →
+        IsTallied h (tally_of opening calls.old funds available) →
         IsAnswered opening h (event_of entry) → ⊥) }
     ensures kept { OnErr result (IsUnchanged calls.old calls.new) }
     ensures fresh { OnErr result (get nat_cmp calls.old (call_of (asked_of entry.op)) ≡ None) }
@@ -103,10 +105,12 @@ fn renew_standing(
 /// What is known of a call after an entry of it, where the entry is legal after a history with
 /// these funds, of which so much is available.
 fn after_legal(entry: Entry, standing: &Standing, funds: u64, available: u64) -> Option<Standing>
-    requires { (opening : ℕ) × (h : List Event) × IsToldOf opening h (event_of entry) (known_of standing.now) funds available }
+    requires { (opening : ℕ) × (h : List Event) ×
+        IsToldOf opening h (event_of entry) (known_of standing.now) funds available }
     ensures legal { IfSome result (λ after. (opening : ℕ) (h : List Event) →
         IsToldOf opening h (event_of entry) (known_of standing.now) funds available →
-        IsAnswered opening h (event_of entry) × (known_of after ≡ known (call_of (asked_of entry.op)) (event_of entry ∷ h))) }
+        IsAnswered opening h (event_of entry)
+            × (known_of after ≡ known (call_of (asked_of entry.op)) (event_of entry ∷ h))) }
     ensures illegal { IfNone result ((opening : ℕ) (h : List Event) →
         IsToldOf opening h (event_of entry) (known_of standing.now) funds available →
         IsAnswered opening h (event_of entry) → ⊥) }

@@ -1,3 +1,4 @@
 pub mod CallLemmas
+pub mod CheckLemmas
 pub mod OneText
 pub mod TextLemmas

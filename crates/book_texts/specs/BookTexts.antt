@@ -4,7 +4,7 @@ use Rattle.std.specs.Fmt.{decimal}
 use Rattle.std.specs.List.{flat_map}
 use Rattle.account_core.specs.Events.{Event}
 use Rattle.shared_account.specs.Closed.{Closed}
-use Rattle.book_texts.specs.Columns.{Answer, Operation, answer_of, answer_text, field, no_answer, opening_of, operation_of, operation_text}
+use Rattle.entry_rows.specs.Columns.{Answer, Operation, answer_of, answer_text, field, no_answer, opening_of, operation_of, operation_text}
 
 -- a row: the account's number, the seat, what was asked and what was answered
 abbrev pub row : ℕ → List ℕ → Operation → Answer → List ℕ

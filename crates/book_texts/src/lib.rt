@@ -2,12 +2,15 @@
 //! all entries.
 #![tactic(auto)]
 
+mod audit;
+mod book_row;
 mod calls;
-mod columns;
+mod checks;
 mod laws;
 mod lines;
 mod table;
 
+pub use audit::{Audit, audit_books};
 pub use laws::books_have_one_text;
 pub use lines::run_lines;
 pub use table::book_table;

@@ -4,8 +4,8 @@ ghost use Rattle.std.specs.Prelude.{◌≡◌, ◌++◌, OnOk, IfOk, string_byte
 ghost use Rattle.account_core.specs.Events.{event_of};
 ghost use Rattle.book_texts.specs.BookTexts.{book_rows, book_text, entry_row};
 
-use crate::columns::{write_answer, write_operation};
 use account_core::Entry;
+use entry_rows::{write_answer, write_operation};
 use shared_account::Book;
 use std::alloc::{AllocError, Global};
 

@@ -1,18 +1,18 @@
 //! The numbers of the parties.
 
 ghost use Rattle.std.specs.Prelude.{◌≡◌, ◌↔◌, ◌≤◌, ◌-◌, IsTrue, IsOk, IfOk, IfErr, take, drop, replicate};
-ghost use Rattle.std.specs.Char.{is_ascii_digit};
-ghost use Rattle.std.specs.List.{list_all};
 ghost use Rattle.cap_values.specs.Numbers.{is_number};
 
 use crate::ValueFault;
+use std::cmp::Ordering;
+use table_core::are_digits;
 
 /// The most digits that a number has.
 pub const MAX_DIGITS: usize = 15;
 
 /// The number of a party (GSM 09.78, CallingPartyNumber, CalledPartyBCDNumber): 1 to `MAX_DIGITS`
-/// ASCII digits.
-#[derive(Clone, Copy, Debug, PartialEq, Eq)]
+/// ASCII digits. Numbers stand in the order of their digits, compared from the first one on.
+#[derive(Clone, Copy, Debug)]
 pub struct Number {
     digits: [u8; 15],
     len: usize,
@@ -48,15 +48,66 @@ impl Number {
     }
 }
 
+impl Ord for Number {
+    ghost use Rattle.std.proofs.Common.{rules};
+    ghost use Rattle.std.specs.Cmp.Rules.{comparing};
+    ghost use Rattle.cap_values.specs.NumberDigits.{by_digits};
+
+    ghost cmp = { by_digits };
+
+    ghost total = { Prim.search (comparing, rules) };
+
+    ghost matches_partial_cmp = { Prim.search (comparing, rules) };
+
+    ghost matches_eq = { Prim.search (comparing, rules) };
+
+    fn cmp(&self, other: &Number) -> Ordering {
+        self.as_bytes().cmp(other.as_bytes())
+    }
+}
+
+impl PartialOrd for Number {
+    ghost use Rattle.std.proofs.Common.{rules};
+    ghost use Rattle.std.specs.Cmp.{partial_order_from_own_ties};
+    ghost use Rattle.std.specs.Cmp.Rules.{comparing};
+    ghost use Rattle.std.specs.Ordering.{as_partial_cmp};
+    ghost use Rattle.cap_values.specs.NumberDigits.{by_digits};
+
+    ghost partial_cmp = { as_partial_cmp by_digits };
+
+    ghost laws = { partial_order_from_own_ties (Prim.search (comparing, rules))
+        (Prim.search (comparing, rules)) };
+
+    fn partial_cmp(&self, other: &Number) -> Option<Ordering> {
+        Some(self.cmp(other))
+    }
+}
+
+impl PartialEq for Number {
+    ghost use Rattle.std.proofs.Common.{rules};
+    ghost use Rattle.std.specs.Cmp.Rules.{comparing};
+    ghost use Rattle.std.specs.Ordering.{eq_by_cmp};
+    ghost use Rattle.cap_values.specs.NumberDigits.{by_digits};
+
+    ghost eq = { eq_by_cmp by_digits };
+
+    ghost laws = { Prim.search (comparing, rules) };
+
+    fn eq(&self, other: &Number) -> bool {
+        self.cmp(other).is_eq()
+    }
+}
+
+impl Eq for Number {
+    ghost use Rattle.std.proofs.Common.{rules};
+    ghost use Rattle.std.specs.Cmp.Rules.{comparing};
+
+    ghost laws = { Prim.search (comparing, rules) };
+}
+
 /// Whether a text is 1 to `MAX_DIGITS` ASCII digits.
 fn is_number(text: &[u8]) -> bool
     ensures { result ≡ is_number text.now }
 {
     1 <= text.len() && text.len() <= MAX_DIGITS && are_digits(text)
-}
-
-fn are_digits(text: &[u8]) -> bool
-    ensures { result ≡ list_all is_ascii_digit text.now }
-{
-    text.iter().all(|byte| byte.is_ascii_digit())
 }

@@ -1,3 +1,4 @@
 pub mod ArgumentLemmas
 pub mod CappedLemmas
+pub mod CommandLemmas
 pub mod WordLemmas

@@ -42,13 +42,17 @@ other_rules = option_rule (codes "workers") ∷ option_rule (codes "default") �
 unfoldable pub run_app : App
 run_app = with_rules (with_rules (with_rules (new_app (codes "run")) service_rules) switch_rules) other_rules
 
+-- `audit`
+unfoldable pub audit_app : App
+audit_app = new_app (codes "audit")
+
 -- the program itself, which has nothing but commands
 abbrev pub bare_app : App
 bare_app = on_top (λ top. record top { no_binary_name = true; subcommand_required = true }) (new_app (codes "prepaid"))
 
 -- the program, with its commands
 unfoldable pub program_app : App
-program_app = with_subcommand (with_subcommand (with_subcommand bare_app price_app.top) replay_app.top) run_app.top
+program_app = with_subcommand (with_subcommand (with_subcommand (with_subcommand bare_app price_app.top) replay_app.top) run_app.top) audit_app.top
 
 -- the kinds of error that clap has for the words; none where they parse
 unfoldable pub errors_in : List Text → List ErrorKind

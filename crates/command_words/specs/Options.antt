@@ -5,6 +5,8 @@ use Rattle.table_core.specs.Decimals.{decimal_of}
 use Rattle.tariff_core.specs.Rates.{Rates}
 use Rattle.command_words.specs.Wishes.{Wish, Replays}
 use Rattle.tariff_core.specs.declared.money.TheConstants.{MAX_MONEY}
+use Rattle.account_core.specs.declared.limits.TheConstants.{MAX_LIMIT, MIN_LIMIT}
+use Rattle.tariff_core.specs.declared.plan.TheConstants.{MAX_RATE}
 
 -- the number of an option, where it is given and at most `most`
 abbrev pub number_in : List Row → Text → ℕ → Option ℕ
@@ -22,15 +24,15 @@ optional_number_in options name most = optional_decimal most (first_of name opti
 -- the plan of `price`: fee and rates, each at most 10^9
 abbrev pub plan_in : List Row → Option Rates
 plan_in options = option_and_then (λ fee. option_and_then (λ before.
-    option_map (λ after. record { fee = fee; before = before; after = after }) (optional_number_in options (codes "after") 1000000000))
-    (number_in options (codes "before") 1000000000)) (number_in options (codes "fee") 1000000000)
+    option_map (λ after. record { fee = fee; before = before; after = after }) (optional_number_in options (codes "after") MAX_RATE))
+    (number_in options (codes "before") MAX_RATE)) (number_in options (codes "fee") MAX_RATE)
 
 -- the limit of a history: 3 to 1,000,000, which it is where it is left out
 abbrev pub at_least : ℕ → ℕ → Option ℕ
 at_least least number = if nat_le least number then Some number else None
 
 abbrev pub limit_in : List Row → Option ℕ
-limit_in options = option_and_then (λ limit. at_least 3 (unwrap_or limit 1000000)) (optional_number_in options (codes "limit") 1000000)
+limit_in options = option_and_then (λ limit. at_least MIN_LIMIT (unwrap_or limit MAX_LIMIT)) (optional_number_in options (codes "limit") MAX_LIMIT)
 
 -- the account of `replay`: its opening credit, at most `MAX_MONEY`, and its limit
 abbrev pub replay_in : List Row → Option Wish

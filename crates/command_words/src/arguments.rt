@@ -41,6 +41,7 @@ fn asked(matches: &ArgMatches<'_>) -> Result<Request, WordsFault>
             None => Err(WordsFault::Arguments),
         },
         Some(("run", options)) => run_request(options),
+        Some(("audit", _)) => Ok(Request::Audit),
         Some(_) | None => Err(WordsFault::Arguments),
     }
 }

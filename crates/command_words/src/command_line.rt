@@ -3,7 +3,7 @@
 ghost use Rattle.std.specs.Prelude.{◌≡◌, false, IfOk};
 ghost use Rattle.clap.specs.Words.{app_of, new_app, rule_of, with_rule};
 ghost use Rattle.clap.specs.declared.builder.command.Command.TheViews.{out-Command as fields_of};
-ghost use Rattle.command_words.specs.CommandLine.{bare_app, flag_rule, option_rule, other_rules, price_app, program_app, replay_app, required_rule, run_app, service_rules, switch_rules, with_rules};
+ghost use Rattle.command_words.specs.CommandLine.{audit_app, bare_app, flag_rule, option_rule, other_rules, price_app, program_app, replay_app, required_rule, run_app, service_rules, switch_rules, with_rules};
 
 use clap::{Arg, ArgAction, Command};
 use std::alloc::{AllocError, Global};
@@ -42,6 +42,16 @@ Times are in units of 100 ms. Input, for example:
   100,1,answer,,
   400,1,disconnect,1,";
 
+/// An input of `audit`.
+const BOOK: &str = "\
+Input, for example:
+
+  account,seat,op,call,x1,x2,x3,x4,x5,reply,y1,y2,y3
+  7,,opening,,1500,,,,,,,,
+  7,1,reserve,1,50,1000,,600,50,granted,600,more,450
+  7,1,settle,1,2,n,300,,,settled,550,,450
+  7,1,return,1,,,,,,returned,550,,950";
+
 /// The program, with its commands.
 #[tactic(auto, unfolding(crate::specs::CommandLine::program_app))]
 pub(crate) fn program_command<'a>(alloc: Global) -> Result<Command<'a>, AllocError>
@@ -50,7 +60,8 @@ pub(crate) fn program_command<'a>(alloc: Global) -> Result<Command<'a>, AllocErr
     bare_command(alloc)
         .subcommand(price_command(alloc)?)?
         .subcommand(replay_command(alloc)?)?
-        .subcommand(run_command(alloc)?)
+        .subcommand(run_command(alloc)?)?
+        .subcommand(audit_command(alloc))
 }
 
 /// The program without its commands.
@@ -107,6 +118,15 @@ fn run_command<'a>(alloc: Global) -> Result<Command<'a>, AllocError>
     let command = add_service_options(alloc, command)?;
     let command = add_switch_options(alloc, command)?;
     add_other_options(alloc, command)
+}
+
+#[tactic(auto, unfolding(crate::specs::CommandLine::audit_app))]
+fn audit_command<'a>(alloc: Global) -> Command<'a>
+    ensures app { app_of result ≡ audit_app }
+    ensures local { (fields_of result).has_globals ≡ false }
+{
+    let about = "Tells of each account of a book whether its history is right";
+    input_command(alloc, "audit", about, BOOK)
 }
 
 /// What the service asks for.

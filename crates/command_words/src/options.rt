@@ -7,14 +7,10 @@ ghost use Rattle.command_words.specs.Options.{number_in, optional_number_in, pla
 ghost use Rattle.command_words.specs.Wishes.{Replays};
 
 use crate::request::Opening;
+use account_core::{MAX_LIMIT, MIN_LIMIT};
 use clap::ArgMatches;
 use table_core::decimal;
 use tariff_core::{MAX_MONEY, MAX_RATE, Plan};
-
-/// The fewest and the most entries that a history may be limited to.
-const MIN_LIMIT: u64 = 3;
-
-const MAX_LIMIT: u64 = 1_000_000;
 
 /// The plan that the options of `price` give.
 pub(crate) fn price_plan(options: &ArgMatches<'_>) -> Option<Plan>
@@ -32,14 +28,12 @@ pub(crate) fn replay_opening(options: &ArgMatches<'_>) -> Option<Opening>
         ≡ replay_in (rows_of (found_of options.now)) }
 {
     let opening = number(options, "opening", MAX_MONEY)?;
-    let limit = optional_number(options, "limit", MAX_LIMIT)?.unwrap_or(MAX_LIMIT);
+    let limit = optional_number(options, "limit", u64::from(MAX_LIMIT))?;
+    let limit = limit.map_or(MAX_LIMIT, |limit| limit as u32);
     if limit < MIN_LIMIT {
         return None;
     }
-    Some(Opening {
-        opening,
-        limit: limit as u32,
-    })
+    Some(Opening { opening, limit })
 }
 
 /// The text of an option, none where it is left out.

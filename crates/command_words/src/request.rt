@@ -17,6 +17,8 @@ pub enum Request {
     Replay(Opening),
     /// A run of a script.
     Run(RunOptions),
+    /// The audit of books.
+    Audit,
 }
 
 /// An account as it is opened.

@@ -1,10 +1,7 @@
 //! The options of `run`.
 
 ghost use Rattle.std.specs.Prelude.{◌≡◌, ◌<◌, option_map};
-ghost use Rattle.std.specs.Char.{is_ascii_digit};
-ghost use Rattle.std.specs.List.{list_all};
 ghost use Rattle.clap.specs.Words.{found_of, rows_of};
-ghost use Rattle.table_core.specs.Decimals.{is_decimal};
 ghost use Rattle.command_words.specs.Arguments.{IsRequestOf};
 ghost use Rattle.command_words.specs.Capped.{capped, capped_ask};
 ghost use Rattle.command_words.specs.RunWords.{ask_in, handling_of, is_yes, number_of, number_or, run_in, workers_in};
@@ -15,13 +12,10 @@ use crate::request::Request;
 use clap::ArgMatches;
 use run_options::{RunAsk, RunOptions};
 use ssf_core::DefaultHandling;
-use table_core::decimal;
+use table_core::{decimal, is_decimal};
 
 /// The most workers that may be asked for. A run has fewer.
 const MAX_WORKERS: u64 = 99;
-
-/// The most digits of a number.
-const MAX_DIGITS: usize = 20;
 
 /// The run that the options ask for. `Config` where a time is out of its range, however large;
 /// `Arguments` where an option has no number or word of its own.
@@ -90,19 +84,6 @@ fn number(text: &[u8]) -> Option<u32>
     }
     let number = decimal(text, u64::from(u32::MAX));
     Some(number.unwrap_or(u64::from(u32::MAX)) as u32)
-}
-
-/// Whether a text is 1 to 20 digits.
-fn is_decimal(text: &[u8]) -> bool
-    ensures { result ≡ is_decimal text.now }
-{
-    !text.is_empty() && text.len() <= MAX_DIGITS && are_digits(text)
-}
-
-fn are_digits(text: &[u8]) -> bool
-    ensures { result ≡ list_all is_ascii_digit text.now }
-{
-    text.iter().all(|byte| byte.is_ascii_digit())
 }
 
 /// What is to become of a call without instructions.

@@ -71,7 +71,7 @@ const WHOLE_CALL: [(Ask, Want); 4] = [
 ];
 
 /// Accounts: the opening credit, the number of entries, and what each is asked in turn.
-const ACCOUNTS: [(&str, u64, u32, &[(Ask, Want)]); 14] = [
+const ACCOUNTS: [(&str, u64, u32, &[(Ask, Want)]); 18] = [
     (
         "a call that talks all of its grant",
         1500,
@@ -189,6 +189,46 @@ const ACCOUNTS: [(&str, u64, u32, &[(Ask, Want)]); 14] = [
         &[
             (Ask::Reserve(1, 600), Want::Granted(600, false, 450)),
             (Ask::Switch(1, 100, Some(0)), Want::Forfeit(1050, 450)),
+        ],
+    ),
+    (
+        "a switch that takes back time",
+        1500,
+        MANY,
+        &[
+            (Ask::Reserve(1, 600), Want::Granted(600, false, 450)),
+            (Ask::NoSwitch(1, 300), Want::Settled(550, 450)),
+            (Ask::NoSwitch(1, 299), Want::Forfeit(1050, 450)),
+        ],
+    ),
+    (
+        "a switch that takes back the change of rates",
+        1500,
+        MANY,
+        &[
+            (Ask::Reserve(1, 600), Want::Granted(600, false, 450)),
+            (Ask::Switch(1, 100, Some(200)), Want::Settled(450, 450)),
+            (Ask::NoSwitch(1, 400), Want::Forfeit(1050, 450)),
+        ],
+    ),
+    (
+        "a switch that tells the time before the change once",
+        1500,
+        MANY,
+        &[
+            (Ask::Reserve(1, 600), Want::Granted(600, false, 450)),
+            (Ask::Switch(1, 100, Some(200)), Want::Settled(450, 450)),
+            (Ask::Switch(1, 150, None), Want::Settled(484, 450)),
+        ],
+    ),
+    (
+        "a switch that tells another time before the change",
+        1500,
+        MANY,
+        &[
+            (Ask::Reserve(1, 600), Want::Granted(600, false, 450)),
+            (Ask::Switch(1, 100, Some(200)), Want::Settled(450, 450)),
+            (Ask::Switch(1, 100, Some(201)), Want::Forfeit(1050, 450)),
         ],
     ),
     (

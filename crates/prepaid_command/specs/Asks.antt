@@ -1,24 +1,37 @@
 -- The meaning of an ops table: what is asked of one account, or the first fault.
-use Rattle.std.specs.Prelude.{ℕ, not, List, [], ◌∷◌, Result, Ok, Err, if◌then◌else◌, codes}
+use Rattle.std.specs.Prelude.{ℕ, Bool, List, [], ◌∷◌, Result, Ok, Err, if◌then◌else◌, codes}
 use Rattle.account_core.specs.Asked.{Asked}
-use Rattle.table_core.specs.Fields.{number_in}
+use Rattle.table_core.specs.Fields.{field_in}
 use Rattle.table_core.specs.Judging.{adds, after}
 use Rattle.table_core.specs.Tables.{TableForm, table_form, table_of}
 use Rattle.table_core.specs.declared.fault.RowFault.{RowFault}
 use Rattle.table_core.specs.declared.fault.RowKind.{RowKind}
 use Rattle.table_core.specs.declared.fault.RowKind.TheVariants as kind
-use Rattle.prepaid_command.specs.Operations.{is_known, operation_in}
+use Rattle.entry_rows.specs.Column.{seat_of}
+use Rattle.entry_rows.specs.Columns.{Operation, operation_at}
+use Rattle.entry_rows.specs.Operations.{asked_in, is_asked_blank}
+use Rattle.entry_rows.specs.Words.{op_word_in}
 
 -- what a seat asks
 pub record Asking : Type 0 where
   pub seat : ℕ
   pub asked : Asked
 
+-- what is asked, where the columns that must be empty are
+abbrev pub when_blank : Bool → Asking → Result Asking RowKind
+when_blank blank asking = if blank then Ok asking else Err kind.Empty
+
+-- what the columns of a row ask: its word is judged first, then its numbers, then the empty columns
+unfoldable pub asking_in : List ℕ → Operation → Result Asking RowKind
+asking_in seat_text columns =
+    after (op_word_in columns) (λ word.
+    after (seat_of seat_text) (λ seat.
+    after (asked_in word columns) (λ asked.
+    when_blank (is_asked_blank word columns) (record { seat = seat; asked = asked }))))
+
 -- what a row of eight fields asks
-unfoldable pub ask_in : List (List ℕ) → Result Asking RowKind
-ask_in fields =
-    if not (is_known fields 1) then Err kind.What else
-    after (number_in fields 0 15) (λ seat. after (operation_in fields 1) (λ asked. Ok (record { seat = seat; asked = asked })))
+abbrev pub ask_in : List (List ℕ) → Result Asking RowKind
+ask_in fields = asking_in (field_in fields 0) (operation_at fields 1)
 
 -- `seat,op,call,x1,x2,x3,x4,x5`
 abbrev pub asks_header : List (List ℕ)

@@ -22,6 +22,7 @@ name_of_part part.Reports = codes "reports"
 name_of_part part.Ops = codes "ops"
 name_of_part part.Setup = codes "setup"
 name_of_part part.Script = codes "script"
+name_of_part part.Book = codes "book"
 
 -- the line that tells a fault, without its end
 abbrev pub line_of : Fault → List ℕ

@@ -3,8 +3,8 @@ pub mod AskingOf
 pub mod Asks
 pub mod Faults
 pub mod Input
-pub mod Operations
 pub mod PriceLines
 pub mod ReplayLines
 pub mod Replays
 pub mod Reports
+pub mod Tellings

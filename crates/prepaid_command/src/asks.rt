@@ -6,13 +6,14 @@ ghost use Rattle.csv.specs.Records.{fields_of};
 ghost use Rattle.prepaid_command.specs.Asks.{ask_in};
 ghost use Rattle.prepaid_command.specs.AskingOf.{asking_of};
 
-use crate::operations::{is_known, read_operation};
 use account_core::Op;
 use csv::ByteRecord;
-use table_core::{RowKind, number};
+use entry_rows::{is_op_blank, read_op, read_op_word, read_seat};
+use table_core::RowKind;
 
-/// The highest number of a seat.
-const LAST_SEAT: u64 = 15;
+/// Where the seat stands, and where the columns of the operation begin.
+const SEAT: usize = 0;
+const OP: usize = 1;
 
 /// What a seat asks.
 #[derive(Clone, Copy)]
@@ -24,15 +25,16 @@ pub struct Ask {
 }
 
 /// What a row asks.
-#[tactic(auto, unfolding(crate::specs::Asks::ask_in))]
+#[tactic(auto, unfolding(crate::specs::Asks::asking_in))]
 pub fn read_ask(row: &ByteRecord) -> Result<Ask, RowKind>
     requires { length (fields_of row.now) ≡ 8 }
     ensures { result_map_both asking_of (λ kind. kind) result ≡ ask_in (fields_of row.now) }
 {
-    if !is_known(row, 1) {
-        return Err(RowKind::What);
+    let word = read_op_word(row, OP)?;
+    let seat = read_seat(row, SEAT)?;
+    let op = read_op(row, OP, word)?;
+    if !is_op_blank(row, OP, word) {
+        return Err(RowKind::Empty);
     }
-    let seat = number(row, 0, LAST_SEAT)? as u32;
-    let op = read_operation(row, 1)?;
     Ok(Ask { seat, op })
 }

@@ -25,6 +25,8 @@ pub enum Part {
     Setup,
     /// What happens in a `run`.
     Script,
+    /// The books of `audit`.
+    Book,
 }
 
 impl fmt::Display for Part {
@@ -36,6 +38,7 @@ impl fmt::Display for Part {
             Part::Ops => f.write_str("ops"),
             Part::Setup => f.write_str("setup"),
             Part::Script => f.write_str("script"),
+            Part::Book => f.write_str("book"),
         }
     }
 }

@@ -1,10 +1,10 @@
 //! The program `prepaid` over any reader and writers: words and a text in, a text or a fault out.
 #![tactic(auto)]
 
+mod answer;
 mod asks;
 mod fault;
 mod input;
-mod operations;
 mod price_lines;
 mod program;
 mod replay_lines;

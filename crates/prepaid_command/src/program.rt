@@ -5,14 +5,17 @@ ghost use Rattle.std.specs.Io.KnownBytes.{Appends, Keeps};
 ghost use Rattle.std.specs.Result.{result_map_both};
 ghost use Rattle.tariff_core.specs.RatesOf.{rates_of};
 ghost use Rattle.run_options.specs.Options.{ask_of};
-ghost use Rattle.prepaid_command.specs.Answers.{Answers, IsAnswer, IsRunOfInput, price_of_input, replay_of_input};
+ghost use Rattle.prepaid_command.specs.Answers.{Answers, IsAnswer, IsAuditOfInput, IsRunOfInput, price_of_input, replay_of_input};
 ghost use Rattle.prepaid_command.specs.Faults.{Gives, GivesOne};
+ghost use Rattle.prepaid_command.specs.Tellings.{status_of_telling, telling_of};
 
+use crate::answer::Answer;
 use crate::fault::{Fault, Part};
 use crate::input::read_input;
 use crate::price_lines::print_reports;
 use crate::replaying::replay;
 use crate::reports::read_reports;
+use book_texts::audit_books;
 use command_words::{Opening, Request, read_words};
 use run_command::run;
 use run_options::RunOptions;
@@ -24,9 +27,10 @@ use std::thread::Threads;
 use tariff_core::Plan;
 
 /// Runs the program over the words after its name, and gives the exit status: 0 where all of the
-/// answer went to `output`, 1 for a fault of the words or the input, 2 where the run failed (want
-/// of memory, an input or an output that failed). A fault goes to `faults` as one line, and then
-/// nothing goes to `output`; a failing `faults` changes no status.
+/// answer went to `output`, 3 where this is an audit that found an account's history wrong, 1 for a
+/// fault of the words or the input, 2 where the run failed (want of memory, an input or an output
+/// that failed). A fault goes to `faults` as one line, and then nothing goes to `output`; a failing
+/// `faults` changes no status.
 pub fn command<R, S: AsStr, I: Read + Drop, O: Write, E: Write>(
     rt: &R,
     words: &[S],
@@ -41,7 +45,7 @@ where
     ensures silent { result ≡ 1 → Keeps (O.contents output.old) (O.contents output.new) }
 {
     match answer(rt, words, input) {
-        Ok(text) => print(output, &text),
+        Ok(answer) => print(output, &answer),
         Err(fault) => {
             let _ = writeln!(faults, "{fault}");
             fault.status()
@@ -49,30 +53,31 @@ where
     }
 }
 
-/// The text that answers the words and the input.
-fn answer<R, S: AsStr, I: Read + Drop>(rt: &R, words: &[S], input: I) -> Result<String, Fault>
+/// What answers the words and the input.
+fn answer<R, S: AsStr, I: Read + Drop>(rt: &R, words: &[S], input: I) -> Result<Answer, Fault>
 where
     R: AllocGlobal + Wait + Threads + Sync,
     ensures { IfSome (I.remaining input) (λ text. IsAnswer (map S.text words.now) text
-        (result_map_both string_bytes (λ fault. fault) result)) }
+        (result_map_both telling_of (λ fault. fault) result)) }
 {
     let alloc = rt.alloc();
     match read_words(alloc, words)? {
-        Request::Help(text) => Ok(text),
+        Request::Help(text) => Ok(Answer::plain(text)),
         Request::Price(plan) => price_reports(alloc, &plan, input),
         Request::Replay(account) => replay_operations(alloc, account, input),
         Request::Run(options) => run_script(rt, alloc, &options, input),
+        Request::Audit => audit_input(alloc, input),
     }
 }
 
 /// The lines of `price` for the reports in the input.
-fn price_reports<I: Read + Drop>(alloc: Global, plan: &Plan, input: I) -> Result<String, Fault>
+fn price_reports<I: Read + Drop>(alloc: Global, plan: &Plan, input: I) -> Result<Answer, Fault>
     ensures { IfSome (I.remaining input) (λ text.
-        Gives string_bytes result (price_of_input (rates_of plan.now) text)) }
+        Gives telling_of result (price_of_input (rates_of plan.now) text)) }
 {
     let bytes = read_input(alloc, input)?;
     match read_reports(alloc, plan, bytes.as_slice()) {
-        Ok(reports) => Ok(print_reports(alloc, plan, &reports)?),
+        Ok(reports) => Ok(Answer::plain(print_reports(alloc, plan, &reports)?)),
         Err(fault) => Err(Fault::in_part(Part::Reports, fault)),
     }
 }
@@ -82,13 +87,13 @@ fn replay_operations<I: Read + Drop>(
     alloc: Global,
     account: Opening,
     input: I,
-) -> Result<String, Fault>
+) -> Result<Answer, Fault>
     ensures { IfSome (I.remaining input) (λ text.
-        Gives string_bytes result (replay_of_input account.opening account.limit text)) }
+        Gives telling_of result (replay_of_input account.opening account.limit text)) }
 {
     let bytes = read_input(alloc, input)?;
     match replay(alloc, account.opening, account.limit, bytes.as_slice()) {
-        Ok(text) => Ok(text),
+        Ok(text) => Ok(Answer::plain(text)),
         Err(fault) => Err(Fault::in_part(Part::Ops, fault)),
     }
 }
@@ -99,23 +104,39 @@ fn run_script<R: Wait + Threads + Sync, I: Read + Drop>(
     alloc: Global,
     options: &RunOptions,
     input: I,
-) -> Result<String, Fault>
+) -> Result<Answer, Fault>
     ensures { IfSome (I.remaining input) (λ text.
         GivesOne (IsRunOfInput (ask_of options.now) text)
-        (result_map_both string_bytes (λ fault. fault) result)) }
+        (result_map_both telling_of (λ fault. fault) result)) }
 {
     let bytes = read_input(alloc, input)?;
-    Ok(run(rt, alloc, options, bytes.as_slice())?)
+    Ok(Answer::plain(run(rt, alloc, options, bytes.as_slice())?))
 }
 
-/// The status of an answer: 0 where the whole text went to the output, 2 where the output failed.
-fn print<O: Write>(output: &mut O, text: &String) -> u8
-    ensures statuses { (result ≡ 0) ⊎ (result ≡ 2) }
-    ensures done { result ≡ 0
-        → Appends (O.contents output.old) (O.contents output.new) (string_bytes text.now) }
+/// The lines of `audit` for the books in the input.
+fn audit_input<I: Read + Drop>(alloc: Global, input: I) -> Result<Answer, Fault>
+    ensures { IfSome (I.remaining input) (λ text.
+        GivesOne (IsAuditOfInput text) (result_map_both telling_of (λ fault. fault) result)) }
 {
-    if output.write_all(text.as_bytes()).is_ok() && output.flush().is_ok() {
-        0
+    let bytes = read_input(alloc, input)?;
+    match audit_books(alloc, bytes.as_slice()) {
+        Ok(audit) => Ok(Answer {
+            text: audit.lines,
+            passes: audit.passes,
+        }),
+        Err(fault) => Err(Fault::in_part(Part::Book, fault)),
+    }
+}
+
+/// The status of an answer: its own where the whole text went to the output, 2 where the output
+/// failed.
+fn print<O: Write>(output: &mut O, answer: &Answer) -> u8
+    ensures told { ((result ≡ status_of_telling (telling_of answer.now))
+        × Appends (O.contents output.old) (O.contents output.new) (string_bytes answer.now.text))
+        ⊎ (result ≡ 2) }
+{
+    if output.write_all(answer.text.as_bytes()).is_ok() && output.flush().is_ok() {
+        answer.status()
     } else {
         2
     }

@@ -6,16 +6,14 @@ use Rattle.runs_core.specs.Shares.{HaveHandled}
 use Rattle.runs_core.specs.Teams.{terms_of}
 use Rattle.shared_account.specs.Closed.{Closed}
 use Rattle.shared_account.specs.Own.{IsMerged}
-use Rattle.workers_core.specs.Setups.{AreAscending}
 use Rattle.workers_core.specs.declared.post.Body.{Body}
 use Rattle.workers_core.specs.declared.post.Post.{Post}
+use Rattle.account_core.specs.declared.limits.TheConstants.{MAX_LIMIT}
 
--- these are the books of a run over these accounts, by so many workers, of all that was given to them
+-- these are the books of a run over these accounts, which ascend, by so many workers, of all that was given to them
 pub record AreBooksOf (accounts : List (ℕ × ℕ)) (workers : ℕ) (given : List (ℕ × Body)) (books : List Closed) : Type 0 where
-  -- one for each account, in ascending order, with its opening credit, room for 1,000,000 entries, and a list for each worker
-  pub ascending : List (ℕ × ℕ)
-  pub same : AreAscending accounts ascending
-  pub opened : map terms_shown books ≡ terms_of 1000000 workers ascending
+  -- one for each account, in their order, with its opening credit, room for `MAX_LIMIT` entries, and a list for each worker
+  pub opened : map terms_shown books ≡ terms_of MAX_LIMIT workers accounts
   -- each history is legal, and merges the lists of the workers
   pub legal : All (λ book. IsLegal book.opening book.history) books
   pub merged : All (λ book. IsMerged book.history book.own) books

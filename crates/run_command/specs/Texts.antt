@@ -6,4 +6,4 @@ use Rattle.run_texts.specs.Views.{event_of, setup_in}
 
 -- what it says
 abbrev pub input_in : RunTexts → RunInput
-input_in texts = record { tariff = texts.tariff; setup = setup_in texts.setup; script = map event_of texts.script.items }
+input_in texts = record { tariff = texts.tariff; setup = setup_in texts.directory; script = map event_of texts.script.items }

@@ -6,28 +6,23 @@ ghost use Rattle.run_command.specs.Books.{AreBooksOf};
 ghost use Rattle.run_options.specs.Options.{ask_of};
 ghost use Rattle.run_command.specs.Plays.{IsGivenBy, IsPlayOf};
 ghost use Rattle.runs_core.specs.Teams.{are_workers};
-ghost use Rattle.run_texts.specs.Fits.{SetsUp};
 ghost use Rattle.run_texts.specs.Views.{are_in_order, event_of};
 ghost use Rattle.run_texts.specs.declared.script_row.ScriptRow.{ScriptRow};
-ghost use Rattle.workers_core.specs.Setups.{AreAscending};
+ghost use Rattle.workers_core.specs.Setups.{IsWithin};
 ghost use Rattle.workers_core.specs.declared.post.Body.{Body};
 
 use crate::RunError;
 use crate::texts::RunTexts;
-use dialogue_core::ServiceConfig;
+use account_core::MAX_LIMIT;
 use run_options::RunOptions;
-use run_texts::SetupRows;
 use runs_core::{Books, Driver, serve};
 use script_player::ScriptPlayer;
 use shared_account::{Book, OpenGate};
-use std::alloc::{AllocError, Global};
+use std::alloc::Global;
 use std::sync::Wait;
 use std::thread::Threads;
-use tariff_core::{LAST_MOMENT, Tariff};
+use tariff_core::LAST_MOMENT;
 use workers_core::RunSetup;
-
-/// How many entries the history of an account may have.
-const LIMIT: u32 = 1_000_000;
 
 /// Plays a script over its accounts, and gives their books.
 pub(crate) fn play<R: Wait + Threads + Sync>(
@@ -36,21 +31,21 @@ pub(crate) fn play<R: Wait + Threads + Sync>(
     options: &RunOptions,
     texts: RunTexts,
 ) -> Result<Vec<Book>, RunError>
-    requires sets_up { SetsUp texts.setup }
+    requires within { IsWithin texts.directory }
     requires in_range { All (λ row. row.at ≤ LAST_MOMENT) texts.script.items }
     requires in_order { are_in_order 0 texts.script.items ≡ true }
     ensures workers { IfOk result (λ _. are_workers options.now.workers ≡ true) }
     ensures books { IfOk result (λ books. (given : List (ℕ × Body))
         × IsGivenBy (ask_of options.now) (map event_of texts.script.items) given
-        × AreBooksOf texts.setup.accounts.items options.now.workers given books.items) }
+        × AreBooksOf texts.directory.accounts options.now.workers given books.items) }
     ensures fault { IfErr result (MayFail options.now.workers) }
 {
     let RunTexts {
         tariff,
-        setup,
+        directory,
         script,
     } = texts;
-    let setup = set_up(alloc, &setup, tariff, options.service)?;
+    let setup = RunSetup::of(alloc, directory, tariff, options.service, MAX_LIMIT)?;
     let mut player = ScriptPlayer::new(alloc, script, options.ssf, options.delay)?;
     let workers = options.workers;
     let Books { books, .. } = serve(rt, alloc, &setup, &mut player, workers, &OpenGate)?;
@@ -66,26 +61,4 @@ fn is_played(player: &ScriptPlayer)
 {
     let _ = player.ended();
     let _ = player.given();
-}
-
-/// The setup of a run, which wants nothing but memory.
-fn set_up(
-    alloc: Global,
-    rows: &SetupRows,
-    tariff: Tariff,
-    service: ServiceConfig,
-) -> Result<RunSetup, AllocError>
-    requires { SetsUp rows.now }
-    ensures accounts { IfOk result
-        (λ setup. AreAscending rows.now.accounts.items setup.accounts) }
-    ensures limit { IfOk result (λ setup. setup.limit ≡ 1000000) }
-    ensures tariff { IfOk result (λ setup. setup.tariff ≡ tariff) }
-    ensures service { IfOk result (λ setup. setup.service ≡ service) }
-{
-    let accounts = rows.accounts.as_slice();
-    let subscribers = rows.subscribers.as_slice();
-    match RunSetup::new(alloc, accounts, subscribers, tariff, service, LIMIT) {
-        Ok(setup) => Ok(setup),
-        Err(_) => Err(AllocError),
-    }
 }

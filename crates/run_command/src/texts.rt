@@ -5,30 +5,31 @@ ghost use Rattle.run_command.specs.Errors.{Gives};
 ghost use Rattle.run_command.specs.Inputs.{input_of, told};
 ghost use Rattle.run_command.specs.Texts.{input_in};
 ghost use Rattle.run_command.specs.declared.error.RunError.TheVariants as out;
-ghost use Rattle.run_texts.specs.Fits.{SetsUp};
 ghost use Rattle.run_texts.specs.Scripts.{script_of};
 ghost use Rattle.run_texts.specs.Setups.{setup_of};
 ghost use Rattle.run_texts.specs.Views.{are_in_order, event_of, setup_in};
 ghost use Rattle.table_core.specs.Rows.{rows_of};
 ghost use Rattle.tariff_core.specs.TariffTable.{tariff_of};
+ghost use Rattle.workers_core.specs.Setups.{IsWithin};
 
 use crate::RunError;
-use run_texts::{Parts, ScriptRow, SetupRows, divide};
+use run_texts::{Parts, ScriptRow, divide};
 use std::alloc::Global;
 use tariff_core::{LAST_MOMENT, Tariff};
+use workers_core::Directory;
 
 /// What the input of a run says.
 #[derive(Drop)]
 pub(crate) struct RunTexts {
     pub tariff: Tariff,
-    pub setup: SetupRows,
+    pub directory: Directory,
     pub script: Vec<ScriptRow>,
 }
 
 /// Reads an input of three parts. The first fault is told, the parts judged in order.
 pub(crate) fn read_texts(alloc: Global, input: &[u8]) -> Result<RunTexts, RunError>
     ensures means { Gives input_in result (input_of input.now) }
-    ensures sets_up { IfOk result (λ texts. SetsUp texts.setup) }
+    ensures within { IfOk result (λ texts. IsWithin texts.directory) }
     ensures in_range { IfOk result
         (λ texts. All (λ row. row.at ≤ LAST_MOMENT) texts.script.items) }
     ensures in_order { IfOk result (λ texts. are_in_order 0 texts.script.items ≡ true) }
@@ -39,11 +40,11 @@ pub(crate) fn read_texts(alloc: Global, input: &[u8]) -> Result<RunTexts, RunErr
         script,
     } = divide(input).ok_or(RunError::Parts)?;
     let tariff = read_tariff(alloc, tariff)?;
-    let setup = read_setup(alloc, setup)?;
-    let script = read_script(alloc, setup.accounts.as_slice(), script)?;
+    let directory = read_setup(alloc, setup)?;
+    let script = read_script(alloc, &directory, script)?;
     Ok(RunTexts {
         tariff,
-        setup,
+        directory,
         script,
     })
 }
@@ -57,27 +58,27 @@ fn read_tariff(alloc: Global, text: &[u8]) -> Result<Tariff, RunError>
     }
 }
 
-fn read_setup(alloc: Global, text: &[u8]) -> Result<SetupRows, RunError>
+fn read_setup(alloc: Global, text: &[u8]) -> Result<Directory, RunError>
     ensures means { Gives setup_in result (told out.Setup (setup_of (rows_of text.now))) }
-    ensures sets_up { IfOk result SetsUp }
+    ensures within { IfOk result IsWithin }
 {
     match run_texts::read_setup(alloc, text) {
-        Ok(setup) => Ok(setup),
+        Ok(directory) => Ok(directory),
         Err(fault) => Err(RunError::of_setup(fault)),
     }
 }
 
 fn read_script(
     alloc: Global,
-    accounts: &[(u32, u64)],
+    directory: &Directory,
     text: &[u8],
 ) -> Result<Vec<ScriptRow>, RunError>
     ensures means { Gives (λ rows. map event_of rows.items) result
-        (told out.Script (script_of accounts.now (rows_of text.now))) }
+        (told out.Script (script_of directory.now.accounts (rows_of text.now))) }
     ensures in_range { IfOk result (λ rows. All (λ row. row.at ≤ LAST_MOMENT) rows.items) }
     ensures in_order { IfOk result (λ rows. are_in_order 0 rows.items ≡ true) }
 {
-    match run_texts::read_script(alloc, accounts, text) {
+    match run_texts::read_script(alloc, directory, text) {
         Ok(script) => Ok(script),
         Err(fault) => Err(RunError::of_script(fault)),
     }

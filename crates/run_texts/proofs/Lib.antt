@@ -1,5 +1,4 @@
+pub mod EntryLemmas
 pub mod FieldLemmas
-pub mod FitLemmas
-pub mod IndexLemmas
 pub mod PartLemmas
 pub mod ScriptLemmas

@@ -1,26 +1,18 @@
 -- What a reader of a script keeps beside the rows.
-use Rattle.std.proofs.Common.{◌≡◌, ◌==◌, ◌+◌, ◌<◌, ◌≤◌, ℕ, Bool, true, false, List, [], ◌∷◌, ◌++◌, length, get_or, take, Result, Ok, Err, refl, sym, ap, append_assoc, append-nil, reverse, arith}
+use Rattle.std.proofs.Common.{◌≡◌, ◌==◌, ◌≤◌, ℕ, Bool, true, false, List, [], ◌∷◌, ◌++◌, refl, reverse, arith}
 use Rattle.std.specs.Prelude.{◌||◌, ◌&&◌, cond, map, nat_le}
-use Rattle.std.specs.BTreeSet.{BTreeSet, Updates, contains}
+use Rattle.std.specs.BTreeSet.{BTreeSet, contains}
 use Rattle.std.specs.Ordering.{is_eq, nat_cmp}
 use Rattle.std.proofs.lemmas.Bool.Decides.{nat_tests}
 use Rattle.std.proofs.lemmas.List.{map-append, reverse-append, reverse-reverse}
-use Rattle.std.proofs.lemmas.List.Folds.{list_any_more}
-use Rattle.table_core.specs.Judging.{with_front}
-use Rattle.table_core.specs.declared.fault.RowKind.{RowKind}
-use Rattle.table_core.specs.declared.fault.RowKind.TheVariants as kind
 use Rattle.run_texts.specs.Happenings.{Event, Happens, Meets, Recharges, Starts}
 use Rattle.run_texts.specs.Scripts.{is_started, starts}
-use Rattle.run_texts.specs.Setups.{has_account}
-use Rattle.run_texts.specs.Starts.{HasAccounts, HasCalls, Notes}
+use Rattle.run_texts.specs.Starts.{HasCalls, Notes}
 use Rattle.run_texts.specs.Views.{are_in_order, event_of}
 use Rattle.run_texts.specs.declared.script_row.ScriptRow.{ScriptRow}
 
 abbrev Fields : Type 0
 Fields = List (List ℕ)
-
-abbrev Accounts : Type 0
-Accounts = List (ℕ × ℕ)
 
 -- ---- the sets
 
@@ -36,12 +28,6 @@ one_more false false = refl
 no_more : (old : Bool) → old ≡ (old || false)
 no_more true = refl
 no_more false = refl
-
-pub accounts_more : (before after : BTreeSet ℕ) (accounts : Accounts) (i : ℕ) (d : ℕ × ℕ) → i < length accounts → HasAccounts before (take i accounts)
-    → Updates nat_cmp before after (get_or accounts i d).0 true → HasAccounts after (take (i + 1) accounts)
-accounts_more before after accounts i d within has updates q =
-    rw (updates.0 q, is_eq-nat_cmp (get_or accounts i d).0 q, has q, list_any_more (λ (other : ℕ × ℕ). other.0 == q) accounts i d within)
-    (one_more ((get_or accounts i d).0 == q) (has_account q (take i accounts)))
 
 call_more : (before after : BTreeSet ℕ) (what : Happens) (q : ℕ) (is : Bool) → Notes what before after → contains nat_cmp before q ≡ is
     → contains nat_cmp after q ≡ (is || starts q what)

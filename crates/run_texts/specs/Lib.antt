@@ -1,7 +1,5 @@
-pub mod Fits
+pub mod Entries
 pub mod Happenings
-pub mod Indexes
-pub mod Parties
 pub mod Parts
 pub mod Scripts
 pub mod Setups

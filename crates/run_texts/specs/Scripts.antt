@@ -1,5 +1,5 @@
 -- The meaning of a script: what happens in a run, or the first fault.
-use Rattle.std.specs.Prelude.{◌+◌, ◌==◌, ◌&&◌, ◌||◌, ℕ, Bool, false, not, List, [], ◌∷◌, length, reverse, Result, Ok, Err, if◌then◌else◌, nat_lt, codes}
+use Rattle.std.specs.Prelude.{◌==◌, ◌&&◌, ◌||◌, ℕ, Bool, false, List, [], ◌∷◌, reverse, Result, Ok, Err, if◌then◌else◌, nat_lt, codes}
 use Rattle.cap_values.specs.declared.leg.Leg.TheVariants as leg
 use Rattle.ssf_core.specs.declared.bcsm_event.BcsmEvent.{BcsmEvent}
 use Rattle.ssf_core.specs.declared.bcsm_event.BcsmEvent.TheVariants as bcsm
@@ -10,9 +10,10 @@ use Rattle.table_core.specs.declared.fault.RowFault.{RowFault}
 use Rattle.table_core.specs.declared.fault.RowKind.{RowKind}
 use Rattle.table_core.specs.declared.fault.RowKind.TheVariants as kind
 use Rattle.run_texts.specs.Happenings.{Event, Happens, Meets, Recharges, Starts}
-use Rattle.run_texts.specs.Setups.{account_in, amount_in, has_account, party_in}
+use Rattle.run_texts.specs.Setups.{account_in, amount_in, party_in}
 use Rattle.run_texts.specs.declared.word.Word.{Word}
 use Rattle.run_texts.specs.declared.word.Word.TheVariants as word
+use Rattle.workers_core.specs.Setups.{has_account}
 use Rattle.tariff_core.specs.declared.times.TheConstants.{LAST_MOMENT}
 
 -- ---- words
@@ -66,7 +67,7 @@ happens_in fields (word.Event event) = event_in fields event
 happens_in fields word.Disconnect = disconnect_in fields
 happens_in fields word.Recharge = recharge_in fields
 
--- what happens in a row, and its moment of 0 to `LAST_MOMENT`
+-- what happens in a row, and its moment of 0 to 10^12
 abbrev pub read_in : List (List ℕ) → Result Event RowKind
 read_in fields = after (word_in fields) (λ word. after (number_in fields 0 LAST_MOMENT) (λ at. after (happens_in fields word) (λ what. Ok (record { at = at; what = what }))))
 

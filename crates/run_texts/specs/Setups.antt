@@ -1,6 +1,9 @@
 -- The meaning of a setup: its accounts and subscribers, or the first fault.
-use Rattle.std.specs.Prelude.{◌==◌, ◌&&◌, ℕ, Bool, List, [], ◌∷◌, ◌++◌, length, Result, Ok, Err, if◌then◌else◌, nat_le, codes}
+use Rattle.std.specs.Prelude.{ℕ, Bool, List, [], ◌∷◌, length, Result, Ok, Err, if◌then◌else◌, nat_le, codes}
+use Rattle.std.specs.BTreeMap.{insert_entry}
+use Rattle.std.specs.Cmp.Lexicographic.{slice_cmp}
 use Rattle.std.specs.List.{list_any}
+use Rattle.std.specs.Ordering.{nat_cmp}
 use Rattle.std.specs.Str.{bytes_eq}
 use Rattle.cap_values.specs.Numbers.{is_number}
 use Rattle.table_core.specs.Fields.{field_in, has_word, number_in}
@@ -9,21 +12,13 @@ use Rattle.table_core.specs.Tables.{TableForm, table_form, table_of}
 use Rattle.table_core.specs.declared.fault.RowFault.{RowFault}
 use Rattle.table_core.specs.declared.fault.RowKind.{RowKind}
 use Rattle.table_core.specs.declared.fault.RowKind.TheVariants as kind
+use Rattle.workers_core.specs.Setups.{has_account}
 use Rattle.tariff_core.specs.declared.money.TheConstants.{MAX_MONEY}
 
--- accounts, each a number and its opening credit, and subscribers, each its digits and its account
+-- accounts in ascending order, each a number and its opening credit, and subscribers in the order of their digits, each with its account
 pub record Setup : Type 0 where
   pub accounts : List (ℕ × ℕ)
   pub subscribers : List (List ℕ × ℕ)
-
--- what a row names
-pub data Named : Type 0 where
-  Account : ℕ → ℕ → Named
-  Subscriber : List ℕ → ℕ → Named
-
--- whether an account is among these
-abbrev pub has_account : ℕ → List (ℕ × ℕ) → Bool
-has_account account accounts = list_any (λ other. other.0 == account) accounts
 
 -- whether a subscriber of these digits is among these
 abbrev pub has_subscriber : List ℕ → List (List ℕ × ℕ) → Bool
@@ -39,51 +34,45 @@ party_in fields place = if is_number (field_in fields place) then Ok (field_in f
 abbrev pub account_in : List (List ℕ) → ℕ → Result ℕ RowKind
 account_in fields place = number_in fields place 4294967295
 
--- the money in the field at a place: 0 to `MAX_MONEY`
+-- the money in the field at a place: 0 to 10^15
 abbrev pub amount_in : List (List ℕ) → ℕ → Result ℕ RowKind
 amount_in fields place = number_in fields place MAX_MONEY
 
--- `account,NUMBER,OPENING`
-abbrev pub account_row : List (List ℕ) → Result Named RowKind
-account_row fields = after (account_in fields 1) (λ account. after (amount_in fields 2) (λ opening. Ok (Account account opening)))
-
--- `subscriber,DIGITS,ACCOUNT`
-abbrev pub subscriber_row : List (List ℕ) → Result Named RowKind
-subscriber_row fields = after (party_in fields 1) (λ digits. after (account_in fields 2) (λ account. Ok (Subscriber digits account)))
-
--- what a row names, wherever it stands
-abbrev pub named_in : List (List ℕ) → Result Named RowKind
-named_in fields =
-    if has_word fields 0 (codes "account") then account_row fields else
-    if has_word fields 0 (codes "subscriber") then subscriber_row fields else Err kind.What
-
 -- ---- rows
 
--- a row may stand after the earlier ones: what it names is new, and a subscriber's account is there
-abbrev pub judged : Setup → Named → Result Named RowKind
-judged earlier (Account account opening) = if has_account account earlier.accounts then Err kind.Repeated else Ok (Account account opening)
-judged earlier (Subscriber digits account) =
-    if has_subscriber digits earlier.subscribers then Err kind.Repeated
-    else if has_account account earlier.accounts then Ok (Subscriber digits account) else Err kind.Unknown
+-- an account more, at its place in the order: its number isn't named before
+abbrev pub name_account : Setup → ℕ → ℕ → Result Setup RowKind
+name_account earlier account opening =
+    if has_account account earlier.accounts then Err kind.Repeated else Ok (record earlier { accounts = insert_entry nat_cmp earlier.accounts account opening })
 
--- one account more than the 1,000 that a run may have
-abbrev pub is_too_many : Setup → List (List ℕ) → Bool
-is_too_many earlier fields = has_word fields 0 (codes "account") && nat_le 1000 (length earlier.accounts)
+-- a subscriber more, at its place in the order: its digits aren't named before, and its account is
+abbrev pub name_subscriber : Setup → List ℕ → ℕ → Result Setup RowKind
+name_subscriber earlier digits account =
+    if has_subscriber digits earlier.subscribers then Err kind.Repeated else
+    if has_account account earlier.accounts then Ok (record earlier { subscribers = insert_entry (slice_cmp nat_cmp) earlier.subscribers digits account })
+    else Err kind.Unknown
 
--- what a row of three fields names, after the earlier rows
-unfoldable pub row_at : Setup → List (List ℕ) → Result Named RowKind
-row_at earlier fields = if is_too_many earlier fields then Err kind.TooManyRows else after (named_in fields) (judged earlier)
+-- `account,NUMBER,OPENING`, one of the 1,000 that a run may have
+abbrev pub account_row : Setup → List (List ℕ) → Result Setup RowKind
+account_row earlier fields =
+    if nat_le 1000 (length earlier.accounts) then Err kind.TooManyRows else
+    after (account_in fields 1) (λ account. after (amount_in fields 2) (λ opening. name_account earlier account opening))
 
--- the earlier rows and one more
-abbrev pub with_row : Setup → Named → Setup
-with_row earlier (Account account opening) = record earlier { accounts = earlier.accounts ++ (account, opening) ∷ [] }
-with_row earlier (Subscriber digits account) = record earlier { subscribers = earlier.subscribers ++ (digits, account) ∷ [] }
+-- `subscriber,DIGITS,ACCOUNT`
+abbrev pub subscriber_row : Setup → List (List ℕ) → Result Setup RowKind
+subscriber_row earlier fields = after (party_in fields 1) (λ digits. after (account_in fields 2) (λ account. name_subscriber earlier digits account))
+
+-- what was named before a row of three fields, and what the row names
+unfoldable pub row_at : Setup → List (List ℕ) → Result Setup RowKind
+row_at earlier fields =
+    if has_word fields 0 (codes "account") then account_row earlier fields else
+    if has_word fields 0 (codes "subscriber") then subscriber_row earlier fields else Err kind.What
 
 -- `kind,key,value`, and 10,000 rows at most; each names what comes to the earlier ones
 abbrev pub setup_form : TableForm Setup RowKind RowFault
 setup_form =
     table_form ((codes "kind" ∷ codes "key" ∷ codes "value" ∷ []) ∷ []) 10000 (record { accounts = []; subscribers = [] })
-    (λ header earlier fields. after (row_at earlier fields) (λ named. Ok (with_row earlier named)))
+    (λ header earlier fields. row_at earlier fields)
 
 -- the setup of a table
 abbrev pub setup_of : List (List (List ℕ)) → Result Setup RowFault

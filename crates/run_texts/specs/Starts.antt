@@ -4,11 +4,6 @@ use Rattle.std.specs.BTreeSet.{BTreeSet, Updates, contains}
 use Rattle.std.specs.Ordering.{nat_cmp}
 use Rattle.run_texts.specs.Happenings.{Event, Happens, Meets, Recharges, Starts}
 use Rattle.run_texts.specs.Scripts.{is_started}
-use Rattle.run_texts.specs.Setups.{has_account}
-
--- a set has the accounts of a setup, and no others
-abbrev pub HasAccounts : BTreeSet ℕ → List (ℕ × ℕ) → Type 0
-HasAccounts set accounts = (account : ℕ) → contains nat_cmp set account ≡ has_account account accounts
 
 -- a set has the calls that have started, and no others
 abbrev pub HasCalls : BTreeSet ℕ → List Event → Type 0

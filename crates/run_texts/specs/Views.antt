@@ -9,7 +9,7 @@ use Rattle.run_texts.specs.declared.parts.Parts.{Parts}
 use Rattle.run_texts.specs.declared.script_row.Happening.{Happening}
 use Rattle.run_texts.specs.declared.script_row.Happening.TheVariants as happening
 use Rattle.run_texts.specs.declared.script_row.ScriptRow.{ScriptRow}
-use Rattle.run_texts.specs.declared.setup_rows.SetupRows.{SetupRows}
+use Rattle.workers_core.specs.Setups.{Listing}
 
 -- the texts of an input
 abbrev pub texts_of_parts : Parts → Texts
@@ -19,9 +19,9 @@ texts_of_parts parts = record { tariff = parts.tariff.now; setup = parts.setup.n
 abbrev pub with_digits : List (Number × ℕ) → List (List ℕ × ℕ)
 with_digits subscribers = map (λ subscriber. (digits_of subscriber.0, subscriber.1)) subscribers
 
--- what was read of a setup
-abbrev pub setup_in : SetupRows → Setup
-setup_in rows = record { accounts = rows.accounts.items; subscribers = with_digits rows.subscribers.items }
+-- what a directory says of a setup
+abbrev pub setup_in : Listing → Setup
+setup_in listing = record { accounts = listing.accounts; subscribers = with_digits listing.subscribers }
 
 abbrev pub happens_of : Happening → Happens
 happens_of (happening.Start call calling called) = Starts call (digits_of calling) (digits_of called)

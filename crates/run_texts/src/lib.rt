@@ -1,20 +1,16 @@
 //! The texts of a run: an input's three parts, and the readers of the setup and of the script.
 #![tactic(auto)]
 
-mod entry;
+mod entry_fault;
 mod fields;
 mod happenings;
-mod index;
 mod parts;
-mod party;
 mod script;
 mod script_row;
 mod setup;
-mod setup_rows;
 mod word;
 
 pub use parts::{Parts, divide};
 pub use script::read_script;
 pub use script_row::{Happening, ScriptRow};
 pub use setup::read_setup;
-pub use setup_rows::SetupRows;

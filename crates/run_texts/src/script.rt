@@ -6,7 +6,7 @@ ghost use Rattle.csv.specs.Records.{fields_of};
 ghost use Rattle.table_core.specs.Faults.{Gives};
 ghost use Rattle.table_core.specs.Rows.{rows_of};
 ghost use Rattle.run_texts.specs.Scripts.{judged_by, last_moment, row_at, script_of};
-ghost use Rattle.run_texts.specs.Starts.{HasAccounts, HasCalls, Notes};
+ghost use Rattle.run_texts.specs.Starts.{HasCalls, Notes};
 ghost use Rattle.run_texts.specs.Views.{are_in_order, event_of, happens_of};
 
 use crate::happenings::read_row;
@@ -17,13 +17,14 @@ use std::alloc::{AllocError, Global};
 use std::collections::BTreeSet;
 use std::io::Read;
 use table_core::{RowKind, Table, TableFault};
+use workers_core::Directory;
 use tariff_core::LAST_MOMENT;
 
 /// The most rows of a script, its header not counted.
 const MAX_ROWS: u32 = 1_000_000;
 
-/// What a script says, a table with the header `moment,call,what,x,y`, where these are the accounts
-/// of the setup.
+/// What a script says, a table with the header `moment,call,what,x,y`, where the directory has the
+/// accounts of the setup.
 ///
 /// `what` is `start` (x the calling and y the called party), `answer`, `busy`, `noanswer`,
 /// `routefail`, `abandon`, `disconnect` (x the leg, 1 or 2) or `recharge` (without a call, x the
@@ -37,22 +38,22 @@ const MAX_ROWS: u32 = 1_000_000;
 /// fault of row 1.
 pub fn read_script<I: Read + Drop>(
     alloc: Global,
-    accounts: &[(u32, u64)],
+    directory: &Directory,
     reader: I,
 ) -> Result<Vec<ScriptRow>, TableFault>
     ensures means { IfSome (I.remaining reader) (λ text.
-        Gives (λ rows. map event_of rows.items) result (script_of accounts.now (rows_of text))) }
+        Gives (λ rows. map event_of rows.items) result
+        (script_of directory.now.accounts (rows_of text))) }
     ensures in_range { IfOk result (λ rows. All (λ row. row.at ≤ LAST_MOMENT) rows.items) }
     ensures in_order { IfOk result (λ rows. are_in_order 0 rows.items ≡ true) }
 {
     let headers: &[&[&str]] = &[&["moment", "call", "what", "x", "y"]];
     let mut table = Table::open(alloc, reader, headers, MAX_ROWS)?;
-    let listed = numbers_of(alloc, accounts)?;
     let mut calls = BTreeSet::new(alloc);
     let mut rows = Vec::new(alloc);
     let mut last = 0;
     while table.next_row()? {
-        let row = match judge(&listed, &calls, last, table.row()) {
+        let row = match judge(directory, &calls, last, table.row()) {
             Ok(row) => row,
             Err(kind) => return Err(table.fault(kind)),
         };
@@ -63,31 +64,19 @@ pub fn read_script<I: Read + Drop>(
     Ok(rows)
 }
 
-/// The numbers of these accounts.
-fn numbers_of(alloc: Global, accounts: &[(u32, u64)]) -> Result<BTreeSet<u32>, AllocError>
-    ensures { IfOk result (λ numbers. HasAccounts numbers accounts.now) }
-{
-    let mut numbers = BTreeSet::new(alloc);
-    for account in accounts {
-        numbers.insert(account.0)?;
-    }
-    Ok(numbers)
-}
-
 /// What a row says, after a row of the moment `last` and the calls that have
 /// started.
 #[tactic(auto, unfolding(crate::specs::Scripts::row_at))]
 fn judge(
-    accounts: &BTreeSet<u32>,
+    directory: &Directory,
     calls: &BTreeSet<u64>,
     last: Moment,
     row: &ByteRecord,
 ) -> Result<ScriptRow, RowKind>
     requires { length (fields_of row.now) ≡ 5 }
-    ensures says { (listed : _) (earlier : _) → HasAccounts accounts.now listed
-        → HasCalls calls.now earlier → last ≡ last_moment earlier
+    ensures says { (earlier : _) → HasCalls calls.now earlier → last ≡ last_moment earlier
         → result_map_both event_of (λ kind. kind) result
-        ≡ row_at listed earlier (fields_of row.now) }
+        ≡ row_at directory.now.accounts earlier (fields_of row.now) }
     ensures in_range { IfOk result (λ row. row.at ≤ LAST_MOMENT) }
     ensures in_order { IfOk result (λ row. last ≤ row.at) }
 {
@@ -95,17 +84,16 @@ fn judge(
     if row.at < last {
         return Err(RowKind::Order);
     }
-    check(accounts, calls, row.what)?;
+    check(directory, calls, row.what)?;
     Ok(row)
 }
 
 /// Refuses a call that starts again, an event of a call that hasn't started, and a recharge of no
 /// account.
-fn check(accounts: &BTreeSet<u32>, calls: &BTreeSet<u64>, what: Happening) -> Result<(), RowKind>
-    ensures { (listed : _) (earlier : _) (event : _) → HasAccounts accounts.now listed
-        → HasCalls calls.now earlier
+fn check(directory: &Directory, calls: &BTreeSet<u64>, what: Happening) -> Result<(), RowKind>
+    ensures { (earlier : _) (event : _) → HasCalls calls.now earlier
         → result_map_both (λ done. event) (λ kind. kind) result
-        ≡ judged_by listed earlier event (happens_of what) }
+        ≡ judged_by directory.now.accounts earlier event (happens_of what) }
 {
     match what {
         Happening::Start { call, .. } => {
@@ -119,7 +107,7 @@ fn check(accounts: &BTreeSet<u32>, calls: &BTreeSet<u64>, what: Happening) -> Re
             }
         }
         Happening::Recharge { account, .. } => {
-            if !accounts.contains(&account) {
+            if !directory.has_account(account) {
                 return Err(RowKind::Unknown);
             }
         }

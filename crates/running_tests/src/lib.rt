@@ -5,6 +5,8 @@
 #[cfg(test)]
 mod books;
 #[cfg(test)]
+mod lying;
+#[cfg(test)]
 mod mailboxes;
 #[cfg(test)]
 mod meeting;

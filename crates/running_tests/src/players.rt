@@ -1,6 +1,7 @@
 //! Scripts that are played, with the answers of a service made by hand.
 
 use crate::messages::{begun, first_period, hung_up, notified, of_call, recharge, report};
+use crate::setups::list;
 use arrayvec::ArrayVec;
 use cap_values::{Event, Mode, ScfOp, SsfMsg};
 use run_texts::read_script;
@@ -61,7 +62,7 @@ fn plays(
     expected: &[(u64, Body)],
 ) -> Result<(), Fail> {
     let config = SsfConfig::new(100, 50, DefaultHandling::Release)?;
-    let rows = read_script(alloc, &[(7, 1500)], script.as_bytes())?;
+    let rows = read_script(alloc, &list(alloc, &[(7, 1500)])?, script.as_bytes())?;
     let mut player = ScriptPlayer::new(alloc, rows, config, 2)?;
     let mut answers = Vec::new(alloc);
     for _ in 0..20 {

@@ -3,20 +3,29 @@
 ghost use Rattle.std.specs.Prelude.{◌≡◌, ◌≤◌, ◌++◌, ◌∷◌, [], false, All, OnOk};
 ghost use Rattle.tariff_core.specs.declared.times.TheConstants.{HORIZON};
 
+use cap_values::ScfOp;
 use runs_core::Driver;
 use std::alloc::{AllocError, Global};
 use workers_core::{Answer, Body};
 use tariff_core::HORIZON;
 
-/// Gives one or two bodies in each round, all at moment 0, and counts the answers and the strays
-/// among them. It takes an answer only with the number of its post.
+/// What an answer says.
+#[derive(Clone, Copy, Debug, PartialEq, Eq)]
+pub(crate) struct Heard {
+    /// Whether its post was a stray.
+    pub stray: bool,
+    /// The last operation that the call's gsmSSF is sent.
+    pub last: Option<ScfOp>,
+}
+
+/// Gives one or two bodies in each round, all at moment 0, and keeps what the answers say. It takes
+/// an answer only with the number of its post.
 #[derive(Drop)]
 pub(crate) struct Rounds<'a> {
     rounds: &'a [(Body, Option<Body>)],
     played: usize,
     given: Vec<(u64, Body)>,
-    answered: usize,
-    strays: usize,
+    heard: Vec<Heard>,
     ended: bool,
     ghost in_range: { All (λ item. item.0 ≤ HORIZON) given.items },
 }
@@ -30,27 +39,19 @@ impl<'a> Rounds<'a> {
             rounds,
             played: 0,
             given: Vec::new(alloc),
-            answered: 0,
-            strays: 0,
+            heard: Vec::new(alloc),
             ended: false,
         }
     }
 
-    /// How many answers it has got.
-    pub(crate) fn answered(&self) -> usize {
-        self.answered
+    /// What the answers said that it has got.
+    pub(crate) fn heard(&self) -> &[Heard] {
+        self.heard.as_slice()
     }
 
     /// How many of these were of strays.
     pub(crate) fn strays(&self) -> usize {
-        self.strays
-    }
-
-    fn hear(&mut self, answers: &[Answer])
-        ensures given { self.new.given ≡ self.old.given }
-    {
-        self.answered = taken_in_turn(self.answered, answers);
-        self.strays = self.strays.saturating_add(strays_among(answers));
+        self.heard.iter().filter(|heard| heard.stray).count()
     }
 
     fn give(&mut self, body: Body) -> Result<(), AllocError>
@@ -62,19 +63,17 @@ impl<'a> Rounds<'a> {
     }
 }
 
-/// How many answers were taken, when each of these was that has the next number.
-fn taken_in_turn(taken: usize, answers: &[Answer]) -> usize {
-    let mut next = taken;
+/// Keeps what answers say, each where it has the next number.
+fn hear(heard: &mut Vec<Heard>, answers: &[Answer]) -> Result<(), AllocError> {
     for answer in answers {
-        if answer.number == next as u64 {
-            next = next.saturating_add(1);
+        if answer.number == heard.len() as u64 {
+            heard.push(Heard {
+                stray: answer.stray,
+                last: answer.ops.last().copied(),
+            })?;
         }
     }
-    next
-}
-
-fn strays_among(answers: &[Answer]) -> usize {
-    answers.iter().filter(|answer| answer.stray).count()
+    Ok(())
 }
 
 impl Driver for Rounds<'_> {
@@ -95,7 +94,7 @@ impl Driver for Rounds<'_> {
     }
 
     fn round(&mut self, answers: &[Answer]) -> Result<bool, AllocError> {
-        self.hear(answers);
+        hear(&mut self.heard, answers)?;
         if self.played >= self.rounds.len() {
             self.ended = true;
             return Ok(false);

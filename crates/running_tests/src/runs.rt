@@ -48,7 +48,7 @@ fn play<R: Wait + Threads + Sync, G: Gate + Sync>(
     let books = serve(rt, alloc, &setup, &mut driver, workers, gate);
     Ok(Played {
         books,
-        answered: driver.answered(),
+        answered: driver.heard().len(),
         strays: driver.strays(),
     })
 }
@@ -64,7 +64,7 @@ fn play_over_locks<R: Wait + Threads + Sync>(
     let books = serve_over::<_, SharedAccount, _, _>(rt, alloc, &setup, &mut driver, 2, &OpenGate);
     Ok(Played {
         books,
-        answered: driver.answered(),
+        answered: driver.heard().len(),
         strays: driver.strays(),
     })
 }
@@ -95,14 +95,14 @@ fn there_are_1_to_16_workers(rt: HostRuntime) -> Result<(), Fail> {
 }
 
 /// The entries in the book of account 7.
-fn entries_of(books: &Books) -> &[Entry] {
+pub(crate) fn entries_of(books: &Books) -> &[Entry] {
     match books.books.first() {
         Some(book) => book.history(),
         None => &[],
     }
 }
 
-fn granted(units: u32, last: bool, available: u64) -> Reply {
+pub(crate) fn granted(units: u32, last: bool, available: u64) -> Reply {
     Reply::Granted {
         units,
         last,
@@ -111,7 +111,12 @@ fn granted(units: u32, last: bool, available: u64) -> Reply {
 }
 
 /// Compares the replies of entries, and whether the first two are of one call.
-fn expect_entries(rt: &impl Abort, entries: &[Entry], replies: &[Reply], is_one_call: bool) {
+pub(crate) fn expect_entries(
+    rt: &impl Abort,
+    entries: &[Entry],
+    replies: &[Reply],
+    is_one_call: bool,
+) {
     assert_eq!(rt; entries.len(), replies.len(), "of {entries:?}");
     for (entry, reply) in entries.iter().zip(replies) {
         assert_eq!(rt; entry.reply, *reply, "of {entries:?}");

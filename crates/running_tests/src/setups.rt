@@ -1,11 +1,13 @@
 //! Setups that are made, and setups that aren't.
 
+use account_core::MIN_LIMIT;
 use cap_values::Number;
 use dialogue_core::ServiceConfig;
+use run_texts::read_setup;
 use std::alloc::Global;
 use std::test::Fail;
 use tariff_core::Tariff;
-use workers_core::{RunSetup, SetupFault};
+use workers_core::{Directory, RunSetup, SetupFault};
 
 /// One band for called numbers that begin with 49.
 pub(crate) const BAND: &[u8] = b"prefix,from,fee,rate\n49,00:00,50,1000\n";
@@ -21,6 +23,15 @@ pub(crate) fn set_up(
     let tariff = Tariff::read(alloc, tariff)?;
     let service = ServiceConfig::new(600, 50, 50)?;
     Ok(RunSetup::new(alloc, accounts, subscribers, tariff, service, limit))
+}
+
+/// A directory of these accounts, without subscribers.
+pub(crate) fn list(alloc: Global, accounts: &[(u32, u64)]) -> Result<Directory, Fail> {
+    let mut directory = Directory::new(alloc);
+    for (number, opening) in accounts {
+        directory.account(*number, *opening)?;
+    }
+    Ok(directory)
 }
 
 #[test]
@@ -99,5 +110,55 @@ fn what_was_given_is_found(rt: HostRuntime) -> Result<(), Fail> {
     for (called, is_charged) in [(b"491700002", true), (b"331700002", false)] {
         assert_eq!(rt; setup.tariff().plan(called, 0).is_some(), is_charged);
     }
+    Ok(())
+}
+
+#[test]
+fn a_directory_judges_one_after_another(rt: HostRuntime) -> Result<(), Fail> {
+    let one = Number::new("491700001")?;
+    let most = 1_000_000_000_000_000;
+    let mut directory = list(rt.alloc(), &[(9, 300), (2, 100)])?;
+    let accounts = [
+        (7, most + 1, Err(SetupFault::OutOfRange)),
+        (2, most + 1, Err(SetupFault::OutOfRange)),
+        (2, 100, Err(SetupFault::Repeated)),
+        (7, most, Ok(())),
+    ];
+    for (number, opening, made) in accounts {
+        assert_eq!(rt; directory.account(number, opening), made, "at {number}");
+    }
+    let subscribers = [
+        (8, Err(SetupFault::Unknown)),
+        (7, Ok(())),
+        (8, Err(SetupFault::Repeated)),
+    ];
+    for (account, made) in subscribers {
+        assert_eq!(rt; directory.subscriber(one, account), made, "of {account}");
+    }
+    assert_eq!(rt; directory.account_count(), 3);
+    for (number, is_there) in [(2, true), (7, true), (8, false), (9, true)] {
+        assert_eq!(rt; directory.has_account(number), is_there, "at {number}");
+    }
+    Ok(())
+}
+
+#[test]
+fn a_run_is_set_up_with_what_was_read(rt: HostRuntime) -> Result<(), Fail> {
+    let text = b"kind,key,value\naccount,9,300\nsubscriber,491700001,9\naccount,2,100\n".as_slice();
+    let directory = read_setup(rt.alloc(), text)?;
+    let tariff = Tariff::read(rt.alloc(), BAND)?;
+    let service = ServiceConfig::new(600, 50, 50)?;
+    let setup = RunSetup::of(rt.alloc(), directory, tariff, service, MIN_LIMIT)?;
+    assert_eq!(rt; setup.account_count(), 2);
+    for (place, number, opening) in [(0, 2, 100), (1, 9, 300)] {
+        assert!(rt; place < setup.account_count());
+        assert_eq!(rt;
+            (setup.number(place), setup.opening(place)),
+            (number, opening)
+        );
+    }
+    assert_eq!(rt; setup.account_of(Number::new("491700001")?), Some(9));
+    assert_eq!(rt; setup.account_of(Number::new("49170000")?), None);
+    assert_eq!(rt; setup.limit(), 3);
     Ok(())
 }

@@ -1,10 +1,12 @@
 //! Each fault of the tables of a setup and of a script.
 
+use crate::setups::list;
 use run_texts::{read_script, read_setup};
 use std::alloc::{AllocError, Global};
 use std::process::Abort;
 use std::test::Fail;
 use table_core::{RowFault, RowKind, TableFault};
+use workers_core::Directory;
 use tariff_core::MAX_MONEY;
 
 /// A row's number and its fault, if there is one.
@@ -112,9 +114,9 @@ fn expect_setup<R: Abort>(rt: &R, alloc: Global, text: &str, told: Told) {
 }
 
 /// Compares the first fault of a script.
-fn expect_script<R: Abort>(rt: &R, alloc: Global, text: &str, told: Told) {
+fn expect_script<R: Abort>(rt: &R, alloc: Global, directory: &Directory, text: &str, told: Told) {
     let fault = told.map(|(row, kind)| TableFault::Row(RowFault { row, kind }));
-    let read = read_script(alloc, &[(7, 1500), (9, 0)], text.as_bytes());
+    let read = read_script(alloc, directory, text.as_bytes());
     assert_eq!(rt; read.err(), fault, "of {text:?}");
 }
 
@@ -131,12 +133,19 @@ fn tells_the_first_fault_of_a_table(rt: HostRuntime) -> Result<(), Fail> {
     for text in ["", "kind,key\n", "kind,key,Value\n", "account,7,1\n"] {
         expect_setup(&rt, rt.alloc(), text, Some((1, RowKind::Header)));
     }
+    let directory = list(rt.alloc(), &[(7, 1500), (9, 0)])?;
     for (rows, told) in SCRIPTS {
         let text = format!(in rt.alloc(); "moment,call,what,x,y\n{rows}")?;
-        expect_script(&rt, rt.alloc(), text.as_str(), told);
+        expect_script(&rt, rt.alloc(), &directory, text.as_str(), told);
     }
     for text in ["", "moment,call,what,x\n", "moment,call,what,x,Y\n"] {
-        expect_script(&rt, rt.alloc(), text, Some((1, RowKind::Header)));
+        expect_script(
+            &rt,
+            rt.alloc(),
+            &directory,
+            text,
+            Some((1, RowKind::Header)),
+        );
     }
     Ok(())
 }

@@ -1,5 +1,6 @@
 //! Inputs that are divided, and the tables of their parts that are read.
 
+use crate::setups::list;
 use cap_values::{Leg, Number};
 use run_texts::{Happening, Parts, ScriptRow, divide, read_script, read_setup};
 use ssf_core::BcsmEvent;
@@ -73,10 +74,10 @@ fn reads_a_whole_run(rt: HostRuntime) -> Result<(), Fail> {
     assert_eq!(rt; tariff, band);
     let calling = Number::new("491700001")?;
     let called = Number::new("4930")?;
-    let setup = read_setup(rt.alloc(), setup)?;
-    assert_eq!(rt; setup.accounts.as_slice(), [(7, 1500)].as_slice());
-    assert_eq!(rt; setup.subscribers.as_slice(), [(calling, 7)].as_slice());
-    let rows = read_script(rt.alloc(), setup.accounts.as_slice(), script)?;
+    let directory = read_setup(rt.alloc(), setup)?;
+    assert_eq!(rt; directory.account_count(), 1);
+    assert!(rt; directory.has_account(7));
+    let rows = read_script(rt.alloc(), &directory, script)?;
     let start = Happening::Start {
         call: 1,
         calling,
@@ -110,8 +111,8 @@ const WORDS: [(&str, BcsmEvent); 7] = [
 fn reads_each_word(rt: HostRuntime) -> Result<(), Fail> {
     let script: &[u8] = b"moment,call,what,x,y\n0,18446744073709551615,start,0,123456789012345\n\
 0,,recharge,4294967295,MAX_MONEY\n0,,recharge,007,0\n";
-    let accounts = [(7, 0), (u32::MAX, 0)];
-    let rows = read_script(rt.alloc(), &accounts, script)?;
+    let directory = list(rt.alloc(), &[(7, 0), (u32::MAX, 0)])?;
+    let rows = read_script(rt.alloc(), &directory, script)?;
     let start = Happening::Start {
         call: u64::MAX,
         calling: Number::new("0")?,
@@ -131,7 +132,7 @@ fn reads_each_word(rt: HostRuntime) -> Result<(), Fail> {
         let text = format!(in rt.alloc();
             "moment,call,what,x,y\r\n5,3,start,1,2\r\nLAST_MOMENT,3,{word}"
         )?;
-        let rows = read_script(rt.alloc(), &[], text.as_bytes())?;
+        let rows = read_script(rt.alloc(), &directory, text.as_bytes())?;
         let what = Happening::Meets { call: 3, event };
         let last = rows.as_slice().last().copied();
         assert_eq!(rt; last, Some(row(1_000_000_000_000, what)), "of {word}");
@@ -155,17 +156,19 @@ impl Read for Failing<'_> {
 }
 
 #[test]
-fn tells_a_reader_that_fails(rt: HostRuntime) {
+fn tells_a_reader_that_fails(rt: HostRuntime) -> Result<(), Fail> {
     let setup = b"kind,key,value\naccount,7,1\n";
     for length in 0..setup.len() {
         let bytes = &setup[..length];
         let fault = read_setup(rt.alloc(), Failing { bytes }).err();
         assert_eq!(rt; fault, Some(TableFault::Device), "after {length}");
     }
+    let directory = list(rt.alloc(), &[(7, 1500), (9, 0)])?;
     let script = b"moment,call,what,x,y\n0,,recharge,7,1\n";
     for length in 0..script.len() {
         let bytes = &script[..length];
-        let fault = read_script(rt.alloc(), &[(7, 1500), (9, 0)], Failing { bytes }).err();
+        let fault = read_script(rt.alloc(), &directory, Failing { bytes }).err();
         assert_eq!(rt; fault, Some(TableFault::Device), "after {length}");
     }
+    Ok(())
 }

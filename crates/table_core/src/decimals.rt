@@ -4,10 +4,10 @@ ghost use Rattle.std.specs.Prelude.{◌≡◌, ◌≤◌, true, length, IfSome};
 ghost use Rattle.std.specs.Char.{is_ascii_digit};
 ghost use Rattle.std.specs.List.{list_all};
 ghost use Rattle.std.specs.Str.Parse.{digits_value};
-ghost use Rattle.table_core.specs.Decimals.{decimal_of};
+ghost use Rattle.table_core.specs.Decimals.{decimal_of, is_decimal};
 
 /// The most digits that a decimal may have, leading zeros counted.
-const MOST_DIGITS: usize = 20;
+const MAX_DIGITS: usize = 20;
 
 /// The number that a text of 1 to 20 ASCII digits writes, or none where the text is anything else
 /// or its number is above `most`. Leading zeros are accepted, a sign is not.
@@ -16,7 +16,7 @@ pub fn decimal(text: &[u8], most: u64) -> Option<u64>
     ensures value { result ≡ decimal_of most text.now }
     ensures within { IfSome result (λ number. number ≤ most) }
 {
-    if text.is_empty() || text.len() > MOST_DIGITS || !are_digits(text) {
+    if !is_decimal(text) {
         return None;
     }
     let value = digits_value(text);
@@ -26,7 +26,15 @@ pub fn decimal(text: &[u8], most: u64) -> Option<u64>
     Some(value as u64)
 }
 
-fn are_digits(text: &[u8]) -> bool
+/// Whether a text is 1 to 20 ASCII digits.
+pub fn is_decimal(text: &[u8]) -> bool
+    ensures { result ≡ is_decimal text.now }
+{
+    !text.is_empty() && text.len() <= MAX_DIGITS && are_digits(text)
+}
+
+/// Whether a text has nothing but ASCII digits.
+pub fn are_digits(text: &[u8]) -> bool
     ensures { result ≡ list_all is_ascii_digit text.now }
 {
     text.iter().all(|byte| byte.is_ascii_digit())

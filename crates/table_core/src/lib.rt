@@ -12,7 +12,7 @@ mod printed;
 mod rows;
 mod table;
 
-pub use decimals::decimal;
+pub use decimals::{are_digits, decimal, is_decimal};
 pub use fault::{RowFault, RowKind, TableFault};
 pub use fields::{field, is_blank, is_word, number, optional};
 pub use printed::{printed_decimals_are_read, printed_tables_are_read};

@@ -1,8 +1,6 @@
 //! What the fields of a row say.
 
 ghost use Rattle.std.specs.Prelude.{◌≡◌, ◌<◌, ◌≤◌, IfOk, IfSome};
-ghost use Rattle.std.specs.Char.{is_ascii_digit};
-ghost use Rattle.std.specs.List.{list_all};
 ghost use Rattle.csv.specs.Records.{fields_of};
 ghost use Rattle.tariff_core.specs.Tariff.{Tells, band_of};
 ghost use Rattle.tariff_core.specs.TariffTable.{HasColumns, band_in, free_in, is_prefix, time_of};
@@ -14,7 +12,7 @@ use crate::prefix::{PREFIX_DIGITS, Prefix};
 use crate::row::{Cost, Row};
 use crate::tariff_fault::TariffKind;
 use csv::ByteRecord;
-use table_core::{decimal, field};
+use table_core::{are_digits, decimal, field};
 
 /// The row of these fields, under the older header (0) or the one with free units.
 pub(crate) fn read_row(header: usize, fields: &ByteRecord) -> Result<Row, TariffKind>
@@ -53,12 +51,6 @@ fn is_prefix(text: &[u8]) -> bool
     ensures { result ≡ is_prefix text.now }
 {
     text.len() <= PREFIX_DIGITS && are_digits(text)
-}
-
-fn are_digits(text: &[u8]) -> bool
-    ensures { result ≡ list_all is_ascii_digit text.now }
-{
-    text.iter().all(|byte| byte.is_ascii_digit())
 }
 
 /// The time of day that `HH:MM` writes, in units of 100 ms.

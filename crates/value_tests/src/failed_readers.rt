@@ -36,7 +36,7 @@ fn ends_with_device<R: Read + Drop>(rt: &impl Abort, length: usize, table: &mut 
 
 #[test]
 fn a_tariff_tells_the_row(rt: HostRuntime) {
-    for length in 0..TABLE.len() {
+    for length in 0..=TABLE.len() {
         let bytes = &TABLE[..length];
         let fault = fault_of(rt.alloc(), Failing { bytes });
         let row = 1 + bytes.iter().filter(|byte| **byte == b'\n').count().min(9) as u32;

@@ -3,7 +3,7 @@
 use crate::failing::Failing;
 use crate::looking::gives;
 use std::alloc::Global;
-use std::io::Read;
+use std::io::{self, Read};
 use table_core::{RowFault, RowKind, Table, TableFault, number};
 
 /// What a table comes to: its header, the number of its last row, and the last field of that row.
@@ -73,5 +73,49 @@ fn a_failed_reader_is_no_end(rt: HostRuntime) {
             &read(rt.alloc(), Failing { bytes }),
             &Err(TableFault::Device),
         );
+    }
+}
+
+/// A table without an end, which counts the lines that were begun to be taken of it.
+#[derive(Drop)]
+struct Endless<'a> {
+    rest: &'a [u8],
+    lines: &'a mut u32,
+}
+
+impl Read for Endless<'_> {
+    fn read(&mut self, buf: &mut [u8]) -> io::Result<usize> {
+        if self.rest.is_empty() {
+            self.rest = b"a,b\n";
+            *self.lines = self.lines.saturating_add(1);
+        }
+        self.rest.read(buf)
+    }
+}
+
+/// Reads a table on, past every row that it may have.
+fn read_on<R: Read + Drop>(alloc: Global, reader: R, limit: u16) -> Result<(), TableFault> {
+    let mut table = Table::open(alloc, reader, &[&["a", "b"]], u32::from(limit))?;
+    for _ in 0..20_000 {
+        if !table.next_row()? {
+            break;
+        }
+    }
+    Ok(())
+}
+
+#[test]
+fn no_more_is_read_than_a_table_may_have(rt: HostRuntime) {
+    for &limit in &[0u16, 1, 10_000] {
+        let mut lines = 0;
+        let reader = Endless {
+            rest: b"",
+            lines: &mut lines,
+        };
+        let read = read_on(rt.alloc(), reader, limit);
+        let row = u32::from(limit) + 2;
+        let kind = RowKind::TooManyRows;
+        let fault = TableFault::Row(RowFault { row, kind });
+        gives(&rt, &limit, &(lines, read), &(row, Err(fault)));
     }
 }

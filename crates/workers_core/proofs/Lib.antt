@@ -2,8 +2,8 @@ pub mod Abouts
 pub mod Closes
 pub mod Doings
 pub mod Handling
-pub mod Indexing
 pub mod Judging
+pub mod Listing
 pub mod Orders
 pub mod Parts
 pub mod Placing

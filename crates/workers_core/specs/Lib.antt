@@ -1,8 +1,6 @@
-pub mod Callings
 pub mod Cases
 pub mod Ends
 pub mod Handled
-pub mod Indexes
 pub mod Logs
 pub mod Served
 pub mod SetupFaults

@@ -3,9 +3,9 @@
 
 mod acting;
 mod answer;
-mod calling;
 mod case;
 mod converse;
+mod directory;
 mod inbox;
 mod log;
 mod opening;
@@ -18,11 +18,12 @@ mod worker;
 mod worker_fault;
 
 pub use answer::Answer;
+pub use directory::Directory;
 pub use inbox::{Gone, Inbox};
 pub use opening::{compare, mailbox};
 pub use outbox::Outbox;
 pub use post::{Body, Mail, Post};
-pub use setup::RunSetup;
+pub use setup::{MAX_ACCOUNTS, MAX_SUBSCRIBERS, RunSetup};
 pub use setup_fault::SetupFault;
 pub use worker::Worker;
 pub use worker_fault::WorkerFault;

@@ -15,8 +15,6 @@ returns-clause-books g c =
           (ap (λ p. p.1) kept ∙ ap (λ rows. rows ++ before.left) c.in_ok-player.ensures.taken ∙ c.in_ok-player.ensures.left)
           c.is_played.ensures,
       record {
-        ascending = c.in_ok-setup.setup.accounts;
-        same = c.in_ok-setup.ensures.accounts;
         opened = search rules;
         legal = search rules;
         merged = search rules;

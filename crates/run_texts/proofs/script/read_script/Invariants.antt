@@ -16,7 +16,7 @@ invariant-loop-rows g l = record {
   in_range : All (λ row. row.at ≤ 1000000000000) l.rows.items;
   in_order : are_in_order 0 l.rows.items ≡ true;
   ends : l.last ≡ end_of 0 l.rows.items;
-  so_far : IsRead (script_form l.fn.accounts) g.I.Read.remaining (g.I.Read.remaining l.fn.reader) l.table (earlier_of l.rows.items);
+  so_far : IsRead (script_form l.fn.directory.accounts) g.I.Read.remaining (g.I.Read.remaining l.fn.reader) l.table (earlier_of l.rows.items);
 }
 
 -- a row past the last one that a table may have is refused

@@ -1,4 +1,4 @@
-use Rattle.std.proofs.Common.{◌≡◌, ◌++◌, List, ap, ◌∙◌}
+use Rattle.std.proofs.Common.{◌≡◌, ◌++◌, List, ap, refl, ◌∙◌}
 use Rattle.std.proofs.lemmas.List.{append_assoc}
 use Rattle.running_tests.proofs.rounds.RoundsDriver.round.Goals as goal
 
@@ -14,7 +14,7 @@ two_more one other {old = old} same more again =
 
 pub returns-in_ok-give-2-clause-grows : goal.returns-in_ok-give-2-clause-grows
 returns-in_ok-give-2-clause-grows c =
-    two_more _ _ (ap (λ given. given.items) c.hear.ensures.given) c.in_ok-give.ensures.given c.in_ok-give-2.ensures.given
+    two_more _ _ refl c.in_ok-give.ensures.given c.in_ok-give-2.ensures.given
 
 pub returns-in_default-clause-grows : goal.returns-in_default-clause-grows
-returns-in_default-clause-grows c = one_more _ (ap (λ given. given.items) c.hear.ensures.given) c.in_ok-give.ensures.given
+returns-in_default-clause-grows c = one_more _ refl c.in_ok-give.ensures.given

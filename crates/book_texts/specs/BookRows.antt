@@ -1,0 +1,74 @@
+-- What a row of the table of books says.
+use Rattle.std.specs.Prelude.{◌&&◌, ℕ, Bool, List, Result, Ok, Err, codes, if◌then◌else◌}
+use Rattle.std.specs.Str.{bytes_eq}
+use Rattle.account_core.specs.Events.{Event}
+use Rattle.entry_rows.specs.Column.{is_empty, money_of, number_of, seat_of}
+use Rattle.entry_rows.specs.Columns.{Answer, Operation, answer_at, operation_at}
+use Rattle.entry_rows.specs.Operations.{are_last_empty, asked_in, is_asked_blank}
+use Rattle.entry_rows.specs.Replies.{is_reply_blank, reply_in}
+use Rattle.entry_rows.specs.Words.{op_word_in, reply_word_in}
+use Rattle.table_core.specs.Fields.{field_in}
+use Rattle.table_core.specs.Judging.{after}
+use Rattle.table_core.specs.declared.fault.RowKind.{RowKind}
+use Rattle.table_core.specs.declared.fault.RowKind.TheVariants as kind
+
+-- the columns of a row
+pub record Columns : Type 0 where
+  pub account : List ℕ
+  pub seat : List ℕ
+  pub operation : Operation
+  pub answer : Answer
+
+-- those of a row of 13 fields
+abbrev pub columns_in : List (List ℕ) → Columns
+columns_in fields = record { account = field_in fields 0; seat = field_in fields 1; operation = operation_at fields 2; answer = answer_at fields 9 }
+
+-- what a row says: an account opens with a credit, or has one more entry
+pub data Said : Type 0 where
+  Opens : (account opening : ℕ) → Said
+  Enters : (account : ℕ) (event : Event) → Said
+
+-- what is said, where the columns that must be empty are
+abbrev pub when_blank : Bool → Said → Result Said RowKind
+when_blank blank said = if blank then Ok said else Err kind.Empty
+
+-- the number of an account
+abbrev pub account_of : List ℕ → Result ℕ RowKind
+account_of text = number_of 4294967295 text
+
+-- ---- openings
+
+abbrev pub is_opening : Columns → Bool
+is_opening columns = bytes_eq columns.operation.op (codes "opening")
+
+abbrev pub is_no_answer : Answer → Bool
+is_no_answer a = is_empty a.reply && is_empty a.y1 && is_empty a.y2 && is_empty a.y3
+
+-- all but the account, the word and x1 is empty; the reply is not read as a word
+abbrev pub is_opening_blank : Columns → Bool
+is_opening_blank columns = is_empty columns.seat && is_empty columns.operation.call && are_last_empty columns.operation && is_no_answer columns.answer
+
+-- x1 of an opening is the credit
+unfoldable pub opening_in : Columns → Result Said RowKind
+opening_in columns =
+    after (account_of columns.account) (λ account.
+    after (money_of columns.operation.x1) (λ opening.
+    when_blank (is_opening_blank columns) (Opens account opening)))
+
+-- ---- entries
+
+-- the words are judged first, then the numbers, then the empty columns
+unfoldable pub entry_in : Columns → Result Said RowKind
+entry_in columns =
+    after (op_word_in columns.operation) (λ op_word.
+    after (reply_word_in columns.answer) (λ reply_word.
+    after (account_of columns.account) (λ account.
+    after (seat_of columns.seat) (λ seat.
+    after (asked_in op_word columns.operation) (λ asked.
+    after (reply_in reply_word columns.answer) (λ reply.
+    when_blank (is_asked_blank op_word columns.operation && is_reply_blank reply_word columns.answer)
+    (Enters account (record { seat = seat; asked = asked; reply = reply }))))))))
+
+-- what a row says, wherever it stands
+abbrev pub said_in : Columns → Result Said RowKind
+said_in columns = if is_opening columns then opening_in columns else entry_in columns

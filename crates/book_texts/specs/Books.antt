@@ -1,0 +1,66 @@
+-- The meaning of a table of books: the opening and the history of each account, or the first fault.
+use Rattle.std.specs.Prelude.{ℕ, Option, Some, None, List, [], ◌∷◌, ◌++◌, Result, Ok, Err, codes}
+use Rattle.std.specs.BTreeMap.{insert_entry, is_at}
+use Rattle.std.specs.Map.{lookup, set_value}
+use Rattle.std.specs.Ordering.{nat_cmp}
+use Rattle.account_core.specs.Events.{Event}
+use Rattle.table_core.specs.Judging.{after}
+use Rattle.table_core.specs.Tables.{TableForm, table_form, table_of}
+use Rattle.table_core.specs.declared.fault.RowFault.{RowFault}
+use Rattle.table_core.specs.declared.fault.RowKind.{RowKind}
+use Rattle.table_core.specs.declared.fault.RowKind.TheVariants as kind
+use Rattle.book_texts.specs.BookRows.{Enters, Opens, Said, columns_in, said_in}
+
+-- the opening credit of an account, and its entries, oldest first
+pub record Told : Type 0 where
+  pub opening : ℕ
+  pub history : List Event
+
+-- what is told of each account, by rising number
+abbrev pub Books : Type 0
+Books = List (ℕ × Told)
+
+-- what was told of an account so far
+abbrev pub told_of : ℕ → Books → Option Told
+told_of account books = lookup (is_at (nat_cmp account)) books
+
+-- the books with one account more
+abbrev pub with_opening : ℕ → ℕ → Books → Books
+with_opening account opening books = insert_entry nat_cmp books account (record { opening = opening; history = [] })
+
+-- the books with one entry more of an account
+abbrev pub with_entry : ℕ → Told → Event → Books → Books
+with_entry account told event books = set_value (is_at (nat_cmp account)) books (record told { history = told.history ++ event ∷ [] })
+
+-- an account opens once
+abbrev pub opened : ℕ → ℕ → Books → Option Told → Result Books RowKind
+opened account opening books None = Ok (with_opening account opening books)
+opened account opening books (Some told) = Err kind.Repeated
+
+-- and has entries after that
+abbrev pub entered : ℕ → Event → Books → Option Told → Result Books RowKind
+entered account event books None = Err kind.Unknown
+entered account event books (Some told) = Ok (with_entry account told event books)
+
+-- the books after a row that says this
+abbrev pub judged : Books → Said → Result Books RowKind
+judged books (Opens account opening) = opened account opening books (told_of account books)
+judged books (Enters account event) = entered account event books (told_of account books)
+
+-- the books after a row of 13 fields
+unfoldable pub row_at : Books → List (List ℕ) → Result Books RowKind
+row_at books fields = after (said_in (columns_in fields)) (judged books)
+
+-- `account,seat,op,call,x1,x2,x3,x4,x5,reply,y1,y2,y3`
+abbrev pub books_header : List (List ℕ)
+books_header =
+    codes "account" ∷ codes "seat" ∷ codes "op" ∷ codes "call" ∷ codes "x1" ∷ codes "x2" ∷ codes "x3" ∷ codes "x4" ∷ codes "x5"
+    ∷ codes "reply" ∷ codes "y1" ∷ codes "y2" ∷ codes "y3" ∷ []
+
+-- 1,000,000 rows at most; each says something of an account
+abbrev pub books_form : TableForm Books RowKind RowFault
+books_form = table_form (books_header ∷ []) 1000000 [] (λ header. row_at)
+
+-- the books of a table
+abbrev pub books_of : List (List (List ℕ)) → Result Books RowFault
+books_of rows = table_of books_form rows

@@ -1,0 +1,96 @@
+-- The columns that are printed of an entry are read back.
+use Rattle.std.proofs.Common.{◌≡◌, ℕ, ◌<◌, ◌≤◌, ◌^◌, true, false, Option, Some, None, length, Ok, refl, arith}
+use Rattle.std.specs.Prelude.{◌==◌, IfSome}
+use Rattle.std.specs.Fmt.{decimal}
+use Rattle.std.proofs.lemmas.Bool.Decides.{nat_tests}
+use Rattle.std.proofs.lemmas.Fmt.{decimal_nonempty}
+use Rattle.account_core.specs.Asked.{Credits, Reserves, Returns, Settles}
+use Rattle.account_core.specs.declared.entry.Reply.TheVariants as reply
+use Rattle.table_core.specs.Printed.{DecimalsAreRead}
+use Rattle.tariff_core.specs.declared.time_info.TimeInfo.{TimeInfo}
+use Rattle.tariff_core.specs.declared.time_info.TimeInfo.TheVariants as info
+use Rattle.entry_rows.specs.Column.{any_number_of, interval_of, is_empty, money_of, number_of, optional_rate_of, rate_of, units_of}
+use Rattle.entry_rows.specs.Columns.{number_or_empty, operation_of}
+use Rattle.entry_rows.specs.Fits.{FitsReport, IsInterval, IsMoney, IsRate, IsTime, IsWide}
+use Rattle.entry_rows.specs.Laws.{IsReadAsOp, OperationsAreRead, RepliesAreRead}
+use Rattle.entry_rows.specs.Operations.{reserve_in}
+use Rattle.entry_rows.specs.declared.words.OpWord.TheVariants as op_word
+use Rattle.entry_rows.specs.declared.words.ReplyWord.TheVariants as reply_word
+
+not_empty : (number : ℕ) → number < 2 ^ 64 → is_empty (decimal number) ≡ false
+not_empty number small = let some : 0 < length (decimal number) = decimal_nonempty number small in grind (arith, nat_tests)
+
+module _ (reads : DecimalsAreRead) where
+  -- ---- columns
+
+  number_read : (most number : ℕ) → most < 2 ^ 64 → number ≤ most → number_of most (decimal number) ≡ Ok number
+  number_read most number small within = rw (reads most number small within) refl
+
+  wide : (number : ℕ) → IsWide number → any_number_of (decimal number) ≡ Ok number
+  wide number fits = number_read 18446744073709551615 number (omega arith) fits
+
+  time : (number : ℕ) → IsTime number → units_of (decimal number) ≡ Ok number
+  time number fits = number_read 864000 number (omega arith) fits
+
+  money : (number : ℕ) → IsMoney number → money_of (decimal number) ≡ Ok number
+  money number fits = number_read 1000000000000000 number (omega arith) fits
+
+  rate : (number : ℕ) → IsRate number → rate_of (decimal number) ≡ Ok number
+  rate number fits = number_read 1000000000 number (omega arith) fits
+
+  optional_rate : (number : Option ℕ) → IfSome number IsRate → optional_rate_of (number_or_empty number) ≡ Ok number
+  optional_rate None fits = refl
+  optional_rate (Some number) fits = rw (not_empty number (omega (arith, fits)), rate number fits) refl
+
+  counted : (number : ℕ) → 1 ≤ number → number == 0 ≡ false
+  counted number some = grind (arith, nat_tests)
+
+  interval : (number : Option ℕ) → IfSome number IsInterval → interval_of (number_or_empty number) ≡ Ok number
+  interval None fits = refl
+  interval (Some number) fits = rw (not_empty number (omega (arith, fits.1)), time number fits.1, counted number fits.0) refl
+
+  -- ---- operations
+
+  settle_read : (call number : ℕ) (report : TimeInfo) → IsWide call → IsWide number → FitsReport report
+      → IsReadAsOp (Settles call number report) (operation_of (Settles call number report))
+  settle_read call number (info.NoSwitch t) call_fits number_fits fits = record {
+    word = op_word.SettleNoSwitch;
+    known = refl;
+    read = rw (time t fits, wide call call_fits, wide number number_fits) refl;
+    blank = refl;
+  }
+  settle_read call number (info.Switch since between) call_fits number_fits fits = record {
+    word = op_word.SettleSwitch;
+    known = refl;
+    read = rw (time since fits.0, interval between fits.1, wide call call_fits, wide number number_fits) refl;
+    blank = refl;
+  }
+
+  pub operations_read : OperationsAreRead
+  unfolding reserve_in
+  operations_read (Credits amount) fits = record { word = op_word.Credit; known = refl; read = rw (money amount fits) refl; blank = refl }
+  operations_read (Reserves call plan wanted least) fits = record {
+    word = op_word.Reserve;
+    known = refl;
+    read = rw (wide call fits.0, rate plan.fee fits.1.fee, rate plan.before fits.1.first, optional_rate plan.after fits.1.second, time wanted fits.2, time least fits.3) refl;
+    blank = refl;
+  }
+  operations_read (Settles call number report) fits = settle_read call number report fits.0 fits.1 fits.2
+  operations_read (Returns call) fits = record { word = op_word.Return; known = refl; read = rw (wide call fits) refl; blank = refl }
+
+  -- ---- replies
+
+  pub replies_read : RepliesAreRead
+  replies_read (reply.Credited available) fits = record { word = reply_word.Credited; known = refl; read = rw (money available fits) refl; blank = refl }
+  replies_read (reply.CreditOver available) fits = record { word = reply_word.CreditOver; known = refl; read = rw (money available fits) refl; blank = refl }
+  replies_read (reply.Granted units true available) fits =
+      record { word = reply_word.GrantedLast; known = refl; read = rw (money available fits.1, time units fits.0) refl; blank = refl }
+  replies_read (reply.Granted units false available) fits =
+      record { word = reply_word.GrantedMore; known = refl; read = rw (money available fits.1, time units fits.0) refl; blank = refl }
+  replies_read (reply.Denied available) fits = record { word = reply_word.Denied; known = refl; read = rw (money available fits) refl; blank = refl }
+  replies_read (reply.Settled paid available) fits =
+      record { word = reply_word.Settled; known = refl; read = rw (money available fits.1, money paid fits.0) refl; blank = refl }
+  replies_read (reply.Forfeit paid available) fits =
+      record { word = reply_word.Forfeit; known = refl; read = rw (money available fits.1, money paid fits.0) refl; blank = refl }
+  replies_read (reply.Returned paid available) fits =
+      record { word = reply_word.Returned; known = refl; read = rw (money available fits.1, money paid fits.0) refl; blank = refl }

@@ -1,0 +1,54 @@
+-- What stands in one column: a word, nothing, or a number in its range.
+use Rattle.std.specs.Prelude.{◌==◌, ℕ, Bool, Option, Some, None, List, length, Result, Ok, Err, ok_or, if◌then◌else◌}
+use Rattle.table_core.specs.Decimals.{decimal_of}
+use Rattle.table_core.specs.Fields.{present}
+use Rattle.table_core.specs.Judging.{after}
+use Rattle.table_core.specs.declared.fault.RowKind.{RowKind}
+use Rattle.table_core.specs.declared.fault.RowKind.TheVariants as kind
+use Rattle.tariff_core.specs.declared.money.TheConstants.{MAX_MONEY}
+use Rattle.tariff_core.specs.declared.plan.TheConstants.{MAX_RATE}
+use Rattle.tariff_core.specs.declared.times.TheConstants.{DAY}
+
+-- whether a column is empty
+abbrev pub is_empty : List ℕ → Bool
+is_empty text = length text == 0
+
+-- the number in a column, from 0 to `most`
+abbrev pub number_of : ℕ → List ℕ → Result ℕ RowKind
+number_of most text = ok_or (decimal_of most text) kind.Number
+
+-- the same of a column that may be empty
+abbrev pub optional_of : ℕ → List ℕ → Result (Option ℕ) RowKind
+optional_of most text = if is_empty text then Ok None else present (number_of most text)
+
+-- a seat, 0 to 15
+abbrev pub seat_of : List ℕ → Result ℕ RowKind
+seat_of text = number_of 15 text
+
+-- any number of 64 bits
+abbrev pub any_number_of : List ℕ → Result ℕ RowKind
+any_number_of text = number_of 18446744073709551615 text
+
+-- a time of a day at most
+abbrev pub units_of : List ℕ → Result ℕ RowKind
+units_of text = number_of DAY text
+
+-- money: 0 to 10^15
+abbrev pub money_of : List ℕ → Result ℕ RowKind
+money_of text = number_of MAX_MONEY text
+
+-- a fee or a rate
+abbrev pub rate_of : List ℕ → Result ℕ RowKind
+rate_of text = number_of MAX_RATE text
+
+-- a rate that there may not be
+abbrev pub optional_rate_of : List ℕ → Result (Option ℕ) RowKind
+optional_rate_of text = optional_of MAX_RATE text
+
+-- an interval, which is at least 1 where there is one
+abbrev pub counted_interval : Option ℕ → Result (Option ℕ) RowKind
+counted_interval None = Ok None
+counted_interval (Some interval) = if interval == 0 then Err kind.Number else Ok (Some interval)
+
+abbrev pub interval_of : List ℕ → Result (Option ℕ) RowKind
+interval_of text = after (optional_of DAY text) counted_interval

@@ -1,0 +1,97 @@
+-- The columns of an entry: what is asked, and what is answered.
+use Rattle.std.specs.Prelude.{◌+◌, ℕ, true, false, Option, Some, None, List, [], ◌++◌, codes}
+use Rattle.std.specs.Fmt.{decimal}
+use Rattle.tariff_core.specs.declared.time_info.TimeInfo.{TimeInfo}
+use Rattle.tariff_core.specs.declared.time_info.TimeInfo.TheVariants as info
+use Rattle.account_core.specs.Asked.{Asked, Credits, Reserves, Returns, Settles}
+use Rattle.account_core.specs.declared.entry.Reply.{Reply}
+use Rattle.account_core.specs.declared.entry.Reply.TheVariants as reply
+use Rattle.table_core.specs.Fields.{field_in}
+
+-- what is asked, and with what
+pub record Operation : Type 0 where
+  pub op : List ℕ
+  pub call : List ℕ
+  pub x1 : List ℕ
+  pub x2 : List ℕ
+  pub x3 : List ℕ
+  pub x4 : List ℕ
+  pub x5 : List ℕ
+
+-- what is answered
+pub record Answer : Type 0 where
+  pub reply : List ℕ
+  pub y1 : List ℕ
+  pub y2 : List ℕ
+  pub y3 : List ℕ
+
+-- the columns of an operation, and of an answer, in the fields of a row, where their word stands at a place
+abbrev pub operation_at : List (List ℕ) → ℕ → Operation
+operation_at fields at = record {
+  op = field_in fields at;
+  call = field_in fields (at + 1);
+  x1 = field_in fields (at + 2);
+  x2 = field_in fields (at + 3);
+  x3 = field_in fields (at + 4);
+  x4 = field_in fields (at + 5);
+  x5 = field_in fields (at + 6);
+}
+
+abbrev pub answer_at : List (List ℕ) → ℕ → Answer
+answer_at fields at = record {
+  reply = field_in fields at;
+  y1 = field_in fields (at + 1);
+  y2 = field_in fields (at + 2);
+  y3 = field_in fields (at + 3);
+}
+
+-- a field that isn't named is empty
+abbrev pub no_operation : Operation
+no_operation = record { op = []; call = []; x1 = []; x2 = []; x3 = []; x4 = []; x5 = [] }
+
+abbrev pub no_answer : Answer
+no_answer = record { reply = []; y1 = []; y2 = []; y3 = [] }
+
+-- a number where there is one
+abbrev pub number_or_empty : Option ℕ → List ℕ
+number_or_empty None = []
+number_or_empty (Some number) = decimal number
+
+-- the opening credit stands where an operation would
+abbrev pub opening_of : ℕ → Operation
+opening_of opening = record no_operation { op = codes "opening"; x1 = decimal opening }
+
+abbrev pub settle_of : ℕ → ℕ → TimeInfo → Operation
+settle_of call number (info.NoSwitch t) =
+    record no_operation { op = codes "settle"; call = decimal call; x1 = decimal number; x2 = codes "n"; x3 = decimal t }
+settle_of call number (info.Switch since interval) =
+    record no_operation { op = codes "settle"; call = decimal call; x1 = decimal number; x2 = codes "s"; x3 = decimal since; x4 = number_or_empty interval }
+
+abbrev pub operation_of : Asked → Operation
+operation_of (Credits amount) = record no_operation { op = codes "credit"; x1 = decimal amount }
+operation_of (Reserves call plan wanted least) =
+    record { op = codes "reserve"; call = decimal call; x1 = decimal plan.fee; x2 = decimal plan.before; x3 = number_or_empty plan.after; x4 = decimal wanted; x5 = decimal least }
+operation_of (Settles call number info) = settle_of call number info
+operation_of (Returns call) = record no_operation { op = codes "return"; call = decimal call }
+
+abbrev pub answer_of : Reply → Answer
+answer_of (reply.Credited available) = record no_answer { reply = codes "credited"; y3 = decimal available }
+answer_of (reply.CreditOver available) = record no_answer { reply = codes "over"; y3 = decimal available }
+answer_of (reply.Granted units true available) = record { reply = codes "granted"; y1 = decimal units; y2 = codes "last"; y3 = decimal available }
+answer_of (reply.Granted units false available) = record { reply = codes "granted"; y1 = decimal units; y2 = codes "more"; y3 = decimal available }
+answer_of (reply.Denied available) = record no_answer { reply = codes "denied"; y3 = decimal available }
+answer_of (reply.Settled paid available) = record no_answer { reply = codes "settled"; y1 = decimal paid; y3 = decimal available }
+answer_of (reply.Forfeit paid available) = record no_answer { reply = codes "forfeit"; y1 = decimal paid; y3 = decimal available }
+answer_of (reply.Returned paid available) = record no_answer { reply = codes "returned"; y1 = decimal paid; y3 = decimal available }
+
+-- a field, a comma, and what follows
+abbrev pub field : List ℕ → List ℕ → List ℕ
+field text rest = text ++ (codes "," ++ rest)
+
+-- the fields of an operation, each with a comma behind it
+abbrev pub operation_text : Operation → List ℕ
+operation_text o = field o.op (field o.call (field o.x1 (field o.x2 (field o.x3 (field o.x4 (field o.x5 []))))))
+
+-- those of an answer, which end the line
+abbrev pub answer_text : Answer → List ℕ
+answer_text a = field a.reply (field a.y1 (field a.y2 (a.y3 ++ codes "\n")))

@@ -1,0 +1,60 @@
+-- The operations and the replies whose numbers a row may have.
+use Rattle.std.specs.Prelude.{◌≤◌, ℕ, IfSome}
+use Rattle.account_core.specs.Asked.{Asked, Credits, Reserves, Settles, Returns}
+use Rattle.account_core.specs.Events.{Event}
+use Rattle.account_core.specs.declared.entry.Reply.{Reply}
+use Rattle.account_core.specs.declared.entry.Reply.TheVariants as reply
+use Rattle.tariff_core.specs.Rates.{Rates}
+use Rattle.tariff_core.specs.declared.time_info.TimeInfo.{TimeInfo}
+use Rattle.tariff_core.specs.declared.time_info.TimeInfo.TheVariants as info
+use Rattle.tariff_core.specs.declared.money.TheConstants.{MAX_MONEY}
+use Rattle.tariff_core.specs.declared.plan.TheConstants.{MAX_RATE}
+use Rattle.tariff_core.specs.declared.times.TheConstants.{DAY}
+
+-- a number of 64 bits, a time of a day at most, money, a fee or a rate
+abbrev pub IsWide : ℕ → Type 0
+IsWide number = number ≤ 18446744073709551615
+
+abbrev pub IsTime : ℕ → Type 0
+IsTime units = units ≤ DAY
+
+abbrev pub IsMoney : ℕ → Type 0
+IsMoney money = money ≤ MAX_MONEY
+
+abbrev pub IsRate : ℕ → Type 0
+IsRate rate = rate ≤ MAX_RATE
+
+-- an interval before a switch: some time
+abbrev pub IsInterval : ℕ → Type 0
+IsInterval interval = (1 ≤ interval) × (interval ≤ DAY)
+
+-- each number of a plan, of a report, of an operation and of a reply is in its range
+pub record FitsPlan (plan : Rates) : Type 0 where
+  pub fee : IsRate plan.fee
+  pub first : IsRate plan.before
+  pub second : IfSome plan.after IsRate
+
+abbrev pub FitsReport : TimeInfo → Type 0
+FitsReport (info.NoSwitch time) = IsTime time
+FitsReport (info.Switch since interval) = IsTime since × IfSome interval IsInterval
+
+abbrev pub FitsAsked : Asked → Type 0
+FitsAsked (Credits amount) = IsMoney amount
+FitsAsked (Reserves call plan wanted least) = IsWide call × FitsPlan plan × IsTime wanted × IsTime least
+FitsAsked (Settles call number report) = IsWide call × IsWide number × FitsReport report
+FitsAsked (Returns call) = IsWide call
+
+abbrev pub FitsReply : Reply → Type 0
+FitsReply (reply.Credited available) = IsMoney available
+FitsReply (reply.CreditOver available) = IsMoney available
+FitsReply (reply.Granted units last available) = IsTime units × IsMoney available
+FitsReply (reply.Denied available) = IsMoney available
+FitsReply (reply.Settled paid available) = IsMoney paid × IsMoney available
+FitsReply (reply.Forfeit paid available) = IsMoney paid × IsMoney available
+FitsReply (reply.Returned paid available) = IsMoney paid × IsMoney available
+
+-- an entry of one of 16 seats
+pub record FitsEvent (event : Event) : Type 0 where
+  pub seat : event.seat ≤ 15
+  pub asked : FitsAsked event.asked
+  pub reply : FitsReply event.reply

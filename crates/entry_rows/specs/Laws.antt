@@ -1,0 +1,33 @@
+-- What is printed is read back.
+use Rattle.std.specs.Prelude.{◌≡◌, true, Ok}
+use Rattle.account_core.specs.Asked.{Asked}
+use Rattle.account_core.specs.declared.entry.Reply.{Reply}
+use Rattle.entry_rows.specs.Columns.{Answer, Operation, answer_of, operation_of}
+use Rattle.entry_rows.specs.Fits.{FitsAsked, FitsReply}
+use Rattle.entry_rows.specs.Operations.{asked_in, is_asked_blank}
+use Rattle.entry_rows.specs.Replies.{is_reply_blank, reply_in}
+use Rattle.entry_rows.specs.Words.{op_word_in, reply_word_in}
+use Rattle.entry_rows.specs.declared.words.OpWord.{OpWord}
+use Rattle.entry_rows.specs.declared.words.ReplyWord.{ReplyWord}
+
+-- columns are read as an operation: their word is known, their numbers are its own, and the others are empty
+pub record IsReadAsOp (asked : Asked) (columns : Operation) : Type 0 where
+  pub word : OpWord
+  pub known : op_word_in columns ≡ Ok word
+  pub read : asked_in word columns ≡ Ok asked
+  pub blank : is_asked_blank word columns ≡ true
+
+-- the same of a reply
+pub record IsReadAsReply (reply : Reply) (columns : Answer) : Type 0 where
+  pub word : ReplyWord
+  pub known : reply_word_in columns ≡ Ok word
+  pub read : reply_in word columns ≡ Ok reply
+  pub blank : is_reply_blank word columns ≡ true
+
+-- the columns that are printed of an operation are read as it
+abbrev pub OperationsAreRead : Type 0
+OperationsAreRead = (asked : Asked) → FitsAsked asked → IsReadAsOp asked (operation_of asked)
+
+-- the columns that are printed of a reply are read as it
+abbrev pub RepliesAreRead : Type 0
+RepliesAreRead = (reply : Reply) → FitsReply reply → IsReadAsReply reply (answer_of reply)

@@ -1,0 +1,7 @@
+pub mod Column
+pub mod Columns
+pub mod Fits
+pub mod Laws
+pub mod Operations
+pub mod Replies
+pub mod Words

@@ -1,0 +1,66 @@
+-- What the columns of an operation ask, by its word.
+use Rattle.std.specs.Prelude.{◌&&◌, Bool, true, Result, Ok}
+use Rattle.account_core.specs.Asked.{Asked, Credits, Reserves, Settles, Returns}
+use Rattle.table_core.specs.Judging.{after}
+use Rattle.table_core.specs.declared.fault.RowKind.{RowKind}
+use Rattle.tariff_core.specs.declared.time_info.TimeInfo.{TimeInfo}
+use Rattle.tariff_core.specs.declared.time_info.TimeInfo.TheVariants as info
+use Rattle.entry_rows.specs.Column.{any_number_of, interval_of, is_empty, money_of, optional_rate_of, rate_of, units_of}
+use Rattle.entry_rows.specs.Columns.{Operation}
+use Rattle.entry_rows.specs.declared.words.OpWord.{OpWord}
+use Rattle.entry_rows.specs.declared.words.OpWord.TheVariants as word
+
+-- ---- numbers
+
+-- `credit`: x1 the amount
+abbrev pub credit_in : Operation → Result Asked RowKind
+credit_in o = after (money_of o.x1) (λ amount. Ok (Credits amount))
+
+-- `reserve`: the call, x1 to x3 the fee and the rates, x4 the time wanted, x5 the least
+unfoldable pub reserve_in : Operation → Result Asked RowKind
+reserve_in o =
+    after (any_number_of o.call) (λ call.
+    after (rate_of o.x1) (λ fee.
+    after (rate_of o.x2) (λ first.
+    after (optional_rate_of o.x3) (λ second.
+    after (units_of o.x4) (λ wanted.
+    after (units_of o.x5) (λ least.
+    Ok (Reserves call (record { fee = fee; before = first; after = second }) wanted least)))))))
+
+-- x3 of a settle, where its report knows no switch: the time
+abbrev pub no_switch_in : Operation → Result TimeInfo RowKind
+no_switch_in o = after (units_of o.x3) (λ time. Ok (info.NoSwitch time))
+
+-- x3 and x4, where it knows one: the time since the switch, and the one before it
+abbrev pub switch_in : Operation → Result TimeInfo RowKind
+switch_in o = after (units_of o.x3) (λ since. after (interval_of o.x4) (λ interval. Ok (info.Switch since interval)))
+
+-- `settle`: the call, and x1 the number
+abbrev pub settle_in : Operation → TimeInfo → Result Asked RowKind
+settle_in o report = after (any_number_of o.call) (λ call. after (any_number_of o.x1) (λ number. Ok (Settles call number report)))
+
+-- `return`: the call
+abbrev pub return_in : Operation → Result Asked RowKind
+return_in o = after (any_number_of o.call) (λ call. Ok (Returns call))
+
+-- the operation that the word names
+abbrev pub asked_in : OpWord → Operation → Result Asked RowKind
+asked_in word.Credit o = credit_in o
+asked_in word.Reserve o = reserve_in o
+asked_in word.SettleNoSwitch o = after (no_switch_in o) (settle_in o)
+asked_in word.SettleSwitch o = after (switch_in o) (settle_in o)
+asked_in word.Return o = return_in o
+
+-- ---- columns that must be empty
+
+-- x2 to x5 are empty
+abbrev pub are_last_empty : Operation → Bool
+are_last_empty o = is_empty o.x2 && is_empty o.x3 && is_empty o.x4 && is_empty o.x5
+
+-- the columns that the operation doesn't use are empty
+abbrev pub is_asked_blank : OpWord → Operation → Bool
+is_asked_blank word.Credit o = is_empty o.call && are_last_empty o
+is_asked_blank word.Reserve o = true
+is_asked_blank word.SettleNoSwitch o = is_empty o.x4 && is_empty o.x5
+is_asked_blank word.SettleSwitch o = is_empty o.x5
+is_asked_blank word.Return o = is_empty o.x1 && are_last_empty o

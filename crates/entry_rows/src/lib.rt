@@ -1,0 +1,20 @@
+//! The fields of an entry in the row of a table: what is asked of an account, and what it replies.
+//!
+//! They are written here for books, and read here for books and for the operations of `replay`, so
+//! that both forms stand side by side.
+#![tactic(auto)]
+
+mod columns;
+mod laws;
+mod operation;
+mod places;
+mod reply;
+mod seat;
+mod words;
+
+pub use columns::{write_answer, write_operation};
+pub use laws::{operations_are_read, replies_are_read};
+pub use operation::{are_last_blank, is_op_blank, read_op};
+pub use reply::{is_reply_blank, read_reply};
+pub use seat::read_seat;
+pub use words::{OpWord, ReplyWord, read_op_word, read_reply_word};

@@ -1,0 +1,156 @@
+//! An operation in the fields of a row: its word, its call, and x1 to x5.
+
+ghost use Rattle.std.specs.Prelude.{◌≡◌, ◌+◌, ◌<◌, ◌≤◌, length};
+ghost use Rattle.std.specs.Result.{result_map_both};
+ghost use Rattle.csv.specs.Records.{fields_of};
+ghost use Rattle.table_core.specs.Fields.{field_in};
+ghost use Rattle.account_core.specs.Events.{asked_of};
+ghost use Rattle.entry_rows.specs.Column.{interval_of, units_of};
+ghost use Rattle.entry_rows.specs.Columns.{operation_at};
+ghost use Rattle.entry_rows.specs.Operations.{are_last_empty, asked_in, credit_in, is_asked_blank, no_switch_in, reserve_in, return_in, settle_in, switch_in};
+
+use crate::places::{CALL, X1, X2, X3, X4, X5};
+use crate::words::OpWord;
+use account_core::Op;
+use csv::ByteRecord;
+use table_core::{RowKind, is_blank, number, optional};
+use tariff_core::{DAY, MAX_MONEY, MAX_RATE, Plan, TimeInfo};
+
+/// The operation of this word whose columns begin at `at`; else `Number`. The columns that must be
+/// empty aren't judged.
+pub fn read_op(row: &ByteRecord, at: usize, word: OpWord) -> Result<Op, RowKind>
+    requires table { at ≤ 16 }
+    requires fields { at + 6 < length (fields_of row.now) }
+    ensures { result_map_both asked_of (λ kind. kind) result
+        ≡ asked_in word (operation_at (fields_of row.now) at) }
+{
+    match word {
+        OpWord::Credit => read_credit(row, at),
+        OpWord::Reserve => read_reserve(row, at),
+        OpWord::SettleNoSwitch => read_settle(row, at, read_no_switch(row, at)?),
+        OpWord::SettleSwitch => read_settle(row, at, read_switch(row, at)?),
+        OpWord::Return => read_return(row, at),
+    }
+}
+
+fn read_credit(row: &ByteRecord, at: usize) -> Result<Op, RowKind>
+    requires table { at ≤ 16 }
+    requires fields { at + 6 < length (fields_of row.now) }
+    ensures { result_map_both asked_of (λ kind. kind) result
+        ≡ credit_in (operation_at (fields_of row.now) at) }
+{
+    let amount = number(row, at + X1, MAX_MONEY)?;
+    Ok(Op::Credit { amount })
+}
+
+#[tactic(auto, unfolding(crate::specs::Operations::reserve_in))]
+fn read_reserve(row: &ByteRecord, at: usize) -> Result<Op, RowKind>
+    requires table { at ≤ 16 }
+    requires fields { at + 6 < length (fields_of row.now) }
+    ensures { result_map_both asked_of (λ kind. kind) result
+        ≡ reserve_in (operation_at (fields_of row.now) at) }
+{
+    let call = number(row, at + CALL, u64::MAX)?;
+    let fee = number(row, at + X1, MAX_RATE)?;
+    let before = number(row, at + X2, MAX_RATE)?;
+    let after = optional(row, at + X3, MAX_RATE)?;
+    let wanted = read_units(row, at + X4)?;
+    let least = read_units(row, at + X5)?;
+    match Plan::new(fee, before, after) {
+        Ok(plan) => Ok(Op::Reserve {
+            call,
+            plan,
+            wanted,
+            least,
+        }),
+        Err(_) => Err(RowKind::Number),
+    }
+}
+
+fn read_settle(row: &ByteRecord, at: usize, info: TimeInfo) -> Result<Op, RowKind>
+    requires table { at ≤ 16 }
+    requires fields { at + 6 < length (fields_of row.now) }
+    ensures { result_map_both asked_of (λ kind. kind) result
+        ≡ settle_in (operation_at (fields_of row.now) at) info }
+{
+    let call = number(row, at + CALL, u64::MAX)?;
+    let number = number(row, at + X1, u64::MAX)?;
+    Ok(Op::Settle { call, number, info })
+}
+
+fn read_no_switch(row: &ByteRecord, at: usize) -> Result<TimeInfo, RowKind>
+    requires table { at ≤ 16 }
+    requires fields { at + 6 < length (fields_of row.now) }
+    ensures { result ≡ no_switch_in (operation_at (fields_of row.now) at) }
+{
+    let t = read_units(row, at + X3)?;
+    Ok(TimeInfo::NoSwitch { t })
+}
+
+fn read_switch(row: &ByteRecord, at: usize) -> Result<TimeInfo, RowKind>
+    requires table { at ≤ 16 }
+    requires fields { at + 6 < length (fields_of row.now) }
+    ensures { result ≡ switch_in (operation_at (fields_of row.now) at) }
+{
+    let since = read_units(row, at + X3)?;
+    let interval = read_interval(row, at + X4)?;
+    Ok(TimeInfo::Switch { since, interval })
+}
+
+fn read_return(row: &ByteRecord, at: usize) -> Result<Op, RowKind>
+    requires table { at ≤ 16 }
+    requires fields { at + 6 < length (fields_of row.now) }
+    ensures { result_map_both asked_of (λ kind. kind) result
+        ≡ return_in (operation_at (fields_of row.now) at) }
+{
+    let call = number(row, at + CALL, u64::MAX)?;
+    Ok(Op::Return { call })
+}
+
+/// The time in the field at `place`, 0 to a day in units of 100 ms; else `Number`.
+pub(crate) fn read_units(row: &ByteRecord, place: usize) -> Result<u32, RowKind>
+    requires { place < length (fields_of row.now) }
+    ensures { result ≡ units_of (field_in (fields_of row.now) place) }
+{
+    let units = number(row, place, u64::from(DAY))?;
+    Ok(units as u32)
+}
+
+/// The same of a time that is at least 1, or none where the field is empty.
+fn read_interval(row: &ByteRecord, place: usize) -> Result<Option<u32>, RowKind>
+    requires { place < length (fields_of row.now) }
+    ensures { result ≡ interval_of (field_in (fields_of row.now) place) }
+{
+    match optional(row, place, u64::from(DAY))? {
+        Some(0) => Err(RowKind::Number),
+        Some(interval) => Ok(Some(interval as u32)),
+        None => Ok(None),
+    }
+}
+
+/// Whether the columns are empty that this operation, whose columns begin at `at`, doesn't use.
+pub fn is_op_blank(row: &ByteRecord, at: usize, word: OpWord) -> bool
+    requires table { at ≤ 16 }
+    requires fields { at + 6 < length (fields_of row.now) }
+    ensures { result ≡ is_asked_blank word (operation_at (fields_of row.now) at) }
+{
+    match word {
+        OpWord::Credit => is_blank(row, at + CALL) && are_last_blank(row, at),
+        OpWord::Reserve => true,
+        OpWord::SettleNoSwitch => is_blank(row, at + X4) && is_blank(row, at + X5),
+        OpWord::SettleSwitch => is_blank(row, at + X5),
+        OpWord::Return => is_blank(row, at + X1) && are_last_blank(row, at),
+    }
+}
+
+/// Whether x2 to x5 are empty of an operation whose columns begin at `at`.
+pub fn are_last_blank(row: &ByteRecord, at: usize) -> bool
+    requires table { at ≤ 16 }
+    requires fields { at + 6 < length (fields_of row.now) }
+    ensures { result ≡ are_last_empty (operation_at (fields_of row.now) at) }
+{
+    is_blank(row, at + X2)
+        && is_blank(row, at + X3)
+        && is_blank(row, at + X4)
+        && is_blank(row, at + X5)
+}

@@ -1,0 +1,117 @@
+//! The words of operations and of replies, each matched once a row.
+
+ghost use Rattle.std.specs.Prelude.{◌≡◌, ◌+◌, ◌<◌, ◌≤◌, length};
+ghost use Rattle.csv.specs.Records.{fields_of};
+ghost use Rattle.table_core.specs.Fields.{field_in};
+ghost use Rattle.entry_rows.specs.Columns.{answer_at, operation_at};
+ghost use Rattle.entry_rows.specs.Words.{granted_word_in, op_word_in, reply_word_in, report_word_in};
+
+use crate::places::{X2, Y2};
+use csv::ByteRecord;
+use table_core::{RowKind, is_word};
+
+/// The word of an operation, with the word of its report for a settle.
+#[derive(Clone, Copy)]
+pub enum OpWord {
+    /// `credit`
+    Credit,
+    /// `reserve`
+    Reserve,
+    /// `settle`, by a report without a tariff switch, `n`.
+    SettleNoSwitch,
+    /// `settle`, by a report after a tariff switch, `s`.
+    SettleSwitch,
+    /// `return`
+    Return,
+}
+
+/// The word of a reply, with the second word of a grant.
+#[derive(Clone, Copy)]
+pub enum ReplyWord {
+    /// `credited`
+    Credited,
+    /// `over`
+    CreditOver,
+    /// `granted`, and there may be `more`.
+    GrantedMore,
+    /// `granted`, and it is the `last`.
+    GrantedLast,
+    /// `denied`
+    Denied,
+    /// `settled`
+    Settled,
+    /// `forfeit`
+    Forfeit,
+    /// `returned`
+    Returned,
+}
+
+/// The word of the operation whose columns begin at `at`; else `What`.
+pub fn read_op_word(row: &ByteRecord, at: usize) -> Result<OpWord, RowKind>
+    requires table { at ≤ 16 }
+    requires fields { at + 6 < length (fields_of row.now) }
+    ensures { result ≡ op_word_in (operation_at (fields_of row.now) at) }
+{
+    if is_word(row, at, "credit") {
+        Ok(OpWord::Credit)
+    } else if is_word(row, at, "reserve") {
+        Ok(OpWord::Reserve)
+    } else if is_word(row, at, "settle") {
+        read_report_word(row, at + X2)
+    } else if is_word(row, at, "return") {
+        Ok(OpWord::Return)
+    } else {
+        Err(RowKind::What)
+    }
+}
+
+fn read_report_word(row: &ByteRecord, place: usize) -> Result<OpWord, RowKind>
+    requires { place < length (fields_of row.now) }
+    ensures { result ≡ report_word_in (field_in (fields_of row.now) place) }
+{
+    if is_word(row, place, "n") {
+        Ok(OpWord::SettleNoSwitch)
+    } else if is_word(row, place, "s") {
+        Ok(OpWord::SettleSwitch)
+    } else {
+        Err(RowKind::What)
+    }
+}
+
+/// The word of the reply whose columns begin at `at`; else `What`.
+pub fn read_reply_word(row: &ByteRecord, at: usize) -> Result<ReplyWord, RowKind>
+    requires table { at ≤ 16 }
+    requires fields { at + 3 < length (fields_of row.now) }
+    ensures { result ≡ reply_word_in (answer_at (fields_of row.now) at) }
+{
+    if is_word(row, at, "granted") {
+        read_granted_word(row, at + Y2)
+    } else if is_word(row, at, "settled") {
+        Ok(ReplyWord::Settled)
+    } else if is_word(row, at, "returned") {
+        Ok(ReplyWord::Returned)
+    } else if is_word(row, at, "credited") {
+        Ok(ReplyWord::Credited)
+    } else if is_word(row, at, "over") {
+        Ok(ReplyWord::CreditOver)
+    } else if is_word(row, at, "denied") {
+        Ok(ReplyWord::Denied)
+    } else if is_word(row, at, "forfeit") {
+        Ok(ReplyWord::Forfeit)
+    } else {
+        Err(RowKind::What)
+    }
+}
+
+fn read_granted_word(row: &ByteRecord, place: usize) -> Result<ReplyWord, RowKind>
+    requires { place < length (fields_of row.now) }
+    ensures { result ≡ granted_word_in (field_in (fields_of row.now) place) }
+{
+    if is_word(row, place, "more") {
+        Ok(ReplyWord::GrantedMore)
+    } else if is_word(row, place, "last") {
+        Ok(ReplyWord::GrantedLast)
+    } else {
+        Err(RowKind::What)
+    }
+}

@@ -1,0 +1,29 @@
+//! What the program prints.
+
+/// A text that answers what was asked, and the exit status that goes with it.
+#[derive(Drop)]
+pub(crate) struct Answer {
+    /// The text.
+    pub text: String,
+    /// Whether all is right that was asked about; only an audit may find that it isn't.
+    pub passes: bool,
+}
+
+impl Answer {
+    ghost use Rattle.std.specs.Prelude.{◌≡◌, string_bytes};
+    ghost use Rattle.prepaid_command.specs.Tellings.{plain, status_of_telling, telling_of};
+
+    /// A text that finds nothing wrong.
+    pub fn plain(text: String) -> Answer
+        ensures { telling_of result ≡ plain (string_bytes text) }
+    {
+        Answer { text, passes: true }
+    }
+
+    /// The exit status: 0, or 3 where something isn't right.
+    pub fn status(&self) -> u8
+        ensures { result ≡ status_of_telling (telling_of self.now) }
+    {
+        if self.passes { 0 } else { 3 }
+    }
+}
