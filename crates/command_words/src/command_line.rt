@@ -87,10 +87,10 @@ fn price_command<'a>(alloc: Global) -> Result<Command<'a>, AllocError>
     )?;
     let before = required(alloc, "before", "The rate a minute before the switch");
     let command = add(command, before)?;
-    add(
-        command,
-        option(alloc, "after", "The rate a minute after the switch"),
-    )
+    let after = option(alloc, "after", "The rate a minute after the switch");
+    let command = add(command, after)?;
+    let free = "How long the call is free, in units of 100 ms [default: 0]";
+    add(command, option(alloc, "free", free))
 }
 
 #[tactic(auto, unfolding(crate::specs::CommandLine::replay_app))]

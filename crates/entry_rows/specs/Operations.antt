@@ -25,7 +25,7 @@ reserve_in o =
     after (optional_rate_of o.x3) (λ second.
     after (units_of o.x4) (λ wanted.
     after (units_of o.x5) (λ least.
-    Ok (Reserves call (record { fee = fee; before = first; after = second }) wanted least)))))))
+    Ok (Reserves call (record { fee = fee; before = first; after = second; free = 0 }) wanted least)))))))
 
 -- x3 of a settle, where its report knows no switch: the time
 abbrev pub no_switch_in : Operation → Result TimeInfo RowKind

@@ -25,6 +25,7 @@ const REFUSED: [&str; 19] = [
     "price --fee 1000000001 --before 1",
     "price --fee 000000000000000000001 --before 1",
     "price --fee 1 --before 1 --after 1000000001",
+    "price --fee 1 --before 1 --free 864001",
     "price --fee 1 --fee 1 --before 1",
     "price --fee 1 --before 1 more",
     "--version",
