@@ -2,7 +2,6 @@
 
 use crate::program::{PRICE, expect, expect_fault};
 use std::test::Fail;
-use tariff_core::DAY;
 
 /// A rate without a fee.
 const SINGLE: &str = "price --fee 0 --before 1000";
@@ -38,8 +37,8 @@ const PRICED: [(&str, &str, &str); 7] = [
     ),
     (
         "price --fee=0 --before=600",
-        "before,after\nDAY,0\n",
-        "debit DAY total DAY\ntotal DAY\n",
+        "before,after\n864000,0\n",
+        "debit 864000 total 864000\ntotal 864000\n",
     ),
 ];
 

@@ -3,7 +3,6 @@
 use crate::program::{expect, expect_fault};
 use std::alloc::{AllocError, Global};
 use std::test::Fail;
-use tariff_core::MAX_MONEY;
 
 const OPENED: &str = "replay --opening 1500";
 
@@ -50,9 +49,9 @@ const ANSWERED: [(&str, &str, &str); 9] = [
         "granted 600 more available 450\ncredited available 1050\ngranted 600 more available 0\n",
     ),
     (
-        "replay --opening MAX_MONEY",
+        "replay --opening 1000000000000000",
         "0,credit,,1,,,,\n0,credit,,0,,,,\n",
-        "over available MAX_MONEY\nrefused OutOfRange\n",
+        "over available 1000000000000000\nrefused OutOfRange\n",
     ),
     (OPENED, "", ""),
 ];

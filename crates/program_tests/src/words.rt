@@ -3,7 +3,6 @@
 use crate::program::{expect, run};
 use crate::runs::{BAND, input_of};
 use std::test::Fail;
-use tariff_core::DAY;
 
 const ARGUMENTS: &str = "prepaid: arguments\n";
 
@@ -44,7 +43,7 @@ const OPTIONS: [(&str, u8, &str); 39] = [
     ("run --workers 100", 1, ARGUMENTS),
     ("run --wanted 49", 1, CONFIG),
     ("run --wanted 50", 0, ""),
-    ("run --wanted DAY", 0, ""),
+    ("run --wanted 864000", 0, ""),
     ("run --wanted 864001", 1, CONFIG),
     ("run --wanted 99999999999999999999", 1, CONFIG),
     ("run --wanted 18446744073709552216", 1, CONFIG),
@@ -57,7 +56,7 @@ const OPTIONS: [(&str, u8, &str); 39] = [
     ("run --least 4294967346", 1, CONFIG),
     ("run --tssf 0", 1, CONFIG),
     ("run --tssf 1", 0, ""),
-    ("run --tssf DAY", 0, ""),
+    ("run --tssf 864000", 0, ""),
     ("run --tssf 864001", 1, CONFIG),
     ("run --tccd 0", 1, CONFIG),
     ("run --tccd 1", 1, CONFIG),

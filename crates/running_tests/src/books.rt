@@ -36,7 +36,7 @@ account 1 opening 1500 available 0 entries 2
 account 3 opening 1500 available 1650 entries 4
 account 9 opening 1500 available 450 entries 4
 account 12 opening 1600 available 580 entries 3
-account 13 opening MAX_MONEY available MAX_MONEY entries 1
+account 13 opening 1000000000000000 available 1000000000000000 entries 1
 call 1 account 1 paid 0 holding
 call 1 account 9 paid 1050 forfeit
 call 2 account 1 paid 0 holding
@@ -62,8 +62,8 @@ account,seat,op,call,x1,x2,x3,x4,x5,reply,y1,y2,y3
 12,1,reserve,7,50,1000,400,900,50,granted,900,more,50
 12,1,settle,7,2,s,200,502,,settled,1020,,50
 12,1,return,7,,,,,,returned,1020,,580
-13,,opening,,MAX_MONEY,,,,,,,,
-13,0,credit,,1,,,,,over,,,MAX_MONEY
+13,,opening,,1000000000000000,,,,,,,,
+13,0,credit,,1,,,,,over,,,1000000000000000
 ",
 );
 

@@ -7,7 +7,6 @@ use std::process::Abort;
 use std::test::Fail;
 use table_core::{RowFault, RowKind, TableFault};
 use workers_core::Directory;
-use tariff_core::MAX_MONEY;
 
 /// A row's number and its fault, if there is one.
 type Told = Option<(u32, RowKind)>;
@@ -15,7 +14,7 @@ type Told = Option<(u32, RowKind)>;
 /// Setups, their headers left out, and their first fault.
 const SETUPS: [(&str, Told); 27] = [
     ("", None),
-    ("account,0,0\naccount,4294967295,MAX_MONEY", None),
+    ("account,0,0\naccount,4294967295,1000000000000000", None),
     (
         "account,07,1\r\nsubscriber,0,7\r\nsubscriber,00,7\r\n",
         None,

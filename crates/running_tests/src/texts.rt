@@ -7,7 +7,6 @@ use ssf_core::BcsmEvent;
 use std::io::{self, ErrorKind, Read};
 use std::test::Fail;
 use table_core::TableFault;
-use tariff_core::{LAST_MOMENT, MAX_MONEY};
 
 const INPUT: &[u8] = b"prefix,from,fee,rate\n49,00:00,50,1000\n%%\nkind,key,value\naccount,7,1500\n\
 subscriber,491700001,7\n%%\nmoment,call,what,x,y\n0,1,start,491700001,4930\n100,1,answer,,\n\
@@ -110,7 +109,7 @@ const WORDS: [(&str, BcsmEvent); 7] = [
 #[test]
 fn reads_each_word(rt: HostRuntime) -> Result<(), Fail> {
     let script: &[u8] = b"moment,call,what,x,y\n0,18446744073709551615,start,0,123456789012345\n\
-0,,recharge,4294967295,MAX_MONEY\n0,,recharge,007,0\n";
+0,,recharge,4294967295,1000000000000000\n0,,recharge,007,0\n";
     let directory = list(rt.alloc(), &[(7, 0), (u32::MAX, 0)])?;
     let rows = read_script(rt.alloc(), &directory, script)?;
     let start = Happening::Start {
@@ -130,7 +129,7 @@ fn reads_each_word(rt: HostRuntime) -> Result<(), Fail> {
     assert_eq!(rt; rows.as_slice(), want.as_slice());
     for (word, event) in WORDS {
         let text = format!(in rt.alloc();
-            "moment,call,what,x,y\r\n5,3,start,1,2\r\nLAST_MOMENT,3,{word}"
+            "moment,call,what,x,y\r\n5,3,start,1,2\r\n1000000000000,3,{word}"
         )?;
         let rows = read_script(rt.alloc(), &directory, text.as_bytes())?;
         let what = Happening::Meets { call: 3, event };
