@@ -4,5 +4,6 @@ pub mod BookTexts
 pub mod Books
 pub mod Checks
 pub mod Laws
+pub mod Printable
 pub mod RunTexts
 pub mod SaidOf

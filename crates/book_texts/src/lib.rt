@@ -1,5 +1,5 @@
-//! The texts of the books that a run ends with: the lines of accounts and calls, and the table of
-//! all entries.
+//! The texts of books: the lines of the accounts and calls that a run ends with, the table of all
+//! entries, and the audit of such a table.
 #![tactic(auto)]
 
 mod audit;
@@ -11,6 +11,6 @@ mod lines;
 mod table;
 
 pub use audit::{Audit, audit_books};
-pub use laws::books_have_one_text;
+pub use laws::{books_have_one_text, printed_books_are_read};
 pub use lines::run_lines;
 pub use table::book_table;

@@ -1,0 +1,177 @@
+-- The table of books is the lines of plain rows.
+use Rattle.std.proofs.Common.{◌≡◌, ℕ, ◌≤◌, true, false, Option, Some, None, List, [], ◌∷◌, map, refl, sym, append_assoc, arith}
+use Rattle.std.specs.Prelude.{IfSome}
+use Rattle.std.specs.Fmt.{decimal}
+use Rattle.std.specs.List.{All, flat_map}
+use Rattle.std.proofs.lemmas.List.Concat.{flat_map-append}
+use Rattle.std.proofs.lemmas.List.Elements.{All-append, All-cons, All-from_recursion, All-head, All-nil, All-tail}
+use Rattle.csv.specs.Reading.{strip_bom}
+use Rattle.account_core.specs.Asked.{Asked, Credits, Reserves, Returns, Settles}
+use Rattle.account_core.specs.Events.{Event}
+use Rattle.account_core.specs.declared.entry.Reply.{Reply}
+use Rattle.account_core.specs.declared.entry.Reply.TheVariants as reply
+use Rattle.entry_rows.specs.Columns.{Answer, Operation, answer_of, no_answer, number_or_empty, opening_of, operation_of}
+use Rattle.entry_rows.specs.Fits.{FitsAsked, FitsEvent, FitsReply, IsInterval, IsRate}
+use Rattle.shared_account.specs.Closed.{Closed}
+use Rattle.table_core.specs.Printed.{DecimalsArePlain, IsPlain, IsPlainRow, line_of, lines_of}
+use Rattle.table_core.specs.Rows.{Fields}
+use Rattle.tariff_core.specs.declared.time_info.TimeInfo.TheVariants as info
+use Rattle.book_texts.specs.BookTexts.{book_rows, book_text, entry_row, row}
+use Rattle.book_texts.specs.Books.{books_header}
+use Rattle.book_texts.specs.Printable.{FitsBook}
+
+-- ---- fields
+
+abbrev pub row_fields : List ℕ → List ℕ → Operation → Answer → Fields
+row_fields account seat o a = account ∷ seat ∷ o.op ∷ o.call ∷ o.x1 ∷ o.x2 ∷ o.x3 ∷ o.x4 ∷ o.x5 ∷ a.reply ∷ a.y1 ∷ a.y2 ∷ a.y3 ∷ []
+
+abbrev pub entry_fields : ℕ → Event → Fields
+entry_fields account event = row_fields (decimal account) (decimal event.seat) (operation_of event.asked) (answer_of event.reply)
+
+abbrev pub opening_fields : Closed → Fields
+opening_fields book = row_fields (decimal book.account) [] (opening_of book.opening) no_answer
+
+abbrev pub book_fields : Closed → List Fields
+book_fields book = opening_fields book ∷ map (entry_fields book.account) book.history
+
+abbrev pub table_fields : List Closed → List Fields
+table_fields books = books_header ∷ flat_map book_fields books
+
+-- ---- lines
+
+row_line : (account : ℕ) (seat : List ℕ) (o : Operation) (a : Answer) → row account seat o a ≡ line_of (row_fields (decimal account) seat o a)
+row_line account seat o a = simp append_assoc
+
+entry_lines : (account : ℕ) (history : List Event) → flat_map (entry_row account) history ≡ flat_map line_of (map (entry_fields account) history)
+entry_lines account [] = refl
+entry_lines account (event ∷ history) =
+    rw (row_line account (decimal event.seat) (operation_of event.asked) (answer_of event.reply), entry_lines account history) refl
+
+book_lines : (book : Closed) → book_rows book ≡ flat_map line_of (book_fields book)
+book_lines book = rw (row_line book.account [] (opening_of book.opening) no_answer, entry_lines book.account book.history) refl
+
+all_lines : (books : List Closed) → flat_map book_rows books ≡ flat_map line_of (flat_map book_fields books)
+all_lines [] = refl
+all_lines (book ∷ books) =
+    rw (book_lines book, all_lines books) (sym (flat_map-append line_of (book_fields book) (flat_map book_fields books)))
+
+pub text_lines : (books : List Closed) → book_text books ≡ lines_of (table_fields books)
+unfolding book_text
+text_lines books = rw (all_lines books) refl
+
+pub unmarked : (rows : List Fields) → strip_bom (lines_of (books_header ∷ rows)) ≡ lines_of (books_header ∷ rows)
+unfolding strip_bom
+unmarked rows = refl
+
+-- ---- plain fields
+
+pub record IsPlainOperation (o : Operation) : Type 0 where
+  pub op : IsPlain o.op
+  pub call : IsPlain o.call
+  pub x1 : IsPlain o.x1
+  pub x2 : IsPlain o.x2
+  pub x3 : IsPlain o.x3
+  pub x4 : IsPlain o.x4
+  pub x5 : IsPlain o.x5
+
+pub record IsPlainAnswer (a : Answer) : Type 0 where
+  pub reply : IsPlain a.reply
+  pub y1 : IsPlain a.y1
+  pub y2 : IsPlain a.y2
+  pub y3 : IsPlain a.y3
+
+row_plain : (account seat : List ℕ) (o : Operation) (a : Answer) → IsPlain account → IsPlain seat → IsPlainOperation o → IsPlainAnswer a → IsPlainRow (row_fields account seat o a)
+row_plain account seat o a of_account of_seat op answer = record {
+  several = omega arith;
+  plain = All-from_recursion IsPlain (row_fields account seat o a)
+      (of_account, (of_seat, (op.op, (op.call, (op.x1, (op.x2, (op.x3, (op.x4, (op.x5, (answer.reply, (answer.y1, (answer.y2, (answer.y3, tt)))))))))))));
+}
+
+module _ (plain : DecimalsArePlain) where
+  optional_rate : (number : Option ℕ) → IfSome number IsRate → IsPlain (number_or_empty number)
+  optional_rate None fits = refl
+  optional_rate (Some number) fits = plain number (omega (arith, fits))
+
+  optional_interval : (number : Option ℕ) → IfSome number IsInterval → IsPlain (number_or_empty number)
+  optional_interval None fits = refl
+  optional_interval (Some number) fits = plain number (omega (arith, fits.1))
+
+  operation_plain : (asked : Asked) → FitsAsked asked → IsPlainOperation (operation_of asked)
+  operation_plain (Credits amount) fits =
+      record { op = refl; call = refl; x1 = plain amount (omega (arith, fits)); x2 = refl; x3 = refl; x4 = refl; x5 = refl }
+  operation_plain (Reserves call plan wanted least) fits = record {
+    op = refl;
+    call = plain call (omega (arith, fits.0));
+    x1 = plain plan.fee (omega (arith, fits.1.fee));
+    x2 = plain plan.before (omega (arith, fits.1.first));
+    x3 = optional_rate plan.after fits.1.second;
+    x4 = plain wanted (omega (arith, fits.2));
+    x5 = plain least (omega (arith, fits.3));
+  }
+  operation_plain (Settles call number (info.NoSwitch t)) fits = record {
+    op = refl;
+    call = plain call (omega (arith, fits.0));
+    x1 = plain number (omega (arith, fits.1));
+    x2 = refl;
+    x3 = plain t (omega (arith, fits.2));
+    x4 = refl;
+    x5 = refl;
+  }
+  operation_plain (Settles call number (info.Switch since interval)) fits = record {
+    op = refl;
+    call = plain call (omega (arith, fits.0));
+    x1 = plain number (omega (arith, fits.1));
+    x2 = refl;
+    x3 = plain since (omega (arith, fits.2.0));
+    x4 = optional_interval interval fits.2.1;
+    x5 = refl;
+  }
+  operation_plain (Returns call) fits = record { op = refl; call = plain call (omega (arith, fits)); x1 = refl; x2 = refl; x3 = refl; x4 = refl; x5 = refl }
+
+  answer_plain : (answer : Reply) → FitsReply answer → IsPlainAnswer (answer_of answer)
+  answer_plain (reply.Credited available) fits = record { reply = refl; y1 = refl; y2 = refl; y3 = plain available (omega (arith, fits)) }
+  answer_plain (reply.CreditOver available) fits = record { reply = refl; y1 = refl; y2 = refl; y3 = plain available (omega (arith, fits)) }
+  answer_plain (reply.Granted units true available) fits =
+      record { reply = refl; y1 = plain units (omega (arith, fits.0)); y2 = refl; y3 = plain available (omega (arith, fits.1)) }
+  answer_plain (reply.Granted units false available) fits =
+      record { reply = refl; y1 = plain units (omega (arith, fits.0)); y2 = refl; y3 = plain available (omega (arith, fits.1)) }
+  answer_plain (reply.Denied available) fits = record { reply = refl; y1 = refl; y2 = refl; y3 = plain available (omega (arith, fits)) }
+  answer_plain (reply.Settled paid available) fits =
+      record { reply = refl; y1 = plain paid (omega (arith, fits.0)); y2 = refl; y3 = plain available (omega (arith, fits.1)) }
+  answer_plain (reply.Forfeit paid available) fits =
+      record { reply = refl; y1 = plain paid (omega (arith, fits.0)); y2 = refl; y3 = plain available (omega (arith, fits.1)) }
+  answer_plain (reply.Returned paid available) fits =
+      record { reply = refl; y1 = plain paid (omega (arith, fits.0)); y2 = refl; y3 = plain available (omega (arith, fits.1)) }
+
+  -- ---- plain rows
+
+  entries_plain : (account : ℕ) (history : List Event) → account ≤ 4294967295 → All FitsEvent history → All IsPlainRow (map (entry_fields account) history)
+  entries_plain account [] small fit = All-nil IsPlainRow
+  entries_plain account (event ∷ history) small fit =
+      let fits : FitsEvent event = All-head FitsEvent event history fit in
+      All-cons IsPlainRow (entry_fields account event) (map (entry_fields account) history)
+      (row_plain _ _ _ _ (plain account (omega (arith, small))) (plain event.seat (omega (arith, fits.seat))) (operation_plain event.asked fits.asked) (answer_plain event.reply fits.reply))
+      (entries_plain account history small (All-tail FitsEvent event history fit))
+
+  opening_plain : (book : Closed) → FitsBook book → IsPlainRow (opening_fields book)
+  opening_plain book fits =
+      row_plain _ _ _ _ (plain book.account (omega (arith, fits.account))) refl
+      (record { op = refl; call = refl; x1 = plain book.opening (omega (arith, fits.opening)); x2 = refl; x3 = refl; x4 = refl; x5 = refl })
+      (record { reply = refl; y1 = refl; y2 = refl; y3 = refl })
+
+  books_plain : (books : List Closed) → All FitsBook books → All IsPlainRow (flat_map book_fields books)
+  books_plain [] fit = All-nil IsPlainRow
+  books_plain (book ∷ books) fit =
+      let fits : FitsBook book = All-head FitsBook book books fit in
+      All-append IsPlainRow (book_fields book) (flat_map book_fields books)
+      (All-cons IsPlainRow (opening_fields book) (map (entry_fields book.account) book.history) (opening_plain book fits) (entries_plain book.account book.history fits.account fits.history))
+      (books_plain books (All-tail FitsBook book books fit))
+
+  header_plain : IsPlainRow books_header
+  header_plain = record {
+    several = omega arith;
+    plain = All-from_recursion IsPlain books_header (refl, (refl, (refl, (refl, (refl, (refl, (refl, (refl, (refl, (refl, (refl, (refl, (refl, tt)))))))))))));
+  }
+
+  pub table_plain : (books : List Closed) → All FitsBook books → All IsPlainRow (table_fields books)
+  table_plain books fit = All-cons IsPlainRow books_header (flat_map book_fields books) header_plain (books_plain books fit)

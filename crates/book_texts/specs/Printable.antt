@@ -1,0 +1,29 @@
+-- Books that are read back from the table that is printed of them.
+use Rattle.std.specs.Prelude.{◌+◌, ◌≤◌, ℕ, List, [], ◌∷◌, length, map}
+use Rattle.std.specs.List.{All}
+use Rattle.std.specs.List.Sorted.{IsStrictlySortedBy}
+use Rattle.std.specs.Ordering.{nat_cmp}
+use Rattle.entry_rows.specs.Fits.{FitsEvent, IsMoney}
+use Rattle.shared_account.specs.Closed.{Closed}
+use Rattle.book_texts.specs.Books.{Told}
+
+-- each number of a book is in the range of its column
+pub record FitsBook (book : Closed) : Type 0 where
+  pub account : book.account ≤ 4294967295
+  pub opening : IsMoney book.opening
+  pub history : All FitsEvent book.history
+
+-- how many rows books have, the header not counted
+abbrev pub row_count : List Closed → ℕ
+row_count [] = 0
+row_count (book ∷ books) = 1 + length book.history + row_count books
+
+-- books of different accounts, by rising number, whose numbers fit, and that have no more rows than a table may have
+pub record ArePrintable (books : List Closed) : Type 0 where
+  pub rising : IsStrictlySortedBy nat_cmp (map (λ book. book.account) books)
+  pub fit : All FitsBook books
+  pub room : row_count books ≤ 1000000
+
+-- what is told of the account of a book
+abbrev pub told_by : Closed → ℕ × Told
+told_by book = (book.account, record { opening = book.opening; history = book.history })
