@@ -11,7 +11,7 @@ const CONFIG: &str = "prepaid: input: Config\n";
 const WORKERS: &str = "prepaid: run: Workers\n";
 
 /// Words that are no request. Between two spaces stands an empty word.
-const REFUSED: [&str; 19] = [
+const REFUSED: [&str; 20] = [
     "",
     "prices",
     "price",
