@@ -10,6 +10,7 @@ class Plan:
     fee: int
     before: int
     after: "int | None" = None
+    free: int = 0
 
 
 @dataclasses.dataclass(frozen=True)
@@ -23,10 +24,13 @@ class Times:
 
 
 def price(plan, before, after):
-    """Nothing for no time, else the fee and both rates, rounded up once."""
+    """Nothing for no time, else the fee and both rates beyond the free units, rounded up once."""
     if before + after == 0:
         return 0
-    return plan.fee + -(-(before * plan.before + after * (plan.after or 0)) // 600)
+    # the time before the switch uses the free units up first
+    free_after = max(0, plan.free - before)
+    charged = max(0, before - plan.free) * plan.before + max(0, after - free_after) * (plan.after or 0)
+    return plan.fee + -(-charged // 600)
 
 
 def lawful(plan, old, new, granted):
@@ -40,7 +44,8 @@ def lawful(plan, old, new, granted):
 
 
 def ceiling(plan, old, units):
-    """The greatest price over all lawful times: rates only add, so it is at an end of the stretch."""
+    """The greatest price over all lawful times, which is at an end of the stretch: where the switch comes
+    among the free units, it doesn't matter when, and after them each rate only adds."""
     ends = [Times(old.before + units, old.after, old.switched), Times(old.before, old.after + units, True)]
     return max(price(plan, it.before, it.after) for it in ends if lawful(plan, old, it, old.total() + units))
 

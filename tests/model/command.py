@@ -10,7 +10,7 @@ MAX_INPUT = 16_777_216
 NO_LIMIT = 2**32
 ARGUMENTS = Fault("prepaid: arguments")
 TAKEN = {
-    "price": {"--fee", "--before", "--after"},
+    "price": {"--fee", "--before", "--after", "--free"},
     "replay": {"--opening", "--limit"},
     "audit": set(),
     "run": {"--workers", "--wanted", "--least", "--tssf", "--tccd", "--delay", "--default", "--book"},
@@ -63,7 +63,8 @@ def whole(text):
 
 def do_price(given, text):
     after = number(given, "--after", most=MAX_RATE) if "--after" in given else None
-    plan = Plan(number(given, "--fee", most=MAX_RATE), number(given, "--before", most=MAX_RATE), after)
+    fee, before, free = number(given, "--fee", most=MAX_RATE), number(given, "--before", most=MAX_RATE), number(given, "--free", 0, DAY)
+    plan = Plan(fee, before, after, free)
     lines, total = [], 0
     for times in read_reports(whole(text), plan):
         now = price(plan, times.before, times.after)

@@ -3,6 +3,7 @@ import random
 
 from .account import DAY, MAX_MONEY
 from .command import command
+from .tables import BOOK, OPS, TARIFF
 
 # Fields that are wrong in most places, and right at an end of a range in some.
 FIELDS = (
@@ -11,7 +12,6 @@ FIELDS = (
     "|99999999999999999999|000000000000000000001|123456789012345|1234567890123456|24:00|23:59|23:60|8:00|00:00"
 ).split("|")
 BYTES = b'",\r\n%0a\x00\xff\xef'
-BOOK = "account,seat,op,call,x1,x2,x3,x4,x5,reply,y1,y2,y3".split(",")
 OPERATIONS = ["opening", "credit", "reserve", "settle", "return"]
 REPLIES = ["credited", "over", "granted", "denied", "settled", "forfeit", "returned"]
 NUMBERS = ["491700001", "491700002", "4930", "44", "123456789012345", "5"]
@@ -43,10 +43,15 @@ def rate(it):
     return it.choice([0, 1, 7, 400, 600, 1000, 2400, it.randrange(5000), 10**9])
 
 
+def free_units(it):
+    return it.choice([0, 0, 1, 100, 300, 599, 600, it.randrange(1300), DAY - 1, DAY])
+
+
 def prices(it):
     words = ["price", "--fee", it.choice([0, 50, it.randrange(1000), 10**9]), "--before", rate(it)]
     has_after = it.random() < 0.7
     words += ["--after", rate(it)] if has_after else []
+    words += ["--free", DAY + 1 if it.random() < 0.05 else free_units(it)] if it.random() < 0.6 else []
     before = after = 0
     rows = [("before", "after")]
     for _ in range(it.randrange(9)):
@@ -59,22 +64,26 @@ def prices(it):
 def operations(it):
     opening = it.choice([0, 1500, it.randrange(10_000), MAX_MONEY, MAX_MONEY - it.randrange(2000)])
     words = ["replay", "--opening", opening] + (["--limit", it.randrange(3, 12)] if it.random() < 0.5 else [])
-    rows = [("seat", "op", "call", "x1", "x2", "x3", "x4", "x5")]
-    plans = [(it.randrange(100), rate(it), it.choice(["", rate(it)])) for _ in range(2)]
+    header = it.choice(OPS)
+    rows, more = [header], len(header) - len(OPS[0])
+    plans = [(it.randrange(100), rate(it), it.choice(["", rate(it)]), free_units(it)) for _ in range(2)]
     for _ in range(it.randrange(25)):
         seat, call = it.choice([0, 1, 15]), it.choice([1, 1, 2, 3, 2**64 - 1])
         what = it.choice(["credit", "reserve", "reserve", "settle", "settle", "return"])
         time = it.choice([0, 100, 300, 600, 601, it.randrange(1300), DAY])
         if what == "credit":
-            rows.append((seat, what, "", it.choice([0, 1, 600, it.randrange(3000), MAX_MONEY]), "", "", "", ""))
+            x = "", it.choice([0, 1, 600, it.randrange(3000), MAX_MONEY])
         elif what == "reserve":
-            rows.append((seat, what, call, *it.choice(plans), it.choice([0, 1, 600, it.randrange(700), DAY]), it.choice([0, 1, 50, DAY])))
+            *rates, free = it.choice(plans)
+            x = call, *rates, it.choice([0, 1, 600, it.randrange(700), DAY]), it.choice([0, 1, 50, DAY]), *[free][:more]
         elif what == "settle" and it.random() < 0.5:
-            rows.append((seat, what, call, it.randrange(9), "n", time, "", ""))
+            x = call, it.randrange(9), "n", time
         elif what == "settle":
-            rows.append((seat, what, call, it.randrange(9), "s", time, it.choice(["", 1, 200, it.randrange(1, 700)]), ""))
+            x = call, it.randrange(9), "s", time, it.choice(["", 1, 200, it.randrange(1, 700)])
         else:
-            rows.append((seat, what, call, "", "", "", "", ""))
+            x = (call,)
+        row = [seat, what, *x]
+        rows.append(row + [""] * (len(header) - len(row)))
     return list(map(str, words)), table(rows)
 
 
@@ -103,10 +112,13 @@ def runs(it, few=False):
 
 
 def tariff(it):
-    rows, starts = [("prefix", "from", "fee", "rate")], [0]
+    header = it.choice(TARIFF)
+    rows, starts = [header], [0]
     for prefix in it.sample(PREFIXES, it.randrange(1, 4)):
         for start in sorted({0, *(it.randrange(1440) for _ in range(it.choice([0, 0, 1, 2])))}):
-            rows.append((prefix, f"{start // 60:02}:{start % 60:02}", it.choice([0, 50, it.randrange(300)]), rate(it)))
+            free = free_units(it) if it.random() < 0.98 else DAY + 1
+            row = prefix, f"{start // 60:02}:{start % 60:02}", it.choice([0, 50, it.randrange(300)]), rate(it), free
+            rows.append(row[: len(header)])
             starts.append(start * 600)
     return table(rows), starts
 
@@ -148,15 +160,18 @@ def script(it, given, starts, accounts, subscribers):
 
 
 def books(it):
-    """The book of a run, in which a part was altered, or which was told otherwise."""
+    """The book of a run, in which a part was altered, or which was told otherwise or by the older header."""
     words, text = runs(it, few=True)
     status, book, _, _ = command(words if "--book" in words else [*words, "--book"], text)
-    rows = [line.split(",") for line in book.split("\n")[:-1]] if status == 0 else [BOOK]
+    rows = [line.split(",") for line in book.split("\n")[:-1]] if status == 0 else [list(BOOK[1])]
+    if it.random() < 0.3:
+        # without x6, which is in front of the reply and its three columns
+        rows = [row[:-5] + row[-4:] for row in rows]
     for _ in range(it.choice([0, 1, 1, 1, 2])):
         at = it.randrange(1, len(rows)) if len(rows) > 1 else 0
         what = it.randrange(8)
         if what < 4:
-            place = it.choice([i for i, field in enumerate(rows[at]) if field] if it.random() < 0.9 else range(13))
+            place = it.choice([i for i, field in enumerate(rows[at]) if field] if it.random() < 0.9 else range(len(rows[at])))
             rows[at][place] = altered(it, rows[at][place])
         elif what == 4 and at:
             other = it.randrange(1, len(rows))
@@ -167,7 +182,7 @@ def books(it):
             rows.insert(it.randrange(1, len(rows) + 1), list(rows[at]))
         elif at:
             other = it.choice(rows[1:])
-            rows[at][9:], other[9:] = other[9:], rows[at][9:]
+            rows[at][-4:], other[-4:] = other[-4:], rows[at][-4:]
     if it.random() < 0.3:
         # accounts by turns, each in its own order
         left = {}

@@ -6,7 +6,7 @@ from .service import is_stray, talk
 from .switch import Refused, Switch
 from .tables import Fault, route
 
-HEADER = "account,seat,op,call,x1,x2,x3,x4,x5,reply,y1,y2,y3"
+HEADER = "account,seat,op,call,x1,x2,x3,x4,x5,x6,reply,y1,y2,y3"
 
 
 @dataclasses.dataclass
@@ -25,17 +25,17 @@ def shown(it):
 
 
 def op_fields(op):
-    """The fields op to x5 of a row of a book."""
+    """The fields op to x6 of a row of a book."""
     kind = op[0]
     if kind == "credit":
         x = ["", op[1]]
     elif kind == "reserve":
-        x = [op[1], op[2].fee, op[2].before, op[2].after, op[3], op[4]]
+        x = [op[1], op[2].fee, op[2].before, op[2].after, op[3], op[4], op[2].free]
     elif kind == "settle":
         x = [op[1], op[2], *op[3]]
     else:
         x = [op[1]]
-    return ",".join([kind, *map(shown, x + [None] * (6 - len(x)))])
+    return ",".join([kind, *map(shown, x + [None] * (7 - len(x)))])
 
 
 def reply_fields(reply):
@@ -60,7 +60,7 @@ class Run:
         for line in book.splitlines()[1:] if book else []:
             account, seat, *fields = line.split(",")
             if fields and fields[0] != "opening" and account.isdigit() and int(account) in self.orders:
-                self.orders[int(account)].append((seat, ",".join(fields[:7])))
+                self.orders[int(account)].append((seat, ",".join(fields[:8])))
 
     def play(self, script):
         rows = list(script)
@@ -185,7 +185,7 @@ class Run:
     def book(self):
         rows = [HEADER]
         for number, account in self.accounts.items():
-            rows.append(f"{number},,opening,,{account.opening}" + "," * 8)
+            rows.append(f"{number},,opening,,{account.opening}" + "," * 9)
             rows += [f"{number},{seat},{op_fields(op)},{reply_fields(reply)}" for seat, op, reply in account.entries]
         return "".join(f"{it}\n" for it in rows)
 

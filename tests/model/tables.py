@@ -5,8 +5,10 @@ from .account import DAY, MAX_MONEY, Plan, Times, lawful
 
 MAX_RATE = 10**9
 LAST_MOMENT = 10**12
-OPS = ["seat", "op", "call", "x1", "x2", "x3", "x4", "x5"]
-BOOK = ["account", *OPS, "reply", "y1", "y2", "y3"]
+# The headers that a table may have, the older one first.
+OPS = [["seat", "op", "call", "x1", "x2", "x3", "x4", "x5", *more] for more in ([], ["x6"])]
+BOOK = [["account", *ops, "reply", "y1", "y2", "y3"] for ops in OPS]
+TARIFF = [["prefix", "from", "fee", "rate", *more] for more in ([], ["free"])]
 
 
 class Fault(Exception):
@@ -62,11 +64,12 @@ def digits(field):
     return field.decode() if re.fullmatch(rb"[0-9]{1,15}", field) else None
 
 
-def rows_of(part, text, header, most):
-    """Gives (row, fields, fail) of each row after the header, `fail` raising the first of its kinds that holds."""
+def rows_of(part, text, headers, most):
+    """Gives (row, fields, fail) of each row after one of the headers, `fail` raising the first of its kinds that holds."""
     found = records(text)
-    if not found or found[0] != [it.encode() for it in header]:
+    if not found or found[0] not in [[it.encode() for it in header] for header in headers]:
         raise Fault(f"prepaid: {part} row 1: Header")
+    width = len(found[0])
     for row, fields in enumerate(found[1:], 2):
 
         def fail(*kinds, row=row):
@@ -74,14 +77,14 @@ def rows_of(part, text, header, most):
                 if holds:
                     raise Fault(f"prepaid: {part} row {row}: {kind}")
 
-        fail(("Csv", len(fields) != len(header)), ("TooManyRows", row > most + 1))
+        fail(("Csv", len(fields) != width), ("TooManyRows", row > most + 1))
         yield row, fields, fail
 
 
 def read_reports(text, plan):
     """The times of each row, each lawful after the one before with a day granted."""
     read, last = [], Times()
-    for _, fields, fail in rows_of("reports", text, ["before", "after"], 10_000):
+    for _, fields, fail in rows_of("reports", text, [["before", "after"]], 10_000):
         before, after = (decimal(it, DAY) for it in fields)
         fail(("Number", before is None or after is None))
         times = Times(before, after, after > 0)
@@ -92,7 +95,10 @@ def read_reports(text, plan):
 
 
 def operation(op, call, x):
-    """Whether the words of an operation are known, its numbers, the fields that must be empty, and what is asked."""
+    """Whether the words of an operation are known, its numbers, the fields that must be empty, and what is asked.
+
+    x is x1 to x5, or to x6, where a reserve has its free units.
+    """
     word = op.decode("latin-1")
     if word == "credit":
         amount = decimal(x[0], MAX_MONEY)
@@ -101,9 +107,9 @@ def operation(op, call, x):
     if word == "reserve":
         second = None if x[2] == b"" else decimal(x[2], MAX_RATE)
         rates = decimal(x[0], MAX_RATE), decimal(x[1], MAX_RATE), second
-        times = decimal(x[3], DAY), decimal(x[4], DAY)
-        numbers = [number, *rates[:2], 0 if x[2] == b"" else second, *times]
-        return True, numbers, [], ("reserve", number, Plan(*rates), *times)
+        times, free = (decimal(x[3], DAY), decimal(x[4], DAY)), decimal(x[5], DAY) if len(x) > 5 else 0
+        numbers = [number, *rates[:2], 0 if x[2] == b"" else second, *times, free]
+        return True, numbers, [], ("reserve", number, Plan(*rates, free), *times)
     if word == "settle" and x[1] in (b"n", b"s"):
         mail, time = decimal(x[0], 2**64 - 1), decimal(x[2], DAY)
         if x[1] == b"n":
@@ -141,8 +147,8 @@ def read_book(text):
     """The opening of each account, and its entries as (seat, operation, reply)."""
     books = {}
     for _, fields, fail in rows_of("book", text, BOOK, 1_000_000):
-        account, seat, op, call, *x = fields[:9]
-        reply, *y = fields[9:]
+        account, seat, op, call, *x = fields[:-4]
+        reply, *y = fields[-4:]
         number = decimal(account, 2**32 - 1)
         if op == b"opening":
             opening = decimal(x[0], MAX_MONEY)
@@ -159,21 +165,22 @@ def read_book(text):
 
 
 def read_tariff(text):
-    """The bands of each prefix: start, fee, rate, in units of 100 ms and by rising start."""
+    """The bands of each prefix: start, fee, rate, free units, in units of 100 ms and by rising start."""
     bands, first = {}, {}
-    for row, (prefix, start, fee, rate), fail in rows_of("tariff", text, ["prefix", "from", "fee", "rate"], 10_000):
+    for row, (prefix, start, fee, rate, *free), fail in rows_of("tariff", text, TARIFF, 10_000):
         at = re.fullmatch(rb"([01][0-9]|2[0-3]):([0-5][0-9])", start)
         money = decimal(fee, MAX_RATE), decimal(rate, MAX_RATE)
-        fail(("Digits", not re.fullmatch(rb"[0-9]{0,15}", prefix)), ("From", not at), ("Money", None in money))
+        units = decimal(free[0], DAY) if free else 0
+        fail(("Digits", not re.fullmatch(rb"[0-9]{0,15}", prefix)), ("From", not at), ("Money", None in money), ("Free", units is None))
         moment = (int(at[1]) * 60 + int(at[2])) * 600
         of_prefix = bands.setdefault(prefix.decode(), {})
         fail(("Repeated", moment in of_prefix))
         first.setdefault(prefix.decode(), row)
-        of_prefix[moment] = money
+        of_prefix[moment] = *money, units
     for prefix, row in first.items():
         if 0 not in bands[prefix]:
             raise Fault(f"prepaid: tariff row {row}: NoMidnightBand")
-    return {prefix: sorted((start, *money) for start, money in it.items()) for prefix, it in bands.items()}
+    return {prefix: sorted((start, *band) for start, band in it.items()) for prefix, it in bands.items()}
 
 
 def route(tariff, called, now):
@@ -183,17 +190,17 @@ def route(tariff, called, now):
         return None
     bands, time = tariff[prefix], now % DAY
     at = max(i for i, band in enumerate(bands) if band[0] <= time)
-    _, fee, rate = bands[at]
+    _, fee, rate, free = bands[at]
     if len(bands) == 1:
-        return Plan(fee, rate), None
-    start, _, second = bands[(at + 1) % len(bands)]
-    return Plan(fee, rate, second), now + ((start - time) % DAY or DAY)
+        return Plan(fee, rate, None, free), None
+    start, _, second, _ = bands[(at + 1) % len(bands)]
+    return Plan(fee, rate, second, free), now + ((start - time) % DAY or DAY)
 
 
 def read_setup(text):
     """The opening of each account, and the account of each subscriber."""
     accounts, subscribers = {}, {}
-    for _, (kind, key, value), fail in rows_of("setup", text, ["kind", "key", "value"], 10_000):
+    for _, (kind, key, value), fail in rows_of("setup", text, [["kind", "key", "value"]], 10_000):
         fail(("TooManyRows", kind == b"account" and len(accounts) == 1000), ("What", kind not in (b"account", b"subscriber")))
         if kind == b"account":
             number, opening = decimal(key, 2**32 - 1), decimal(value, MAX_MONEY)
@@ -213,7 +220,7 @@ WORDS = ("start", "answer", "busy", "noanswer", "routefail", "abandon", "disconn
 def read_script(text, accounts):
     """What happens: (moment, call, word, x, y) of each row."""
     read, started, last = [], set(), 0
-    for _, (moment, call, what, x, y), fail in rows_of("script", text, ["moment", "call", "what", "x", "y"], 1_000_000):
+    for _, (moment, call, what, x, y), fail in rows_of("script", text, [["moment", "call", "what", "x", "y"]], 1_000_000):
         word = what.decode("latin-1")
         fail(("What", word not in WORDS))
         numbers, empty = [decimal(moment, LAST_MOMENT)], []

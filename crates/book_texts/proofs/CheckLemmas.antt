@@ -1,5 +1,5 @@
 -- The checks follow the books, row after row.
-use Rattle.std.proofs.Common.{◌≡◌, ℕ, Bool, true, false, cond, List, [], ◌∷◌, ◌++◌, Option, Some, None, Result, Ok, Err, reverse, refl, sym, ap, ◌∙◌, append_assoc, append-nil}
+use Rattle.std.proofs.Common.{◌≡◌, ◌<◌, ℕ, zero, suc, length, arith, Bool, true, false, cond, List, [], ◌∷◌, ◌++◌, Option, Some, None, Result, Ok, Err, reverse, refl, sym, ap, ◌∙◌, append_assoc, append-nil}
 use Rattle.std.specs.BTreeMap.{insert_entry}
 use Rattle.std.specs.Bool.{Decides}
 use Rattle.std.proofs.lemmas.List.Concat.{flat_map-append}
@@ -20,8 +20,12 @@ use Rattle.table_core.specs.declared.fault.RowFault.{RowFault}
 use Rattle.table_core.specs.declared.fault.RowKind.{RowKind}
 use Rattle.table_core.specs.declared.fault.TableFault.{TableFault}
 use Rattle.table_core.proofs.Known.{map_known}
+use Rattle.table_core.specs.Rows.{Fields}
+use Rattle.table_core.specs.Tables.{width_at}
+use Rattle.entry_rows.specs.Versions.{version_at}
 use Rattle.book_texts.specs.Audits.{AreVerdicts, GivesAudit, verdict_line}
-use Rattle.book_texts.specs.Books.{Books, Told}
+use Rattle.book_texts.specs.BookRows.{HasColumns}
+use Rattle.book_texts.specs.Books.{Books, Told, books_headers}
 use Rattle.book_texts.specs.Checks.{AreChecks, AreSaidBy, Comes, GivesChecks, TellsChecks, audited_by}
 use Rattle.book_texts.specs.declared.audit.Audit.{Audit}
 
@@ -116,6 +120,13 @@ row_taken (Err why) checks never = absurd never
 pub row_refused : (meaning : Result Books RowKind) (checks : List (ℕ × HistoryCheck)) (kind : RowKind) → Comes (Some kind) meaning checks → meaning ≡ Err kind
 row_refused (Ok next) checks kind never = absurd never
 row_refused (Err why) checks kind is = ap (λ k. Err k) (sym is)
+
+-- a row that is as wide as its header has the columns of the header's version
+pub has_columns : (header : ℕ) (fields : Fields) → header < length books_headers → length fields ≡ width_at books_headers header
+    → HasColumns (version_at header) fields
+has_columns zero fields one wide = ((omega (arith, wide), λ other. cc), omega (arith, wide))
+has_columns (suc zero) fields one wide = ((omega (arith, wide), λ two. omega (arith, wide)), omega (arith, wide))
+has_columns (suc (suc header)) fields one wide = absurd (omega (arith, one))
 
 -- a fault that the table's reader passes on is that of the meaning
 pub fault_told : (known : Option (List ℕ)) (answer : Result (BTreeMap ℕ HistoryCheck) TableFault) (why : TableFault) (P : List ℕ → Type 0) (meaning : List ℕ → Result Books RowFault)

@@ -23,7 +23,7 @@ use Rattle.book_texts.specs.Printable.{FitsBook}
 -- ---- fields
 
 abbrev pub row_fields : List ℕ → List ℕ → Operation → Answer → Fields
-row_fields account seat o a = account ∷ seat ∷ o.op ∷ o.call ∷ o.x1 ∷ o.x2 ∷ o.x3 ∷ o.x4 ∷ o.x5 ∷ a.reply ∷ a.y1 ∷ a.y2 ∷ a.y3 ∷ []
+row_fields account seat o a = account ∷ seat ∷ o.op ∷ o.call ∷ o.x1 ∷ o.x2 ∷ o.x3 ∷ o.x4 ∷ o.x5 ∷ o.x6 ∷ a.reply ∷ a.y1 ∷ a.y2 ∷ a.y3 ∷ []
 
 abbrev pub entry_fields : ℕ → Event → Fields
 entry_fields account event = row_fields (decimal account) (decimal event.seat) (operation_of event.asked) (answer_of event.reply)
@@ -73,6 +73,7 @@ pub record IsPlainOperation (o : Operation) : Type 0 where
   pub x3 : IsPlain o.x3
   pub x4 : IsPlain o.x4
   pub x5 : IsPlain o.x5
+  pub x6 : IsPlain o.x6
 
 pub record IsPlainAnswer (a : Answer) : Type 0 where
   pub reply : IsPlain a.reply
@@ -84,7 +85,7 @@ row_plain : (account seat : List ℕ) (o : Operation) (a : Answer) → IsPlain a
 row_plain account seat o a of_account of_seat op answer = record {
   several = omega arith;
   plain = All-from_recursion IsPlain (row_fields account seat o a)
-      (of_account, (of_seat, (op.op, (op.call, (op.x1, (op.x2, (op.x3, (op.x4, (op.x5, (answer.reply, (answer.y1, (answer.y2, (answer.y3, tt)))))))))))));
+      (of_account, (of_seat, (op.op, (op.call, (op.x1, (op.x2, (op.x3, (op.x4, (op.x5, (op.x6, (answer.reply, (answer.y1, (answer.y2, (answer.y3, tt))))))))))))));
 }
 
 module _ (plain : DecimalsArePlain) where
@@ -98,7 +99,7 @@ module _ (plain : DecimalsArePlain) where
 
   operation_plain : (asked : Asked) → FitsAsked asked → IsPlainOperation (operation_of asked)
   operation_plain (Credits amount) fits =
-      record { op = refl; call = refl; x1 = plain amount (omega (arith, fits)); x2 = refl; x3 = refl; x4 = refl; x5 = refl }
+      record { op = refl; call = refl; x1 = plain amount (omega (arith, fits)); x2 = refl; x3 = refl; x4 = refl; x5 = refl; x6 = refl }
   operation_plain (Reserves call plan wanted least) fits = record {
     op = refl;
     call = plain call (omega (arith, fits.0));
@@ -107,6 +108,7 @@ module _ (plain : DecimalsArePlain) where
     x3 = optional_rate plan.after fits.1.second;
     x4 = plain wanted (omega (arith, fits.2));
     x5 = plain least (omega (arith, fits.3));
+    x6 = plain plan.free (omega (arith, fits.1.free));
   }
   operation_plain (Settles call number (info.NoSwitch t)) fits = record {
     op = refl;
@@ -116,6 +118,7 @@ module _ (plain : DecimalsArePlain) where
     x3 = plain t (omega (arith, fits.2));
     x4 = refl;
     x5 = refl;
+    x6 = refl;
   }
   operation_plain (Settles call number (info.Switch since interval)) fits = record {
     op = refl;
@@ -125,8 +128,9 @@ module _ (plain : DecimalsArePlain) where
     x3 = plain since (omega (arith, fits.2.0));
     x4 = optional_interval interval fits.2.1;
     x5 = refl;
+    x6 = refl;
   }
-  operation_plain (Returns call) fits = record { op = refl; call = plain call (omega (arith, fits)); x1 = refl; x2 = refl; x3 = refl; x4 = refl; x5 = refl }
+  operation_plain (Returns call) fits = record { op = refl; call = plain call (omega (arith, fits)); x1 = refl; x2 = refl; x3 = refl; x4 = refl; x5 = refl; x6 = refl }
 
   answer_plain : (answer : Reply) → FitsReply answer → IsPlainAnswer (answer_of answer)
   answer_plain (reply.Credited available) fits = record { reply = refl; y1 = refl; y2 = refl; y3 = plain available (omega (arith, fits)) }
@@ -155,8 +159,8 @@ module _ (plain : DecimalsArePlain) where
 
   opening_plain : (book : Closed) → FitsBook book → IsPlainRow (opening_fields book)
   opening_plain book fits =
-      row_plain _ _ _ _ (plain book.account (omega (arith, fits.account))) refl
-      (record { op = refl; call = refl; x1 = plain book.opening (omega (arith, fits.opening)); x2 = refl; x3 = refl; x4 = refl; x5 = refl })
+      row_plain _ [] (opening_of book.opening) no_answer (plain book.account (omega (arith, fits.account))) refl
+      (record { op = refl; call = refl; x1 = plain book.opening (omega (arith, fits.opening)); x2 = refl; x3 = refl; x4 = refl; x5 = refl; x6 = refl })
       (record { reply = refl; y1 = refl; y2 = refl; y3 = refl })
 
   books_plain : (books : List Closed) → All FitsBook books → All IsPlainRow (flat_map book_fields books)
@@ -170,7 +174,7 @@ module _ (plain : DecimalsArePlain) where
   header_plain : IsPlainRow books_header
   header_plain = record {
     several = omega arith;
-    plain = All-from_recursion IsPlain books_header (refl, (refl, (refl, (refl, (refl, (refl, (refl, (refl, (refl, (refl, (refl, (refl, (refl, tt)))))))))))));
+    plain = All-from_recursion IsPlain books_header (refl, (refl, (refl, (refl, (refl, (refl, (refl, (refl, (refl, (refl, (refl, (refl, (refl, (refl, tt))))))))))))));
   }
 
   pub table_plain : (books : List Closed) → All FitsBook books → All IsPlainRow (table_fields books)

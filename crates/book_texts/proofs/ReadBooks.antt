@@ -15,9 +15,10 @@ use Rattle.account_core.specs.Answers.{IsLegal}
 use Rattle.account_core.specs.Asked.{Asked, Credits, Reserves, Returns, Settles}
 use Rattle.account_core.specs.Events.{Event}
 use Rattle.entry_rows.specs.Column.{money_of, number_of, seat_of}
-use Rattle.entry_rows.specs.Columns.{operation_of}
+use Rattle.entry_rows.specs.Columns.{Answer, answer_of, operation_at, operation_of}
 use Rattle.entry_rows.specs.Fits.{FitsEvent, IsMoney}
 use Rattle.entry_rows.specs.Laws.{OperationsAreRead, RepliesAreRead}
+use Rattle.entry_rows.specs.declared.version.Version.TheVariants as version
 use Rattle.shared_account.specs.Closed.{Closed}
 use Rattle.table_core.specs.Printed.{DecimalsArePlain, DecimalsAreRead, TablesAreRead}
 use Rattle.table_core.specs.Rows.{Fields}
@@ -29,7 +30,7 @@ use Rattle.book_texts.specs.BookRows.{Enters, Opens, account_of, columns_in, ent
 use Rattle.book_texts.specs.Books.{Books, Told, books_form, row_at}
 use Rattle.book_texts.specs.Laws.{BooksAreRead, PrintedBooksPass}
 use Rattle.book_texts.specs.Printable.{ArePrintable, FitsBook, row_count, told_by}
-use Rattle.book_texts.proofs.PrintedRows.{book_fields, entry_fields, opening_fields, table_fields, table_plain, text_lines, unmarked}
+use Rattle.book_texts.proofs.PrintedRows.{book_fields, entry_fields, opening_fields, row_fields, table_fields, table_plain, text_lines, unmarked}
 
 -- ---- the last account of a list that rises
 
@@ -86,10 +87,18 @@ not_opening (Settles call number (info.NoSwitch t)) = refl
 not_opening (Settles call number (info.Switch since interval)) = refl
 not_opening (Returns call) = refl
 
-one_row : (number : ℕ) (books next : Books) (fields : Fields) (rest : List Fields) → length fields ≡ 13 → number ≤ 1000001 → row_at books fields ≡ Ok next
-    → rows_from books_form 0 13 number books (fields ∷ rest) ≡ rows_from books_form 0 13 (number + 1) next rest
+-- what is printed of an operation is its columns in version 2
+same_operation : (account seat : List ℕ) (asked : Asked) (a : Answer) → operation_at version.Two (row_fields account seat (operation_of asked) a) 2 ≡ operation_of asked
+same_operation account seat (Credits amount) a = refl
+same_operation account seat (Reserves call plan wanted least) a = refl
+same_operation account seat (Settles call number (info.NoSwitch t)) a = refl
+same_operation account seat (Settles call number (info.Switch since interval)) a = refl
+same_operation account seat (Returns call) a = refl
+
+one_row : (number : ℕ) (books next : Books) (fields : Fields) (rest : List Fields) → length fields ≡ 14 → number ≤ 1000001 → row_at version.Two books fields ≡ Ok next
+    → rows_from books_form 1 14 number books (fields ∷ rest) ≡ rows_from books_form 1 14 (number + 1) next rest
 unfolding rows_from
-one_row number books next fields rest width within is = rw (no_fault 1000000 13 number fields width within, is) refl
+one_row number books next fields rest width within is = rw (no_fault 1000000 14 number fields width within, is) refl
 
 module _ (reads : DecimalsAreRead) (operations : OperationsAreRead) (replies : RepliesAreRead) where
   number_read : (most number : ℕ) → most < 2 ^ 64 → number ≤ most → number_of most (decimal number) ≡ Ok number
@@ -104,24 +113,24 @@ module _ (reads : DecimalsAreRead) (operations : OperationsAreRead) (replies : R
   money_read : (money : ℕ) → IsMoney money → money_of (decimal money) ≡ Ok money
   money_read money small = number_read 1000000000000000 money (omega arith) small
 
-  entry_said : (account : ℕ) (event : Event) → account ≤ 4294967295 → FitsEvent event → said_in (columns_in (entry_fields account event)) ≡ Ok (Enters account event)
+  entry_said : (account : ℕ) (event : Event) → account ≤ 4294967295 → FitsEvent event → said_in (columns_in version.Two (entry_fields account event)) ≡ Ok (Enters account event)
   unfolding entry_in
   entry_said account event small fits =
       let asked = operations event.asked fits.asked in
       let reply = replies event.reply fits.reply in
-      rw (not_opening event.asked, asked.known, reply.known, account_read account small, seat_read event.seat fits.seat, asked.read, reply.read, asked.blank, reply.blank) refl
+      rw (same_operation (decimal account) (decimal event.seat) event.asked (answer_of event.reply), not_opening event.asked, asked.known, reply.known, account_read account small, seat_read event.seat fits.seat, asked.read, reply.read, asked.blank, reply.blank) refl
 
-  opening_said : (book : Closed) → FitsBook book → said_in (columns_in (opening_fields book)) ≡ Ok (Opens book.account book.opening)
+  opening_said : (book : Closed) → FitsBook book → said_in (columns_in version.Two (opening_fields book)) ≡ Ok (Opens book.account book.opening)
   unfolding opening_in
   opening_said book fits = rw (account_read book.account fits.account, money_read book.opening fits.opening) refl
 
   opening_at : (book : Closed) (front : Books) → FitsBook book → IsAbove book.account front
-      → row_at front (opening_fields book) ≡ Ok (front ++ (book.account, record { opening = book.opening; history = [] }) ∷ [])
+      → row_at version.Two front (opening_fields book) ≡ Ok (front ++ (book.account, record { opening = book.opening; history = [] }) ∷ [])
   unfolding row_at
   opening_at book front fits above = rw (opening_said book fits, not_told book.account front above, opened_last book.account front _ above) refl
 
   entry_at : (account opening : ℕ) (before : List Event) (event : Event) (front : Books) → account ≤ 4294967295 → FitsEvent event → IsAbove account front
-      → row_at (front ++ (account, record { opening = opening; history = before }) ∷ []) (entry_fields account event)
+      → row_at version.Two (front ++ (account, record { opening = opening; history = before }) ∷ []) (entry_fields account event)
       ≡ Ok (front ++ (account, record { opening = opening; history = before ++ event ∷ [] }) ∷ [])
   unfolding row_at
   entry_at account opening before event front small fits above =
@@ -131,8 +140,8 @@ module _ (reads : DecimalsAreRead) (operations : OperationsAreRead) (replies : R
 
   entries_from : (account opening : ℕ) (front : Books) → account ≤ 4294967295 → IsAbove account front → (history before : List Event) (number : ℕ) (rest : List Fields)
       → All FitsEvent history → number + length history ≤ 1000002
-      → rows_from books_form 0 13 number (front ++ (account, record { opening = opening; history = before }) ∷ []) (map (entry_fields account) history ++ rest)
-      ≡ rows_from books_form 0 13 (number + length history) (front ++ (account, record { opening = opening; history = before ++ history }) ∷ []) rest
+      → rows_from books_form 1 14 number (front ++ (account, record { opening = opening; history = before }) ∷ []) (map (entry_fields account) history ++ rest)
+      ≡ rows_from books_form 1 14 (number + length history) (front ++ (account, record { opening = opening; history = before ++ history }) ∷ []) rest
   entries_from account opening front small above [] before number rest fit room = rw (add-zero number, append-nil before) refl
   entries_from account opening front small above (event ∷ history) before number rest fit room =
       let counted : (number + 1) + length history ≡ number + length (event ∷ history) = omega arith in
@@ -142,7 +151,7 @@ module _ (reads : DecimalsAreRead) (operations : OperationsAreRead) (replies : R
       ∙ rw (counted, append_assoc before (event ∷ []) history) at more
 
   books_from : (books : List Closed) (front : Books) (number : ℕ) → AreAbove books front → IsStrictlySortedBy nat_cmp (map (λ book. book.account) books) → All FitsBook books
-      → number + row_count books ≤ 1000002 → rows_from books_form 0 13 number front (flat_map book_fields books) ≡ Ok (front ++ map told_by books)
+      → number + row_count books ≤ 1000002 → rows_from books_form 1 14 number front (flat_map book_fields books) ≡ Ok (front ++ map told_by books)
   unfolding IsStrictlySortedBy rows_from
   books_from [] front number above rising fit room = rw (append-nil front) refl
   books_from (book ∷ books) front number above rising fit room =

@@ -1,12 +1,14 @@
 -- What a row of the table of books says.
-use Rattle.std.specs.Prelude.{◌&&◌, ℕ, Bool, List, Result, Ok, Err, codes, if◌then◌else◌}
+use Rattle.std.specs.Prelude.{◌&&◌, ◌<◌, ◌+◌, ℕ, Bool, List, length, Result, Ok, Err, codes, if◌then◌else◌}
 use Rattle.std.specs.Str.{bytes_eq}
 use Rattle.account_core.specs.Events.{Event}
 use Rattle.entry_rows.specs.Column.{is_empty, money_of, number_of, seat_of}
-use Rattle.entry_rows.specs.Columns.{Answer, Operation, answer_at, operation_at}
+use Rattle.entry_rows.specs.Columns.{Answer, HasOperation, Operation, answer_at, operation_at}
 use Rattle.entry_rows.specs.Operations.{are_last_empty, asked_in, is_asked_blank}
 use Rattle.entry_rows.specs.Replies.{is_reply_blank, reply_in}
+use Rattle.entry_rows.specs.Versions.{width_of}
 use Rattle.entry_rows.specs.Words.{op_word_in, reply_word_in}
+use Rattle.entry_rows.specs.declared.version.Version.{Version}
 use Rattle.table_core.specs.Fields.{field_in}
 use Rattle.table_core.specs.Judging.{after}
 use Rattle.table_core.specs.declared.fault.RowKind.{RowKind}
@@ -19,9 +21,21 @@ pub record Columns : Type 0 where
   pub operation : Operation
   pub answer : Answer
 
--- those of a row of 13 fields
-abbrev pub columns_in : List (List ℕ) → Columns
-columns_in fields = record { account = field_in fields 0; seat = field_in fields 1; operation = operation_at fields 2; answer = answer_at fields 9 }
+-- the place of the reply, behind the operation
+abbrev pub reply_place : Version → ℕ
+reply_place version = 2 + width_of version
+
+-- a row has these columns
+abbrev pub HasColumns : Version → List (List ℕ) → Type 0
+HasColumns version fields = HasOperation version fields 2 × (reply_place version + 3 < length fields)
+
+abbrev pub columns_in : Version → List (List ℕ) → Columns
+columns_in version fields = record {
+  account = field_in fields 0;
+  seat = field_in fields 1;
+  operation = operation_at version fields 2;
+  answer = answer_at fields (reply_place version);
+}
 
 -- what a row says: an account opens with a credit, or has one more entry
 pub data Said : Type 0 where

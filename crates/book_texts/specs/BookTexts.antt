@@ -21,8 +21,8 @@ abbrev pub book_rows : Closed → List ℕ
 book_rows book = opening_row book ++ flat_map (entry_row book.account) book.history
 
 abbrev pub header : List ℕ
-header = codes "account,seat,op,call,x1,x2,x3,x4,x5,reply,y1,y2,y3\n"
+header = codes "account,seat,op,call,x1,x2,x3,x4,x5,x6,reply,y1,y2,y3\n"
 
--- the table of books: a header, and the rows of each book in order
+-- the table of books, version 2: a header, and the rows of each book in order
 unfoldable pub book_text : List Closed → List ℕ
 book_text books = header ++ flat_map book_rows books

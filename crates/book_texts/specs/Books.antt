@@ -4,6 +4,8 @@ use Rattle.std.specs.BTreeMap.{insert_entry, is_at}
 use Rattle.std.specs.Map.{lookup, set_value}
 use Rattle.std.specs.Ordering.{nat_cmp}
 use Rattle.account_core.specs.Events.{Event}
+use Rattle.entry_rows.specs.Versions.{version_at}
+use Rattle.entry_rows.specs.declared.version.Version.{Version}
 use Rattle.table_core.specs.Judging.{after}
 use Rattle.table_core.specs.Tables.{TableForm, table_form, table_of}
 use Rattle.table_core.specs.declared.fault.RowFault.{RowFault}
@@ -47,19 +49,28 @@ abbrev pub judged : Books → Said → Result Books RowKind
 judged books (Opens account opening) = opened account opening books (told_of account books)
 judged books (Enters account event) = entered account event books (told_of account books)
 
--- the books after a row of 13 fields
-unfoldable pub row_at : Books → List (List ℕ) → Result Books RowKind
-row_at books fields = after (said_in (columns_in fields)) (judged books)
+-- the books after a row of a table of this version
+unfoldable pub row_at : Version → Books → List (List ℕ) → Result Books RowKind
+row_at version books fields = after (said_in (columns_in version fields)) (judged books)
 
 -- `account,seat,op,call,x1,x2,x3,x4,x5,reply,y1,y2,y3`
-abbrev pub books_header : List (List ℕ)
-books_header =
+abbrev pub older_header : List (List ℕ)
+older_header =
     codes "account" ∷ codes "seat" ∷ codes "op" ∷ codes "call" ∷ codes "x1" ∷ codes "x2" ∷ codes "x3" ∷ codes "x4" ∷ codes "x5"
     ∷ codes "reply" ∷ codes "y1" ∷ codes "y2" ∷ codes "y3" ∷ []
 
+-- the same with `x6` behind `x5`: version 2
+abbrev pub books_header : List (List ℕ)
+books_header =
+    codes "account" ∷ codes "seat" ∷ codes "op" ∷ codes "call" ∷ codes "x1" ∷ codes "x2" ∷ codes "x3" ∷ codes "x4" ∷ codes "x5" ∷ codes "x6"
+    ∷ codes "reply" ∷ codes "y1" ∷ codes "y2" ∷ codes "y3" ∷ []
+
+abbrev pub books_headers : List (List (List ℕ))
+books_headers = older_header ∷ books_header ∷ []
+
 -- 1,000,000 rows at most; each says something of an account
 abbrev pub books_form : TableForm Books RowKind RowFault
-books_form = table_form (books_header ∷ []) 1000000 [] (λ header. row_at)
+books_form = table_form books_headers 1000000 [] (λ header. row_at (version_at header))
 
 -- the books of a table
 abbrev pub books_of : List (List (List ℕ)) → Result Books RowFault

@@ -23,13 +23,15 @@ pub struct Audit {
     pub passes: bool,
 }
 
-/// Whether the history of each account of a table of books, version 1, is legal from its opening.
+/// Whether the history of each account of a table of books, version 1 or 2, is legal from its
+/// opening.
 ///
-/// Rows are judged in order as they are read, a row in this order: `Csv` where it hasn't 13 fields;
-/// `TooManyRows` past 1,000,000 rows; `What` where the word of its operation or of its reply is
-/// another one; `Number` where a field isn't a decimal within its range; `Empty` where a field that
-/// must be empty isn't, as the reply of an opening; `Repeated` where an account opens again;
-/// `Unknown` where no earlier row opens the account of an entry. `Header` is the fault of row 1.
+/// Rows are judged in order as they are read, a row in this order: `Csv` where it has another
+/// number of fields than the header; `TooManyRows` past 1,000,000 rows; `What` where the word of its
+/// operation or of its reply is another one; `Number` where a field isn't a decimal within its
+/// range; `Empty` where a field that must be empty isn't, as the reply of an opening; `Repeated`
+/// where an account opens again; `Unknown` where no earlier row opens the account of an entry.
+/// `Header` is the fault of row 1.
 pub fn audit_books<I: Read + Drop>(alloc: Global, reader: I) -> Result<Audit, TableFault>
     ensures { IfSome (I.remaining reader) (λ text.
         GivesAudit (result_map_both audited_by (λ fault. fault) result) (books_of (rows_of text))) }

@@ -1,23 +1,23 @@
 //! A row of the table of books.
 
-ghost use Rattle.std.specs.Prelude.{◌≡◌, ◌≤◌, IfOk, length};
+ghost use Rattle.std.specs.Prelude.{◌≡◌, ◌≤◌, ◌<◌, ◌+◌, IfOk, length};
 ghost use Rattle.std.specs.Result.{result_map_both};
 ghost use Rattle.csv.specs.Records.{fields_of};
 ghost use Rattle.table_core.specs.Fields.{field_in};
 ghost use Rattle.entry_rows.specs.Columns.{answer_at};
-ghost use Rattle.book_texts.specs.BookRows.{account_of, columns_in, entry_in, is_no_answer, is_opening_blank, opening_in, said_in};
+ghost use Rattle.book_texts.specs.BookRows.{HasColumns, account_of, columns_in, entry_in, is_no_answer, is_opening_blank, opening_in, reply_place, said_in};
 ghost use Rattle.book_texts.specs.SaidOf.{IsAffordable, said_of};
 
 use account_core::Entry;
 use csv::ByteRecord;
 use entry_rows::{
-    are_last_blank, is_op_blank, is_reply_blank, read_op, read_op_word, read_reply,
+    Version, are_last_blank, is_op_blank, is_reply_blank, read_op, read_op_word, read_reply,
     read_reply_word, read_seat,
 };
 use table_core::{RowKind, is_blank, is_word, number};
 use tariff_core::MAX_MONEY;
 
-/// Where the columns stand, and where those of the operation and of the reply begin.
+/// Where the columns stand, and where those of the operation begin.
 const ACCOUNT: usize = 0;
 
 const SEAT: usize = 1;
@@ -27,8 +27,6 @@ const OP: usize = 2;
 const CALL: usize = 3;
 
 const OPENING: usize = 4;
-
-const REPLY: usize = 9;
 
 /// What a row says.
 #[derive(Clone, Copy)]
@@ -49,49 +47,50 @@ pub(crate) enum BookRow {
     },
 }
 
-/// What a row says, wherever it stands.
-pub(crate) fn read_row(row: &ByteRecord) -> Result<BookRow, RowKind>
-    requires { length (fields_of row.now) ≡ 13 }
+/// What a row of a table of this version says, wherever it stands.
+pub(crate) fn read_row(row: &ByteRecord, version: Version) -> Result<BookRow, RowKind>
+    requires { HasColumns version (fields_of row.now) }
     ensures says { result_map_both said_of (λ kind. kind) result
-        ≡ said_in (columns_in (fields_of row.now)) }
+        ≡ said_in (columns_in version (fields_of row.now)) }
     ensures affordable { IfOk result IsAffordable }
 {
     if is_word(row, OP, "opening") {
-        read_opening(row)
+        read_opening(row, version)
     } else {
-        read_entry(row)
+        read_entry(row, version)
     }
 }
 
 #[tactic(auto, unfolding(crate::specs::BookRows::opening_in))]
-fn read_opening(row: &ByteRecord) -> Result<BookRow, RowKind>
-    requires { length (fields_of row.now) ≡ 13 }
+fn read_opening(row: &ByteRecord, version: Version) -> Result<BookRow, RowKind>
+    requires { HasColumns version (fields_of row.now) }
     ensures says { result_map_both said_of (λ kind. kind) result
-        ≡ opening_in (columns_in (fields_of row.now)) }
+        ≡ opening_in (columns_in version (fields_of row.now)) }
     ensures affordable { IfOk result IsAffordable }
 {
     let account = read_account(row)?;
     let opening = number(row, OPENING, MAX_MONEY)?;
-    if !is_opening_blank(row) {
+    if !is_opening_blank(row, version) {
         return Err(RowKind::Empty);
     }
     Ok(BookRow::Opening { account, opening })
 }
 
 #[tactic(auto, unfolding(crate::specs::BookRows::entry_in))]
-fn read_entry(row: &ByteRecord) -> Result<BookRow, RowKind>
-    requires { length (fields_of row.now) ≡ 13 }
+fn read_entry(row: &ByteRecord, version: Version) -> Result<BookRow, RowKind>
+    requires { HasColumns version (fields_of row.now) }
     ensures says { result_map_both said_of (λ kind. kind) result
-        ≡ entry_in (columns_in (fields_of row.now)) }
+        ≡ entry_in (columns_in version (fields_of row.now)) }
     ensures affordable { IfOk result IsAffordable }
 {
     let op_word = read_op_word(row, OP)?;
-    let reply_word = read_reply_word(row, REPLY)?;
+    let reply_at = reply_place(version);
+    let reply_word = read_reply_word(row, reply_at)?;
     let account = read_account(row)?;
     let seat = read_seat(row, SEAT)?;
-    let op = read_op(row, OP, op_word)?;
-    let reply = read_reply(row, REPLY, reply_word)?;
-    if !is_op_blank(row, OP, op_word) || !is_reply_blank(row, REPLY, reply_word) {
+    let op = read_op(row, OP, version, op_word)?;
+    let reply = read_reply(row, reply_at, reply_word)?;
+    if !is_op_blank(row, OP, version, op_word) || !is_reply_blank(row, reply_at, reply_word) {
         return Err(RowKind::Empty);
     }
     let entry = Entry { seat, op, reply };
@@ -99,7 +98,7 @@ fn read_entry(row: &ByteRecord) -> Result<BookRow, RowKind>
 }
 
 fn read_account(row: &ByteRecord) -> Result<u32, RowKind>
-    requires { length (fields_of row.now) ≡ 13 }
+    requires { 0 < length (fields_of row.now) }
     ensures { result ≡ account_of (field_in (fields_of row.now) 0) }
 {
     let account = number(row, ACCOUNT, u64::from(u32::MAX))?;
@@ -107,19 +106,29 @@ fn read_account(row: &ByteRecord) -> Result<u32, RowKind>
 }
 
 /// Whether all but the account, the word and the credit is empty.
-fn is_opening_blank(row: &ByteRecord) -> bool
-    requires { length (fields_of row.now) ≡ 13 }
-    ensures { result ≡ is_opening_blank (columns_in (fields_of row.now)) }
+fn is_opening_blank(row: &ByteRecord, version: Version) -> bool
+    requires { HasColumns version (fields_of row.now) }
+    ensures { result ≡ is_opening_blank (columns_in version (fields_of row.now)) }
 {
-    is_blank(row, SEAT) && is_blank(row, CALL) && are_last_blank(row, OP) && has_no_answer(row)
+    is_blank(row, SEAT)
+        && is_blank(row, CALL)
+        && are_last_blank(row, OP, version)
+        && has_no_answer(row, reply_place(version))
 }
 
-fn has_no_answer(row: &ByteRecord) -> bool
-    requires { length (fields_of row.now) ≡ 13 }
-    ensures { result ≡ is_no_answer (answer_at (fields_of row.now) 9) }
+/// Whether a reply is empty whose columns begin at `at`.
+fn has_no_answer(row: &ByteRecord, at: usize) -> bool
+    requires table { at ≤ 16 }
+    requires fields { at + 3 < length (fields_of row.now) }
+    ensures { result ≡ is_no_answer (answer_at (fields_of row.now) at) }
 {
-    is_blank(row, REPLY)
-        && is_blank(row, REPLY + 1)
-        && is_blank(row, REPLY + 2)
-        && is_blank(row, REPLY + 3)
+    is_blank(row, at) && is_blank(row, at + 1) && is_blank(row, at + 2) && is_blank(row, at + 3)
+}
+
+/// Where the columns of the reply begin.
+fn reply_place(version: Version) -> usize
+    ensures value { result ≡ reply_place version }
+    ensures few { result ≤ 10 }
+{
+    OP + version.width()
 }

@@ -1,15 +1,17 @@
 //! The table of books, read row after row: a check of each account's history.
 
-ghost use Rattle.std.specs.Prelude.{◌≡◌, ◌≤◌, IfOk, IfSome, length};
+ghost use Rattle.std.specs.Prelude.{◌≡◌, ◌≤◌, IfOk, IfSome};
 ghost use Rattle.csv.specs.Records.{fields_of};
 ghost use Rattle.account_core.specs.Events.{event_of};
 ghost use Rattle.table_core.specs.Rows.{rows_of};
+ghost use Rattle.book_texts.specs.BookRows.{HasColumns};
 ghost use Rattle.book_texts.specs.Books.{Books, books_of, entered, opened, row_at, told_of};
 ghost use Rattle.book_texts.specs.Checks.{AreChecks, Comes, GivesChecks};
 
 use crate::book_row::{BookRow, read_row};
 use account_core::{Entry, HistoryCheck};
 use csv::ByteRecord;
+use entry_rows::Version;
 use std::alloc::{AllocError, Global};
 use std::collections::BTreeMap;
 use std::io::Read;
@@ -27,13 +29,21 @@ pub(crate) fn check_books<I: Read + Drop>(
     ensures { IfSome (I.remaining reader)
         (λ text. GivesChecks result (books_of (rows_of text))) }
 {
-    let header: &[&str] = &[
-        "account", "seat", "op", "call", "x1", "x2", "x3", "x4", "x5", "reply", "y1", "y2", "y3",
+    let headers: &[&[&str]] = &[
+        &[
+            "account", "seat", "op", "call", "x1", "x2", "x3", "x4", "x5", "reply", "y1", "y2",
+            "y3",
+        ],
+        &[
+            "account", "seat", "op", "call", "x1", "x2", "x3", "x4", "x5", "x6", "reply", "y1",
+            "y2", "y3",
+        ],
     ];
-    let mut table = Table::open(alloc, reader, &[header], MAX_ROWS)?;
+    let mut table = Table::open(alloc, reader, headers, MAX_ROWS)?;
     let mut checks = BTreeMap::new(alloc);
     while table.next_row()? {
-        if let Some(kind) = take_row(alloc, &mut checks, table.row())? {
+        let version = Version::at(table.header());
+        if let Some(kind) = take_row(alloc, &mut checks, table.row(), version)? {
             return Err(table.fault(kind));
         }
     }
@@ -46,13 +56,14 @@ fn take_row(
     alloc: Global,
     checks: &mut BTreeMap<u32, HistoryCheck>,
     row: &ByteRecord,
+    version: Version,
 ) -> Result<Option<RowKind>, AllocError>
-    requires fields { length (fields_of row.now) ≡ 13 }
+    requires fields { HasColumns version (fields_of row.now) }
     requires are { (books : Books) × AreChecks books checks.old.entries }
     ensures { IfOk result (λ refused. (books : Books) → AreChecks books checks.old.entries
-        → Comes refused (row_at books (fields_of row.now)) checks.new.entries) }
+        → Comes refused (row_at version books (fields_of row.now)) checks.new.entries) }
 {
-    match read_row(row) {
+    match read_row(row, version) {
         Ok(BookRow::Opening { account, opening }) => open(alloc, checks, account, opening),
         Ok(BookRow::Entry { account, entry }) => enter(checks, account, entry),
         Err(kind) => Ok(Some(kind)),

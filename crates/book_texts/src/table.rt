@@ -9,14 +9,17 @@ use entry_rows::{write_answer, write_operation};
 use shared_account::Book;
 use std::alloc::{AllocError, Global};
 
-/// The table of these books, version 1: a header, and for each book, in order, a row of its opening
+/// The table of these books, version 2: a header, and for each book, in order, a row of its opening
 /// and a row for each entry of its history.
 #[tactic(auto, unfolding(crate::specs::BookTexts::book_text))]
 pub fn book_table(alloc: Global, books: &[Book]) -> Result<String, AllocError>
     ensures { IfOk result (λ text. string_bytes text ≡ book_text books.now) }
 {
     let mut text = String::new(alloc);
-    writeln!(text, "account,seat,op,call,x1,x2,x3,x4,x5,reply,y1,y2,y3")?;
+    writeln!(
+        text,
+        "account,seat,op,call,x1,x2,x3,x4,x5,x6,reply,y1,y2,y3"
+    )?;
     for book in books {
         write_book(&mut text, book)?;
     }
@@ -28,7 +31,7 @@ fn write_book(text: &mut String, book: &Book) -> Result<(), AllocError>
     ensures { OnOk result (string_bytes text.new ≡ string_bytes text.old ++ book_rows book.now) }
 {
     let (account, opening) = (book.account(), book.opening());
-    writeln!(text, "{account},,opening,,{opening},,,,,,,,")?;
+    writeln!(text, "{account},,opening,,{opening},,,,,,,,,")?;
     for entry in book.history() {
         write_entry(text, account, entry)?;
     }

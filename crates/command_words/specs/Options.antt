@@ -7,6 +7,7 @@ use Rattle.command_words.specs.Wishes.{Wish, Replays}
 use Rattle.tariff_core.specs.declared.money.TheConstants.{MAX_MONEY}
 use Rattle.account_core.specs.declared.limits.TheConstants.{MAX_LIMIT, MIN_LIMIT}
 use Rattle.tariff_core.specs.declared.plan.TheConstants.{MAX_RATE}
+use Rattle.tariff_core.specs.declared.times.TheConstants.{DAY}
 
 -- the number of an option, where it is given and at most `most`
 abbrev pub number_in : List Row → Text → ℕ → Option ℕ
@@ -21,11 +22,15 @@ optional_decimal most (Some text) = option_map (λ number. Some number) (decimal
 abbrev pub optional_number_in : List Row → Text → ℕ → Option (Option ℕ)
 optional_number_in options name most = optional_decimal most (first_of name options)
 
--- the plan of `price`: fee and rates, each at most 10^9
+-- the free units of `price`: a day at most, and none where that is left out
+abbrev pub free_in : List Row → Option ℕ
+free_in options = option_map (λ free. unwrap_or free 0) (optional_number_in options (codes "free") DAY)
+
+-- the plan of `price`: fee and rates, each at most `MAX_RATE`, and free units
 abbrev pub plan_in : List Row → Option Rates
-plan_in options = option_and_then (λ fee. option_and_then (λ before.
-    option_map (λ after. record { fee = fee; before = before; after = after }) (optional_number_in options (codes "after") MAX_RATE))
-    (number_in options (codes "before") MAX_RATE)) (number_in options (codes "fee") MAX_RATE)
+plan_in options = option_and_then (λ fee. option_and_then (λ before. option_and_then (λ after.
+    option_map (λ free. record { fee = fee; before = before; after = after; free = free }) (free_in options))
+    (optional_number_in options (codes "after") MAX_RATE)) (number_in options (codes "before") MAX_RATE)) (number_in options (codes "fee") MAX_RATE)
 
 -- the limit of a history: 3 to 1,000,000, which it is where it is left out
 abbrev pub at_least : ℕ → ℕ → Option ℕ

@@ -21,10 +21,10 @@ Input, for example:
 const OPS: &str = "\
 Input, for example:
 
-  seat,op,call,x1,x2,x3,x4,x5
-  0,reserve,1,50,1000,400,600,50
-  0,settle,1,0,n,300,,
-  0,return,1,,,,,";
+  seat,op,call,x1,x2,x3,x4,x5,x6
+  0,reserve,1,50,1000,400,600,50,0
+  0,settle,1,0,n,300,,,
+  0,return,1,,,,,,";
 
 /// An input of `run`.
 const SCRIPT: &str = "\
@@ -46,11 +46,11 @@ Times are in units of 100 ms. Input, for example:
 const BOOK: &str = "\
 Input, for example:
 
-  account,seat,op,call,x1,x2,x3,x4,x5,reply,y1,y2,y3
-  7,,opening,,1500,,,,,,,,
-  7,1,reserve,1,50,1000,,600,50,granted,600,more,450
-  7,1,settle,1,2,n,300,,,settled,550,,450
-  7,1,return,1,,,,,,returned,550,,950";
+  account,seat,op,call,x1,x2,x3,x4,x5,x6,reply,y1,y2,y3
+  7,,opening,,1500,,,,,,,,,
+  7,1,reserve,1,50,1000,,600,50,0,granted,600,more,450
+  7,1,settle,1,2,n,300,,,,settled,550,,450
+  7,1,return,1,,,,,,,returned,550,,950";
 
 /// The program, with its commands.
 #[tactic(auto, unfolding(crate::specs::CommandLine::program_app))]
@@ -87,10 +87,10 @@ fn price_command<'a>(alloc: Global) -> Result<Command<'a>, AllocError>
     )?;
     let before = required(alloc, "before", "The rate a minute before the switch");
     let command = add(command, before)?;
-    add(
-        command,
-        option(alloc, "after", "The rate a minute after the switch"),
-    )
+    let after = option(alloc, "after", "The rate a minute after the switch");
+    let command = add(command, after)?;
+    let free = "How long the call is free, in units of 100 ms [default: 0]";
+    add(command, option(alloc, "free", free))
 }
 
 #[tactic(auto, unfolding(crate::specs::CommandLine::replay_app))]

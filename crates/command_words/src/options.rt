@@ -10,7 +10,7 @@ use crate::request::Opening;
 use account_core::{MAX_LIMIT, MIN_LIMIT};
 use clap::ArgMatches;
 use table_core::decimal;
-use tariff_core::{MAX_MONEY, MAX_RATE, Plan};
+use tariff_core::{DAY, MAX_MONEY, MAX_RATE, Plan};
 
 /// The plan that the options of `price` give.
 pub(crate) fn price_plan(options: &ArgMatches<'_>) -> Option<Plan>
@@ -19,7 +19,9 @@ pub(crate) fn price_plan(options: &ArgMatches<'_>) -> Option<Plan>
     let fee = number(options, "fee", MAX_RATE)?;
     let before = number(options, "before", MAX_RATE)?;
     let after = optional_number(options, "after", MAX_RATE)?;
-    Plan::new(fee, before, after).ok()
+    let free = optional_number(options, "free", u64::from(DAY))?;
+    let plan = Plan::new(fee, before, after).ok()?;
+    plan.with_free(free.unwrap_or(0) as u32).ok()
 }
 
 /// The account that the options of `replay` open.

@@ -13,7 +13,7 @@ use Rattle.entry_rows.specs.Column.{any_number_of, interval_of, is_empty, money_
 use Rattle.entry_rows.specs.Columns.{number_or_empty, operation_of}
 use Rattle.entry_rows.specs.Fits.{FitsReport, IsInterval, IsMoney, IsRate, IsTime, IsWide}
 use Rattle.entry_rows.specs.Laws.{IsReadAsOp, OperationsAreRead, RepliesAreRead}
-use Rattle.entry_rows.specs.Operations.{reserve_in}
+use Rattle.entry_rows.specs.Operations.{plan_in, reserve_in}
 use Rattle.entry_rows.specs.declared.words.OpWord.TheVariants as op_word
 use Rattle.entry_rows.specs.declared.words.ReplyWord.TheVariants as reply_word
 
@@ -67,12 +67,20 @@ module _ (reads : DecimalsAreRead) where
   }
 
   pub operations_read : OperationsAreRead
-  unfolding reserve_in
+  unfolding plan_in reserve_in
   operations_read (Credits amount) fits = record { word = op_word.Credit; known = refl; read = rw (money amount fits) refl; blank = refl }
   operations_read (Reserves call plan wanted least) fits = record {
     word = op_word.Reserve;
     known = refl;
-    read = rw (wide call fits.0, rate plan.fee fits.1.fee, rate plan.before fits.1.first, optional_rate plan.after fits.1.second, time wanted fits.2, time least fits.3) refl;
+    read = rw (
+      wide call fits.0,
+      rate plan.fee fits.1.fee,
+      rate plan.before fits.1.first,
+      optional_rate plan.after fits.1.second,
+      time plan.free fits.1.free,
+      time wanted fits.2,
+      time least fits.3,
+    ) refl;
     blank = refl;
   }
   operations_read (Settles call number report) fits = settle_read call number report fits.0 fits.1 fits.2

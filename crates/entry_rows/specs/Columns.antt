@@ -1,5 +1,5 @@
 -- The columns of an entry: what is asked, and what is answered.
-use Rattle.std.specs.Prelude.{◌+◌, ℕ, true, false, Option, Some, None, List, [], ◌++◌, codes}
+use Rattle.std.specs.Prelude.{◌≡◌, ◌<◌, ◌+◌, ℕ, true, false, Option, Some, None, List, [], ◌++◌, codes, length}
 use Rattle.std.specs.Fmt.{decimal}
 use Rattle.tariff_core.specs.declared.time_info.TimeInfo.{TimeInfo}
 use Rattle.tariff_core.specs.declared.time_info.TimeInfo.TheVariants as info
@@ -7,9 +7,12 @@ use Rattle.account_core.specs.Asked.{Asked, Credits, Reserves, Returns, Settles}
 use Rattle.account_core.specs.declared.entry.Reply.{Reply}
 use Rattle.account_core.specs.declared.entry.Reply.TheVariants as reply
 use Rattle.table_core.specs.Fields.{field_in}
+use Rattle.entry_rows.specs.declared.version.Version.{Version}
+use Rattle.entry_rows.specs.declared.version.Version.TheVariants as version
 
--- what is asked, and with what
+-- what is asked, and with what; x6 is empty in version 1, which has no such column
 pub record Operation : Type 0 where
+  pub version : Version
   pub op : List ℕ
   pub call : List ℕ
   pub x1 : List ℕ
@@ -17,6 +20,7 @@ pub record Operation : Type 0 where
   pub x3 : List ℕ
   pub x4 : List ℕ
   pub x5 : List ℕ
+  pub x6 : List ℕ
 
 -- what is answered
 pub record Answer : Type 0 where
@@ -25,9 +29,19 @@ pub record Answer : Type 0 where
   pub y2 : List ℕ
   pub y3 : List ℕ
 
+-- a row has the columns of an operation whose word stands at a place
+abbrev pub HasOperation : Version → List (List ℕ) → ℕ → Type 0
+HasOperation of_table fields at = (at + 6 < length fields) × (of_table ≡ version.Two → at + 7 < length fields)
+
+-- the column behind x5
+abbrev pub x6_at : Version → List (List ℕ) → ℕ → List ℕ
+x6_at version.One fields at = []
+x6_at version.Two fields at = field_in fields (at + 7)
+
 -- the columns of an operation, and of an answer, in the fields of a row, where their word stands at a place
-abbrev pub operation_at : List (List ℕ) → ℕ → Operation
-operation_at fields at = record {
+abbrev pub operation_at : Version → List (List ℕ) → ℕ → Operation
+operation_at version fields at = record {
+  version = version;
   op = field_in fields at;
   call = field_in fields (at + 1);
   x1 = field_in fields (at + 2);
@@ -35,7 +49,12 @@ operation_at fields at = record {
   x3 = field_in fields (at + 4);
   x4 = field_in fields (at + 5);
   x5 = field_in fields (at + 6);
+  x6 = x6_at version fields at;
 }
+
+-- the columns that each version has
+abbrev pub first_operation_at : List (List ℕ) → ℕ → Operation
+first_operation_at fields at = operation_at version.One fields at
 
 abbrev pub answer_at : List (List ℕ) → ℕ → Answer
 answer_at fields at = record {
@@ -45,9 +64,9 @@ answer_at fields at = record {
   y3 = field_in fields (at + 3);
 }
 
--- a field that isn't named is empty
+-- a field that isn't named is empty; what is printed is of version 2
 abbrev pub no_operation : Operation
-no_operation = record { op = []; call = []; x1 = []; x2 = []; x3 = []; x4 = []; x5 = [] }
+no_operation = record { version = version.Two; op = []; call = []; x1 = []; x2 = []; x3 = []; x4 = []; x5 = []; x6 = [] }
 
 abbrev pub no_answer : Answer
 no_answer = record { reply = []; y1 = []; y2 = []; y3 = [] }
@@ -69,8 +88,17 @@ settle_of call number (info.Switch since interval) =
 
 abbrev pub operation_of : Asked → Operation
 operation_of (Credits amount) = record no_operation { op = codes "credit"; x1 = decimal amount }
-operation_of (Reserves call plan wanted least) =
-    record { op = codes "reserve"; call = decimal call; x1 = decimal plan.fee; x2 = decimal plan.before; x3 = number_or_empty plan.after; x4 = decimal wanted; x5 = decimal least }
+operation_of (Reserves call plan wanted least) = record {
+  version = version.Two;
+  op = codes "reserve";
+  call = decimal call;
+  x1 = decimal plan.fee;
+  x2 = decimal plan.before;
+  x3 = number_or_empty plan.after;
+  x4 = decimal wanted;
+  x5 = decimal least;
+  x6 = decimal plan.free;
+}
 operation_of (Settles call number info) = settle_of call number info
 operation_of (Returns call) = record no_operation { op = codes "return"; call = decimal call }
 
@@ -90,7 +118,7 @@ field text rest = text ++ (codes "," ++ rest)
 
 -- the fields of an operation, each with a comma behind it
 abbrev pub operation_text : Operation → List ℕ
-operation_text o = field o.op (field o.call (field o.x1 (field o.x2 (field o.x3 (field o.x4 (field o.x5 []))))))
+operation_text o = field o.op (field o.call (field o.x1 (field o.x2 (field o.x3 (field o.x4 (field o.x5 (field o.x6 [])))))))
 
 -- those of an answer, which end the line
 abbrev pub answer_text : Answer → List ℕ

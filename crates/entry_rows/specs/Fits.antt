@@ -33,6 +33,7 @@ pub record FitsPlan (plan : Rates) : Type 0 where
   pub fee : IsRate plan.fee
   pub first : IsRate plan.before
   pub second : IfSome plan.after IsRate
+  pub free : IsTime plan.free
 
 abbrev pub FitsReport : TimeInfo → Type 0
 FitsReport (info.NoSwitch time) = IsTime time

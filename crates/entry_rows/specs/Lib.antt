@@ -4,4 +4,5 @@ pub mod Fits
 pub mod Laws
 pub mod Operations
 pub mod Replies
+pub mod Versions
 pub mod Words

@@ -1,12 +1,15 @@
 -- What the columns of an operation ask, by its word.
-use Rattle.std.specs.Prelude.{◌&&◌, Bool, true, Result, Ok}
+use Rattle.std.specs.Prelude.{◌&&◌, ℕ, Bool, true, List, Result, Ok}
 use Rattle.account_core.specs.Asked.{Asked, Credits, Reserves, Settles, Returns}
 use Rattle.table_core.specs.Judging.{after}
 use Rattle.table_core.specs.declared.fault.RowKind.{RowKind}
+use Rattle.tariff_core.specs.Rates.{Rates}
 use Rattle.tariff_core.specs.declared.time_info.TimeInfo.{TimeInfo}
 use Rattle.tariff_core.specs.declared.time_info.TimeInfo.TheVariants as info
 use Rattle.entry_rows.specs.Column.{any_number_of, interval_of, is_empty, money_of, optional_rate_of, rate_of, units_of}
 use Rattle.entry_rows.specs.Columns.{Operation}
+use Rattle.entry_rows.specs.declared.version.Version.{Version}
+use Rattle.entry_rows.specs.declared.version.Version.TheVariants as version
 use Rattle.entry_rows.specs.declared.words.OpWord.{OpWord}
 use Rattle.entry_rows.specs.declared.words.OpWord.TheVariants as word
 
@@ -16,16 +19,28 @@ use Rattle.entry_rows.specs.declared.words.OpWord.TheVariants as word
 abbrev pub credit_in : Operation → Result Asked RowKind
 credit_in o = after (money_of o.x1) (λ amount. Ok (Credits amount))
 
--- `reserve`: the call, x1 to x3 the fee and the rates, x4 the time wanted, x5 the least
-unfoldable pub reserve_in : Operation → Result Asked RowKind
-reserve_in o =
-    after (any_number_of o.call) (λ call.
+-- x6 of a reserve is its free units; there are none in version 1
+abbrev pub free_of : Version → List ℕ → Result ℕ RowKind
+free_of version.One text = Ok 0
+free_of version.Two text = units_of text
+
+-- x1 to x3 of a reserve: the fee and the rates
+unfoldable pub plan_in : Operation → Result Rates RowKind
+plan_in o =
     after (rate_of o.x1) (λ fee.
     after (rate_of o.x2) (λ first.
     after (optional_rate_of o.x3) (λ second.
+    after (free_of o.version o.x6) (λ free.
+    Ok (record { fee = fee; before = first; after = second; free = free })))))
+
+-- `reserve`: the call, its plan, x4 the time wanted, x5 the least
+unfoldable pub reserve_in : Operation → Result Asked RowKind
+reserve_in o =
+    after (any_number_of o.call) (λ call.
+    after (plan_in o) (λ plan.
     after (units_of o.x4) (λ wanted.
     after (units_of o.x5) (λ least.
-    Ok (Reserves call (record { fee = fee; before = first; after = second }) wanted least)))))))
+    Ok (Reserves call plan wanted least)))))
 
 -- x3 of a settle, where its report knows no switch: the time
 abbrev pub no_switch_in : Operation → Result TimeInfo RowKind
@@ -53,14 +68,14 @@ asked_in word.Return o = return_in o
 
 -- ---- columns that must be empty
 
--- x2 to x5 are empty
+-- x2 to x6 are empty
 abbrev pub are_last_empty : Operation → Bool
-are_last_empty o = is_empty o.x2 && is_empty o.x3 && is_empty o.x4 && is_empty o.x5
+are_last_empty o = is_empty o.x2 && is_empty o.x3 && is_empty o.x4 && is_empty o.x5 && is_empty o.x6
 
 -- the columns that the operation doesn't use are empty
 abbrev pub is_asked_blank : OpWord → Operation → Bool
 is_asked_blank word.Credit o = is_empty o.call && are_last_empty o
 is_asked_blank word.Reserve o = true
-is_asked_blank word.SettleNoSwitch o = is_empty o.x4 && is_empty o.x5
-is_asked_blank word.SettleSwitch o = is_empty o.x5
+is_asked_blank word.SettleNoSwitch o = is_empty o.x4 && is_empty o.x5 && is_empty o.x6
+is_asked_blank word.SettleSwitch o = is_empty o.x5 && is_empty o.x6
 is_asked_blank word.Return o = is_empty o.x1 && are_last_empty o

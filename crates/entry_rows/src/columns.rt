@@ -27,13 +27,13 @@ impl fmt::Display for Field {
     }
 }
 
-/// Adds the columns of an operation, from op to x5, each with a comma behind it.
+/// Adds the columns of an operation, from op to x6, each with a comma behind it.
 pub fn write_operation(text: &mut String, op: Op) -> Result<(), AllocError>
     ensures { OnOk result (string_bytes text.new ≡ string_bytes text.old
         ++ operation_text (operation_of (asked_of op))) }
 {
     match op {
-        Op::Credit { amount } => write!(text, "credit,,{amount},,,,,"),
+        Op::Credit { amount } => write!(text, "credit,,{amount},,,,,,"),
         Op::Reserve {
             call,
             plan,
@@ -41,13 +41,14 @@ pub fn write_operation(text: &mut String, op: Op) -> Result<(), AllocError>
             least,
         } => {
             let (fee, before, after) = (plan.fee, plan.before, Field(plan.after));
+            let free = plan.free;
             write!(
                 text,
-                "reserve,{call},{fee},{before},{after},{wanted},{least},"
+                "reserve,{call},{fee},{before},{after},{wanted},{least},{free},"
             )
         }
         Op::Settle { call, number, info } => write_settle(text, call, number, info),
-        Op::Return { call } => write!(text, "return,{call},,,,,,"),
+        Op::Return { call } => write!(text, "return,{call},,,,,,,"),
     }
 }
 
@@ -57,10 +58,10 @@ fn write_settle(text: &mut String, call: u64, number: u64, info: TimeInfo) -> Re
         ++ operation_text (settle_of call number info)) }
 {
     match info {
-        TimeInfo::NoSwitch { t } => write!(text, "settle,{call},{number},n,{t},,,"),
+        TimeInfo::NoSwitch { t } => write!(text, "settle,{call},{number},n,{t},,,,"),
         TimeInfo::Switch { since, interval } => {
             let interval = Field(interval.map(u64::from));
-            write!(text, "settle,{call},{number},s,{since},{interval},,")
+            write!(text, "settle,{call},{number},s,{since},{interval},,,")
         }
     }
 }

@@ -10,6 +10,7 @@ mod operation;
 mod places;
 mod reply;
 mod seat;
+mod version;
 mod words;
 
 pub use columns::{write_answer, write_operation};
@@ -17,4 +18,5 @@ pub use laws::{operations_are_read, replies_are_read};
 pub use operation::{are_last_blank, is_op_blank, read_op};
 pub use reply::{is_reply_blank, read_reply};
 pub use seat::read_seat;
+pub use version::Version;
 pub use words::{OpWord, ReplyWord, read_op_word, read_reply_word};

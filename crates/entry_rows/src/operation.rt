@@ -1,15 +1,17 @@
-//! An operation in the fields of a row: its word, its call, and x1 to x5.
+//! An operation in the fields of a row: its word, its call, and x1 to x6.
 
-ghost use Rattle.std.specs.Prelude.{◌≡◌, ◌+◌, ◌<◌, ◌≤◌, length};
+ghost use Rattle.std.specs.Prelude.{◌≡◌, ◌+◌, ◌<◌, ◌≤◌, length, IfOk};
 ghost use Rattle.std.specs.Result.{result_map_both};
 ghost use Rattle.csv.specs.Records.{fields_of};
 ghost use Rattle.table_core.specs.Fields.{field_in};
 ghost use Rattle.account_core.specs.Events.{asked_of};
-ghost use Rattle.entry_rows.specs.Column.{interval_of, units_of};
-ghost use Rattle.entry_rows.specs.Columns.{operation_at};
-ghost use Rattle.entry_rows.specs.Operations.{are_last_empty, asked_in, credit_in, is_asked_blank, no_switch_in, reserve_in, return_in, settle_in, switch_in};
+ghost use Rattle.tariff_core.specs.RatesOf.{rates_of};
+ghost use Rattle.entry_rows.specs.Column.{interval_of, is_empty, units_of};
+ghost use Rattle.entry_rows.specs.Columns.{HasOperation, first_operation_at, operation_at, x6_at};
+ghost use Rattle.entry_rows.specs.Operations.{are_last_empty, asked_in, credit_in, free_of, is_asked_blank, no_switch_in, plan_in, reserve_in, return_in, settle_in, switch_in};
 
-use crate::places::{CALL, X1, X2, X3, X4, X5};
+use crate::places::{CALL, X1, X2, X3, X4, X5, X6};
+use crate::version::Version;
 use crate::words::OpWord;
 use account_core::Op;
 use csv::ByteRecord;
@@ -18,15 +20,15 @@ use tariff_core::{DAY, MAX_MONEY, MAX_RATE, Plan, TimeInfo};
 
 /// The operation of this word whose columns begin at `at`; else `Number`. The columns that must be
 /// empty aren't judged.
-pub fn read_op(row: &ByteRecord, at: usize, word: OpWord) -> Result<Op, RowKind>
+pub fn read_op(row: &ByteRecord, at: usize, version: Version, word: OpWord) -> Result<Op, RowKind>
     requires table { at ≤ 16 }
-    requires fields { at + 6 < length (fields_of row.now) }
+    requires fields { HasOperation version (fields_of row.now) at }
     ensures { result_map_both asked_of (λ kind. kind) result
-        ≡ asked_in word (operation_at (fields_of row.now) at) }
+        ≡ asked_in word (operation_at version (fields_of row.now) at) }
 {
     match word {
         OpWord::Credit => read_credit(row, at),
-        OpWord::Reserve => read_reserve(row, at),
+        OpWord::Reserve => read_reserve(row, at, version),
         OpWord::SettleNoSwitch => read_settle(row, at, read_no_switch(row, at)?),
         OpWord::SettleSwitch => read_settle(row, at, read_switch(row, at)?),
         OpWord::Return => read_return(row, at),
@@ -37,33 +39,60 @@ fn read_credit(row: &ByteRecord, at: usize) -> Result<Op, RowKind>
     requires table { at ≤ 16 }
     requires fields { at + 6 < length (fields_of row.now) }
     ensures { result_map_both asked_of (λ kind. kind) result
-        ≡ credit_in (operation_at (fields_of row.now) at) }
+        ≡ credit_in (first_operation_at (fields_of row.now) at) }
 {
     let amount = number(row, at + X1, MAX_MONEY)?;
     Ok(Op::Credit { amount })
 }
 
 #[tactic(auto, unfolding(crate::specs::Operations::reserve_in))]
-fn read_reserve(row: &ByteRecord, at: usize) -> Result<Op, RowKind>
+fn read_reserve(row: &ByteRecord, at: usize, version: Version) -> Result<Op, RowKind>
     requires table { at ≤ 16 }
-    requires fields { at + 6 < length (fields_of row.now) }
+    requires fields { HasOperation version (fields_of row.now) at }
     ensures { result_map_both asked_of (λ kind. kind) result
-        ≡ reserve_in (operation_at (fields_of row.now) at) }
+        ≡ reserve_in (operation_at version (fields_of row.now) at) }
 {
     let call = number(row, at + CALL, u64::MAX)?;
+    let plan = read_plan(row, at, version)?;
+    let wanted = read_units(row, at + X4)?;
+    let least = read_units(row, at + X5)?;
+    Ok(Op::Reserve {
+        call,
+        plan,
+        wanted,
+        least,
+    })
+}
+
+#[tactic(auto, unfolding(crate::specs::Operations::plan_in))]
+fn read_plan(row: &ByteRecord, at: usize, version: Version) -> Result<Plan, RowKind>
+    requires table { at ≤ 16 }
+    requires fields { HasOperation version (fields_of row.now) at }
+    ensures { result_map_both rates_of (λ kind. kind) result
+        ≡ plan_in (operation_at version (fields_of row.now) at) }
+{
     let fee = number(row, at + X1, MAX_RATE)?;
     let before = number(row, at + X2, MAX_RATE)?;
     let after = optional(row, at + X3, MAX_RATE)?;
-    let wanted = read_units(row, at + X4)?;
-    let least = read_units(row, at + X5)?;
-    match Plan::new(fee, before, after) {
-        Ok(plan) => Ok(Op::Reserve {
-            call,
-            plan,
-            wanted,
-            least,
-        }),
-        Err(_) => Err(RowKind::Number),
+    let free = read_free(row, at, version)?;
+    Ok(Plan {
+        fee,
+        before,
+        after,
+        free,
+    })
+}
+
+/// The free units of a reserve: none in version 1, and given in version 2.
+fn read_free(row: &ByteRecord, at: usize, version: Version) -> Result<u32, RowKind>
+    requires table { at ≤ 16 }
+    requires fields { HasOperation version (fields_of row.now) at }
+    ensures value { result ≡ free_of version (x6_at version (fields_of row.now) at) }
+    ensures within_day { IfOk result (λ free. free ≤ 864000) }
+{
+    match version {
+        Version::One => Ok(0),
+        Version::Two => read_units(row, at + X6),
     }
 }
 
@@ -71,7 +100,7 @@ fn read_settle(row: &ByteRecord, at: usize, info: TimeInfo) -> Result<Op, RowKin
     requires table { at ≤ 16 }
     requires fields { at + 6 < length (fields_of row.now) }
     ensures { result_map_both asked_of (λ kind. kind) result
-        ≡ settle_in (operation_at (fields_of row.now) at) info }
+        ≡ settle_in (first_operation_at (fields_of row.now) at) info }
 {
     let call = number(row, at + CALL, u64::MAX)?;
     let number = number(row, at + X1, u64::MAX)?;
@@ -81,7 +110,7 @@ fn read_settle(row: &ByteRecord, at: usize, info: TimeInfo) -> Result<Op, RowKin
 fn read_no_switch(row: &ByteRecord, at: usize) -> Result<TimeInfo, RowKind>
     requires table { at ≤ 16 }
     requires fields { at + 6 < length (fields_of row.now) }
-    ensures { result ≡ no_switch_in (operation_at (fields_of row.now) at) }
+    ensures { result ≡ no_switch_in (first_operation_at (fields_of row.now) at) }
 {
     let t = read_units(row, at + X3)?;
     Ok(TimeInfo::NoSwitch { t })
@@ -90,7 +119,7 @@ fn read_no_switch(row: &ByteRecord, at: usize) -> Result<TimeInfo, RowKind>
 fn read_switch(row: &ByteRecord, at: usize) -> Result<TimeInfo, RowKind>
     requires table { at ≤ 16 }
     requires fields { at + 6 < length (fields_of row.now) }
-    ensures { result ≡ switch_in (operation_at (fields_of row.now) at) }
+    ensures { result ≡ switch_in (first_operation_at (fields_of row.now) at) }
 {
     let since = read_units(row, at + X3)?;
     let interval = read_interval(row, at + X4)?;
@@ -101,7 +130,7 @@ fn read_return(row: &ByteRecord, at: usize) -> Result<Op, RowKind>
     requires table { at ≤ 16 }
     requires fields { at + 6 < length (fields_of row.now) }
     ensures { result_map_both asked_of (λ kind. kind) result
-        ≡ return_in (operation_at (fields_of row.now) at) }
+        ≡ return_in (first_operation_at (fields_of row.now) at) }
 {
     let call = number(row, at + CALL, u64::MAX)?;
     Ok(Op::Return { call })
@@ -110,7 +139,8 @@ fn read_return(row: &ByteRecord, at: usize) -> Result<Op, RowKind>
 /// The time in the field at `place`, 0 to a day in units of 100 ms; else `Number`.
 pub(crate) fn read_units(row: &ByteRecord, place: usize) -> Result<u32, RowKind>
     requires { place < length (fields_of row.now) }
-    ensures { result ≡ units_of (field_in (fields_of row.now) place) }
+    ensures value { result ≡ units_of (field_in (fields_of row.now) place) }
+    ensures within_day { IfOk result (λ units. units ≤ 864000) }
 {
     let units = number(row, place, u64::from(DAY))?;
     Ok(units as u32)
@@ -129,28 +159,43 @@ fn read_interval(row: &ByteRecord, place: usize) -> Result<Option<u32>, RowKind>
 }
 
 /// Whether the columns are empty that this operation, whose columns begin at `at`, doesn't use.
-pub fn is_op_blank(row: &ByteRecord, at: usize, word: OpWord) -> bool
+pub fn is_op_blank(row: &ByteRecord, at: usize, version: Version, word: OpWord) -> bool
     requires table { at ≤ 16 }
-    requires fields { at + 6 < length (fields_of row.now) }
-    ensures { result ≡ is_asked_blank word (operation_at (fields_of row.now) at) }
+    requires fields { HasOperation version (fields_of row.now) at }
+    ensures { result ≡ is_asked_blank word (operation_at version (fields_of row.now) at) }
 {
     match word {
-        OpWord::Credit => is_blank(row, at + CALL) && are_last_blank(row, at),
+        OpWord::Credit => is_blank(row, at + CALL) && are_last_blank(row, at, version),
         OpWord::Reserve => true,
-        OpWord::SettleNoSwitch => is_blank(row, at + X4) && is_blank(row, at + X5),
-        OpWord::SettleSwitch => is_blank(row, at + X5),
-        OpWord::Return => is_blank(row, at + X1) && are_last_blank(row, at),
+        OpWord::SettleNoSwitch => {
+            is_blank(row, at + X4) && is_blank(row, at + X5) && is_x6_blank(row, at, version)
+        }
+        OpWord::SettleSwitch => is_blank(row, at + X5) && is_x6_blank(row, at, version),
+        OpWord::Return => is_blank(row, at + X1) && are_last_blank(row, at, version),
     }
 }
 
-/// Whether x2 to x5 are empty of an operation whose columns begin at `at`.
-pub fn are_last_blank(row: &ByteRecord, at: usize) -> bool
+/// Whether x2 to x6 are empty of an operation whose columns begin at `at`.
+pub fn are_last_blank(row: &ByteRecord, at: usize, version: Version) -> bool
     requires table { at ≤ 16 }
-    requires fields { at + 6 < length (fields_of row.now) }
-    ensures { result ≡ are_last_empty (operation_at (fields_of row.now) at) }
+    requires fields { HasOperation version (fields_of row.now) at }
+    ensures { result ≡ are_last_empty (operation_at version (fields_of row.now) at) }
 {
     is_blank(row, at + X2)
         && is_blank(row, at + X3)
         && is_blank(row, at + X4)
         && is_blank(row, at + X5)
+        && is_x6_blank(row, at, version)
+}
+
+/// Whether x6 is empty, where there is such a column.
+fn is_x6_blank(row: &ByteRecord, at: usize, version: Version) -> bool
+    requires table { at ≤ 16 }
+    requires fields { HasOperation version (fields_of row.now) at }
+    ensures { result ≡ is_empty (x6_at version (fields_of row.now) at) }
+{
+    match version {
+        Version::One => true,
+        Version::Two => is_blank(row, at + X6),
+    }
 }

@@ -12,6 +12,8 @@ pub const X3: usize = 4;
 pub const X4: usize = 5;
 /// See `X1`.
 pub const X5: usize = 6;
+/// See `X1`; only from version 2 on.
+pub const X6: usize = 7;
 
 /// The time granted, or the money paid.
 pub const Y1: usize = 1;

@@ -3,7 +3,7 @@
 ghost use Rattle.std.specs.Prelude.{◌≡◌, ◌+◌, ◌<◌, ◌≤◌, length};
 ghost use Rattle.csv.specs.Records.{fields_of};
 ghost use Rattle.table_core.specs.Fields.{field_in};
-ghost use Rattle.entry_rows.specs.Columns.{answer_at, operation_at};
+ghost use Rattle.entry_rows.specs.Columns.{answer_at, first_operation_at};
 ghost use Rattle.entry_rows.specs.Words.{granted_word_in, op_word_in, reply_word_in, report_word_in};
 
 use crate::places::{X2, Y2};
@@ -50,7 +50,7 @@ pub enum ReplyWord {
 pub fn read_op_word(row: &ByteRecord, at: usize) -> Result<OpWord, RowKind>
     requires table { at ≤ 16 }
     requires fields { at + 6 < length (fields_of row.now) }
-    ensures { result ≡ op_word_in (operation_at (fields_of row.now) at) }
+    ensures { result ≡ op_word_in (first_operation_at (fields_of row.now) at) }
 {
     if is_word(row, at, "credit") {
         Ok(OpWord::Credit)

@@ -1,50 +1,9 @@
 //! Worked accounts.
 
+use crate::account_asks::{Ask, Want, answer_of, op_of};
 use crate::looking::gives;
-use account_core::{Account, AccountFault, AccountPort, Entry, ListAccount, Op, Port, Reply};
+use account_core::{Account, AccountFault, AccountPort, Entry, ListAccount, Op, Port};
 use std::process::Abort;
-use tariff_core::{Plan, TimeInfo};
-
-/// What an account is asked.
-enum Ask {
-    /// An amount is credited.
-    Credit(u64),
-    /// A call at two rates reserves so many units, and 50 at least.
-    Reserve(u64, u32),
-    /// So too a call at one rate.
-    ReserveAtOneRate(u64, u32),
-    /// A call reports its times before a switch.
-    NoSwitch(u64, u32),
-    /// A call reports its times after a switch.
-    Switch(u64, u32, Option<u32>),
-    /// A call ends.
-    Return(u64),
-}
-
-/// What it is to answer: the fields of the reply, in their order.
-enum Want {
-    Credited(u64),
-    CreditOver(u64),
-    Granted(u32, bool, u64),
-    Denied(u64),
-    Settled(u64, u64),
-    Forfeit(u64, u64),
-    Returned(u64, u64),
-    Fault(AccountFault),
-}
-
-/// The second rate is cheaper.
-pub const TWO_RATES: Plan = Plan {
-    fee: 50,
-    before: 1000,
-    after: Some(400),
-};
-
-const ONE_RATE: Plan = Plan {
-    fee: 0,
-    before: 1000,
-    after: None,
-};
 
 const NOT_OPEN: Want = Want::Fault(AccountFault::NotOpen);
 
@@ -69,7 +28,7 @@ const WHOLE_CALL: [(Ask, Want); 4] = [
 ];
 
 /// Accounts: the opening credit, the number of entries, and what each is asked in turn.
-const ACCOUNTS: [(&str, u64, u32, &[(Ask, Want)]); 18] = [
+const ACCOUNTS: [(&str, u64, u32, &[(Ask, Want)]); 20] = [
     (
         "a call that talks all of its grant",
         1500,
@@ -230,6 +189,31 @@ const ACCOUNTS: [(&str, u64, u32, &[(Ask, Want)]); 18] = [
         ],
     ),
     (
+        "a call whose free units reach past the switch",
+        550,
+        MANY,
+        &[
+            (Ask::ReserveWithFree(1, 600), Want::Granted(600, false, 0)),
+            (Ask::Switch(1, 300, Some(200)), Want::Settled(184, 0)),
+            (Ask::Return(1), Want::Returned(184, 366)),
+        ],
+    ),
+    (
+        "a call whose free units were used up by its first grant",
+        1500,
+        MANY,
+        &[
+            (
+                Ask::ReserveWithFree(1, 300),
+                Want::Granted(300, false, 1450),
+            ),
+            (Ask::NoSwitch(1, 300), Want::Settled(50, 1450)),
+            (Ask::ReserveWithFree(1, 300), Want::Granted(300, false, 950)),
+            (Ask::NoSwitch(1, 600), Want::Settled(550, 950)),
+            (Ask::Return(1), Want::Returned(550, 950)),
+        ],
+    ),
+    (
         "what is not admissible",
         1500,
         MANY,
@@ -262,53 +246,6 @@ const ACCOUNTS: [(&str, u64, u32, &[(Ask, Want)]); 18] = [
         ],
     ),
 ];
-
-/// A call reserves units, and 50 at least.
-pub fn reserve(call: u64, plan: Plan, wanted: u32) -> Op {
-    Op::Reserve {
-        call,
-        plan,
-        wanted,
-        least: 50,
-    }
-}
-
-fn op_of(ask: &Ask) -> Op {
-    let number = 7;
-    match *ask {
-        Ask::Credit(amount) => Op::Credit { amount },
-        Ask::Reserve(call, wanted) => reserve(call, TWO_RATES, wanted),
-        Ask::ReserveAtOneRate(call, wanted) => reserve(call, ONE_RATE, wanted),
-        Ask::NoSwitch(call, t) => Op::Settle {
-            call,
-            number,
-            info: TimeInfo::NoSwitch { t },
-        },
-        Ask::Switch(call, since, interval) => Op::Settle {
-            call,
-            number,
-            info: TimeInfo::Switch { since, interval },
-        },
-        Ask::Return(call) => Op::Return { call },
-    }
-}
-
-fn answer_of(want: &Want) -> Result<Reply, AccountFault> {
-    Ok(match *want {
-        Want::Credited(available) => Reply::Credited { available },
-        Want::CreditOver(available) => Reply::CreditOver { available },
-        Want::Granted(units, last, available) => Reply::Granted {
-            units,
-            last,
-            available,
-        },
-        Want::Denied(available) => Reply::Denied { available },
-        Want::Settled(paid, available) => Reply::Settled { paid, available },
-        Want::Forfeit(paid, available) => Reply::Forfeit { paid, available },
-        Want::Returned(paid, available) => Reply::Returned { paid, available },
-        Want::Fault(fault) => return Err(fault),
-    })
-}
 
 /// Looks at the last entry of an account, and of one that walks its list.
 fn enters(rt: &impl Abort, name: &str, account: &Account, walking: &ListAccount, entry: Entry) {

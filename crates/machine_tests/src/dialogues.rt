@@ -52,6 +52,7 @@ const PLAN: Plan = Plan {
     fee: 50,
     before: 1000,
     after: Some(400),
+    free: 0,
 };
 
 /// The tariff switches after 600 units.

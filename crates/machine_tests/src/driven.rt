@@ -127,6 +127,7 @@ const ROUTE: Route = Route {
         fee: 50,
         before: 1000,
         after: None,
+        free: 0,
     },
     switch_at: None,
 };

@@ -1,6 +1,6 @@
 //! Entries in their places and out of them, with an opening credit of 1500, and a long history.
 
-use crate::accounts::{TWO_RATES, reserve};
+use crate::account_asks::{TWO_RATES, reserve};
 use crate::looking::gives;
 use account_core::{Account, Entry, Op, Reply};
 use tariff_core::TimeInfo;

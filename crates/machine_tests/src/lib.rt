@@ -3,6 +3,8 @@
 #![tactic(auto)]
 
 #[cfg(test)]
+mod account_asks;
+#[cfg(test)]
 mod accounts;
 #[cfg(test)]
 mod configurations;

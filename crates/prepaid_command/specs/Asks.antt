@@ -1,5 +1,5 @@
 -- The meaning of an ops table: what is asked of one account, or the first fault.
-use Rattle.std.specs.Prelude.{ℕ, Bool, List, [], ◌∷◌, Result, Ok, Err, if◌then◌else◌, codes}
+use Rattle.std.specs.Prelude.{ℕ, Bool, List, [], ◌∷◌, ◌++◌, Result, Ok, Err, if◌then◌else◌, codes}
 use Rattle.account_core.specs.Asked.{Asked}
 use Rattle.table_core.specs.Fields.{field_in}
 use Rattle.table_core.specs.Judging.{adds, after}
@@ -10,7 +10,9 @@ use Rattle.table_core.specs.declared.fault.RowKind.TheVariants as kind
 use Rattle.entry_rows.specs.Column.{seat_of}
 use Rattle.entry_rows.specs.Columns.{Operation, operation_at}
 use Rattle.entry_rows.specs.Operations.{asked_in, is_asked_blank}
+use Rattle.entry_rows.specs.Versions.{version_at}
 use Rattle.entry_rows.specs.Words.{op_word_in}
+use Rattle.entry_rows.specs.declared.version.Version.{Version}
 
 -- what a seat asks
 pub record Asking : Type 0 where
@@ -29,17 +31,20 @@ asking_in seat_text columns =
     after (asked_in word columns) (λ asked.
     when_blank (is_asked_blank word columns) (record { seat = seat; asked = asked }))))
 
--- what a row of eight fields asks
-abbrev pub ask_in : List (List ℕ) → Result Asking RowKind
-ask_in fields = asking_in (field_in fields 0) (operation_at fields 1)
+-- what a row of a table of this version asks
+abbrev pub ask_in : Version → List (List ℕ) → Result Asking RowKind
+ask_in version fields = asking_in (field_in fields 0) (operation_at version fields 1)
 
--- `seat,op,call,x1,x2,x3,x4,x5`
-abbrev pub asks_header : List (List ℕ)
-asks_header = codes "seat" ∷ codes "op" ∷ codes "call" ∷ codes "x1" ∷ codes "x2" ∷ codes "x3" ∷ codes "x4" ∷ codes "x5" ∷ []
+-- `seat,op,call,x1,x2,x3,x4,x5`, and the same with `x6`
+abbrev pub older_header : List (List ℕ)
+older_header = codes "seat" ∷ codes "op" ∷ codes "call" ∷ codes "x1" ∷ codes "x2" ∷ codes "x3" ∷ codes "x4" ∷ codes "x5" ∷ []
+
+abbrev pub asks_headers : List (List (List ℕ))
+asks_headers = older_header ∷ (older_header ++ codes "x6" ∷ []) ∷ []
 
 -- 10,000 rows at most; each row asks something
 abbrev pub asks_form : TableForm (List Asking) RowKind RowFault
-asks_form = table_form (asks_header ∷ []) 10000 [] (λ header. adds (λ asks. ask_in))
+asks_form = table_form asks_headers 10000 [] (λ header. adds (λ asks. ask_in (version_at header)))
 
 -- what a table asks
 abbrev pub asks_of : List (List (List ℕ)) → Result (List Asking) RowFault

@@ -11,6 +11,7 @@ use crate::asks::read_ask;
 use crate::replay_lines::{write_refused, write_reply};
 use crate::tables::MAX_ROWS;
 use account_core::{Account, AccountFault, Reply};
+use entry_rows::Version;
 use std::alloc::Global;
 use std::io::Read;
 use table_core::{Table, TableFault};
@@ -28,16 +29,15 @@ pub fn replay<I: Read + Drop>(
     ensures { IfSome (I.remaining reader) (λ text.
         Gives string_bytes result (replayed opening limit (rows_of text))) }
 {
-    let mut table = Table::open(
-        alloc,
-        reader,
-        &[&["seat", "op", "call", "x1", "x2", "x3", "x4", "x5"]],
-        MAX_ROWS,
-    )?;
+    let headers: &[&[&str]] = &[
+        &["seat", "op", "call", "x1", "x2", "x3", "x4", "x5"],
+        &["seat", "op", "call", "x1", "x2", "x3", "x4", "x5", "x6"],
+    ];
+    let mut table = Table::open(alloc, reader, headers, MAX_ROWS)?;
     let mut account = Account::new(alloc, opening, limit);
     let mut text = String::new(alloc);
     while table.next_row()? {
-        let ask = match read_ask(table.row()) {
+        let ask = match read_ask(table.row(), Version::at(table.header())) {
             Ok(ask) => ask,
             Err(kind) => return Err(table.fault(kind)),
         };

@@ -7,7 +7,7 @@ use std::test::Fail;
 const SINGLE: &str = "price --fee 0 --before 1000";
 
 /// Words, reports, and what they cost.
-const PRICED: [(&str, &str, &str); 7] = [
+const PRICED: [(&str, &str, &str); 10] = [
     (
         "price --fee 50 --before 1000 --after 400",
         "before,after\n0,0\n1,0\n600,0\n600,300\n",
@@ -23,6 +23,21 @@ const PRICED: [(&str, &str, &str); 7] = [
         SINGLE,
         "before,after\n3,0\n3,0\n",
         "debit 5 total 5\ndebit 0 total 5\ntotal 5\n",
+    ),
+    (
+        "price --fee 50 --before 1000 --after 400 --free 300",
+        "before,after\n300,0\n600,0\n",
+        "debit 50 total 50\ndebit 500 total 550\ntotal 550\n",
+    ),
+    (
+        "price --fee 50 --before 1000 --after 400 --free 300",
+        "before,after\n200,0\n200,300\n",
+        "debit 50 total 50\ndebit 134 total 184\ntotal 184\n",
+    ),
+    (
+        "price --free 864000 --fee 50 --before 1000",
+        "before,after\n864000,0\n",
+        "debit 50 total 50\ntotal 50\n",
     ),
     (SINGLE, "before,after\n", "total 0\n"),
     (

@@ -79,29 +79,70 @@ const REFUSED: [(&str, &str); 16] = [
     ("0,return,1,,,,,1\n", "ops row 2: Empty"),
 ];
 
-/// A table with these rows below its header.
-fn table_of(alloc: Global, rows: &str) -> Result<String, AllocError> {
-    format!(in alloc; "seat,op,call,x1,x2,x3,x4,x5\n{rows}")
+/// Words, the rows of a table with free units, and what they are answered.
+const FREE_ANSWERED: [(&str, &str, &str); 2] = [
+    (
+        "replay --opening 550",
+        "0,reserve,1,50,1000,400,600,50,300\n0,settle,1,0,s,300,200,,\n0,return,1,,,,,,\n",
+        "granted 600 more available 0\nsettled paid 184 available 0\n\
+         returned paid 184 available 366\n",
+    ),
+    (
+        OPENED,
+        "0,reserve,1,50,1000,400,600,50,0\n0,settle,1,0,n,700,,,\n0,credit,,1,,,,,\n",
+        "granted 600 more available 450\nforfeit paid 1050 available 450\n\
+         credited available 451\n",
+    ),
+];
+
+/// The rows of such tables that are refused, and their first fault.
+const FREE_REFUSED: [(&str, &str); 7] = [
+    ("0,reserve,1,50,1000,400,600,50,\n", "ops row 2: Number"),
+    (
+        "0,reserve,1,50,1000,400,600,50,864001\n",
+        "ops row 2: Number",
+    ),
+    ("0,reserve,1,50,1000,400,600,50\n", "ops row 2: Csv"),
+    ("0,credit,,1,,,,,0\n", "ops row 2: Empty"),
+    ("0,settle,1,0,n,1,,,0\n", "ops row 2: Empty"),
+    ("0,settle,1,0,s,1,1,,0\n", "ops row 2: Empty"),
+    ("0,return,1,,,,,,0\n", "ops row 2: Empty"),
+];
+
+const HEADER: &str = "seat,op,call,x1,x2,x3,x4,x5";
+
+const HEADER_WITH_X6: &str = "seat,op,call,x1,x2,x3,x4,x5,x6";
+
+/// A table with these rows below a header.
+fn table_of(alloc: Global, header: &str, rows: &str) -> Result<String, AllocError> {
+    format!(in alloc; "{header}\n{rows}")
 }
 
 #[test]
 fn replays_operations(rt: HostRuntime) -> Result<(), Fail> {
     for (words, rows, output) in ANSWERED {
-        expect(
-            &rt,
-            words,
-            table_of(rt.alloc(), rows)?.as_str(),
-            (0, output, ""),
-        )?;
+        let table = table_of(rt.alloc(), HEADER, rows)?;
+        expect(&rt, words, table.as_str(), (0, output, ""))?;
     }
     for (rows, fault) in REFUSED {
-        expect_fault(
-            &rt,
-            "replay --opening 9",
-            table_of(rt.alloc(), rows)?.as_str(),
-            fault,
-        )?;
+        let table = table_of(rt.alloc(), HEADER, rows)?;
+        expect_fault(&rt, "replay --opening 9", table.as_str(), fault)?;
     }
+    let free = table_of(rt.alloc(), HEADER, "0,reserve,1,50,1000,400,600,50,300\n")?;
+    expect_fault(&rt, "replay --opening 9", free.as_str(), "ops row 2: Csv")?;
     let header = "seat,op,call,x1,x2,x3,x4\n";
     expect_fault(&rt, "replay --opening 9", header, "ops row 1: Header")
+}
+
+#[test]
+fn replays_free_units(rt: HostRuntime) -> Result<(), Fail> {
+    for (words, rows, output) in FREE_ANSWERED {
+        let table = table_of(rt.alloc(), HEADER_WITH_X6, rows)?;
+        expect(&rt, words, table.as_str(), (0, output, ""))?;
+    }
+    for (rows, fault) in FREE_REFUSED {
+        let table = table_of(rt.alloc(), HEADER_WITH_X6, rows)?;
+        expect_fault(&rt, "replay --opening 9", table.as_str(), fault)?;
+    }
+    Ok(())
 }

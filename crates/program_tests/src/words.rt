@@ -11,7 +11,7 @@ const CONFIG: &str = "prepaid: input: Config\n";
 const WORKERS: &str = "prepaid: run: Workers\n";
 
 /// Words that are no request. Between two spaces stands an empty word.
-const REFUSED: [&str; 19] = [
+const REFUSED: [&str; 20] = [
     "",
     "prices",
     "price",
@@ -24,6 +24,7 @@ const REFUSED: [&str; 19] = [
     "price --fee 1000000001 --before 1",
     "price --fee 000000000000000000001 --before 1",
     "price --fee 1 --before 1 --after 1000000001",
+    "price --fee 1 --before 1 --free 864001",
     "price --fee 1 --fee 1 --before 1",
     "price --fee 1 --before 1 more",
     "--version",

@@ -57,9 +57,12 @@ fn same_op(first: &Op, second: &Op) -> bool
     }
 }
 
-/// Whether two plans have the same fee and rates.
+/// Whether two plans have the same fee, rates and free units.
 fn same_plan(first: &Plan, second: &Plan) -> bool
     ensures { IsTrue result → rates_of first.now ≡ rates_of second.now }
 {
-    first.fee == second.fee && first.before == second.before && first.after == second.after
+    first.fee == second.fee
+        && first.before == second.before
+        && first.after == second.after
+        && first.free == second.free
 }

@@ -120,6 +120,14 @@ module _ {R S K F : Type 0} (form : TableForm S K F) (remaining : R → Option (
       only_header : (header : ℕ) (names : Fields) → header < length (names ∷ []) → width_at (names ∷ []) header ≡ length names
       only_header header names there = let zeroth : header ≡ 0 = omega (arith, there) in rw zeroth refl
 
+      -- a row has as many fields as the header that its table has
+      pub row_columns : IsNextRow before after → length (fields_of after.rows.row) ≡ width_at form.headers after.header
+      row_columns next = rw next.same.header (next.width ∙ next.same.width ∙ was.width)
+
+      -- and that is one of the headers
+      pub header_stays : IsNextRow before after → after.header < length form.headers
+      header_stays next = rw next.same.header was.header
+
       -- a row of a table with one header has as many fields as that
       pub row_width : (names : Fields) → form.headers ≡ names ∷ [] → IsNextRow before after → length (fields_of after.rows.row) ≡ length names
       row_width names one next =

@@ -3,11 +3,11 @@ use Rattle.std.proofs.Common.{◌≡◌, ℕ, zero, suc, ◌+◌, ◌*◌, ◌-�
 use Rattle.std.specs.Prelude.{◌⊎◌, if◌then◌else◌, IsSome, is_some}
 use Rattle.std.proofs.Math.Nat.{le-max_left, le-max_right, max-le, mul-le-mul_left, mul-le-mul_right}
 use Rattle.tariff_core.specs.Ceiling.{are_times, ceiling_of, greatest, may_come, price_if_lawful}
-use Rattle.tariff_core.specs.Price.{price_at, price_of, second_rate}
+use Rattle.tariff_core.specs.Price.{charged_after, charged_before, price_at, price_of, second_rate}
 use Rattle.tariff_core.specs.Rates.{Rates}
 use Rattle.tariff_core.specs.Times.{Elapsed}
 use Rattle.tariff_core.proofs.Lawfuls.{Comes, comes, may_come_by, or_zero}
-use Rattle.tariff_core.proofs.Prices.{price_grows}
+use Rattle.tariff_core.proofs.Prices.{cost_grows, price_grows}
 
 below_or_last : (n k : ℕ) → k ≤ suc n → (k ≤ n) ⊎ (k ≡ suc n)
 below_or_last n k le = grind arith
@@ -73,7 +73,8 @@ ceiling_least plan old more most h =
 -- ---- the ceiling in closed form
 
 -- more time at no less cost has no lower price
-dearer_price : (plan : Rates) (b a b' a' : ℕ) → b + a ≤ b' + a' → b * plan.before + a * second_rate plan ≤ b' * plan.before + a' * second_rate plan
+dearer_price : (plan : Rates) (b a b' a' : ℕ) → b + a ≤ b' + a'
+    → charged_before plan b * plan.before + charged_after plan b a * second_rate plan ≤ charged_before plan b' * plan.before + charged_after plan b' a' * second_rate plan
     → price_of plan b a ≤ price_of plan b' a'
 dearer_price plan b a b' a' longer more = price_grows plan.fee (b + a) (b' + a') _ _ longer more
 
@@ -111,7 +112,7 @@ ceiling_switched plan old more switched rated =
     let facts = comes plan old (old.before + old.after + more) new comes_new in
     let same = (facts.kept switched).1 in
     dearer_price plan new.before new.after old.before (old.after + more) (omega (arith, facts.within))
-    (rw same (omega (arith, mul-le-mul_right {m = new.after} {n = old.after + more} (second_rate plan) (omega (arith, facts.within)))))) in
+    (cost_grows plan new.before new.after old.before (old.after + more) (omega (arith, same)) (omega (arith, same, facts.within)))) in
     omega (arith, ceiling_covers plan old more (switching old more) (may_switch plan old more rated), least)
 
 -- a plan with one rate: all that is granted lies before a switch
@@ -122,7 +123,7 @@ ceiling_single plan old more unswitched none single =
     let facts = comes plan old (old.before + old.after + more) new comes_new in
     let nothing : new.after ≡ 0 = single_after new facts in
     dearer_price plan new.before new.after (old.before + more) old.after (omega (arith, facts.within))
-    (rw (nothing, none) (omega (arith, mul-le-mul_right {m = new.before} {n = old.before + more} plan.before (omega (arith, facts.within)))))) in
+    (cost_grows plan new.before new.after (old.before + more) old.after (omega (arith, none, facts.within)) (omega (arith, nothing)))) in
     omega (arith, ceiling_covers plan old more (going_on old more) (may_go_on plan old more unswitched none), least)
   where
     single_after : (new : Elapsed) → Comes plan old (old.before + old.after + more) new → new.after ≡ 0
@@ -146,12 +147,39 @@ split_cost x y m n r s from within =
 either : (plan : Rates) (old : Elapsed) (more most : ℕ) (new : Elapsed) → Comes plan old (old.before + old.after + more) new → old.after ≡ 0
     → price_of plan (old.before + more) old.after ≤ most → price_of plan old.before (old.after + more) ≤ most → price_at plan new ≤ most
 either plan old more most new facts none first second =
-    by_cost (split_cost new.before new.after old.before more plan.before (second_rate plan) facts.before (omega (arith, facts.within)))
+    by_cost (split_cost charged later kept beyond plan.before (second_rate plan) (omega (arith, facts.before)) (omega (arith, facts.within)))
   where
-    by_cost : (new.before * plan.before + new.after * second_rate plan ≤ (old.before + more) * plan.before)
-        ⊎ (new.before * plan.before + new.after * second_rate plan ≤ old.before * plan.before + more * second_rate plan) → price_at plan new ≤ most
-    by_cost (inl cheaper) = omega (arith, first, dearer_price plan new.before new.after (old.before + more) old.after (omega (arith, facts.within)) (omega (arith, cheaper)))
-    by_cost (inr cheaper) = omega (arith, second, dearer_price plan new.before new.after old.before (old.after + more) (omega (arith, facts.within)) (omega (arith, cheaper)))
+    -- what is charged for of the new times
+    charged : ℕ
+    charged = charged_before plan new.before
+
+    later : ℕ
+    later = charged_after plan new.before new.after
+
+    -- and where all that is granted lies after the switch
+    kept : ℕ
+    kept = charged_before plan old.before
+
+    beyond : ℕ
+    beyond = charged_after plan old.before more
+
+    -- all at the first rate: as much is charged for as where all that is granted lies before the switch
+    all_first : charged * plan.before + later * second_rate plan ≤ (kept + beyond) * plan.before
+        → charged * plan.before + later * second_rate plan ≤ charged_before plan (old.before + more) * plan.before + charged_after plan (old.before + more) old.after * second_rate plan
+    all_first cheaper =
+        let whole : kept + beyond ≡ charged_before plan (old.before + more) = omega arith in
+        omega (arith, rw whole at cheaper)
+
+    all_second : charged * plan.before + later * second_rate plan ≤ kept * plan.before + beyond * second_rate plan
+        → charged * plan.before + later * second_rate plan ≤ charged_before plan old.before * plan.before + charged_after plan old.before (old.after + more) * second_rate plan
+    all_second cheaper =
+        let nothing : old.after + more ≡ more = omega (arith, none) in
+        rw nothing cheaper
+
+    by_cost : (charged * plan.before + later * second_rate plan ≤ (kept + beyond) * plan.before)
+        ⊎ (charged * plan.before + later * second_rate plan ≤ kept * plan.before + beyond * second_rate plan) → price_at plan new ≤ most
+    by_cost (inl cheaper) = omega (arith, first, dearer_price plan new.before new.after (old.before + more) old.after (omega (arith, facts.within)) (all_first cheaper))
+    by_cost (inr cheaper) = omega (arith, second, dearer_price plan new.before new.after old.before (old.after + more) (omega (arith, facts.within)) (all_second cheaper))
 
 -- a plan with two rates, before its switch: all that is granted lies before the switch, or all of it after
 pub ceiling_double : (plan : Rates) (old : Elapsed) (more : ℕ) → old.switched ≡ false → old.after ≡ 0 → is_some plan.after ≡ true

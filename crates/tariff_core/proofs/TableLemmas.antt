@@ -1,9 +1,9 @@
 -- The rows so far and those that are left are the rows of the table.
-use Rattle.std.proofs.Common.{◌≡◌, ℕ, ◌+◌, ◌≤◌, Bool, true, false, List, [], ◌∷◌, length, Option, Some, None, Result, Ok, Err, refl, arith}
+use Rattle.std.proofs.Common.{◌≡◌, ℕ, zero, suc, ◌<◌, ◌+◌, ◌≤◌, Bool, true, false, List, [], ◌∷◌, length, Option, Some, None, Result, Ok, Err, refl, arith}
 use Rattle.std.specs.Prelude.{IsErrAnd, if◌then◌else◌}
 use Rattle.table_core.specs.Judging.{after}
 use Rattle.table_core.specs.Rows.{Fields, rows_of}
-use Rattle.table_core.specs.Tables.{below, own_fault, rows_from, table_of, then_rows, unless_own, which_header}
+use Rattle.table_core.specs.Tables.{below, own_fault, rows_from, table_of, then_rows, unless_own, which_header, width_at}
 use Rattle.table_core.specs.declared.fault.TableFault.{TableFault}
 use Rattle.table_core.specs.declared.fault.TableFault.TheVariants as fault
 use Rattle.table_core.specs.Reading.{header_of, number_of, width_of}
@@ -12,7 +12,7 @@ use Rattle.table_core.proofs.TableLemmas.{IsRead, Stops}
 use Rattle.tariff_core.proofs.Known.{at_known}
 use Rattle.tariff_core.specs.Bands.{Band, has_band}
 use Rattle.tariff_core.specs.TariffFaults.{fault_from, kind_from}
-use Rattle.tariff_core.specs.TariffTable.{ComesBy, Gives, NotBefore, Refuses, band_in, bands_of, complete, complete_by, header, new_band, new_band_in, tariff_form, without_midnight}
+use Rattle.tariff_core.specs.TariffTable.{ComesBy, Gives, HasColumns, NotBefore, Refuses, band_in, bands_of, complete, complete_by, header, header_with_free, new_band, new_band_in, tariff_form, without_midnight}
 use Rattle.tariff_core.specs.declared.tariff_fault.TariffFault.{TariffFault}
 use Rattle.tariff_core.specs.declared.tariff_fault.TariffKind.{TariffKind}
 use Rattle.tariff_core.specs.declared.tariff_fault.TariffKind.TheVariants as kind
@@ -30,8 +30,17 @@ is_new_in : (earlier : List Band) (band : Band) (given : Result Band TariffKind)
 is_new_in earlier band (Ok given) is = is_new_band earlier given band _ refl is
 is_new_in earlier band (Err why) is = cc
 
-pub is_new : (earlier : List Band) (fields : Fields) (band : Band) → new_band_in earlier fields ≡ Ok band → has_band band.prefix band.start earlier ≡ false
-is_new earlier fields band is = is_new_in earlier band (band_in fields) is
+pub is_new : (which : ℕ) (earlier : List Band) (fields : Fields) (band : Band) → new_band_in which earlier fields ≡ Ok band
+    → has_band band.prefix band.start earlier ≡ false
+is_new which earlier fields band is = is_new_in earlier band (band_in which fields) is
+
+-- ---- the columns of a row
+
+-- a row that is as wide as its header has its columns
+pub has_columns : (which : ℕ) (fields : Fields) → which < 2 → length fields ≡ width_at (header ∷ header_with_free ∷ []) which → HasColumns which fields
+has_columns zero fields one wide = (omega (arith, wide), λ other. absurd (other refl))
+has_columns (suc zero) fields one wide = (omega (arith, wide), λ other. omega (arith, wide))
+has_columns (suc (suc which)) fields one wide = absurd (omega (arith, one))
 
 -- a fault of the table's own
 pub refused_at : (why : TariffKind) (number : ℕ) (meaning : Result (List Band) TariffFault) → meaning ≡ Err (record { row = number; kind = why }) → Refuses why number meaning
@@ -45,6 +54,7 @@ refused_at kind.NoMidnightBand number meaning is = is
 refused_at kind.OutOfMemory number meaning is = rw is (omega arith)
 refused_at kind.Device number meaning is = rw is (omega arith)
 refused_at kind.TooManyRows number meaning is = is
+refused_at kind.Free number meaning is = is
 
 -- ---- where a table that can't be read on may be given up
 
@@ -60,6 +70,7 @@ comes_at kind.NoMidnightBand row = tt
 comes_at kind.OutOfMemory row = omega arith
 comes_at kind.Device row = omega arith
 comes_at kind.TooManyRows row = omega arith
+comes_at kind.Free row = omega arith
 
 comes_later : (why : TariffKind) (low high row : ℕ) → low ≤ high → ComesBy high why row → ComesBy low why row
 comes_later kind.Csv low high row le by = omega (arith, by)
@@ -72,6 +83,7 @@ comes_later kind.NoMidnightBand low high row le by = tt
 comes_later kind.OutOfMemory low high row le by = omega (arith, by)
 comes_later kind.Device low high row le by = omega (arith, by)
 comes_later kind.TooManyRows low high row le by = omega (arith, by)
+comes_later kind.Free low high row le by = omega (arith, by)
 
 not_before_later : (meaning : Result (List Band) TariffFault) (low high : ℕ) → low ≤ high → NotBefore high meaning → NotBefore low meaning
 not_before_later (Ok bands) low high le by = tt
@@ -99,7 +111,7 @@ below_not_before first rows (Some header) =
 pub bands_not_before : (rows : List Fields) → NotBefore 1 (bands_of rows)
 unfolding table_of
 bands_not_before [] = omega arith
-bands_not_before (first ∷ rows) = below_not_before first rows (which_header (header ∷ []) first)
+bands_not_before (first ∷ rows) = below_not_before first rows (which_header (header ∷ header_with_free ∷ []) first)
 
 -- after the rows so far, none up to the next one has a fault
 pub none_before : {R : Type 0} (remaining : R → Option (List ℕ)) (known : Option (List ℕ)) (table : Table R) (read : List Band) (text : List ℕ) → known ≡ Some text
@@ -135,6 +147,7 @@ refused_whole kind.NoMidnightBand row meaning is = rw is refl
 refused_whole kind.OutOfMemory row meaning is = not_before_whole row meaning is
 refused_whole kind.Device row meaning is = not_before_whole row meaning is
 refused_whole kind.TooManyRows row meaning is = rw is refl
+refused_whole kind.Free row meaning is = rw is refl
 
 -- a fault that is passed on
 pub passed_on : (answer : Result (List Band) TariffFault) (fault : TariffFault) (meaning : Result (List Band) TariffFault)

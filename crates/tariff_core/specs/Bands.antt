@@ -2,12 +2,13 @@
 use Rattle.std.specs.Prelude.{◌==◌, ◌&&◌, ℕ, Bool, List, [], ◌∷◌, Option, Some, None, if◌then◌else◌, is_some}
 use Rattle.std.specs.Str.{bytes_eq}
 
--- a row: calls whose number begins with the prefix cost the fee and the rate a minute, from the start of day on
+-- a row: calls whose number begins with the prefix cost the fee and, but for free units, the rate a minute, from the start of day on
 pub record Band : Type 0 where
   pub prefix : List ℕ
   pub start : ℕ
   pub fee : ℕ
   pub rate : ℕ
+  pub free : ℕ
 
 -- whether a row is for this prefix, from this start on
 abbrev pub is_at : List ℕ → ℕ → Band → Bool

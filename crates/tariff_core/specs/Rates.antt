@@ -1,11 +1,12 @@
 -- What a plan says, as plain numbers.
 use Rattle.std.specs.Prelude.{◌≤◌, ℕ, Option, unwrap_or}
 
--- a fee, the rate a minute before the tariff switch, and the rate after it where there is one
+-- a fee, the rate a minute before the tariff switch, the rate after it where there is one, and how many units are free
 pub record Rates : Type 0 where
   pub fee : ℕ
   pub before : ℕ
   pub after : Option ℕ
+  pub free : ℕ
 
 -- the rates that a plan may have: each at most 10^9
 pub record AreRates (fee before : ℕ) (after : Option ℕ) : Type 0 where

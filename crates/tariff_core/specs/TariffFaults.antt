@@ -21,6 +21,7 @@ code_of kind.NoMidnightBand = 7
 code_of kind.OutOfMemory = 8
 code_of kind.Device = 9
 code_of kind.TooManyRows = 10
+code_of kind.Free = 11
 
 -- the name of a kind
 abbrev pub name_of : TariffKind → List ℕ
@@ -34,6 +35,7 @@ name_of kind.NoMidnightBand = codes "NoMidnightBand"
 name_of kind.OutOfMemory = codes "OutOfMemory"
 name_of kind.Device = codes "Device"
 name_of kind.TooManyRows = codes "TooManyRows"
+name_of kind.Free = codes "Free"
 
 -- `row N: KIND`
 abbrev pub text_of : TariffFault → List ℕ

@@ -1,5 +1,5 @@
 -- The meaning of a tariff table: its rows, or the first fault.
-use Rattle.std.specs.Prelude.{◌≡◌, ◌≤◌, ◌+◌, ◌*◌, ◌==◌, ◌&&◌, ℕ, Bool, List, [], ◌∷◌, length, Option, Some, None, Result, Ok, Err, ⊤, if◌then◌else◌, nat_le, ok_or, slice_index, take, drop, codes}
+use Rattle.std.specs.Prelude.{◌≡◌, ◌≢◌, ◌<◌, ◌≤◌, ◌+◌, ◌*◌, ◌==◌, ◌&&◌, ℕ, Bool, List, [], ◌∷◌, ◌++◌, length, Option, Some, None, Result, Ok, Err, ⊤, if◌then◌else◌, nat_le, ok_or, slice_index, take, drop, codes}
 use Rattle.std.specs.Char.{is_ascii_digit}
 use Rattle.std.specs.List.{list_all}
 use Rattle.table_core.specs.Decimals.{decimal_of}
@@ -37,31 +37,42 @@ start_in fields = ok_or (time_of (field_in fields 1)) kind.From
 abbrev pub money_in : List (List ℕ) → ℕ → Result ℕ TariffKind
 money_in fields place = ok_or (decimal_of 1000000000 (field_in fields place)) kind.Money
 
--- what a row of four fields says
-abbrev pub band_in : List (List ℕ) → Result Band TariffKind
-band_in fields =
+-- a row has the four fields of the older header, or five
+abbrev pub HasColumns : ℕ → List (List ℕ) → Type 0
+HasColumns header fields = (4 ≤ length fields) × (header ≢ 0 → 4 < length fields)
+
+-- the free units in a row: none under the older header, the first
+abbrev pub free_in : ℕ → List (List ℕ) → Result ℕ TariffKind
+free_in header fields = if header == 0 then Ok 0 else ok_or (decimal_of 864000 (field_in fields 4)) kind.Free
+
+-- what a row says
+abbrev pub band_in : ℕ → List (List ℕ) → Result Band TariffKind
+band_in header fields =
     after (prefix_in fields) (λ prefix. after (start_in fields) (λ start. after (money_in fields 2) (λ fee. after (money_in fields 3) (λ rate.
-    Ok (record { prefix = prefix; start = start; fee = fee; rate = rate })))))
+    after (free_in header fields) (λ free. Ok (record { prefix = prefix; start = start; fee = fee; rate = rate; free = free }))))))
 
 -- the row, where no earlier one has its prefix and its start
 abbrev pub new_band : List Band → Band → Result Band TariffKind
 new_band earlier band = if has_band band.prefix band.start earlier then Err kind.Repeated else Ok band
 
 -- what a row says, after the earlier ones
-abbrev pub new_band_in : List Band → List (List ℕ) → Result Band TariffKind
-new_band_in earlier fields = after (band_in fields) (new_band earlier)
+abbrev pub new_band_in : ℕ → List Band → List (List ℕ) → Result Band TariffKind
+new_band_in header earlier fields = after (band_in header fields) (new_band earlier)
 
--- `prefix,from,fee,rate`
+-- `prefix,from,fee,rate`, and the same with `free`
 abbrev pub header : List (List ℕ)
 header = codes "prefix" ∷ codes "from" ∷ codes "fee" ∷ codes "rate" ∷ []
+
+abbrev pub header_with_free : List (List ℕ)
+header_with_free = header ++ codes "free" ∷ []
 
 -- a tariff table of at most 10,000 rows
 abbrev pub tariff_form : TableForm (List Band) TariffKind TariffFault
 tariff_form = record {
-  headers = header ∷ [];
+  headers = header ∷ header_with_free ∷ [];
   limit = 10000;
   start = [];
-  judge = λ header. adds new_band_in;
+  judge = λ header. adds (new_band_in header);
   kind_of = kind_from;
   fault_at = λ row kind. record { row = row; kind = kind };
 }

@@ -9,7 +9,7 @@ ghost use Rattle.tariff_core.specs.Places.{by_place};
 ghost use Rattle.tariff_core.specs.Prefixes.{digits_of};
 ghost use Rattle.tariff_core.specs.Routes.{IsBandAt, IsSoonest};
 ghost use Rattle.tariff_core.specs.Tariff.{Indexes, IsIndexed, Tells, Keeps, band_of};
-ghost use Rattle.tariff_core.specs.TariffTable.{Gives, bands_of, new_band_in, without_midnight};
+ghost use Rattle.tariff_core.specs.TariffTable.{Gives, HasColumns, bands_of, new_band_in, without_midnight};
 
 use crate::DAY;
 use crate::place::Place;
@@ -52,7 +52,10 @@ impl Bands {
     pub fn read<R: Read + Drop>(alloc: Global, reader: R) -> Result<Bands, TariffFault>
         ensures { IfSome (R.remaining reader) (λ text. Gives result (bands_of (rows_of text))) }
     {
-        let headers: &[&[&str]] = &[&["prefix", "from", "fee", "rate"]];
+        let headers: &[&[&str]] = &[
+            &["prefix", "from", "fee", "rate"],
+            &["prefix", "from", "fee", "rate", "free"],
+        ];
         let mut table = match Table::open(alloc, reader, headers, MAX_ROWS) {
             Ok(table) => table,
             Err(fault) => return Err(TariffFault::at(1, fault)),
@@ -67,7 +70,7 @@ impl Bands {
             if !found {
                 return Ok(Bands { rows, index });
             }
-            let row = match judge(&index, table.row()) {
+            let row = match judge(&index, table.header(), table.row()) {
                 Ok(row) => row,
                 Err(kind) => return Err(TariffFault {
                     row: table.number(),
@@ -146,12 +149,16 @@ impl Bands {
 }
 
 /// The row that these fields say, after the rows that are in the index.
-fn judge(index: &BTreeMap<Place, Cost>, fields: &ByteRecord) -> Result<Row, TariffKind>
-    requires { length (fields_of fields.now) ≡ 4 }
+fn judge(
+    index: &BTreeMap<Place, Cost>,
+    header: usize,
+    fields: &ByteRecord,
+) -> Result<Row, TariffKind>
+    requires { HasColumns header (fields_of fields.now) }
     ensures { (bands : _) → Indexes index.now bands
-        → Tells band_of result (new_band_in bands (fields_of fields.now)) }
+        → Tells band_of result (new_band_in header bands (fields_of fields.now)) }
 {
-    let row = read_row(fields)?;
+    let row = read_row(header, fields)?;
     if index.contains_key(&row.place) {
         return Err(TariffKind::Repeated);
     }

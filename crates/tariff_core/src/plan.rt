@@ -3,17 +3,19 @@
 ghost use Rattle.std.specs.Prelude.{◌≡◌, ◌≤◌, IsOk, IfOk, ◌↔◌, unwrap_or};
 ghost use Rattle.tariff_core.specs.Rates.{AreRates};
 
+use crate::DAY;
 use thiserror::Error;
 
 /// The highest fee, and the highest rate a minute, in units of money.
 pub const MAX_RATE: u64 = 1_000_000_000;
 
-/// A fee or a rate is above `MAX_RATE`.
+/// A fee or a rate is above `MAX_RATE`, or the free units are more than a day.
 #[derive(Clone, Copy, Debug, PartialEq, Eq, Error)]
-#[error("a fee or a rate is above {MAX_RATE}")]
+#[error("a fee or a rate is above {MAX_RATE}, or the free units are above {DAY}")]
 pub struct PlanRange;
 
-/// A charging plan: what a call costs once it is talked, and what a minute of it costs.
+/// A charging plan: what a call costs once it is talked, what a minute of it costs, and how long it
+/// is free.
 #[derive(Clone, Copy, Debug, PartialEq, Eq)]
 pub struct Plan {
     /// Charged once, as soon as any time is talked.
@@ -22,23 +24,55 @@ pub struct Plan {
     pub before: u64,
     /// The rate a minute after the switch, where the plan has one.
     pub after: Option<u64>,
+    /// How many units of 100 ms cost nothing, 0 to `DAY`: the first of the time before the switch,
+    /// and where that was shorter, the first after it. The fee is charged all the same.
+    pub free: u32,
     pub ghost fee_in_range: { fee ≤ 1000000000 },
     pub ghost before_in_range: { before ≤ 1000000000 },
     pub ghost after_in_range: { unwrap_or after 0 ≤ 1000000000 },
+    pub ghost free_within_day: { free ≤ 864000 },
 }
 
 impl Plan {
     ghost use Rattle.tariff_core.specs.RatesOf.{rates_of};
 
-    /// The plan of a fee and one or two rates a minute.
+    /// The plan of a fee and one or two rates a minute, without free units.
     pub fn new(fee: u64, before: u64, after: Option<u64>) -> Result<Plan, PlanRange>
         ensures made { IsOk result ↔ AreRates fee before after }
         ensures rates { IfOk result
-            (λ plan. rates_of plan ≡ record { fee = fee; before = before; after = after }) }
+            (λ plan. rates_of plan ≡ record { fee = fee; before = before; after = after; free = 0 }) }
     {
         if fee > MAX_RATE || before > MAX_RATE || after.unwrap_or(0) > MAX_RATE {
             return Err(PlanRange);
         }
-        Ok(Plan { fee, before, after })
+        Ok(Plan {
+            fee,
+            before,
+            after,
+            free: 0,
+        })
+    }
+
+    /// The same plan with so many free units of 100 ms, 0 to `DAY`.
+    pub fn with_free(self, free: u32) -> Result<Plan, PlanRange>
+        ensures made { IsOk result ↔ (free ≤ 864000) }
+        ensures rates { IfOk result
+            (λ plan. rates_of plan ≡ record (rates_of self) { free = free }) }
+    {
+        if free > DAY {
+            return Err(PlanRange);
+        }
+        let Plan {
+            fee,
+            before,
+            after,
+            ..
+        } = self;
+        Ok(Plan {
+            fee,
+            before,
+            after,
+            free,
+        })
     }
 }

@@ -14,8 +14,9 @@ pub const MAX_PRICE: u64 = 1_441_000_000_000;
 const MINUTE: u64 = 600;
 
 /// What it costs to have talked `before` units of 100 ms before the tariff switch and `after` units
-/// after it: nothing where nothing was talked, else the fee and each time at its rate, rounded up
-/// once. Without a second rate the time after the switch costs nothing.
+/// after it: nothing where nothing was talked, else the fee and each time less its free units at
+/// its rate, rounded up once. The time before the switch uses the free units up first. Without a
+/// second rate the time after the switch costs nothing.
 pub fn price(plan: &Plan, before: u32, after: u32) -> u64
     requires { before + after ≤ 864000 }
     ensures exact { result ≡ price_of (rates_of plan.now) before after }
@@ -24,7 +25,9 @@ pub fn price(plan: &Plan, before: u32, after: u32) -> u64
     if before == 0 && after == 0 {
         return 0;
     }
-    let cost = u64::from(before) * plan.before + u64::from(after) * plan.after.unwrap_or(0);
+    let first = before.saturating_sub(plan.free);
+    let second = after.saturating_sub(plan.free.saturating_sub(before));
+    let cost = u64::from(first) * plan.before + u64::from(second) * plan.after.unwrap_or(0);
     plan.fee + cost.div_ceil(MINUTE)
 }
 

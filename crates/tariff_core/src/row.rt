@@ -4,13 +4,15 @@ ghost use Rattle.std.specs.Prelude.{◌<◌, ◌≤◌};
 
 use crate::place::Place;
 
-/// What the calls of a row cost: the fee, and the rate a minute.
+/// What the calls of a row cost: the fee, the rate a minute, and how many units are free.
 #[derive(Clone, Copy, Debug)]
 pub(crate) struct Cost {
     pub fee: u64,
     pub rate: u64,
+    pub free: u32,
     pub ghost fee_in_range: { fee ≤ 1000000000 },
     pub ghost rate_in_range: { rate ≤ 1000000000 },
+    pub ghost free_within_day: { free ≤ 864000 },
 }
 
 /// A row of a tariff table.

@@ -1,10 +1,11 @@
 //! What the fields of a row say.
 
-ghost use Rattle.std.specs.Prelude.{◌≡◌, ◌<◌, ◌≤◌, length, IfSome};
+ghost use Rattle.std.specs.Prelude.{◌≡◌, ◌<◌, ◌≤◌, IfOk, IfSome};
 ghost use Rattle.csv.specs.Records.{fields_of};
 ghost use Rattle.tariff_core.specs.Tariff.{Tells, band_of};
-ghost use Rattle.tariff_core.specs.TariffTable.{band_in, is_prefix, time_of};
+ghost use Rattle.tariff_core.specs.TariffTable.{HasColumns, band_in, free_in, is_prefix, time_of};
 
+use crate::DAY;
 use crate::place::Place;
 use crate::plan::MAX_RATE;
 use crate::prefix::{PREFIX_DIGITS, Prefix};
@@ -13,10 +14,10 @@ use crate::tariff_fault::TariffKind;
 use csv::ByteRecord;
 use table_core::{are_digits, decimal, field};
 
-/// The row of these four fields.
-pub(crate) fn read_row(fields: &ByteRecord) -> Result<Row, TariffKind>
-    requires { length (fields_of fields.now) ≡ 4 }
-    ensures { Tells band_of result (band_in (fields_of fields.now)) }
+/// The row of these fields, under the older header (0) or the one with free units.
+pub(crate) fn read_row(header: usize, fields: &ByteRecord) -> Result<Row, TariffKind>
+    requires { HasColumns header (fields_of fields.now) }
+    ensures { Tells band_of result (band_in header (fields_of fields.now)) }
 {
     let digits = field(fields, 0);
     if !is_prefix(digits) {
@@ -26,10 +27,24 @@ pub(crate) fn read_row(fields: &ByteRecord) -> Result<Row, TariffKind>
     let start = time(field(fields, 1)).ok_or(TariffKind::From)?;
     let fee = decimal(field(fields, 2), MAX_RATE).ok_or(TariffKind::Money)?;
     let rate = decimal(field(fields, 3), MAX_RATE).ok_or(TariffKind::Money)?;
+    let free = free_units(header, fields)?;
     Ok(Row {
         place: Place { prefix, start },
-        cost: Cost { fee, rate },
+        cost: Cost { fee, rate, free },
     })
+}
+
+/// The free units of these fields: none under the older header.
+fn free_units(header: usize, fields: &ByteRecord) -> Result<u32, TariffKind>
+    requires { HasColumns header (fields_of fields.now) }
+    ensures value { result ≡ free_in header (fields_of fields.now) }
+    ensures within_day { IfOk result (λ free. free ≤ 864000) }
+{
+    if header == 0 {
+        return Ok(0);
+    }
+    let free = decimal(field(fields, 4), u64::from(DAY)).ok_or(TariffKind::Free)?;
+    Ok(free as u32)
 }
 
 fn is_prefix(text: &[u8]) -> bool

@@ -40,12 +40,13 @@ impl Model for Tariff {
 }
 
 impl Tariff {
-    /// The tariff of a CSV table with the header `prefix,from,fee,rate`: a prefix of 0 to 15 ASCII
-    /// digits, a start `HH:MM`, a fee and a rate a minute up to `MAX_RATE`. At most 10,000 rows,
-    /// no two for one prefix and start, and for each prefix one from `00:00` on.
+    /// The tariff of a CSV table with the header `prefix,from,fee,rate,free`: a prefix of 0 to 15
+    /// ASCII digits, a start `HH:MM`, a fee and a rate a minute up to `MAX_RATE`, and free units of
+    /// 100 ms up to `DAY`. Under the older header `prefix,from,fee,rate` a row has none. At most
+    /// 10,000 rows, no two for one prefix and start, and for each prefix one from `00:00` on.
     ///
     /// Rows are judged in order as they are read, and within a row the faults in the order Csv,
-    /// TooManyRows, Digits, From, Money, Repeated. NoMidnightBand comes after the last row, at the
+    /// TooManyRows, Digits, From, Money, Free, Repeated. NoMidnightBand comes after the last row, at the
     /// first row of the first prefix that has it. OutOfMemory and Device come at the row that was
     /// being read.
     pub fn read<R: Read + Drop>(alloc: Global, reader: R) -> Result<Tariff, TariffFault>
@@ -65,7 +66,8 @@ impl Tariff {
     /// table fits.
     ///
     /// The longest prefix counts, and of its bands the latest that has begun at the time of day.
-    /// The next band of the prefix, perhaps on the next day, gives the second rate.
+    /// The next band of the prefix, perhaps on the next day, gives the second rate, and no free
+    /// units.
     pub fn plan(&self, called: &[u8], now: u64) -> Option<Route>
         requires { now ≤ 2000000000000 }
         ensures none { IfNone result (HasNoRoute self.now called.now) }
@@ -150,6 +152,7 @@ fn route(band: Row, after: Option<u64>, switch_at: Option<u64>) -> Route
     requires both { is_some switch_at ≡ is_some after }
     ensures fee { result.plan.fee ≡ band.cost.fee }
     ensures first_rate { result.plan.before ≡ band.cost.rate }
+    ensures free { result.plan.free ≡ band.cost.free }
     ensures second_rate { result.plan.after ≡ after }
     ensures moment { result.switch_at ≡ switch_at }
 {
@@ -158,6 +161,7 @@ fn route(band: Row, after: Option<u64>, switch_at: Option<u64>) -> Route
             fee: band.cost.fee,
             before: band.cost.rate,
             after,
+            free: band.cost.free,
         },
         switch_at,
     }

@@ -30,6 +30,8 @@ pub enum TariffKind {
     Device = 9,
     /// More rows than a table may have.
     TooManyRows = 10,
+    /// Free units that are not a decimal up to `DAY`.
+    Free = 11,
 }
 
 impl TariffKind {
@@ -56,6 +58,7 @@ impl fmt::Display for TariffKind {
             TariffKind::OutOfMemory => f.write_str("OutOfMemory"),
             TariffKind::Device => f.write_str("Device"),
             TariffKind::TooManyRows => f.write_str("TooManyRows"),
+            TariffKind::Free => f.write_str("Free"),
         }
     }
 }

@@ -5,7 +5,7 @@ use cap_values::ValueFault;
 use table_core::{RowFault, RowKind, TableFault};
 use tariff_core::{TariffFault, TariffKind};
 
-const KINDS: [(TariffKind, u8, &str); 10] = [
+const KINDS: [(TariffKind, u8, &str); 11] = [
     (TariffKind::Csv, 1, "row 7: Csv"),
     (TariffKind::Header, 2, "row 7: Header"),
     (TariffKind::Digits, 3, "row 7: Digits"),
@@ -16,6 +16,7 @@ const KINDS: [(TariffKind, u8, &str); 10] = [
     (TariffKind::OutOfMemory, 8, "row 7: OutOfMemory"),
     (TariffKind::Device, 9, "row 7: Device"),
     (TariffKind::TooManyRows, 10, "row 7: TooManyRows"),
+    (TariffKind::Free, 11, "row 7: Free"),
 ];
 
 #[test]

@@ -20,6 +20,7 @@ const CHEAPER: Plan = Plan {
     fee: 50,
     before: 1000,
     after: Some(400),
+    free: 0,
 };
 
 /// One rate.
@@ -27,6 +28,7 @@ const SINGLE: Plan = Plan {
     fee: 0,
     before: 1000,
     after: None,
+    free: 0,
 };
 
 /// Two rates, the second dearer.
@@ -34,10 +36,32 @@ const DEARER: Plan = Plan {
     fee: 0,
     before: 400,
     after: Some(1000),
+    free: 0,
+};
+
+/// Two rates, the second cheaper, and free units.
+const FREE: Plan = Plan {
+    fee: 50,
+    before: 1000,
+    after: Some(400),
+    free: 300,
+};
+
+/// Two rates, the second dearer, and free units.
+const FREE_DEARER: Plan = Plan {
+    fee: 0,
+    before: 400,
+    after: Some(1000),
+    free: 300,
 };
 
 /// The times before and after a switch, and their price.
-const PRICES: [(Plan, u32, u32, u64); 7] = [
+const PRICES: [(Plan, u32, u32, u64); 12] = [
+    (FREE, 1, 0, 50),
+    (FREE, 300, 0, 50),
+    (FREE, 600, 0, 550),
+    (FREE, 200, 300, 184),
+    (FREE, 0, 300, 50),
     (CHEAPER, 0, 0, 0),
     (CHEAPER, 1, 0, 52),
     (CHEAPER, 600, 0, 1050),
@@ -48,7 +72,13 @@ const PRICES: [(Plan, u32, u32, u64); 7] = [
 ];
 
 /// Money, and how many of 600 units it covers.
-const AFFORDED: [(Plan, u64, u32); 6] = [
+const AFFORDED: [(Plan, u64, u32); 12] = [
+    (FREE, 550, 600),
+    (FREE, 549, 599),
+    (FREE, 50, 300),
+    (FREE, 49, 0),
+    (FREE_DEARER, 500, 600),
+    (FREE_DEARER, 499, 599),
     (CHEAPER, 1050, 600),
     (CHEAPER, 1049, 599),
     (CHEAPER, 52, 1),
@@ -71,6 +101,9 @@ const PLANS: [(Rates, bool); 8] = [
     ((0, MOST + 1, None), false),
     ((0, 0, Some(MOST + 1)), false),
 ];
+
+/// Free units, and whether they fit.
+const FREE_UNITS: [(u32, bool); 3] = [(0, true), (864_000, true), (864_001, false)];
 
 /// Times, and whether they fit.
 const TIMES: [(Parts, bool); 3] = [
@@ -183,6 +216,17 @@ fn plans_and_times_keep_their_ranges(rt: HostRuntime) {
         let made = rates_of(Plan::new(fee, before, after).ok());
         gives(&rt, &rates, &made, &fits.then_some(rates));
     }
+    for &(free, fits) in &FREE_UNITS {
+        let made = CHEAPER.with_free(free).ok();
+        let units = made.map(|plan| plan.free);
+        gives(&rt, &free, &units, &fits.then_some(free));
+        gives(
+            &rt,
+            &free,
+            &rates_of(made),
+            &fits.then_some((50, 1000, Some(400))),
+        );
+    }
     for &(parts, fits) in &TIMES {
         let (before, after, switched) = parts;
         let made = parts_of(Times::new(before, after, switched));
@@ -249,7 +293,7 @@ fn halves(rt: &impl Abort, plan: &Plan, old: Times, wanted: u32, money: u64)
 #[test]
 fn halves_as_counting_down(rt: HostRuntime) {
     let unswitched = times(&rt, (30, 0, false));
-    for plan in &[CHEAPER, SINGLE, DEARER] {
+    for plan in &[CHEAPER, SINGLE, DEARER, FREE, FREE_DEARER] {
         for money in 0..100 {
             for &wanted in &[0, 1, 2, 37] {
                 halves(&rt, plan, unswitched, wanted, money);

@@ -7,23 +7,31 @@ use std::process::Abort;
 use std::test::Fail;
 use tariff_core::{Plan, Route, Tariff, TariffFault, TariffKind};
 
-/// The fee and the rates of a route, and the moment of its switch.
-type Rates = (u64, u64, Option<u64>, Option<u64>);
+/// The fee, the rates and the free units of a route, and the moment of its switch.
+type Rates = (u64, u64, Option<u64>, u32, Option<u64>);
 
 /// Two bands for 49, and one for 4930.
 pub const TABLE: &[u8] =
     b"prefix,from,fee,rate\n49,00:00,50,1000\n49,08:00,0,400\n4930,00:00,10,600\n";
 
 const ROUTES: [(&str, u64, Option<Rates>); 12] = [
-    ("491", 0, Some((50, 1000, Some(400), Some(288_000)))),
-    ("491", 287_999, Some((50, 1000, Some(400), Some(288_000)))),
-    ("491", 288_000, Some((0, 400, Some(1000), Some(864_000)))),
-    ("491", 863_999, Some((0, 400, Some(1000), Some(864_000)))),
-    ("491", 864_000, Some((50, 1000, Some(400), Some(1_152_000)))),
-    ("49", 0, Some((50, 1000, Some(400), Some(288_000)))),
-    ("493", 0, Some((50, 1000, Some(400), Some(288_000)))),
-    ("4930", 0, Some((10, 600, None, None))),
-    ("49301", 0, Some((10, 600, None, None))),
+    ("491", 0, Some((50, 1000, Some(400), 0, Some(288_000)))),
+    (
+        "491",
+        287_999,
+        Some((50, 1000, Some(400), 0, Some(288_000))),
+    ),
+    ("491", 288_000, Some((0, 400, Some(1000), 0, Some(864_000)))),
+    ("491", 863_999, Some((0, 400, Some(1000), 0, Some(864_000)))),
+    (
+        "491",
+        864_000,
+        Some((50, 1000, Some(400), 0, Some(1_152_000))),
+    ),
+    ("49", 0, Some((50, 1000, Some(400), 0, Some(288_000)))),
+    ("493", 0, Some((50, 1000, Some(400), 0, Some(288_000)))),
+    ("4930", 0, Some((10, 600, None, 0, None))),
+    ("49301", 0, Some((10, 600, None, 0, None))),
     ("44", 0, None),
     ("4", 0, None),
     ("", 0, None),
@@ -32,17 +40,61 @@ const ROUTES: [(&str, u64, Option<Rates>); 12] = [
 /// One band for every number, and one for the longest prefix.
 const EMPTY_PREFIX: &[u8] = b"prefix,from,fee,rate\n,00:00,1,2\n123456789012345,00:00,3,4\n";
 
+/// Two bands with free units of their own.
+const WITH_FREE: &[u8] =
+    b"prefix,from,fee,rate,free\n49,00:00,50,1000,300\n49,08:00,0,400,864000\n";
+
+const ROUTES_WITH_FREE: [(&str, u64, Option<Rates>); 2] = [
+    ("491", 0, Some((50, 1000, Some(400), 300, Some(288_000)))),
+    (
+        "491",
+        288_000,
+        Some((0, 400, Some(1000), 864_000, Some(864_000))),
+    ),
+];
+
 const LATEST: u64 = 2_000_000_000_000;
 
 const EMPTY_PREFIX_ROUTES: [(&str, u64, Option<Rates>); 4] = [
-    ("", LATEST, Some((1, 2, None, None))),
-    ("12345678901234", LATEST, Some((1, 2, None, None))),
-    ("123456789012345", LATEST, Some((3, 4, None, None))),
-    ("1234567890123456", LATEST, Some((3, 4, None, None))),
+    ("", LATEST, Some((1, 2, None, 0, None))),
+    ("12345678901234", LATEST, Some((1, 2, None, 0, None))),
+    ("123456789012345", LATEST, Some((3, 4, None, 0, None))),
+    ("1234567890123456", LATEST, Some((3, 4, None, 0, None))),
 ];
 
 /// Tables, and the row and the kind of the fault of each.
-const REFUSED: [(&str, u32, TariffKind); 21] = [
+const REFUSED: [(&str, u32, TariffKind); 28] = [
+    ("prefix,from,fee,rate,fee\n", 1, TariffKind::Header),
+    (
+        "prefix,from,fee,rate,free\n44,00:00,1,1\n",
+        2,
+        TariffKind::Csv,
+    ),
+    (
+        "prefix,from,fee,rate,free\n44,00:00,1,1,\n",
+        2,
+        TariffKind::Free,
+    ),
+    (
+        "prefix,from,fee,rate,free\n44,00:00,1,1,864001\n",
+        2,
+        TariffKind::Free,
+    ),
+    (
+        "prefix,from,fee,rate,free\n44,00:00,1,x,x\n",
+        2,
+        TariffKind::Money,
+    ),
+    (
+        "prefix,from,fee,rate,free\n44,00:00,1,1,0\n44,00:00,1,1,x\n",
+        3,
+        TariffKind::Free,
+    ),
+    (
+        "prefix,from,fee,rate,free\n44,00:00,1,1,0\n44,00:00,1,1,1\n",
+        3,
+        TariffKind::Repeated,
+    ),
     ("", 1, TariffKind::Header),
     ("prefix,from,fee\n", 1, TariffKind::Header),
     ("prefix,from,rate,fee\n", 1, TariffKind::Header),
@@ -117,8 +169,13 @@ pub fn fault_of<R: Read + Drop>(alloc: Global, reader: R) -> Option<TariffFault>
 
 fn rates_of(route: Option<Route>) -> Option<Rates> {
     let Route { plan, switch_at } = route?;
-    let Plan { fee, before, after } = plan;
-    Some((fee, before, after, switch_at))
+    let Plan {
+        fee,
+        before,
+        after,
+        free,
+    } = plan;
+    Some((fee, before, after, free, switch_at))
 }
 
 /// Reads a table, and looks at its routes.
@@ -138,6 +195,7 @@ fn routes<R: Abort + AllocGlobal>(rt: &R, table: &[u8], rows: &[(&str, u64, Opti
 #[test]
 fn routes_by_prefix_and_time(rt: HostRuntime) {
     routes(&rt, TABLE, &ROUTES);
+    routes(&rt, WITH_FREE, &ROUTES_WITH_FREE);
     routes(&rt, EMPTY_PREFIX, &EMPTY_PREFIX_ROUTES);
 }
 
@@ -159,7 +217,7 @@ fn reads_ten_thousand_rows(rt: HostRuntime) -> Result<(), Fail> {
     routes(
         &rt,
         text.as_str().as_bytes(),
-        &[("123456", 5, Some((12_345, 1, None, None)))],
+        &[("123456", 5, Some((12_345, 1, None, 0, None)))],
     );
     text.push_str("1,00:00,0,0\n")?;
     let want = Some(TariffFault {

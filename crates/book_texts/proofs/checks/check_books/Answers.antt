@@ -1,9 +1,9 @@
 use Rattle.std.proofs.Common.{[], refl}
 use Rattle.table_core.specs.Rows.{rows_of}
 use Rattle.table_core.proofs.Known.{map_known}
-use Rattle.table_core.proofs.TableLemmas.{ended, not_opened, opened, refused, refuses, stopped, taken}
+use Rattle.table_core.proofs.TableLemmas.{ended, header_stays, not_opened, opened, refused, refuses, row_columns, stopped, taken}
 use Rattle.book_texts.specs.Books.{books_form, books_of}
-use Rattle.book_texts.proofs.CheckLemmas.{fault_told, row_refused, row_taken}
+use Rattle.book_texts.proofs.CheckLemmas.{fault_told, has_columns, row_refused, row_taken}
 use Rattle.book_texts.proofs.checks.check_books.Goals as goal
 
 pub returns-in_err-table : goal.returns-in_err-table
@@ -23,22 +23,32 @@ returns-in_err-next_row g c =
     (stopped books_form g.I.Read.remaining _ c.loop-checks.table c.next_row.new.self books read c.in_err-next_row.field-0.0 c.in_err-next_row.ensures.steps)
     (λ text. refuses books_form (λ row why. refl) (λ all. all) (λ why. refl) c.in_err-next_row.field-0.0 (books_of (rows_of text)))
 
+pub take_row-requires-clause-fields : goal.take_row-requires-clause-fields
+take_row-requires-clause-fields g c =
+    let (books, read, are) = c.loop-checks.invariant in
+    let next = rw c.if-branch.true at c.in_ok-next_row.ensures.moves in
+    rw (c.at-version.ensures, c.header.ensures, c.row.ensures)
+    (has_columns _ _ (header_stays books_form g.I.Read.remaining _ c.loop-checks.table c.next_row.new.self books read next)
+    (row_columns books_form g.I.Read.remaining _ c.loop-checks.table c.next_row.new.self books read next))
+
 pub returns-in-Some : goal.returns-in-Some
 returns-in-Some g c =
     let (books, read, are) = c.loop-checks.invariant in
-    let came = rw (c.row.ensures, c.in-Some.is) at (c.in_ok-kind.ensures books are) in
+    let next = rw c.if-branch.true at c.in_ok-next_row.ensures.moves in
+    let came = rw (c.row.ensures, c.at-version.ensures, c.header.ensures, next.same.header, c.in-Some.is) at (c.in_ok-kind.ensures books are) in
     rw c.fault.ensures (refused books_form g.I.Read.remaining _ c.loop-checks.table c.next_row.new.self books read c.in-Some.kind
-    (rw c.if-branch.true at c.in_ok-next_row.ensures.moves) (rw c.if-branch.true at c.in_ok-next_row.ensures.steps) (row_refused _ _ c.in-Some.kind came))
+    next (rw c.if-branch.true at c.in_ok-next_row.ensures.steps) (row_refused _ _ c.in-Some.kind came))
 
 pub loop-checks-preserved : goal.loop-checks-preserved
 loop-checks-preserved g c =
     let (books, read, are) = c.loop-checks.invariant in
-    let came = rw (c.row.ensures, c.in_default.is) at (c.in_ok-kind.ensures books are) in
-    let (next, is, next_are) = row_taken _ _ came in (
-      next,
-      taken books_form g.I.Read.remaining _ c.loop-checks.table c.next_row.new.self books read next
-          (rw c.if-branch.true at c.in_ok-next_row.ensures.moves) (rw c.if-branch.true at c.in_ok-next_row.ensures.steps) is,
-      next_are,
+    let next = rw c.if-branch.true at c.in_ok-next_row.ensures.moves in
+    let came = rw (c.row.ensures, c.at-version.ensures, c.header.ensures, next.same.header, c.in_default.is) at (c.in_ok-kind.ensures books are) in
+    let (all, is, all_are) = row_taken _ _ came in (
+      all,
+      taken books_form g.I.Read.remaining _ c.loop-checks.table c.next_row.new.self books read all
+          next (rw c.if-branch.true at c.in_ok-next_row.ensures.steps) is,
+      all_are,
     )
 
 pub returns : goal.returns

@@ -2,11 +2,11 @@ use Rattle.std.proofs.Common.{[], ◌∷◌, ◌++◌, ap, refl, string_bytes, s
 use Rattle.account_core.specs.Events.{asked_of}
 use Rattle.table_core.specs.Rows.{rows_of}
 use Rattle.table_core.proofs.Known.{map_known}
-use Rattle.table_core.proofs.TableLemmas.{ended, not_opened, opened, refused, refuses, row_width, stopped, taken, told}
+use Rattle.table_core.proofs.TableLemmas.{ended, header_stays, not_opened, opened, refused, refuses, row_columns, stopped, taken, told}
 use Rattle.prepaid_command.specs.AskingOf.{asking_of}
 use Rattle.prepaid_command.specs.Asks.{asks_form, asks_of}
 use Rattle.prepaid_command.specs.Replays.{lines_of, replayed}
-use Rattle.prepaid_command.proofs.ReplayLemmas.{none_replayed, one_replayed, step}
+use Rattle.prepaid_command.proofs.ReplayLemmas.{has_operation, none_replayed, one_replayed, step}
 use Rattle.prepaid_command.proofs.replaying.replay.Goals as goal
 
 pub returns-in_err-table : goal.returns-in_err-table
@@ -33,25 +33,30 @@ returns-in_err-next_row g c =
 pub read_ask-requires : goal.read_ask-requires
 read_ask-requires g c =
     let (asks, read, replay) = c.loop-text.invariant in
-    rw c.row.ensures (row_width asks_form g.I.Read.remaining _ c.loop-text.table c.next_row.new.self asks read _ refl (rw c.if-branch.true at c.in_ok-next_row.ensures.moves))
+    let next = rw c.if-branch.true at c.in_ok-next_row.ensures.moves in
+    rw (c.at.ensures, c.header.ensures, c.row.ensures)
+    (has_operation _ _ (header_stays asks_form g.I.Read.remaining _ c.loop-text.table c.next_row.new.self asks read next)
+    (row_columns asks_form g.I.Read.remaining _ c.loop-text.table c.next_row.new.self asks read next))
 
 pub returns-in-Err : goal.returns-in-Err
 returns-in-Err g c =
     let (asks, read, replay) = c.loop-text.invariant in
-    let why = rw c.row.ensures at (sym c.in-Err.ensures) in
+    let next = rw c.if-branch.true at c.in_ok-next_row.ensures.moves in
+    let why = rw (c.row.ensures, c.at.ensures, c.header.ensures, next.same.header) at (sym c.in-Err.ensures) in
     rw c.fault.ensures (map_known (g.I.Read.remaining c.args.reader) _ _
     (refused asks_form g.I.Read.remaining _ c.loop-text.table c.next_row.new.self asks read c.in-Err.kind
-    (rw c.if-branch.true at c.in_ok-next_row.ensures.moves) (rw c.if-branch.true at c.in_ok-next_row.ensures.steps) (rw why refl))
+    next (rw c.if-branch.true at c.in_ok-next_row.ensures.steps) (rw why refl))
     (λ text is. ap (lines_of c.args.opening c.args.limit []) is))
 
 pub loop-text-preserved : goal.loop-text-preserved
 loop-text-preserved g c =
     let (asks, read, replay) = c.loop-text.invariant in
     let ask = c.in-Ok.ask in
-    let asked = rw c.row.ensures at (sym c.in-Ok.ensures) in (
+    let next = rw c.if-branch.true at c.in_ok-next_row.ensures.moves in
+    let asked = rw (c.row.ensures, c.at.ensures, c.header.ensures, next.same.header) at (sym c.in-Ok.ensures) in (
       asks ++ asking_of ask ∷ [],
       taken asks_form g.I.Read.remaining _ c.loop-text.table c.next_row.new.self asks read (asks ++ asking_of ask ∷ [])
-          (rw c.if-branch.true at c.in_ok-next_row.ensures.moves) (rw c.if-branch.true at c.in_ok-next_row.ensures.steps) (rw asked refl),
+          next (rw c.if-branch.true at c.in_ok-next_row.ensures.steps) (rw asked refl),
       rw c.in_ok-write_answer.ensures.line
           (one_replayed c.args.opening c.args.limit (string_bytes c.loop-text.text) c.loop-text.account c.apply.new.self asks (asking_of ask) c.apply.result replay
           (step c.loop-text.account c.apply.new.self ask.seat (asked_of ask.op) c.apply.result

@@ -2,13 +2,13 @@ use Rattle.std.proofs.Common.{Err, refl, arith}
 use Rattle.csv.specs.Records.{fields_of}
 use Rattle.table_core.specs.Reading.{row_of_table}
 use Rattle.table_core.specs.Rows.{rows_of}
-use Rattle.table_core.proofs.TableLemmas.{ended, not_opened, opened, refused, row_width, stopped, taken}
+use Rattle.table_core.proofs.TableLemmas.{ended, header_stays, not_opened, opened, refused, row_columns, stopped, taken}
 use Rattle.tariff_core.specs.Tariff.{band_of}
 use Rattle.tariff_core.specs.TariffTable.{Gives, bands_of, tariff_form}
 use Rattle.tariff_core.specs.declared.tariff_fault.TariffKind.TheVariants as kind
 use Rattle.tariff_core.proofs.IndexLemmas.{count_more, indexes_none, keeps_indexed, rows_more}
 use Rattle.tariff_core.proofs.Known.{at_known, if_known}
-use Rattle.tariff_core.proofs.TableLemmas.{bands_not_before, given_up, is_new, none_before, refused_at}
+use Rattle.tariff_core.proofs.TableLemmas.{bands_not_before, given_up, has_columns, is_new, none_before, refused_at}
 use Rattle.tariff_core.proofs.bands.Bands.read.Goals as goal
 
 pub returns-in-Err : goal.returns-in-Err
@@ -38,15 +38,17 @@ returns-then-not-found g c =
 
 pub judge-requires : goal.judge-requires
 judge-requires g c =
-    rw c.row.ensures (row_width tariff_form g.R.Read.remaining _ c.loop-found.table c.next_row.new.self _ c.loop-found.invariant.so_far _ refl
-    (rw c.if-not-found.false at c.in-Ok-next_row.ensures.moves))
+    let next = rw c.if-not-found.false at c.in-Ok-next_row.ensures.moves in
+    rw (c.header.ensures, c.row.ensures) (has_columns _ _ (header_stays tariff_form g.R.Read.remaining _ c.loop-found.table c.next_row.new.self _ c.loop-found.invariant.so_far next)
+    (row_columns tariff_form g.R.Read.remaining _ c.loop-found.table c.next_row.new.self _ c.loop-found.invariant.so_far next))
 
 pub returns-in-Err-judge : goal.returns-in-Err-judge
 returns-in-Err-judge g c = if_known (g.R.Read.remaining c.args.reader) (λ text. Gives (Err (record { row = c.number-in-Err-judge.result; kind = c.in-Err-judge.kind })) (bands_of (rows_of text))) (λ text known.
-    let why = rw c.row.ensures at (c.in-Err-judge.ensures _ c.loop-found.invariant.indexed) in
+    let next = rw c.if-not-found.false at c.in-Ok-next_row.ensures.moves in
+    let why = rw (c.row.ensures, c.header.ensures, next.same.header) at (c.in-Err-judge.ensures _ c.loop-found.invariant.indexed) in
     rw c.number-in-Err-judge.ensures (refused_at c.in-Err-judge.kind _ (bands_of (rows_of text))
     (at_known _ _ text known (refused tariff_form g.R.Read.remaining _ c.loop-found.table c.next_row.new.self _ c.loop-found.invariant.so_far c.in-Err-judge.kind
-    (rw c.if-not-found.false at c.in-Ok-next_row.ensures.moves) (rw c.if-not-found.false at c.in-Ok-next_row.ensures.steps) (rw why refl)))))
+    next (rw c.if-not-found.false at c.in-Ok-next_row.ensures.steps) (rw why refl)))))
 
 pub returns-in-Err-keep : goal.returns-in-Err-keep
 returns-in-Err-keep g c = if_known (g.R.Read.remaining c.args.reader) (λ text. Gives (Err (record { row = c.number-in-Err-keep.result; kind = kind.OutOfMemory })) (bands_of (rows_of text))) (λ text known.
@@ -55,13 +57,13 @@ returns-in-Err-keep g c = if_known (g.R.Read.remaining c.args.reader) (λ text. 
 
 pub loop-found-preserved : goal.loop-found-preserved
 loop-found-preserved g c =
-    let read = rw c.row.ensures at (c.in-Ok-judge.ensures _ c.loop-found.invariant.indexed) in
     let kept = c.in-Ok-keep.ensures in
     let next = rw c.if-not-found.false at c.in-Ok-next_row.ensures.moves in
+    let read = rw (c.row.ensures, c.header.ensures, next.same.header) at (c.in-Ok-judge.ensures _ c.loop-found.invariant.indexed) in
     record {
       counted = omega (arith, next.number, c.loop-found.invariant.counted, count_more _ _ c.in-Ok-judge.row kept.rows);
       within = omega (arith, next.within, next.same.limit, c.loop-found.invariant.so_far.limit);
-      indexed = keeps_indexed _ _ _ _ c.in-Ok-judge.row c.loop-found.invariant.indexed kept (is_new _ (fields_of (row_of_table c.next_row.new.self)) (band_of c.in-Ok-judge.row) read);
+      indexed = keeps_indexed _ _ _ _ c.in-Ok-judge.row c.loop-found.invariant.indexed kept (is_new _ _ (fields_of (row_of_table c.next_row.new.self)) (band_of c.in-Ok-judge.row) read);
       so_far = rw (rows_more _ _ c.in-Ok-judge.row kept.rows)
           (taken tariff_form g.R.Read.remaining _ c.loop-found.table c.next_row.new.self _ c.loop-found.invariant.so_far _
           next (rw c.if-not-found.false at c.in-Ok-next_row.ensures.steps) (rw read refl));

@@ -1,0 +1,13 @@
+-- The versions of a table with operations in it.
+use Rattle.std.specs.Prelude.{◌==◌, ℕ, if◌then◌else◌}
+use Rattle.entry_rows.specs.declared.version.Version.{Version}
+use Rattle.entry_rows.specs.declared.version.Version.TheVariants as version
+
+-- how many columns an operation has: its word, its call and x1 to x5, and then x6
+abbrev pub width_of : Version → ℕ
+width_of version.One = 7
+width_of version.Two = 8
+
+-- the version of a header, where those of all versions are in a row, oldest first
+abbrev pub version_at : ℕ → Version
+version_at header = if header == 0 then version.One else version.Two

@@ -1,0 +1,107 @@
+//! What accounts are asked in tests, and what they are to answer.
+
+use account_core::{AccountFault, Op, Reply};
+use tariff_core::{Plan, TimeInfo};
+
+/// What an account is asked.
+pub enum Ask {
+    /// An amount is credited.
+    Credit(u64),
+    /// A call at two rates reserves so many units, and 50 at least.
+    Reserve(u64, u32),
+    /// So too a call at one rate.
+    ReserveAtOneRate(u64, u32),
+    /// So too a call at two rates whose first 300 units are free.
+    ReserveWithFree(u64, u32),
+    /// A call reports its times before a switch.
+    NoSwitch(u64, u32),
+    /// A call reports its times after a switch.
+    Switch(u64, u32, Option<u32>),
+    /// A call ends.
+    Return(u64),
+}
+
+/// What it is to answer: the fields of the reply, in their order.
+pub enum Want {
+    Credited(u64),
+    CreditOver(u64),
+    Granted(u32, bool, u64),
+    Denied(u64),
+    Settled(u64, u64),
+    Forfeit(u64, u64),
+    Returned(u64, u64),
+    Fault(AccountFault),
+}
+
+/// The second rate is cheaper.
+pub const TWO_RATES: Plan = Plan {
+    fee: 50,
+    before: 1000,
+    after: Some(400),
+    free: 0,
+};
+
+const ONE_RATE: Plan = Plan {
+    fee: 0,
+    before: 1000,
+    after: None,
+    free: 0,
+};
+
+/// The two rates with free units.
+const WITH_FREE: Plan = Plan {
+    fee: 50,
+    before: 1000,
+    after: Some(400),
+    free: 300,
+};
+
+/// A call reserves units, and 50 at least.
+pub fn reserve(call: u64, plan: Plan, wanted: u32) -> Op {
+    Op::Reserve {
+        call,
+        plan,
+        wanted,
+        least: 50,
+    }
+}
+
+/// The operation that is asked.
+pub fn op_of(ask: &Ask) -> Op {
+    let number = 7;
+    match *ask {
+        Ask::Credit(amount) => Op::Credit { amount },
+        Ask::Reserve(call, wanted) => reserve(call, TWO_RATES, wanted),
+        Ask::ReserveAtOneRate(call, wanted) => reserve(call, ONE_RATE, wanted),
+        Ask::ReserveWithFree(call, wanted) => reserve(call, WITH_FREE, wanted),
+        Ask::NoSwitch(call, t) => Op::Settle {
+            call,
+            number,
+            info: TimeInfo::NoSwitch { t },
+        },
+        Ask::Switch(call, since, interval) => Op::Settle {
+            call,
+            number,
+            info: TimeInfo::Switch { since, interval },
+        },
+        Ask::Return(call) => Op::Return { call },
+    }
+}
+
+/// The answer that is wanted.
+pub fn answer_of(want: &Want) -> Result<Reply, AccountFault> {
+    Ok(match *want {
+        Want::Credited(available) => Reply::Credited { available },
+        Want::CreditOver(available) => Reply::CreditOver { available },
+        Want::Granted(units, last, available) => Reply::Granted {
+            units,
+            last,
+            available,
+        },
+        Want::Denied(available) => Reply::Denied { available },
+        Want::Settled(paid, available) => Reply::Settled { paid, available },
+        Want::Forfeit(paid, available) => Reply::Forfeit { paid, available },
+        Want::Returned(paid, available) => Reply::Returned { paid, available },
+        Want::Fault(fault) => return Err(fault),
+    })
+}
