@@ -11,7 +11,10 @@ ghost use Rattle.account_core.specs.Sound.{HasRoom, IsSound};
 ghost use Rattle.tariff_core.specs.RatesOf.{rates_of};
 
 use crate::{Op, Reply};
-use tariff_core::{DAY, MAX_MONEY, Plan, TimeInfo, Times, afford, afforded_is_greatest, ceiling, ceiling_is_greatest, lawful, price, read_times};
+use tariff_core::{
+    DAY, MAX_MONEY, Plan, TimeInfo, Times, afford, afforded_is_greatest, ceiling,
+    ceiling_is_greatest, lawful, price, read_times,
+};
 
 /// What an account knows of a call.
 #[derive(Clone, Copy, Debug)]

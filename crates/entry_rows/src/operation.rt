@@ -88,7 +88,7 @@ fn read_free(row: &ByteRecord, at: usize, version: Version) -> Result<u32, RowKi
     requires table { at ≤ 16 }
     requires fields { HasOperation version (fields_of row.now) at }
     ensures value { result ≡ free_of version (x6_at version (fields_of row.now) at) }
-    ensures within_day { IfOk result (λ free. free ≤ 864000) }
+    ensures within_day { IfOk result (λ free. free ≤ DAY) }
 {
     match version {
         Version::One => Ok(0),
@@ -140,7 +140,7 @@ fn read_return(row: &ByteRecord, at: usize) -> Result<Op, RowKind>
 pub(crate) fn read_units(row: &ByteRecord, place: usize) -> Result<u32, RowKind>
     requires { place < length (fields_of row.now) }
     ensures value { result ≡ units_of (field_in (fields_of row.now) place) }
-    ensures within_day { IfOk result (λ units. units ≤ 864000) }
+    ensures within_day { IfOk result (λ units. units ≤ DAY) }
 {
     let units = number(row, place, u64::from(DAY))?;
     Ok(units as u32)

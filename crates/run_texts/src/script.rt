@@ -17,8 +17,8 @@ use std::alloc::{AllocError, Global};
 use std::collections::BTreeSet;
 use std::io::Read;
 use table_core::{RowKind, Table, TableFault};
-use workers_core::Directory;
 use tariff_core::LAST_MOMENT;
+use workers_core::Directory;
 
 /// The most rows of a script, its header not counted.
 const MAX_ROWS: u32 = 1_000_000;

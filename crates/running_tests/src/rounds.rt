@@ -6,8 +6,8 @@ ghost use Rattle.tariff_core.specs.declared.times.TheConstants.{HORIZON};
 use cap_values::ScfOp;
 use runs_core::Driver;
 use std::alloc::{AllocError, Global};
-use workers_core::{Answer, Body};
 use tariff_core::HORIZON;
+use workers_core::{Answer, Body};
 
 /// What an answer says.
 #[derive(Clone, Copy, Debug, PartialEq, Eq)]

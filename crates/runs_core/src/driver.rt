@@ -1,8 +1,8 @@
 //! What drives a run.
 
 use std::alloc::AllocError;
-use workers_core::{Answer, Body};
 use tariff_core::HORIZON;
+use workers_core::{Answer, Body};
 
 /// Gives the posts of a run, round by round.
 ///

@@ -7,8 +7,8 @@ use crate::RunFault;
 use crate::dealing::deal;
 use shared_account::Shared;
 use std::alloc::{AllocError, Global};
-use workers_core::RunSetup;
 use tariff_core::MAX_MONEY;
+use workers_core::RunSetup;
 
 /// The accounts of a run, in order, and the seats of each worker, one of each account.
 #[derive(Drop)]

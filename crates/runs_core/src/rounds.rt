@@ -11,8 +11,8 @@ use crate::{Driver, RunFault};
 use shared_account::{Gate, Shared};
 use std::alloc::Global;
 use std::sync::Wait;
-use workers_core::{Answer, Body, Post};
 use tariff_core::HORIZON;
+use workers_core::{Answer, Body, Post};
 
 /// Plays rounds until the driver has ended.
 pub(crate) fn play<D: Driver, S: Shared, R: Wait, G: Gate>(

@@ -11,8 +11,8 @@ use cap_values::ScfOp;
 use ssf_core::Moment;
 use std::alloc::AllocError;
 use std::collections::VecDeque;
-use workers_core::{Answer, Body};
 use tariff_core::{DAY, HORIZON};
+use workers_core::{Answer, Body};
 
 /// An operation on its way.
 #[derive(Clone, Copy)]

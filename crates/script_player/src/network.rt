@@ -9,8 +9,8 @@ use ssf_core::{Moment, Ssf, SsfConfig};
 use std::alloc::{AllocError, Global};
 use std::collections::{BTreeMap, BTreeSet};
 use std::marker::Model;
-use workers_core::Body;
 use tariff_core::HORIZON;
+use workers_core::Body;
 
 /// The most that a gsmSSF sends at one input.
 const MOST_SENT: usize = 8;

@@ -10,8 +10,8 @@ use ssf_core::SsfConfig;
 use std::alloc::{AllocError, Global};
 use std::collections::VecDeque;
 use std::marker::Model;
-use workers_core::{Answer, Body};
 use tariff_core::{DAY, HORIZON, LAST_MOMENT};
+use workers_core::{Answer, Body};
 
 /// Plays a script: it drives a run by the rows of a script, with one gsmSSF for each call that has
 /// started.
