@@ -41,8 +41,9 @@ edits:
 install: bin/prepaid
 	install -D -m 755 bin/prepaid $(DESTDIR)$(PREFIX)/bin/prepaid
 
-# Times the program beside a plain one, a run by its length, and shared accounts beside plain ones.
+# Times price and audit beside plain programs, a run by its length, and shared accounts beside plain ones.
 bench: bin/prepaid
 	bench/price.sh
+	bench/audit.sh
 	bench/run.sh
 	bench/shared.sh

@@ -1,0 +1,151 @@
+//! Audits of books, and the first fault of their table.
+
+use crate::program::{expect, expect_fault};
+use std::alloc::{AllocError, Global};
+use std::process::Abort;
+use std::sync::Wait;
+use std::test::Fail;
+use std::thread::Threads;
+
+/// The opening of account 1, its first entry, and its second.
+const OPENING: &str = "1,,opening,,1500,,,,,,,,\n";
+
+const FIRST: &str = "1,1,reserve,1,50,1000,400,600,50,granted,600,more,450\n";
+
+const SECOND: &str = "1,0,reserve,2,50,1000,400,600,50,granted,240,last,0\n";
+
+/// Rows behind the opening and the first entry of account 1, and whether it passes.
+const JUDGED: [(&str, bool); 9] = [
+    ("", true),
+    (SECOND, true),
+    (
+        "1,5,reserve,2,50,1000,400,600,50,granted,240,last,0\n",
+        true,
+    ),
+    (
+        "1,0,reserve,2,50,1000,400,600,50,granted,240,more,0\n",
+        false,
+    ),
+    (
+        "1,0,reserve,2,50,1000,400,600,50,granted,239,last,0\n",
+        false,
+    ),
+    (
+        "1,0,reserve,2,50,1000,400,600,50,granted,240,last,1\n",
+        false,
+    ),
+    ("1,0,reserve,2,50,1000,400,600,50,credited,,,450\n", false),
+    ("1,0,return,3,,,,,,returned,0,,450\n", false),
+    (
+        "1,0,settle,1,9,s,100,200,,settled,450,,450\n\"1\",0,return,01,,,,,,returned,450,,1050\n",
+        true,
+    ),
+];
+
+/// Books, and what their audit says.
+const BOOKS: [(&str, u8, &str); 5] = [
+    ("", 0, ""),
+    (
+        "9,,opening,,0,,,,,,,,\n4294967295,,opening,,1000000000000000,,,,,,,,\n0,,opening,,1,,,,,,,,\n",
+        0,
+        "account 0 yes\naccount 9 yes\naccount 4294967295 yes\n",
+    ),
+    (
+        "1,,opening,,1500,,,,,,,,\n\
+         1,1,reserve,1,50,1000,400,600,50,granted,240,last,0\n\
+         1,0,reserve,2,50,1000,400,600,50,granted,600,more,450\n",
+        3,
+        "account 1 no\n",
+    ),
+    (
+        "2,,opening,,5,,,,,,,,\n1,,opening,,7,,,,,,,,\n2,0,credit,,1,,,,,credited,,,6\n\
+         1,0,credit,,1,,,,,credited,,,7\n2,0,credit,,1,,,,,credited,,,7\n",
+        3,
+        "account 1 no\naccount 2 yes\n",
+    ),
+    (
+        "1,,opening,,5,,,,,,,,\n2,,opening,,7,,,,,,,,\n2,0,credit,,1,,,,,over,,,7\n",
+        3,
+        "account 1 yes\naccount 2 no\n",
+    ),
+];
+
+/// Rows that are refused behind the opening of account 1, the kind of fault of the last.
+const REFUSED: [(&str, &str); 21] = [
+    ("1,0,credit,,1,,,,,credited,,\n", "row 3: Csv"),
+    ("1,0,debit,,1,,,,,credited,,,1\n", "row 3: What"),
+    ("1,0,credit,,1,,,,,paid,,,1\n", "row 3: What"),
+    ("x,99,settle,1,0,x,1,,,settled,0,,1\n", "row 3: What"),
+    ("1,0,return,1,,,,,,granted,1,,1\n", "row 3: What"),
+    ("4294967296,0,credit,,1,,,,,credited,,,1\n", "row 3: Number"),
+    ("1,16,credit,,1,,,,,credited,,,1\n", "row 3: Number"),
+    ("1,0,credit,,x,,,,,credited,,,1\n", "row 3: Number"),
+    (
+        "1,0,credit,,1,,,,,credited,,,1000000000000001\n",
+        "row 3: Number",
+    ),
+    ("1,0,return,1,,,,,,granted,864001,more,1\n", "row 3: Number"),
+    (
+        "1,0,return,1,,,,,,returned,1000000000000001,,1\n",
+        "row 3: Number",
+    ),
+    ("1,0,settle,1,0,s,1,0,,settled,0,,1\n", "row 3: Number"),
+    ("2,,opening,,1000000000000001,,,,,,,,\n", "row 3: Number"),
+    ("1,0,credit,,1,,,,,credited,x,,1\n", "row 3: Empty"),
+    ("1,0,credit,1,1,,,,,credited,,,1\n", "row 3: Empty"),
+    ("1,0,return,1,,,,,,settled,0,more,1\n", "row 3: Empty"),
+    ("2,,opening,,1,,,,,credited,,,\n", "row 3: Empty"),
+    ("2,0,opening,,1,,,,,,,,\n", "row 3: Empty"),
+    ("1,,opening,,1500,,,,,,,,\n", "row 3: Repeated"),
+    (
+        "1,0,credit,,1,,,,,over,,,1\n1,,opening,,1,,,,,,,,\n",
+        "row 4: Repeated",
+    ),
+    ("2,0,credit,,1,,,,,credited,,,1\n", "row 3: Unknown"),
+];
+
+/// A table with these rows below its header.
+fn table_of(alloc: Global, front: &str, rows: &str) -> Result<String, AllocError> {
+    format!(in alloc; "account,seat,op,call,x1,x2,x3,x4,x5,reply,y1,y2,y3\n{front}{rows}")
+}
+
+/// Compares the audit of a table with these rows.
+fn expect_audit<R: Abort + AllocGlobal + Wait + Threads + Sync>(
+    rt: &R,
+    front: &str,
+    rows: &str,
+    want: (u8, &str),
+) -> Result<(), Fail> {
+    let table = table_of(rt.alloc(), front, rows)?;
+    expect(rt, "audit", table.as_str(), (want.0, want.1, ""))
+}
+
+#[test]
+fn judges_histories(rt: HostRuntime) -> Result<(), Fail> {
+    let front = format!(in rt.alloc(); "{OPENING}{FIRST}")?;
+    for (rows, passes) in &JUDGED {
+        let want = if *passes {
+            (0, "account 1 yes\n")
+        } else {
+            (3, "account 1 no\n")
+        };
+        expect_audit(&rt, front.as_str(), rows, want)?;
+    }
+    for (rows, status, text) in &BOOKS {
+        expect_audit(&rt, "", rows, (*status, text))?;
+    }
+    Ok(())
+}
+
+#[test]
+fn refuses_books(rt: HostRuntime) -> Result<(), Fail> {
+    for (rows, fault) in &REFUSED {
+        let told = format!(in rt.alloc(); "book {fault}")?;
+        let table = table_of(rt.alloc(), OPENING, rows)?;
+        expect_fault(&rt, "audit", table.as_str(), told.as_str())?;
+    }
+    let unopened = table_of(rt.alloc(), "", FIRST)?;
+    expect_fault(&rt, "audit", unopened.as_str(), "book row 2: Unknown")?;
+    expect_fault(&rt, "audit", OPENING, "book row 1: Header")?;
+    expect_fault(&rt, "audit", "", "book row 1: Header")
+}
