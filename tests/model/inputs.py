@@ -145,9 +145,10 @@ def script(it, given, starts, accounts, subscribers):
         calling = it.choice(subscribers) if it.random() < 0.9 else it.choice(NUMBERS)
         rows.append((moment, call, "start", calling, it.choice(NUMBERS)))
         at = moment + it.choice([0, delay, delay + 1, 2 * delay, tssf, tssf + delay, it.randrange(60)])
-        word = it.choice(["answer"] * 8 + ["busy", "noanswer", "routefail", "abandon", "disconnect"])
+        word = it.choice(["answer"] * 8 + ["busy", "noanswer", "routefail", "abandon", "disconnect"] * 2)
         rows.append((at, call, word, it.choice([1, 2]) if word == "disconnect" else "", ""))
-        for _ in range(it.choice([0, 1, 1, 2])):
+        # what ends a call unanswered is mostly the last that it meets, or a later event would end it as well
+        for _ in range(it.choice([0, 1, 1, 2] if word == "answer" else [0, 0, 1])):
             at += it.choice([0, 1, delay, tccd, wanted, wanted + delay, wanted + tccd, 2 * wanted, it.randrange(1 + 3 * wanted)])
             word = it.choice(["disconnect"] * 6 + ["answer", "busy", "abandon"])
             rows.append((at, call, word, it.choice([1, 2]) if word == "disconnect" else "", ""))
