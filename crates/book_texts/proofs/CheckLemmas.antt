@@ -31,7 +31,7 @@ use Rattle.book_texts.specs.declared.audit.Audit.{Audit}
 
 -- a check has heard what is told
 abbrev pub HasHeard : Told → HistoryCheck → Type 0
-HasHeard told check = IsCheckOf told.opening (reverse told.history) check
+HasHeard told check = IsCheckOf told.opening told.until (reverse told.history) check
 
 -- ---- what is found
 
@@ -124,9 +124,10 @@ row_refused (Err why) checks kind is = ap (λ k. Err k) (sym is)
 -- a row that is as wide as its header has the columns of the header's version
 pub has_columns : (header : ℕ) (fields : Fields) → header < length books_headers → length fields ≡ width_at books_headers header
     → HasColumns (version_at header) fields
-has_columns zero fields one wide = ((omega (arith, wide), λ other. cc), omega (arith, wide))
-has_columns (suc zero) fields one wide = ((omega (arith, wide), λ two. omega (arith, wide)), omega (arith, wide))
-has_columns (suc (suc header)) fields one wide = absurd (omega (arith, one))
+has_columns zero fields one wide = ((omega (arith, wide), λ other. absurd (other refl), λ three. cc), omega (arith, wide))
+has_columns (suc zero) fields one wide = ((omega (arith, wide), λ two. omega (arith, wide), λ three. cc), omega (arith, wide))
+has_columns (suc (suc zero)) fields one wide = ((omega (arith, wide), λ two. omega (arith, wide), λ three. omega (arith, wide)), omega (arith, wide))
+has_columns (suc (suc (suc header))) fields one wide = absurd (omega (arith, one))
 
 -- a fault that the table's reader passes on is that of the meaning
 pub fault_told : (known : Option (List ℕ)) (answer : Result (BTreeMap ℕ HistoryCheck) TableFault) (why : TableFault) (P : List ℕ → Type 0) (meaning : List ℕ → Result Books RowFault)
@@ -137,7 +138,7 @@ fault_told known (Err other) why P meaning met holds so = map_known known P _ ho
 -- ---- what the checks say
 
 said_more : (done : List (ℕ × HistoryCheck)) (verdicts : List (ℕ × Bool)) (account : ℕ) (check : HistoryCheck) (legal : Bool) → AreSaidBy done verdicts
-    → ((opening : ℕ) (h : List Event) → IsCheckOf opening h check → Decides legal (IsLegalPast opening h))
+    → ((opening : ℕ) (until : Option ℕ) (h : List Event) → IsCheckOf opening until h check → Decides legal (IsLegalPast opening until h))
     → AreSaidBy (done ++ (account, check) ∷ []) (verdicts ++ (account, legal) ∷ [])
 said_more [] [] account check legal said says = ((refl, says), tt)
 said_more [] (verdict ∷ verdicts) account check legal said says = absurd said
@@ -159,7 +160,7 @@ pub record IsToldMore (done next all : List (ℕ × HistoryCheck)) (verdicts : L
   pub said : AreSaidBy done verdicts
 
 pub told_more : (done left next all : List (ℕ × HistoryCheck)) (verdicts : List (ℕ × Bool)) (account : ℕ) (check : HistoryCheck) (legal : Bool) → done ++ left ≡ all
-    → left ≡ (account, check) ∷ next → AreSaidBy done verdicts → ((opening : ℕ) (h : List Event) → IsCheckOf opening h check → Decides legal (IsLegalPast opening h))
+    → left ≡ (account, check) ∷ next → AreSaidBy done verdicts → ((opening : ℕ) (until : Option ℕ) (h : List Event) → IsCheckOf opening until h check → Decides legal (IsLegalPast opening until h))
     → IsToldMore (done ++ (account, check) ∷ []) next all (verdicts ++ (account, legal) ∷ [])
 told_more done left next all verdicts account check legal split is said says = record {
   split = append_assoc done ((account, check) ∷ []) next ∙ ap (λ l. done ++ l) (sym is) ∙ split;
@@ -190,7 +191,7 @@ verdicts_are [] (check ∷ checks) verdicts are said = absurd are
 verdicts_are (book ∷ books) [] verdicts are said = absurd are
 verdicts_are (book ∷ books) (check ∷ checks) [] are said = absurd said
 verdicts_are (book ∷ books) (check ∷ checks) (verdict ∷ verdicts) are said =
-    ((said.0.0 ∙ are.0.0, said.0.1 book.1.opening (reverse book.1.history) are.0.1), verdicts_are books checks verdicts are.1 said.1)
+    ((said.0.0 ∙ are.0.0, said.0.1 book.1.opening book.1.until (reverse book.1.history) are.0.1), verdicts_are books checks verdicts are.1 said.1)
 
 -- from the checks of the table's books to an audit of them
 pub audit_told : (checks : BTreeMap ℕ HistoryCheck) (audit : Audit) (meaning : Result Books RowFault) → TellsChecks checks.entries audit → GivesChecks (Ok checks) meaning

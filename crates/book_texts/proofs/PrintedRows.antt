@@ -11,7 +11,7 @@ use Rattle.account_core.specs.Events.{Event}
 use Rattle.account_core.specs.declared.entry.Reply.{Reply}
 use Rattle.account_core.specs.declared.entry.Reply.TheVariants as reply
 use Rattle.entry_rows.specs.Columns.{Answer, Operation, answer_of, no_answer, number_or_empty, opening_of, operation_of}
-use Rattle.entry_rows.specs.Fits.{FitsAsked, FitsEvent, FitsReply, IsInterval, IsRate}
+use Rattle.entry_rows.specs.Fits.{FitsAsked, FitsEvent, FitsReply, IsInterval, IsMoment, IsRate}
 use Rattle.shared_account.specs.Closed.{Closed}
 use Rattle.table_core.specs.Printed.{DecimalsArePlain, IsPlain, IsPlainRow, line_of, lines_of}
 use Rattle.table_core.specs.Rows.{Fields}
@@ -23,13 +23,13 @@ use Rattle.book_texts.specs.Printable.{FitsBook}
 -- ---- fields
 
 abbrev pub row_fields : List ℕ → List ℕ → Operation → Answer → Fields
-row_fields account seat o a = account ∷ seat ∷ o.op ∷ o.call ∷ o.x1 ∷ o.x2 ∷ o.x3 ∷ o.x4 ∷ o.x5 ∷ o.x6 ∷ a.reply ∷ a.y1 ∷ a.y2 ∷ a.y3 ∷ []
+row_fields account seat o a = account ∷ seat ∷ o.op ∷ o.call ∷ o.x1 ∷ o.x2 ∷ o.x3 ∷ o.x4 ∷ o.x5 ∷ o.x6 ∷ o.x7 ∷ a.reply ∷ a.y1 ∷ a.y2 ∷ a.y3 ∷ []
 
 abbrev pub entry_fields : ℕ → Event → Fields
 entry_fields account event = row_fields (decimal account) (decimal event.seat) (operation_of event.asked) (answer_of event.reply)
 
 abbrev pub opening_fields : Closed → Fields
-opening_fields book = row_fields (decimal book.account) [] (opening_of book.opening) no_answer
+opening_fields book = row_fields (decimal book.account) [] (opening_of book.opening book.until) no_answer
 
 abbrev pub book_fields : Closed → List Fields
 book_fields book = opening_fields book ∷ map (entry_fields book.account) book.history
@@ -48,7 +48,7 @@ entry_lines account (event ∷ history) =
     rw (row_line account (decimal event.seat) (operation_of event.asked) (answer_of event.reply), entry_lines account history) refl
 
 book_lines : (book : Closed) → book_rows book ≡ flat_map line_of (book_fields book)
-book_lines book = rw (row_line book.account [] (opening_of book.opening) no_answer, entry_lines book.account book.history) refl
+book_lines book = rw (row_line book.account [] (opening_of book.opening book.until) no_answer, entry_lines book.account book.history) refl
 
 all_lines : (books : List Closed) → flat_map book_rows books ≡ flat_map line_of (flat_map book_fields books)
 all_lines [] = refl
@@ -74,6 +74,7 @@ pub record IsPlainOperation (o : Operation) : Type 0 where
   pub x4 : IsPlain o.x4
   pub x5 : IsPlain o.x5
   pub x6 : IsPlain o.x6
+  pub x7 : IsPlain o.x7
 
 pub record IsPlainAnswer (a : Answer) : Type 0 where
   pub reply : IsPlain a.reply
@@ -85,7 +86,7 @@ row_plain : (account seat : List ℕ) (o : Operation) (a : Answer) → IsPlain a
 row_plain account seat o a of_account of_seat op answer = record {
   several = omega arith;
   plain = All-from_recursion IsPlain (row_fields account seat o a)
-      (of_account, (of_seat, (op.op, (op.call, (op.x1, (op.x2, (op.x3, (op.x4, (op.x5, (op.x6, (answer.reply, (answer.y1, (answer.y2, (answer.y3, tt))))))))))))));
+      (of_account, (of_seat, (op.op, (op.call, (op.x1, (op.x2, (op.x3, (op.x4, (op.x5, (op.x6, (op.x7, (answer.reply, (answer.y1, (answer.y2, (answer.y3, tt)))))))))))))));
 }
 
 module _ (plain : DecimalsArePlain) where
@@ -97,10 +98,14 @@ module _ (plain : DecimalsArePlain) where
   optional_interval None fits = refl
   optional_interval (Some number) fits = plain number (omega (arith, fits.1))
 
+  optional_moment : (number : Option ℕ) → IfSome number IsMoment → IsPlain (number_or_empty number)
+  optional_moment None fits = refl
+  optional_moment (Some number) fits = plain number (omega (arith, fits))
+
   operation_plain : (asked : Asked) → FitsAsked asked → IsPlainOperation (operation_of asked)
-  operation_plain (Credits amount) fits =
-      record { op = refl; call = refl; x1 = plain amount (omega (arith, fits)); x2 = refl; x3 = refl; x4 = refl; x5 = refl; x6 = refl }
-  operation_plain (Reserves call plan wanted least) fits = record {
+  operation_plain (Credits amount until) fits =
+      record { op = refl; call = refl; x1 = plain amount (omega (arith, fits.0)); x2 = optional_moment until fits.1; x3 = refl; x4 = refl; x5 = refl; x6 = refl; x7 = refl }
+  operation_plain (Reserves call plan wanted least at) fits = record {
     op = refl;
     call = plain call (omega (arith, fits.0));
     x1 = plain plan.fee (omega (arith, fits.1.fee));
@@ -109,6 +114,7 @@ module _ (plain : DecimalsArePlain) where
     x4 = plain wanted (omega (arith, fits.2));
     x5 = plain least (omega (arith, fits.3));
     x6 = plain plan.free (omega (arith, fits.1.free));
+    x7 = plain at (omega (arith, fits.4));
   }
   operation_plain (Settles call number (info.NoSwitch t)) fits = record {
     op = refl;
@@ -119,6 +125,7 @@ module _ (plain : DecimalsArePlain) where
     x4 = refl;
     x5 = refl;
     x6 = refl;
+    x7 = refl;
   }
   operation_plain (Settles call number (info.Switch since interval)) fits = record {
     op = refl;
@@ -129,8 +136,9 @@ module _ (plain : DecimalsArePlain) where
     x4 = optional_interval interval fits.2.1;
     x5 = refl;
     x6 = refl;
+    x7 = refl;
   }
-  operation_plain (Returns call) fits = record { op = refl; call = plain call (omega (arith, fits)); x1 = refl; x2 = refl; x3 = refl; x4 = refl; x5 = refl; x6 = refl }
+  operation_plain (Returns call) fits = record { op = refl; call = plain call (omega (arith, fits)); x1 = refl; x2 = refl; x3 = refl; x4 = refl; x5 = refl; x6 = refl; x7 = refl }
 
   answer_plain : (answer : Reply) → FitsReply answer → IsPlainAnswer (answer_of answer)
   answer_plain (reply.Credited available) fits = record { reply = refl; y1 = refl; y2 = refl; y3 = plain available (omega (arith, fits)) }
@@ -159,8 +167,8 @@ module _ (plain : DecimalsArePlain) where
 
   opening_plain : (book : Closed) → FitsBook book → IsPlainRow (opening_fields book)
   opening_plain book fits =
-      row_plain _ [] (opening_of book.opening) no_answer (plain book.account (omega (arith, fits.account))) refl
-      (record { op = refl; call = refl; x1 = plain book.opening (omega (arith, fits.opening)); x2 = refl; x3 = refl; x4 = refl; x5 = refl; x6 = refl })
+      row_plain _ [] (opening_of book.opening book.until) no_answer (plain book.account (omega (arith, fits.account))) refl
+      (record { op = refl; call = refl; x1 = plain book.opening (omega (arith, fits.opening)); x2 = optional_moment book.until fits.until; x3 = refl; x4 = refl; x5 = refl; x6 = refl; x7 = refl })
       (record { reply = refl; y1 = refl; y2 = refl; y3 = refl })
 
   books_plain : (books : List Closed) → All FitsBook books → All IsPlainRow (flat_map book_fields books)
@@ -174,7 +182,7 @@ module _ (plain : DecimalsArePlain) where
   header_plain : IsPlainRow books_header
   header_plain = record {
     several = omega arith;
-    plain = All-from_recursion IsPlain books_header (refl, (refl, (refl, (refl, (refl, (refl, (refl, (refl, (refl, (refl, (refl, (refl, (refl, (refl, tt))))))))))))));
+    plain = All-from_recursion IsPlain books_header (refl, (refl, (refl, (refl, (refl, (refl, (refl, (refl, (refl, (refl, (refl, (refl, (refl, (refl, (refl, tt)))))))))))))));
   }
 
   pub table_plain : (books : List Closed) → All FitsBook books → All IsPlainRow (table_fields books)

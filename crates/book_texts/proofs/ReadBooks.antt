@@ -81,24 +81,24 @@ none_before (book ∷ books) = (tt, none_before books)
 -- ---- rows
 
 not_opening : (asked : Asked) → bytes_eq (operation_of asked).op (codes "opening") ≡ false
-not_opening (Credits amount) = refl
-not_opening (Reserves call plan wanted least) = refl
+not_opening (Credits amount until) = refl
+not_opening (Reserves call plan wanted least at) = refl
 not_opening (Settles call number (info.NoSwitch t)) = refl
 not_opening (Settles call number (info.Switch since interval)) = refl
 not_opening (Returns call) = refl
 
--- what is printed of an operation is its columns in version 2
-same_operation : (account seat : List ℕ) (asked : Asked) (a : Answer) → operation_at version.Two (row_fields account seat (operation_of asked) a) 2 ≡ operation_of asked
-same_operation account seat (Credits amount) a = refl
-same_operation account seat (Reserves call plan wanted least) a = refl
+-- what is printed of an operation is its columns in version 3
+same_operation : (account seat : List ℕ) (asked : Asked) (a : Answer) → operation_at version.Three (row_fields account seat (operation_of asked) a) 2 ≡ operation_of asked
+same_operation account seat (Credits amount until) a = refl
+same_operation account seat (Reserves call plan wanted least at) a = refl
 same_operation account seat (Settles call number (info.NoSwitch t)) a = refl
 same_operation account seat (Settles call number (info.Switch since interval)) a = refl
 same_operation account seat (Returns call) a = refl
 
-one_row : (number : ℕ) (books next : Books) (fields : Fields) (rest : List Fields) → length fields ≡ 14 → number ≤ 1000001 → row_at version.Two books fields ≡ Ok next
-    → rows_from books_form 1 14 number books (fields ∷ rest) ≡ rows_from books_form 1 14 (number + 1) next rest
+one_row : (number : ℕ) (books next : Books) (fields : Fields) (rest : List Fields) → length fields ≡ 15 → number ≤ 1000001 → row_at version.Three books fields ≡ Ok next
+    → rows_from books_form 2 15 number books (fields ∷ rest) ≡ rows_from books_form 2 15 (number + 1) next rest
 unfolding rows_from
-one_row number books next fields rest width within is = rw (no_fault 1000000 14 number fields width within, is) refl
+one_row number books next fields rest width within is = rw (no_fault 1000000 15 number fields width within, is) refl
 
 module _ (reads : DecimalsAreRead) (operations : OperationsAreRead) (replies : RepliesAreRead) where
   number_read : (most number : ℕ) → most < 2 ^ 64 → number ≤ most → number_of most (decimal number) ≡ Ok number
@@ -113,52 +113,59 @@ module _ (reads : DecimalsAreRead) (operations : OperationsAreRead) (replies : R
   money_read : (money : ℕ) → IsMoney money → money_of (decimal money) ≡ Ok money
   money_read money small = number_read 1000000000000000 money (omega arith) small
 
-  entry_said : (account : ℕ) (event : Event) → account ≤ 4294967295 → FitsEvent event → said_in (columns_in version.Two (entry_fields account event)) ≡ Ok (Enters account event)
+  moment_read : (moment : ℕ) → IsMoment moment → moment_of (decimal moment) ≡ Ok moment
+  moment_read moment small = number_read 2000000000000 moment (omega arith) small
+
+  optional_moment_read : (moment : Option ℕ) → IfSome moment IsMoment → optional_moment_of (number_or_empty moment) ≡ Ok moment
+  optional_moment_read None fits = refl
+  optional_moment_read (Some moment) fits = rw (not_empty moment (omega (arith, fits)), moment_read moment fits) refl
+
+  entry_said : (account : ℕ) (event : Event) → account ≤ 4294967295 → FitsEvent event → said_in (columns_in version.Three (entry_fields account event)) ≡ Ok (Enters account event)
   unfolding entry_in
   entry_said account event small fits =
       let asked = operations event.asked fits.asked in
       let reply = replies event.reply fits.reply in
       rw (same_operation (decimal account) (decimal event.seat) event.asked (answer_of event.reply), not_opening event.asked, asked.known, reply.known, account_read account small, seat_read event.seat fits.seat, asked.read, reply.read, asked.blank, reply.blank) refl
 
-  opening_said : (book : Closed) → FitsBook book → said_in (columns_in version.Two (opening_fields book)) ≡ Ok (Opens book.account book.opening)
+  opening_said : (book : Closed) → FitsBook book → said_in (columns_in version.Three (opening_fields book)) ≡ Ok (Opens book.account book.opening book.until)
   unfolding opening_in
-  opening_said book fits = rw (account_read book.account fits.account, money_read book.opening fits.opening) refl
+  opening_said book fits = rw (account_read book.account fits.account, money_read book.opening fits.opening, optional_moment_read book.until fits.until) refl
 
   opening_at : (book : Closed) (front : Books) → FitsBook book → IsAbove book.account front
-      → row_at version.Two front (opening_fields book) ≡ Ok (front ++ (book.account, record { opening = book.opening; history = [] }) ∷ [])
+      → row_at version.Three front (opening_fields book) ≡ Ok (front ++ (book.account, record { opening = book.opening; until = book.until; history = [] }) ∷ [])
   unfolding row_at
   opening_at book front fits above = rw (opening_said book fits, not_told book.account front above, opened_last book.account front _ above) refl
 
-  entry_at : (account opening : ℕ) (before : List Event) (event : Event) (front : Books) → account ≤ 4294967295 → FitsEvent event → IsAbove account front
-      → row_at version.Two (front ++ (account, record { opening = opening; history = before }) ∷ []) (entry_fields account event)
-      ≡ Ok (front ++ (account, record { opening = opening; history = before ++ event ∷ [] }) ∷ [])
+  entry_at : (account opening : ℕ) (until : Option ℕ) (before : List Event) (event : Event) (front : Books) → account ≤ 4294967295 → FitsEvent event → IsAbove account front
+      → row_at version.Three (front ++ (account, record { opening = opening; until = until; history = before }) ∷ []) (entry_fields account event)
+      ≡ Ok (front ++ (account, record { opening = opening; until = until; history = before ++ event ∷ [] }) ∷ [])
   unfolding row_at
-  entry_at account opening before event front small fits above =
+  entry_at account opening until before event front small fits above =
       rw (entry_said account event small fits, told_last account front _ above, set_last account front _ _ above) refl
 
   -- ---- books
 
-  entries_from : (account opening : ℕ) (front : Books) → account ≤ 4294967295 → IsAbove account front → (history before : List Event) (number : ℕ) (rest : List Fields)
+  entries_from : (account opening : ℕ) (until : Option ℕ) (front : Books) → account ≤ 4294967295 → IsAbove account front → (history before : List Event) (number : ℕ) (rest : List Fields)
       → All FitsEvent history → number + length history ≤ 1000002
-      → rows_from books_form 1 14 number (front ++ (account, record { opening = opening; history = before }) ∷ []) (map (entry_fields account) history ++ rest)
-      ≡ rows_from books_form 1 14 (number + length history) (front ++ (account, record { opening = opening; history = before ++ history }) ∷ []) rest
-  entries_from account opening front small above [] before number rest fit room = rw (add-zero number, append-nil before) refl
-  entries_from account opening front small above (event ∷ history) before number rest fit room =
+      → rows_from books_form 2 15 number (front ++ (account, record { opening = opening; until = until; history = before }) ∷ []) (map (entry_fields account) history ++ rest)
+      ≡ rows_from books_form 2 15 (number + length history) (front ++ (account, record { opening = opening; until = until; history = before ++ history }) ∷ []) rest
+  entries_from account opening until front small above [] before number rest fit room = rw (add-zero number, append-nil before) refl
+  entries_from account opening until front small above (event ∷ history) before number rest fit room =
       let counted : (number + 1) + length history ≡ number + length (event ∷ history) = omega arith in
-      let more = entries_from account opening front small above history (before ++ event ∷ []) (number + 1) rest (All-tail FitsEvent event history fit) (omega arith) in
+      let more = entries_from account opening until front small above history (before ++ event ∷ []) (number + 1) rest (All-tail FitsEvent event history fit) (omega arith) in
       one_row number _ _ (entry_fields account event) (map (entry_fields account) history ++ rest) refl (omega arith)
-      (entry_at account opening before event front small (All-head FitsEvent event history fit) above)
+      (entry_at account opening until before event front small (All-head FitsEvent event history fit) above)
       ∙ rw (counted, append_assoc before (event ∷ []) history) at more
 
   books_from : (books : List Closed) (front : Books) (number : ℕ) → AreAbove books front → IsStrictlySortedBy nat_cmp (map (λ book. book.account) books) → All FitsBook books
-      → number + row_count books ≤ 1000002 → rows_from books_form 1 14 number front (flat_map book_fields books) ≡ Ok (front ++ map told_by books)
+      → number + row_count books ≤ 1000002 → rows_from books_form 2 15 number front (flat_map book_fields books) ≡ Ok (front ++ map told_by books)
   unfolding IsStrictlySortedBy rows_from
   books_from [] front number above rising fit room = rw (append-nil front) refl
   books_from (book ∷ books) front number above rising fit room =
       let fits : FitsBook book = All-head FitsBook book books fit in
       let rest = flat_map book_fields books in
       let opened = one_row number front _ (opening_fields book) (map (entry_fields book.account) book.history ++ rest) refl (omega arith) (opening_at book front fits above.0) in
-      let entered = entries_from book.account book.opening front fits.account above.0 book.history [] (number + 1) rest fits.history (omega arith) in
+      let entered = entries_from book.account book.opening book.until front fits.account above.0 book.history [] (number + 1) rest fits.history (omega arith) in
       let others = books_from books (front ++ told_by book ∷ []) ((number + 1) + length book.history) (all_above book books front above.1 rising.0) rising.1
       (All-tail FitsBook book books fit) (omega arith) in
       opened ∙ entered ∙ rw (append_assoc front (told_by book ∷ []) (map told_by books)) at others
@@ -174,13 +181,13 @@ module _ (reads : DecimalsAreRead) (operations : OperationsAreRead) (replies : R
 
     -- ---- verdicts
 
-    each_passes : (books : List Closed) (verdicts : List (ℕ × Bool)) → All (λ book. IsLegal book.opening book.history) books → AreVerdicts (map told_by books) verdicts
+    each_passes : (books : List Closed) (verdicts : List (ℕ × Bool)) → All (λ book. IsLegal book.opening book.until book.history) books → AreVerdicts (map told_by books) verdicts
         → verdicts ≡ map (λ book. (book.account, true)) books
     each_passes [] [] legal are = refl
     each_passes [] (verdict ∷ verdicts) legal are = absurd are
     each_passes (book ∷ books) [] legal are = absurd are
     each_passes (book ∷ books) ((account, verdict) ∷ verdicts) legal are =
-        let Legal : Closed → Type 0 = λ b. IsLegal b.opening b.history in
+        let Legal : Closed → Type 0 = λ b. IsLegal b.opening b.until b.history in
         rw (are.0.0, are.0.1.1 (All-head Legal book books legal), each_passes books verdicts (All-tail Legal book books legal) are.1) refl
 
     pub books_pass : PrintedBooksPass

@@ -11,7 +11,7 @@ use Rattle.book_texts.specs.Books.{Books, Told}
 
 -- an account, and whether its history is legal from its opening
 abbrev pub IsVerdict : ℕ × Told → ℕ × Bool → Type 0
-IsVerdict book verdict = (verdict.0 ≡ book.0) × Decides verdict.1 (IsLegal book.1.opening book.1.history)
+IsVerdict book verdict = (verdict.0 ≡ book.0) × Decides verdict.1 (IsLegal book.1.opening book.1.until book.1.history)
 
 -- a verdict on each account, in order
 abbrev pub AreVerdicts : Books → List (ℕ × Bool) → Type 0

@@ -1,10 +1,10 @@
 -- What a row of the table of books says.
-use Rattle.std.specs.Prelude.{◌&&◌, ◌<◌, ◌+◌, ℕ, Bool, List, length, Result, Ok, Err, codes, if◌then◌else◌}
+use Rattle.std.specs.Prelude.{◌&&◌, ◌<◌, ◌+◌, ℕ, Bool, List, Option, length, Result, Ok, Err, codes, if◌then◌else◌}
 use Rattle.std.specs.Str.{bytes_eq}
 use Rattle.account_core.specs.Events.{Event}
 use Rattle.entry_rows.specs.Column.{is_empty, money_of, number_of, seat_of}
 use Rattle.entry_rows.specs.Columns.{Answer, HasOperation, Operation, answer_at, operation_at}
-use Rattle.entry_rows.specs.Operations.{are_last_empty, asked_in, is_asked_blank}
+use Rattle.entry_rows.specs.Operations.{asked_in, is_asked_blank, is_money_blank, until_of}
 use Rattle.entry_rows.specs.Replies.{is_reply_blank, reply_in}
 use Rattle.entry_rows.specs.Versions.{width_of}
 use Rattle.entry_rows.specs.Words.{op_word_in, reply_word_in}
@@ -37,9 +37,9 @@ columns_in version fields = record {
   answer = answer_at fields (reply_place version);
 }
 
--- what a row says: an account opens with a credit, or has one more entry
+-- what a row says: an account opens with a credit and its last moment, if it has one, or has one more entry
 pub data Said : Type 0 where
-  Opens : (account opening : ℕ) → Said
+  Opens : (account opening : ℕ) (until : Option ℕ) → Said
   Enters : (account : ℕ) (event : Event) → Said
 
 -- what is said, where the columns that must be empty are
@@ -58,16 +58,17 @@ is_opening columns = bytes_eq columns.operation.op (codes "opening")
 abbrev pub is_no_answer : Answer → Bool
 is_no_answer a = is_empty a.reply && is_empty a.y1 && is_empty a.y2 && is_empty a.y3
 
--- all but the account, the word and x1 is empty; the reply is not read as a word
+-- all but the account, the word, x1 and, in version 3, x2 is empty; the reply is not read as a word
 abbrev pub is_opening_blank : Columns → Bool
-is_opening_blank columns = is_empty columns.seat && is_empty columns.operation.call && are_last_empty columns.operation && is_no_answer columns.answer
+is_opening_blank columns = is_empty columns.seat && is_money_blank columns.operation && is_no_answer columns.answer
 
--- x1 of an opening is the credit
+-- x1 of an opening is the credit, and x2 its last moment
 unfoldable pub opening_in : Columns → Result Said RowKind
 opening_in columns =
     after (account_of columns.account) (λ account.
     after (money_of columns.operation.x1) (λ opening.
-    when_blank (is_opening_blank columns) (Opens account opening)))
+    after (until_of columns.operation.version columns.operation.x2) (λ until.
+    when_blank (is_opening_blank columns) (Opens account opening until))))
 
 -- ---- entries
 

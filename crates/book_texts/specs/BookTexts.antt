@@ -11,7 +11,7 @@ abbrev pub row : ℕ → List ℕ → Operation → Answer → List ℕ
 row account seat operation answer = field (decimal account) (field seat (operation_text operation ++ answer_text answer))
 
 abbrev pub opening_row : Closed → List ℕ
-opening_row book = row book.account [] (opening_of book.opening) no_answer
+opening_row book = row book.account [] (opening_of book.opening book.until) no_answer
 
 abbrev pub entry_row : ℕ → Event → List ℕ
 entry_row account event = row account (decimal event.seat) (operation_of event.asked) (answer_of event.reply)
@@ -21,8 +21,8 @@ abbrev pub book_rows : Closed → List ℕ
 book_rows book = opening_row book ++ flat_map (entry_row book.account) book.history
 
 abbrev pub header : List ℕ
-header = codes "account,seat,op,call,x1,x2,x3,x4,x5,x6,reply,y1,y2,y3\n"
+header = codes "account,seat,op,call,x1,x2,x3,x4,x5,x6,x7,reply,y1,y2,y3\n"
 
--- the table of books, version 2: a header, and the rows of each book in order
+-- the table of books, version 3: a header, and the rows of each book in order
 unfoldable pub book_text : List Closed → List ℕ
 book_text books = header ++ flat_map book_rows books

@@ -13,9 +13,10 @@ use Rattle.table_core.specs.declared.fault.RowKind.{RowKind}
 use Rattle.table_core.specs.declared.fault.RowKind.TheVariants as kind
 use Rattle.book_texts.specs.BookRows.{Enters, Opens, Said, columns_in, said_in}
 
--- the opening credit of an account, and its entries, oldest first
+-- the opening credit of an account, its last moment, if it has one, and its entries, oldest first
 pub record Told : Type 0 where
   pub opening : ℕ
+  pub until : Option ℕ
   pub history : List Event
 
 -- what is told of each account, by rising number
@@ -27,17 +28,17 @@ abbrev pub told_of : ℕ → Books → Option Told
 told_of account books = lookup (is_at (nat_cmp account)) books
 
 -- the books with one account more
-abbrev pub with_opening : ℕ → ℕ → Books → Books
-with_opening account opening books = insert_entry nat_cmp books account (record { opening = opening; history = [] })
+abbrev pub with_opening : ℕ → ℕ → Option ℕ → Books → Books
+with_opening account opening until books = insert_entry nat_cmp books account (record { opening = opening; until = until; history = [] })
 
 -- the books with one entry more of an account
 abbrev pub with_entry : ℕ → Told → Event → Books → Books
 with_entry account told event books = set_value (is_at (nat_cmp account)) books (record told { history = told.history ++ event ∷ [] })
 
 -- an account opens once
-abbrev pub opened : ℕ → ℕ → Books → Option Told → Result Books RowKind
-opened account opening books None = Ok (with_opening account opening books)
-opened account opening books (Some told) = Err kind.Repeated
+abbrev pub opened : ℕ → ℕ → Option ℕ → Books → Option Told → Result Books RowKind
+opened account opening until books None = Ok (with_opening account opening until books)
+opened account opening until books (Some told) = Err kind.Repeated
 
 -- and has entries after that
 abbrev pub entered : ℕ → Event → Books → Option Told → Result Books RowKind
@@ -46,27 +47,33 @@ entered account event books (Some told) = Ok (with_entry account told event book
 
 -- the books after a row that says this
 abbrev pub judged : Books → Said → Result Books RowKind
-judged books (Opens account opening) = opened account opening books (told_of account books)
+judged books (Opens account opening until) = opened account opening until books (told_of account books)
 judged books (Enters account event) = entered account event books (told_of account books)
 
 -- the books after a row of a table of this version
 unfoldable pub row_at : Version → Books → List (List ℕ) → Result Books RowKind
 row_at version books fields = after (said_in (columns_in version fields)) (judged books)
 
--- `account,seat,op,call,x1,x2,x3,x4,x5,reply,y1,y2,y3`
-abbrev pub older_header : List (List ℕ)
-older_header =
+-- `account,seat,op,call,x1,x2,x3,x4,x5,reply,y1,y2,y3`: version 1
+abbrev pub first_header : List (List ℕ)
+first_header =
     codes "account" ∷ codes "seat" ∷ codes "op" ∷ codes "call" ∷ codes "x1" ∷ codes "x2" ∷ codes "x3" ∷ codes "x4" ∷ codes "x5"
     ∷ codes "reply" ∷ codes "y1" ∷ codes "y2" ∷ codes "y3" ∷ []
 
 -- the same with `x6` behind `x5`: version 2
-abbrev pub books_header : List (List ℕ)
-books_header =
+abbrev pub second_header : List (List ℕ)
+second_header =
     codes "account" ∷ codes "seat" ∷ codes "op" ∷ codes "call" ∷ codes "x1" ∷ codes "x2" ∷ codes "x3" ∷ codes "x4" ∷ codes "x5" ∷ codes "x6"
     ∷ codes "reply" ∷ codes "y1" ∷ codes "y2" ∷ codes "y3" ∷ []
 
+-- the same with `x7` behind `x6`: version 3
+abbrev pub books_header : List (List ℕ)
+books_header =
+    codes "account" ∷ codes "seat" ∷ codes "op" ∷ codes "call" ∷ codes "x1" ∷ codes "x2" ∷ codes "x3" ∷ codes "x4" ∷ codes "x5" ∷ codes "x6" ∷ codes "x7"
+    ∷ codes "reply" ∷ codes "y1" ∷ codes "y2" ∷ codes "y3" ∷ []
+
 abbrev pub books_headers : List (List (List ℕ))
-books_headers = older_header ∷ books_header ∷ []
+books_headers = first_header ∷ second_header ∷ books_header ∷ []
 
 -- 1,000,000 rows at most; each says something of an account
 abbrev pub books_form : TableForm Books RowKind RowFault

@@ -18,7 +18,7 @@ use Rattle.std.specs.Prelude.{string_bytes}
 
 -- an account's check has heard its history
 abbrev pub IsCheck : ℕ × Told → ℕ × HistoryCheck → Type 0
-IsCheck book check = (check.0 ≡ book.0) × IsCheckOf book.1.opening (reverse book.1.history) check.1
+IsCheck book check = (check.0 ≡ book.0) × IsCheckOf book.1.opening book.1.until (reverse book.1.history) check.1
 
 -- each account has its check, in order
 abbrev pub AreChecks : Books → List (ℕ × HistoryCheck) → Type 0
@@ -39,7 +39,7 @@ GivesChecks (Err fault) meaning = Refuses fault meaning
 
 -- a verdict is what the account's check says of any history that it has heard
 abbrev pub IsSaidBy : ℕ × HistoryCheck → ℕ × Bool → Type 0
-IsSaidBy check verdict = (verdict.0 ≡ check.0) × ((opening : ℕ) (h : List Event) → IsCheckOf opening h check.1 → Decides verdict.1 (IsLegalPast opening h))
+IsSaidBy check verdict = (verdict.0 ≡ check.0) × ((opening : ℕ) (until : Option ℕ) (h : List Event) → IsCheckOf opening until h check.1 → Decides verdict.1 (IsLegalPast opening until h))
 
 -- a verdict of each check, in order
 abbrev pub AreSaidBy : List (ℕ × HistoryCheck) → List (ℕ × Bool) → Type 0

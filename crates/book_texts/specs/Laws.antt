@@ -21,5 +21,5 @@ BooksAreRead = (books : List Closed) → ArePrintable books → books_of (rows_o
 -- where their histories are legal, an audit of that table says yes for each
 abbrev pub PrintedBooksPass : Type 0
 PrintedBooksPass =
-    (books : List Closed) (audit : Audited) → ArePrintable books → All (λ book. IsLegal book.opening book.history) books
+    (books : List Closed) (audit : Audited) → ArePrintable books → All (λ book. IsLegal book.opening book.until book.history) books
     → GivesAudit (Ok audit) (books_of (rows_of (book_text books))) → audit ≡ audited (map (λ book. (book.account, true)) books)

@@ -1,9 +1,9 @@
 -- Books that are read back from the table that is printed of them.
-use Rattle.std.specs.Prelude.{◌+◌, ◌≤◌, ℕ, List, [], ◌∷◌, length, map}
+use Rattle.std.specs.Prelude.{◌+◌, ◌≤◌, ℕ, List, [], ◌∷◌, length, map, IfSome}
 use Rattle.std.specs.List.{All}
 use Rattle.std.specs.List.Sorted.{IsStrictlySortedBy}
 use Rattle.std.specs.Ordering.{nat_cmp}
-use Rattle.entry_rows.specs.Fits.{FitsEvent, IsMoney}
+use Rattle.entry_rows.specs.Fits.{FitsEvent, IsMoment, IsMoney}
 use Rattle.shared_account.specs.Closed.{Closed}
 use Rattle.book_texts.specs.Books.{Told}
 
@@ -11,6 +11,7 @@ use Rattle.book_texts.specs.Books.{Told}
 pub record FitsBook (book : Closed) : Type 0 where
   pub account : book.account ≤ 4294967295
   pub opening : IsMoney book.opening
+  pub until : IfSome book.until IsMoment
   pub history : All FitsEvent book.history
 
 -- how many rows books have, the header not counted
@@ -26,4 +27,4 @@ pub record ArePrintable (books : List Closed) : Type 0 where
 
 -- what is told of the account of a book
 abbrev pub told_by : Closed → ℕ × Told
-told_by book = (book.account, record { opening = book.opening; history = book.history })
+told_by book = (book.account, record { opening = book.opening; until = book.until; history = book.history })

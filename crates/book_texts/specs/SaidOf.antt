@@ -7,10 +7,10 @@ use Rattle.book_texts.specs.declared.book_row.BookRow.TheVariants as row
 use Rattle.tariff_core.specs.declared.money.TheConstants.{MAX_MONEY}
 
 abbrev pub said_of : BookRow → Said
-said_of (row.Opening account opening) = Opens account opening
+said_of (row.Opening account opening until) = Opens account opening until
 said_of (row.Entry account entry) = Enters account (event_of entry)
 
 -- an opening that an account may have
 abbrev pub IsAffordable : BookRow → Type 0
-IsAffordable (row.Opening account opening) = opening ≤ MAX_MONEY
+IsAffordable (row.Opening account opening until) = opening ≤ MAX_MONEY
 IsAffordable (row.Entry account entry) = Unit {0}

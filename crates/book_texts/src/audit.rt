@@ -23,7 +23,7 @@ pub struct Audit {
     pub passes: bool,
 }
 
-/// Whether the history of each account of a table of books, version 1 or 2, is legal from its
+/// Whether the history of each account of a table of books, version 1 to 3, is legal from its
 /// opening.
 ///
 /// Rows are judged in order as they are read, a row in this order: `Csv` where it has another

@@ -11,8 +11,8 @@ ghost use Rattle.book_texts.specs.SaidOf.{IsAffordable, said_of};
 use account_core::Entry;
 use csv::ByteRecord;
 use entry_rows::{
-    Version, are_last_blank, is_op_blank, is_reply_blank, read_op, read_op_word, read_reply,
-    read_reply_word, read_seat,
+    Version, is_money_blank, is_op_blank, is_reply_blank, read_op, read_op_word, read_reply,
+    read_reply_word, read_seat, read_until,
 };
 use table_core::{RowKind, is_blank, is_word, number};
 use tariff_core::MAX_MONEY;
@@ -23,8 +23,6 @@ const ACCOUNT: usize = 0;
 const SEAT: usize = 1;
 
 const OP: usize = 2;
-
-const CALL: usize = 3;
 
 const OPENING: usize = 4;
 
@@ -37,6 +35,8 @@ pub(crate) enum BookRow {
         account: u32,
         /// The credit, 0 to `MAX_MONEY`.
         opening: u64,
+        /// Its last moment, 0 to `HORIZON`, if it has one.
+        until: Option<u64>,
     },
     /// An account has one more entry.
     Entry {
@@ -70,10 +70,15 @@ fn read_opening(row: &ByteRecord, version: Version) -> Result<BookRow, RowKind>
 {
     let account = read_account(row)?;
     let opening = number(row, OPENING, MAX_MONEY)?;
+    let until = read_until(row, OP, version)?;
     if !is_opening_blank(row, version) {
         return Err(RowKind::Empty);
     }
-    Ok(BookRow::Opening { account, opening })
+    Ok(BookRow::Opening {
+        account,
+        opening,
+        until,
+    })
 }
 
 #[tactic(auto, unfolding(crate::specs::BookRows::entry_in))]
@@ -105,14 +110,13 @@ fn read_account(row: &ByteRecord) -> Result<u32, RowKind>
     Ok(account as u32)
 }
 
-/// Whether all but the account, the word and the credit is empty.
+/// Whether all but the account, the word, the credit and its last moment is empty.
 fn is_opening_blank(row: &ByteRecord, version: Version) -> bool
     requires { HasColumns version (fields_of row.now) }
     ensures { result ≡ is_opening_blank (columns_in version (fields_of row.now)) }
 {
     is_blank(row, SEAT)
-        && is_blank(row, CALL)
-        && are_last_blank(row, OP, version)
+        && is_money_blank(row, OP, version)
         && has_no_answer(row, reply_place(version))
 }
 
@@ -128,7 +132,7 @@ fn has_no_answer(row: &ByteRecord, at: usize) -> bool
 /// Where the columns of the reply begin.
 fn reply_place(version: Version) -> usize
     ensures value { result ≡ reply_place version }
-    ensures few { result ≤ 10 }
+    ensures few { result ≤ 11 }
 {
     OP + version.width()
 }

@@ -38,6 +38,10 @@ pub(crate) fn check_books<I: Read + Drop>(
             "account", "seat", "op", "call", "x1", "x2", "x3", "x4", "x5", "x6", "reply", "y1",
             "y2", "y3",
         ],
+        &[
+            "account", "seat", "op", "call", "x1", "x2", "x3", "x4", "x5", "x6", "x7", "reply",
+            "y1", "y2", "y3",
+        ],
     ];
     let mut table = Table::open(alloc, reader, headers, MAX_ROWS)?;
     let mut checks = BTreeMap::new(alloc);
@@ -64,7 +68,11 @@ fn take_row(
         → Comes refused (row_at version books (fields_of row.now)) checks.new.entries) }
 {
     match read_row(row, version) {
-        Ok(BookRow::Opening { account, opening }) => open(alloc, checks, account, opening),
+        Ok(BookRow::Opening {
+            account,
+            opening,
+            until,
+        }) => open(alloc, checks, account, opening, until),
         Ok(BookRow::Entry { account, entry }) => enter(checks, account, entry),
         Err(kind) => Ok(Some(kind)),
     }
@@ -76,15 +84,17 @@ fn open(
     checks: &mut BTreeMap<u32, HistoryCheck>,
     account: u32,
     opening: u64,
+    until: Option<u64>,
 ) -> Result<Option<RowKind>, AllocError>
     requires { opening ≤ MAX_MONEY }
     ensures { IfOk result (λ refused. (books : Books) → AreChecks books checks.old.entries
-        → Comes refused (opened account opening books (told_of account books)) checks.new.entries) }
+        → Comes refused (opened account opening until books (told_of account books))
+        checks.new.entries) }
 {
     if checks.contains_key(&account) {
         return Ok(Some(RowKind::Repeated));
     }
-    checks.insert(account, HistoryCheck::new(alloc, opening))?;
+    checks.insert(account, HistoryCheck::new(alloc, opening, until))?;
     Ok(None)
 }
 

@@ -5,11 +5,11 @@ ghost use Rattle.account_core.specs.Events.{event_of};
 ghost use Rattle.book_texts.specs.BookTexts.{book_rows, book_text, entry_row};
 
 use account_core::Entry;
-use entry_rows::{write_answer, write_operation};
+use entry_rows::{write_answer, write_opening, write_operation};
 use shared_account::Book;
 use std::alloc::{AllocError, Global};
 
-/// The table of these books, version 2: a header, and for each book, in order, a row of its opening
+/// The table of these books, version 3: a header, and for each book, in order, a row of its opening
 /// and a row for each entry of its history.
 #[tactic(auto, unfolding(crate::specs::BookTexts::book_text))]
 pub fn book_table(alloc: Global, books: &[Book]) -> Result<String, AllocError>
@@ -18,7 +18,7 @@ pub fn book_table(alloc: Global, books: &[Book]) -> Result<String, AllocError>
     let mut text = String::new(alloc);
     writeln!(
         text,
-        "account,seat,op,call,x1,x2,x3,x4,x5,x6,reply,y1,y2,y3"
+        "account,seat,op,call,x1,x2,x3,x4,x5,x6,x7,reply,y1,y2,y3"
     )?;
     for book in books {
         write_book(&mut text, book)?;
@@ -30,8 +30,10 @@ pub fn book_table(alloc: Global, books: &[Book]) -> Result<String, AllocError>
 fn write_book(text: &mut String, book: &Book) -> Result<(), AllocError>
     ensures { OnOk result (string_bytes text.new ≡ string_bytes text.old ++ book_rows book.now) }
 {
-    let (account, opening) = (book.account(), book.opening());
-    writeln!(text, "{account},,opening,,{opening},,,,,,,,,")?;
+    let account = book.account();
+    write!(text, "{account},,")?;
+    write_opening(text, book.opening(), book.until())?;
+    writeln!(text, ",,,")?;
     for entry in book.history() {
         write_entry(text, account, entry)?;
     }

@@ -28,7 +28,7 @@ owed_by granted = if granted then 1 else 0
 abbrev Tally : Phase → ℕ → ℕ → Bool → Type 0
 Tally (FirstAsk t) s r g = Counts s r 0 0 g false
 Tally (Running t) s r g = Counts s r 0 0 g true
-Tally (Settling t active) s r g = Counts s r 1 0 g true
+Tally (Settling t active since) s r g = Counts s r 1 0 g true
 Tally (MoreAsk t) s r g = Counts s r 1 0 g true
 Tally (Returning after) s r g = Counts s r 1 1 g true
 Tally Ending s r g = Counts s r 1 (owed_by g) g g
@@ -55,28 +55,28 @@ over phase.Clears s r g settled returned input plain = rw plain (record { settle
 over phase.Fails s r g settled returned input plain = rw plain (record { settled = omega arith; returned = omega (arith, returned); grants = refl })
 over phase.Closes s r g settled returned input plain = rw plain (record { settled = omega arith; returned = omega (arith, returned); grants = refl })
 
-keeps_event : (t : Conditions) (number : ℕ) (message : SsfMsg) (e : Event) (m : Mode) (s r : ℕ) (g : Bool) → Counts s r 0 0 g true
-    → Keeps (Message number message) s r g (reported t e m)
-keeps_event t number message event.Answer m s r g c = record { settled = omega arith; returned = omega arith; grants = c.grants }
-keeps_event t number message event.CollectedInfo m s r g c = record { settled = omega arith; returned = omega arith; grants = c.grants }
-keeps_event t number message event.RouteSelectFailure m s r g c = record { settled = omega arith; returned = omega arith; grants = c.grants }
-keeps_event t number message event.CalledPartyBusy m s r g c = record { settled = omega arith; returned = omega arith; grants = c.grants }
-keeps_event t number message event.NoAnswer m s r g c = record { settled = omega arith; returned = omega arith; grants = c.grants }
-keeps_event t number message event.Disconnect m s r g c = record { settled = omega arith; returned = omega arith; grants = c.grants }
-keeps_event t number message event.Abandon m s r g c = record { settled = omega arith; returned = omega arith; grants = c.grants }
+keeps_event : (t : Conditions) (number at : ℕ) (message : SsfMsg) (e : Event) (m : Mode) (s r : ℕ) (g : Bool) → Counts s r 0 0 g true
+    → Keeps (Message number at message) s r g (reported t e m)
+keeps_event t number at message event.Answer m s r g c = record { settled = omega arith; returned = omega arith; grants = c.grants }
+keeps_event t number at message event.CollectedInfo m s r g c = record { settled = omega arith; returned = omega arith; grants = c.grants }
+keeps_event t number at message event.RouteSelectFailure m s r g c = record { settled = omega arith; returned = omega arith; grants = c.grants }
+keeps_event t number at message event.CalledPartyBusy m s r g c = record { settled = omega arith; returned = omega arith; grants = c.grants }
+keeps_event t number at message event.NoAnswer m s r g c = record { settled = omega arith; returned = omega arith; grants = c.grants }
+keeps_event t number at message event.Disconnect m s r g c = record { settled = omega arith; returned = omega arith; grants = c.grants }
+keeps_event t number at message event.Abandon m s r g c = record { settled = omega arith; returned = omega arith; grants = c.grants }
 
-keeps_running : (t : Conditions) (number : ℕ) (message : SsfMsg) (s r : ℕ) (g : Bool) → Counts s r 0 0 g true
-    → Keeps (Message number message) s r g (running t number message)
-keeps_running t number (msg.InitialDp call calling called) s r g c = tt
-keeps_running t number (msg.EventReport e leg m) s r g c = keeps_event t number (msg.EventReport e leg m) e m s r g c
-keeps_running t number (msg.ChargingReport active info) s r g c = record { settled = omega arith; returned = omega arith; grants = c.grants }
-keeps_running t number msg.Ended s r g c = record { settled = omega arith; returned = omega arith; grants = c.grants }
+keeps_running : (t : Conditions) (number at : ℕ) (message : SsfMsg) (s r : ℕ) (g : Bool) → Counts s r 0 0 g true
+    → Keeps (Message number at message) s r g (running t number at message)
+keeps_running t number at (msg.InitialDp call calling called) s r g c = tt
+keeps_running t number at (msg.EventReport e leg m) s r g c = keeps_event t number at (msg.EventReport e leg m) e m s r g c
+keeps_running t number at (msg.ChargingReport active info) s r g c = record { settled = omega arith; returned = omega arith; grants = c.grants }
+keeps_running t number at msg.Ended s r g c = record { settled = omega arith; returned = omega arith; grants = c.grants }
 
-keeps_ending : (number : ℕ) (message : SsfMsg) (s r : ℕ) (g : Bool) → Counts s r 1 (owed_by g) g g → Keeps (Message number message) s r g (ending message)
-keeps_ending number (msg.InitialDp call calling called) s r g c = tt
-keeps_ending number (msg.EventReport e leg m) s r g c = over (going_on m) s r g c.settled c.returned (Message number (msg.EventReport e leg m)) refl
-keeps_ending number (msg.ChargingReport active info) s r g c = tt
-keeps_ending number msg.Ended s r g c = over phase.Closes s r g c.settled c.returned (Message number msg.Ended) refl
+keeps_ending : (number at : ℕ) (message : SsfMsg) (s r : ℕ) (g : Bool) → Counts s r 1 (owed_by g) g g → Keeps (Message number at message) s r g (ending message)
+keeps_ending number at (msg.InitialDp call calling called) s r g c = tt
+keeps_ending number at (msg.EventReport e leg m) s r g c = over (going_on m) s r g c.settled c.returned (Message number at (msg.EventReport e leg m)) refl
+keeps_ending number at (msg.ChargingReport active info) s r g c = tt
+keeps_ending number at msg.Ended s r g c = over phase.Closes s r g c.settled c.returned (Message number at msg.Ended) refl
 
 grant_first : (t : Conditions) (units a : ℕ) (last b : Bool) (s r : ℕ) (g : Bool) → Counts s r 0 0 g false
     → Keeps (Answer (Granted units last a)) s r g (if b then Ok (first_period t units last, Running t) else Err Unexpected)
@@ -92,22 +92,22 @@ keeps_first t (Settled p a) s r g c = tt
 keeps_first t (Forfeit p a) s r g c = tt
 keeps_first t (Returned p a) s r g c = tt
 
-keeps_settling : (t : Conditions) (active : Bool) (reply : Reply) (s r : ℕ) (g : Bool) → Counts s r 1 0 g true
-    → Keeps (Answer reply) s r g (replied (Settling t active) reply)
-keeps_settling t true (Settled p a) s r g c = record { settled = omega (arith, c.settled); returned = omega (arith, c.returned); grants = c.grants }
-keeps_settling t true (Forfeit p a) s r g c = record { settled = omega (arith, c.settled); returned = omega (arith, c.returned); grants = c.grants }
-keeps_settling t true (Credited a) s r g c = tt
-keeps_settling t true (CreditOver a) s r g c = tt
-keeps_settling t true (Granted units last a) s r g c = tt
-keeps_settling t true (Denied a) s r g c = tt
-keeps_settling t true (Returned p a) s r g c = tt
-keeps_settling t false (Settled p a) s r g c = record { settled = omega (arith, c.settled); returned = omega (arith, c.returned); grants = c.grants }
-keeps_settling t false (Forfeit p a) s r g c = record { settled = omega (arith, c.settled); returned = omega (arith, c.returned); grants = c.grants }
-keeps_settling t false (Credited a) s r g c = tt
-keeps_settling t false (CreditOver a) s r g c = tt
-keeps_settling t false (Granted units last a) s r g c = tt
-keeps_settling t false (Denied a) s r g c = tt
-keeps_settling t false (Returned p a) s r g c = tt
+keeps_settling : (t : Conditions) (active : Bool) (since : ℕ) (reply : Reply) (s r : ℕ) (g : Bool) → Counts s r 1 0 g true
+    → Keeps (Answer reply) s r g (replied (Settling t active since) reply)
+keeps_settling t true since (Settled p a) s r g c = record { settled = omega (arith, c.settled); returned = omega (arith, c.returned); grants = c.grants }
+keeps_settling t true since (Forfeit p a) s r g c = record { settled = omega (arith, c.settled); returned = omega (arith, c.returned); grants = c.grants }
+keeps_settling t true since (Credited a) s r g c = tt
+keeps_settling t true since (CreditOver a) s r g c = tt
+keeps_settling t true since (Granted units last a) s r g c = tt
+keeps_settling t true since (Denied a) s r g c = tt
+keeps_settling t true since (Returned p a) s r g c = tt
+keeps_settling t false since (Settled p a) s r g c = record { settled = omega (arith, c.settled); returned = omega (arith, c.returned); grants = c.grants }
+keeps_settling t false since (Forfeit p a) s r g c = record { settled = omega (arith, c.settled); returned = omega (arith, c.returned); grants = c.grants }
+keeps_settling t false since (Credited a) s r g c = tt
+keeps_settling t false since (CreditOver a) s r g c = tt
+keeps_settling t false since (Granted units last a) s r g c = tt
+keeps_settling t false since (Denied a) s r g c = tt
+keeps_settling t false since (Returned p a) s r g c = tt
 
 grant_more : (t : Conditions) (units a : ℕ) (last b : Bool) (s r : ℕ) (g : Bool) → Counts s r 1 0 g true
     → Keeps (Answer (Granted units last a)) s r g (if b then Ok (Sends (Pay units None last ∷ []), Running t) else Err Unexpected)
@@ -133,26 +133,26 @@ keeps_return after (Forfeit p a) s r g c = tt
 keeps_return after (Returned p a) s r g c = ends after s r g c.settled c.returned c.grants (Answer (Returned p a)) refl
 
 keeps : (phase : Phase) (input : Input) (s r : ℕ) (g : Bool) → Tally phase s r g → Keeps input s r g (step phase input)
-keeps (FirstAsk t) (Message number message) s r g c = tt
+keeps (FirstAsk t) (Message number at message) s r g c = tt
 keeps (FirstAsk t) (Answer reply) s r g c = keeps_first t reply s r g c
 keeps (FirstAsk t) Refusal s r g c = rw c.grants (record { settled = omega (arith, c.settled); returned = omega (arith, c.returned); grants = refl })
-keeps (Running t) (Message number message) s r g c = keeps_running t number message s r g c
+keeps (Running t) (Message number at message) s r g c = keeps_running t number at message s r g c
 keeps (Running t) (Answer reply) s r g c = tt
 keeps (Running t) Refusal s r g c = tt
-keeps (Settling t active) (Message number message) s r g c = tt
-keeps (Settling t active) (Answer reply) s r g c = keeps_settling t active reply s r g c
-keeps (Settling t true) Refusal s r g c = record { settled = omega (arith, c.settled); returned = omega (arith, c.returned); grants = c.grants }
-keeps (Settling t false) Refusal s r g c = record { settled = omega (arith, c.settled); returned = omega (arith, c.returned); grants = c.grants }
-keeps (MoreAsk t) (Message number message) s r g c = tt
+keeps (Settling t active since) (Message number at message) s r g c = tt
+keeps (Settling t active since) (Answer reply) s r g c = keeps_settling t active since reply s r g c
+keeps (Settling t true since) Refusal s r g c = record { settled = omega (arith, c.settled); returned = omega (arith, c.returned); grants = c.grants }
+keeps (Settling t false since) Refusal s r g c = record { settled = omega (arith, c.settled); returned = omega (arith, c.returned); grants = c.grants }
+keeps (MoreAsk t) (Message number at message) s r g c = tt
 keeps (MoreAsk t) (Answer reply) s r g c = keeps_more t reply s r g c
 keeps (MoreAsk t) Refusal s r g c = record { settled = omega (arith, c.settled); returned = omega (arith, c.returned); grants = c.grants }
-keeps (Returning after) (Message number message) s r g c = tt
+keeps (Returning after) (Message number at message) s r g c = tt
 keeps (Returning after) (Answer reply) s r g c = keeps_return after reply s r g c
 keeps (Returning after) Refusal s r g c = ends after s r g c.settled c.returned c.grants Refusal refl
-keeps Ending (Message number message) s r g c = keeps_ending number message s r g c
+keeps Ending (Message number at message) s r g c = keeps_ending number at message s r g c
 keeps Ending (Answer reply) s r g c = tt
 keeps Ending Refusal s r g c = tt
-keeps Closed (Message number message) s r g c = tt
+keeps Closed (Message number at message) s r g c = tt
 keeps Closed (Answer reply) s r g c = tt
 keeps Closed Refusal s r g c = tt
 
@@ -170,7 +170,7 @@ tally call now wanted least route (exchange ∷ earlier) phase (before, runs, is
 settled_once : (phase : Phase) (s r : ℕ) (g : Bool) → Tally phase s r g → s ≤ 1
 settled_once (FirstAsk t) s r g c = omega (arith, c.settled)
 settled_once (Running t) s r g c = omega (arith, c.settled)
-settled_once (Settling t active) s r g c = c.settled
+settled_once (Settling t active since) s r g c = c.settled
 settled_once (MoreAsk t) s r g c = c.settled
 settled_once (Returning after) s r g c = c.settled
 settled_once Ending s r g c = c.settled
@@ -183,7 +183,7 @@ one_settle call now wanted least route run phase is = settled_once phase _ _ _ (
 returned_once : (phase : Phase) (s r : ℕ) (g : Bool) → Tally phase s r g → is_over phase ≡ true → r ≡ owed_by g
 returned_once (FirstAsk t) s r g c over = cc
 returned_once (Running t) s r g c over = cc
-returned_once (Settling t active) s r g c over = cc
+returned_once (Settling t active since) s r g c over = cc
 returned_once (MoreAsk t) s r g c over = cc
 returned_once (Returning after) s r g c over = cc
 returned_once Ending s r g c over = c.returned

@@ -20,11 +20,11 @@ pub data Sequel : Type 0 where
   Fails : Sequel
   Closes : Sequel
 
--- the states of the service
+-- the states of the service. A report that is settled was taken at a moment
 pub data Phase : Type 0 where
   FirstAsk : Conditions → Phase
   Running : Conditions → Phase
-  Settling : Conditions → Bool → Phase
+  Settling : Conditions → Bool → (at : ℕ) → Phase
   MoreAsk : Conditions → Phase
   Returning : Sequel → Phase
   Ending : Phase

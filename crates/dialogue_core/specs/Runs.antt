@@ -9,15 +9,15 @@ use Rattle.dialogue_core.specs.Table.{Step, begun, replied, told, unanswered}
 use Rattle.tariff_core.specs.declared.route.Route.{Route}
 use Rattle.tariff_core.specs.declared.times.TheConstants.{DAY}
 
--- what a dialogue is handed
+-- what a dialogue is handed: a message with the number of its mail and its moment, a reply, a refusal
 pub data Input : Type 0 where
-  Message : ℕ → SsfMsg → Input
+  Message : (number at : ℕ) → SsfMsg → Input
   Answer : Reply → Input
   Refusal : Input
 
 -- the table
 abbrev pub step : Phase → Input → Step
-step phase (Message number message) = told phase number message
+step phase (Message number at message) = told phase number at message
 step phase (Answer reply) = replied phase reply
 step phase Refusal = unanswered phase
 
@@ -71,8 +71,8 @@ is_over _ = false
 
 -- a reply of the kind that an account gives to what was asked
 abbrev pub IsHonest : Asked → Reply → Type 0
-IsHonest (Reserves call plan wanted least) (Granted units last available) = (1 ≤ units) × (units ≤ DAY)
-IsHonest (Reserves call plan wanted least) (Denied available) = ⊤
+IsHonest (Reserves call plan wanted least at) (Granted units last available) = (1 ≤ units) × (units ≤ DAY)
+IsHonest (Reserves call plan wanted least at) (Denied available) = ⊤
 IsHonest (Settles call number info) (Settled paid available) = ⊤
 IsHonest (Settles call number info) (Forfeit paid available) = ⊤
 IsHonest (Returns call) (Returned paid available) = ⊤

@@ -24,8 +24,9 @@ use Rattle.tariff_core.specs.declared.times.TheConstants.{DAY}
 abbrev pub Step : Type 0
 Step = Result (Says × Phase) DialogueFault
 
-abbrev pub reserve : Conditions → Asked
-reserve t = Reserves t.call t.plan t.wanted t.least
+-- more time is asked for at a moment
+abbrev pub reserve : Conditions → ℕ → Asked
+reserve t at = Reserves t.call t.plan t.wanted t.least at
 
 -- what the call holds is returned, and then comes the sequel
 abbrev pub give_back : Conditions → Sequel → Step
@@ -59,7 +60,7 @@ conditions call now wanted least route =
 abbrev pub begun : ℕ → ℕ → ℕ → ℕ → Option Route → Says × Phase
 begun call now wanted least None = (Sends (Release 1 ∷ []), Ending)
 begun call now wanted least (Some route) =
-    (Asks (reserve (conditions call now wanted least route)), FirstAsk (conditions call now wanted least route))
+    (Asks (reserve (conditions call now wanted least route) now), FirstAsk (conditions call now wanted least route))
 
 -- ---- a message of the gsmSSF
 
@@ -68,11 +69,11 @@ abbrev pub reported : Conditions → Event → Mode → Step
 reported t event.Answer mode = Ok (Sends [], Running t)
 reported t _ mode = give_back t (going_on mode)
 
-abbrev pub running : Conditions → ℕ → SsfMsg → Step
-running t number (msg.InitialDp call calling called) = Err Unexpected
-running t number (msg.EventReport event leg mode) = reported t event mode
-running t number (msg.ChargingReport active info) = Ok (Asks (Settles t.call number info), Settling t active)
-running t number msg.Ended = give_back t phase.Closes
+abbrev pub running : Conditions → ℕ → ℕ → SsfMsg → Step
+running t number at (msg.InitialDp call calling called) = Err Unexpected
+running t number at (msg.EventReport event leg mode) = reported t event mode
+running t number at (msg.ChargingReport active info) = Ok (Asks (Settles t.call number info), Settling t active at)
+running t number at msg.Ended = give_back t phase.Closes
 
 abbrev pub ending : SsfMsg → Step
 ending (msg.InitialDp call calling called) = Err Unexpected
@@ -80,14 +81,15 @@ ending (msg.EventReport event leg mode) = Ok (sequel (going_on mode))
 ending (msg.ChargingReport active info) = Err Unexpected
 ending msg.Ended = Ok (Finished, Closed)
 
-abbrev pub told : Phase → ℕ → SsfMsg → Step
-told (FirstAsk t) number message = Err AskPending
-told (Running t) number message = running t number message
-told (Settling t active) number message = Err AskPending
-told (MoreAsk t) number message = Err AskPending
-told (Returning after) number message = Err AskPending
-told Ending number message = ending message
-told Closed number message = Err Unexpected
+-- of the mail with this number, at its moment
+abbrev pub told : Phase → ℕ → ℕ → SsfMsg → Step
+told (FirstAsk t) number at message = Err AskPending
+told (Running t) number at message = running t number at message
+told (Settling t active since) number at message = Err AskPending
+told (MoreAsk t) number at message = Err AskPending
+told (Returning after) number at message = Err AskPending
+told Ending number at message = ending message
+told Closed number at message = Err Unexpected
 
 -- ---- a reply of the account
 
@@ -105,11 +107,11 @@ first_reply t (Granted units last available) =
 first_reply t (Denied available) = Ok (Sends (Release 21 ∷ []), Ending)
 first_reply t _ = Err Unexpected
 
--- after a report of a call that goes on
-abbrev pub active_reply : Conditions → Reply → Step
-active_reply t (Settled paid available) = Ok (Asks (reserve t), MoreAsk t)
-active_reply t (Forfeit paid available) = give_back t phase.Fails
-active_reply t _ = Err Unexpected
+-- after a report of a call that goes on, taken at a moment
+abbrev pub active_reply : Conditions → ℕ → Reply → Step
+active_reply t at (Settled paid available) = Ok (Asks (reserve t at), MoreAsk t)
+active_reply t at (Forfeit paid available) = give_back t phase.Fails
+active_reply t at _ = Err Unexpected
 
 -- after the last report
 abbrev pub last_reply : Conditions → Reply → Step
@@ -130,8 +132,8 @@ return_reply after _ = Err Unexpected
 abbrev pub replied : Phase → Reply → Step
 replied (FirstAsk t) reply = first_reply t reply
 replied (Running t) reply = Err NoAskPending
-replied (Settling t true) reply = active_reply t reply
-replied (Settling t false) reply = last_reply t reply
+replied (Settling t true at) reply = active_reply t at reply
+replied (Settling t false at) reply = last_reply t reply
 replied (MoreAsk t) reply = more_reply t reply
 replied (Returning after) reply = return_reply after reply
 replied Ending reply = Err NoAskPending
@@ -142,8 +144,8 @@ replied Closed reply = Err NoAskPending
 abbrev pub unanswered : Phase → Step
 unanswered (FirstAsk t) = Ok (Sends (Release 41 ∷ []), Ending)
 unanswered (Running t) = Err NoAskPending
-unanswered (Settling t true) = give_back t phase.Fails
-unanswered (Settling t false) = give_back t phase.Nothing
+unanswered (Settling t true at) = give_back t phase.Fails
+unanswered (Settling t false at) = give_back t phase.Nothing
 unanswered (MoreAsk t) = give_back t phase.Fails
 unanswered (Returning after) = Ok (sequel after)
 unanswered Ending = Err NoAskPending

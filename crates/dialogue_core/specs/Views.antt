@@ -30,7 +30,7 @@ sequel_of next.Close = phase.Closes
 abbrev pub phase_at : State → Phase
 phase_at (state.FirstAsk terms) = phase.FirstAsk (conditions_of terms)
 phase_at (state.Running terms) = phase.Running (conditions_of terms)
-phase_at (state.Settling terms active) = phase.Settling (conditions_of terms) active
+phase_at (state.Settling terms active at) = phase.Settling (conditions_of terms) active at
 phase_at (state.MoreAsk terms) = phase.MoreAsk (conditions_of terms)
 phase_at (state.Returning after) = phase.Returning (sequel_of after)
 phase_at state.Ending = phase.Ending

@@ -53,17 +53,24 @@ impl Dialogue {
         let dialogue = Dialogue {
             state: State::FirstAsk(terms),
         };
-        (dialogue, reserve(terms))
+        (dialogue, reserve(terms, now))
     }
 
-    /// Takes a message of the gsmSSF, the `number`-th of its mails.
-    pub fn take(&mut self, number: u64, message: SsfMsg) -> Result<Turn, DialogueFault>
+    /// Takes a message of the gsmSSF, the `number`-th of its mails, at a moment: where more time is
+    /// asked for after a report, it is asked for at the report's moment.
+    pub fn take(
+        &mut self,
+        number: u64,
+        at: u64,
+        message: SsfMsg,
+    ) -> Result<Turn, DialogueFault>
         ensures ok { IfOk result (λ turn.
-            told (phase_of self.old) number message ≡ Ok (says_of turn, phase_of self.new)) }
-        ensures fault { IfErr result (λ fault. told (phase_of self.old) number message ≡ Err fault) }
+            told (phase_of self.old) number at message ≡ Ok (says_of turn, phase_of self.new)) }
+        ensures fault { IfErr result (λ fault.
+            told (phase_of self.old) number at message ≡ Err fault) }
         ensures unchanged { IfErr result (λ fault. self.new ≡ self.old) }
     {
-        let (turn, state) = told(self.state, number, message)?;
+        let (turn, state) = told(self.state, number, at, message)?;
         self.state = state;
         Ok(turn)
     }
@@ -95,11 +102,16 @@ impl Dialogue {
 }
 
 /// The table's rows for a message.
-fn told(state: State, number: u64, message: SsfMsg) -> Result<(Turn, State), DialogueFault>
-    ensures { Follows result (told (phase_at state) number message) }
+fn told(
+    state: State,
+    number: u64,
+    at: u64,
+    message: SsfMsg,
+) -> Result<(Turn, State), DialogueFault>
+    ensures { Follows result (told (phase_at state) number at message) }
 {
     match state {
-        State::Running(terms) => running(terms, number, message),
+        State::Running(terms) => running(terms, number, at, message),
         State::Ending => ending(message),
         State::Closed => Err(DialogueFault::Unexpected),
         State::FirstAsk(_) => Err(DialogueFault::AskPending),
@@ -115,9 +127,9 @@ fn replied(state: State, reply: Reply) -> Result<(Turn, State), DialogueFault>
 {
     match state {
         State::FirstAsk(terms) => first_reply(terms, reply),
-        State::Settling { terms, active } => {
+        State::Settling { terms, active, at } => {
             if active {
-                active_reply(terms, reply)
+                active_reply(terms, at, reply)
             } else {
                 last_reply(terms, reply)
             }
@@ -136,7 +148,7 @@ fn unanswered(state: State) -> Result<(Turn, State), DialogueFault>
 {
     match state {
         State::FirstAsk(_) => Ok((release(Cause::temporary_failure()), State::Ending)),
-        State::Settling { terms, active } => {
+        State::Settling { terms, active, .. } => {
             if active {
                 Ok(give_back(terms, Then::Fail))
             } else {

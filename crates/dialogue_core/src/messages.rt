@@ -12,13 +12,14 @@ use crate::{DialogueFault, Turn};
 use account_core::Op;
 use cap_values::{Event, Mode, SsfMsg};
 
-/// A message of a call that was granted time.
+/// A message of a call that was granted time, and its moment.
 pub(crate) fn running(
     terms: Terms,
     number: u64,
+    at: u64,
     message: SsfMsg,
 ) -> Result<(Turn, State), DialogueFault>
-    ensures { Follows result (running (conditions_of terms) number message) }
+    ensures { Follows result (running (conditions_of terms) number at message) }
 {
     match message {
         SsfMsg::InitialDp { .. } => Err(DialogueFault::Unexpected),
@@ -26,7 +27,7 @@ pub(crate) fn running(
         SsfMsg::ChargingReport { active, info } => {
             let call = terms.call;
             let ask = Turn::Ask(Op::Settle { call, number, info });
-            Ok((ask, State::Settling { terms, active }))
+            Ok((ask, State::Settling { terms, active, at }))
         }
         SsfMsg::Ended => Ok(give_back(terms, Then::Close)),
     }

@@ -31,12 +31,16 @@ pub(crate) fn first_reply(terms: Terms, reply: Reply) -> Result<(Turn, State), D
     }
 }
 
-/// The reply to a report of a call that goes on.
-pub(crate) fn active_reply(terms: Terms, reply: Reply) -> Result<(Turn, State), DialogueFault>
-    ensures { Follows result (active_reply (conditions_of terms) reply) }
+/// The reply to a report of a call that goes on, taken at a moment.
+pub(crate) fn active_reply(
+    terms: Terms,
+    at: u64,
+    reply: Reply,
+) -> Result<(Turn, State), DialogueFault>
+    ensures { Follows result (active_reply (conditions_of terms) at reply) }
 {
     match reply {
-        Reply::Settled { .. } => Ok((reserve(terms), State::MoreAsk(terms))),
+        Reply::Settled { .. } => Ok((reserve(terms, at), State::MoreAsk(terms))),
         Reply::Forfeit { .. } => Ok(give_back(terms, Then::Fail)),
         _ => Err(DialogueFault::Unexpected),
     }
@@ -79,15 +83,16 @@ pub(crate) fn return_reply(next: Then, reply: Reply) -> Result<(Turn, State), Di
     }
 }
 
-/// More time is asked for.
-pub(crate) fn reserve(terms: Terms) -> Turn
-    ensures { says_of result ≡ Asks (reserve (conditions_of terms)) }
+/// More time is asked for at a moment.
+pub(crate) fn reserve(terms: Terms, at: u64) -> Turn
+    ensures { says_of result ≡ Asks (reserve (conditions_of terms) at) }
 {
     Turn::Ask(Op::Reserve {
         call: terms.call,
         plan: terms.plan,
         wanted: terms.wanted,
         least: terms.least,
+        at,
     })
 }
 

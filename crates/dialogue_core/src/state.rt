@@ -15,6 +15,8 @@ pub(crate) enum State {
         terms: Terms,
         /// Whether the call goes on after the report.
         active: bool,
+        /// The moment of the report.
+        at: u64,
     },
     /// More time was asked for.
     MoreAsk(Terms),

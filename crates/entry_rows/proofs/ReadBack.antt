@@ -9,9 +9,9 @@ use Rattle.account_core.specs.declared.entry.Reply.TheVariants as reply
 use Rattle.table_core.specs.Printed.{DecimalsAreRead}
 use Rattle.tariff_core.specs.declared.time_info.TimeInfo.{TimeInfo}
 use Rattle.tariff_core.specs.declared.time_info.TimeInfo.TheVariants as info
-use Rattle.entry_rows.specs.Column.{any_number_of, interval_of, is_empty, money_of, number_of, optional_rate_of, rate_of, units_of}
+use Rattle.entry_rows.specs.Column.{any_number_of, interval_of, is_empty, moment_of, money_of, number_of, optional_moment_of, optional_rate_of, rate_of, units_of}
 use Rattle.entry_rows.specs.Columns.{number_or_empty, operation_of}
-use Rattle.entry_rows.specs.Fits.{FitsReport, IsInterval, IsMoney, IsRate, IsTime, IsWide}
+use Rattle.entry_rows.specs.Fits.{FitsReport, IsInterval, IsMoment, IsMoney, IsRate, IsTime, IsWide}
 use Rattle.entry_rows.specs.Laws.{IsReadAsOp, OperationsAreRead, RepliesAreRead}
 use Rattle.entry_rows.specs.Operations.{plan_in, reserve_in}
 use Rattle.entry_rows.specs.declared.words.OpWord.TheVariants as op_word
@@ -34,6 +34,13 @@ module _ (reads : DecimalsAreRead) where
 
   money : (number : ℕ) → IsMoney number → money_of (decimal number) ≡ Ok number
   money number fits = number_read 1000000000000000 number (omega arith) fits
+
+  moment : (number : ℕ) → IsMoment number → moment_of (decimal number) ≡ Ok number
+  moment number fits = number_read 2000000000000 number (omega arith) fits
+
+  optional_moment : (number : Option ℕ) → IfSome number IsMoment → optional_moment_of (number_or_empty number) ≡ Ok number
+  optional_moment None fits = refl
+  optional_moment (Some number) fits = rw (not_empty number (omega (arith, fits)), moment number fits) refl
 
   rate : (number : ℕ) → IsRate number → rate_of (decimal number) ≡ Ok number
   rate number fits = number_read 1000000000 number (omega arith) fits
@@ -68,8 +75,9 @@ module _ (reads : DecimalsAreRead) where
 
   pub operations_read : OperationsAreRead
   unfolding plan_in reserve_in
-  operations_read (Credits amount) fits = record { word = op_word.Credit; known = refl; read = rw (money amount fits) refl; blank = refl }
-  operations_read (Reserves call plan wanted least) fits = record {
+  operations_read (Credits amount until) fits =
+      record { word = op_word.Credit; known = refl; read = rw (money amount fits.0, optional_moment until fits.1) refl; blank = refl }
+  operations_read (Reserves call plan wanted least at) fits = record {
     word = op_word.Reserve;
     known = refl;
     read = rw (
@@ -80,6 +88,7 @@ module _ (reads : DecimalsAreRead) where
       time plan.free fits.1.free,
       time wanted fits.2,
       time least fits.3,
+      moment at fits.4,
     ) refl;
     blank = refl;
   }

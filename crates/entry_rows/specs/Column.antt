@@ -7,7 +7,7 @@ use Rattle.table_core.specs.declared.fault.RowKind.{RowKind}
 use Rattle.table_core.specs.declared.fault.RowKind.TheVariants as kind
 use Rattle.tariff_core.specs.declared.money.TheConstants.{MAX_MONEY}
 use Rattle.tariff_core.specs.declared.plan.TheConstants.{MAX_RATE}
-use Rattle.tariff_core.specs.declared.times.TheConstants.{DAY}
+use Rattle.tariff_core.specs.declared.times.TheConstants.{DAY, HORIZON}
 
 -- whether a column is empty
 abbrev pub is_empty : List ℕ → Bool
@@ -44,6 +44,14 @@ rate_of text = number_of MAX_RATE text
 -- a rate that there may not be
 abbrev pub optional_rate_of : List ℕ → Result (Option ℕ) RowKind
 optional_rate_of text = optional_of MAX_RATE text
+
+-- a moment: 0 to 2·10^12
+abbrev pub moment_of : List ℕ → Result ℕ RowKind
+moment_of text = number_of HORIZON text
+
+-- a moment that there may not be
+abbrev pub optional_moment_of : List ℕ → Result (Option ℕ) RowKind
+optional_moment_of text = optional_of HORIZON text
 
 -- an interval, which is at least 1 where there is one
 abbrev pub counted_interval : Option ℕ → Result (Option ℕ) RowKind

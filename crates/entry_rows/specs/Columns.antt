@@ -1,5 +1,5 @@
 -- The columns of an entry: what is asked, and what is answered.
-use Rattle.std.specs.Prelude.{◌≡◌, ◌<◌, ◌+◌, ℕ, true, false, Option, Some, None, List, [], ◌++◌, codes, length}
+use Rattle.std.specs.Prelude.{◌≡◌, ◌≢◌, ◌<◌, ◌+◌, ℕ, true, false, Option, Some, None, List, [], ◌++◌, codes, length}
 use Rattle.std.specs.Fmt.{decimal}
 use Rattle.tariff_core.specs.declared.time_info.TimeInfo.{TimeInfo}
 use Rattle.tariff_core.specs.declared.time_info.TimeInfo.TheVariants as info
@@ -10,7 +10,7 @@ use Rattle.table_core.specs.Fields.{field_in}
 use Rattle.entry_rows.specs.declared.version.Version.{Version}
 use Rattle.entry_rows.specs.declared.version.Version.TheVariants as version
 
--- what is asked, and with what; x6 is empty in version 1, which has no such column
+-- what is asked, and with what; x6 and x7 are empty in the versions that have no such column
 pub record Operation : Type 0 where
   pub version : Version
   pub op : List ℕ
@@ -21,6 +21,7 @@ pub record Operation : Type 0 where
   pub x4 : List ℕ
   pub x5 : List ℕ
   pub x6 : List ℕ
+  pub x7 : List ℕ
 
 -- what is answered
 pub record Answer : Type 0 where
@@ -31,12 +32,20 @@ pub record Answer : Type 0 where
 
 -- a row has the columns of an operation whose word stands at a place
 abbrev pub HasOperation : Version → List (List ℕ) → ℕ → Type 0
-HasOperation of_table fields at = (at + 6 < length fields) × (of_table ≡ version.Two → at + 7 < length fields)
+HasOperation of_table fields at =
+    (at + 6 < length fields) × (of_table ≢ version.One → at + 7 < length fields) × (of_table ≡ version.Three → at + 8 < length fields)
 
 -- the column behind x5
 abbrev pub x6_at : Version → List (List ℕ) → ℕ → List ℕ
 x6_at version.One fields at = []
 x6_at version.Two fields at = field_in fields (at + 7)
+x6_at version.Three fields at = field_in fields (at + 7)
+
+-- the column behind x6
+abbrev pub x7_at : Version → List (List ℕ) → ℕ → List ℕ
+x7_at version.One fields at = []
+x7_at version.Two fields at = []
+x7_at version.Three fields at = field_in fields (at + 8)
 
 -- the columns of an operation, and of an answer, in the fields of a row, where their word stands at a place
 abbrev pub operation_at : Version → List (List ℕ) → ℕ → Operation
@@ -50,6 +59,7 @@ operation_at version fields at = record {
   x4 = field_in fields (at + 5);
   x5 = field_in fields (at + 6);
   x6 = x6_at version fields at;
+  x7 = x7_at version fields at;
 }
 
 -- the columns that each version has
@@ -64,9 +74,9 @@ answer_at fields at = record {
   y3 = field_in fields (at + 3);
 }
 
--- a field that isn't named is empty; what is printed is of version 2
+-- a field that isn't named is empty; what is printed is of version 3
 abbrev pub no_operation : Operation
-no_operation = record { version = version.Two; op = []; call = []; x1 = []; x2 = []; x3 = []; x4 = []; x5 = []; x6 = [] }
+no_operation = record { version = version.Three; op = []; call = []; x1 = []; x2 = []; x3 = []; x4 = []; x5 = []; x6 = []; x7 = [] }
 
 abbrev pub no_answer : Answer
 no_answer = record { reply = []; y1 = []; y2 = []; y3 = [] }
@@ -76,9 +86,9 @@ abbrev pub number_or_empty : Option ℕ → List ℕ
 number_or_empty None = []
 number_or_empty (Some number) = decimal number
 
--- the opening credit stands where an operation would
-abbrev pub opening_of : ℕ → Operation
-opening_of opening = record no_operation { op = codes "opening"; x1 = decimal opening }
+-- the opening credit stands where an operation would, with its last moment, if it has one
+abbrev pub opening_of : ℕ → Option ℕ → Operation
+opening_of opening until = record no_operation { op = codes "opening"; x1 = decimal opening; x2 = number_or_empty until }
 
 abbrev pub settle_of : ℕ → ℕ → TimeInfo → Operation
 settle_of call number (info.NoSwitch t) =
@@ -87,9 +97,9 @@ settle_of call number (info.Switch since interval) =
     record no_operation { op = codes "settle"; call = decimal call; x1 = decimal number; x2 = codes "s"; x3 = decimal since; x4 = number_or_empty interval }
 
 abbrev pub operation_of : Asked → Operation
-operation_of (Credits amount) = record no_operation { op = codes "credit"; x1 = decimal amount }
-operation_of (Reserves call plan wanted least) = record {
-  version = version.Two;
+operation_of (Credits amount until) = record no_operation { op = codes "credit"; x1 = decimal amount; x2 = number_or_empty until }
+operation_of (Reserves call plan wanted least at) = record {
+  version = version.Three;
   op = codes "reserve";
   call = decimal call;
   x1 = decimal plan.fee;
@@ -98,6 +108,7 @@ operation_of (Reserves call plan wanted least) = record {
   x4 = decimal wanted;
   x5 = decimal least;
   x6 = decimal plan.free;
+  x7 = decimal at;
 }
 operation_of (Settles call number info) = settle_of call number info
 operation_of (Returns call) = record no_operation { op = codes "return"; call = decimal call }
@@ -118,7 +129,7 @@ field text rest = text ++ (codes "," ++ rest)
 
 -- the fields of an operation, each with a comma behind it
 abbrev pub operation_text : Operation → List ℕ
-operation_text o = field o.op (field o.call (field o.x1 (field o.x2 (field o.x3 (field o.x4 (field o.x5 (field o.x6 [])))))))
+operation_text o = field o.op (field o.call (field o.x1 (field o.x2 (field o.x3 (field o.x4 (field o.x5 (field o.x6 (field o.x7 []))))))))
 
 -- those of an answer, which end the line
 abbrev pub answer_text : Answer → List ℕ

@@ -9,7 +9,7 @@ use Rattle.tariff_core.specs.declared.time_info.TimeInfo.{TimeInfo}
 use Rattle.tariff_core.specs.declared.time_info.TimeInfo.TheVariants as info
 use Rattle.tariff_core.specs.declared.money.TheConstants.{MAX_MONEY}
 use Rattle.tariff_core.specs.declared.plan.TheConstants.{MAX_RATE}
-use Rattle.tariff_core.specs.declared.times.TheConstants.{DAY}
+use Rattle.tariff_core.specs.declared.times.TheConstants.{DAY, HORIZON}
 
 -- a number of 64 bits, a time of a day at most, money, a fee or a rate
 abbrev pub IsWide : ℕ → Type 0
@@ -28,6 +28,10 @@ IsRate rate = rate ≤ MAX_RATE
 abbrev pub IsInterval : ℕ → Type 0
 IsInterval interval = (1 ≤ interval) × (interval ≤ DAY)
 
+-- a moment
+abbrev pub IsMoment : ℕ → Type 0
+IsMoment moment = moment ≤ HORIZON
+
 -- each number of a plan, of a report, of an operation and of a reply is in its range
 pub record FitsPlan (plan : Rates) : Type 0 where
   pub fee : IsRate plan.fee
@@ -40,8 +44,8 @@ FitsReport (info.NoSwitch time) = IsTime time
 FitsReport (info.Switch since interval) = IsTime since × IfSome interval IsInterval
 
 abbrev pub FitsAsked : Asked → Type 0
-FitsAsked (Credits amount) = IsMoney amount
-FitsAsked (Reserves call plan wanted least) = IsWide call × FitsPlan plan × IsTime wanted × IsTime least
+FitsAsked (Credits amount until) = IsMoney amount × IfSome until IsMoment
+FitsAsked (Reserves call plan wanted least at) = IsWide call × FitsPlan plan × IsTime wanted × IsTime least × IsMoment at
 FitsAsked (Settles call number report) = IsWide call × IsWide number × FitsReport report
 FitsAsked (Returns call) = IsWide call
 

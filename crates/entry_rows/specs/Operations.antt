@@ -1,12 +1,12 @@
 -- What the columns of an operation ask, by its word.
-use Rattle.std.specs.Prelude.{◌&&◌, ℕ, Bool, true, List, Result, Ok}
+use Rattle.std.specs.Prelude.{◌&&◌, ℕ, Bool, true, List, Option, None, Result, Ok}
 use Rattle.account_core.specs.Asked.{Asked, Credits, Reserves, Settles, Returns}
 use Rattle.table_core.specs.Judging.{after}
 use Rattle.table_core.specs.declared.fault.RowKind.{RowKind}
 use Rattle.tariff_core.specs.Rates.{Rates}
 use Rattle.tariff_core.specs.declared.time_info.TimeInfo.{TimeInfo}
 use Rattle.tariff_core.specs.declared.time_info.TimeInfo.TheVariants as info
-use Rattle.entry_rows.specs.Column.{any_number_of, interval_of, is_empty, money_of, optional_rate_of, rate_of, units_of}
+use Rattle.entry_rows.specs.Column.{any_number_of, interval_of, is_empty, moment_of, money_of, optional_moment_of, optional_rate_of, rate_of, units_of}
 use Rattle.entry_rows.specs.Columns.{Operation}
 use Rattle.entry_rows.specs.declared.version.Version.{Version}
 use Rattle.entry_rows.specs.declared.version.Version.TheVariants as version
@@ -15,14 +15,27 @@ use Rattle.entry_rows.specs.declared.words.OpWord.TheVariants as word
 
 -- ---- numbers
 
--- `credit`: x1 the amount
+-- x2 of a credit is its last moment, or empty; there is none before version 3
+abbrev pub until_of : Version → List ℕ → Result (Option ℕ) RowKind
+until_of version.One text = Ok None
+until_of version.Two text = Ok None
+until_of version.Three text = optional_moment_of text
+
+-- `credit`: x1 the amount, and the last moment
 abbrev pub credit_in : Operation → Result Asked RowKind
-credit_in o = after (money_of o.x1) (λ amount. Ok (Credits amount))
+credit_in o = after (money_of o.x1) (λ amount. after (until_of o.version o.x2) (λ until. Ok (Credits amount until)))
 
 -- x6 of a reserve is its free units; there are none in version 1
 abbrev pub free_of : Version → List ℕ → Result ℕ RowKind
 free_of version.One text = Ok 0
 free_of version.Two text = units_of text
+free_of version.Three text = units_of text
+
+-- x7 of a reserve is its moment, and 0 before version 3
+abbrev pub at_of : Version → List ℕ → Result ℕ RowKind
+at_of version.One text = Ok 0
+at_of version.Two text = Ok 0
+at_of version.Three text = moment_of text
 
 -- x1 to x3 of a reserve: the fee and the rates
 unfoldable pub plan_in : Operation → Result Rates RowKind
@@ -33,14 +46,15 @@ plan_in o =
     after (free_of o.version o.x6) (λ free.
     Ok (record { fee = fee; before = first; after = second; free = free })))))
 
--- `reserve`: the call, its plan, x4 the time wanted, x5 the least
+-- `reserve`: the call, its plan, x4 the time wanted, x5 the least, and the moment
 unfoldable pub reserve_in : Operation → Result Asked RowKind
 reserve_in o =
     after (any_number_of o.call) (λ call.
     after (plan_in o) (λ plan.
     after (units_of o.x4) (λ wanted.
     after (units_of o.x5) (λ least.
-    Ok (Reserves call plan wanted least)))))
+    after (at_of o.version o.x7) (λ at.
+    Ok (Reserves call plan wanted least at))))))
 
 -- x3 of a settle, where its report knows no switch: the time
 abbrev pub no_switch_in : Operation → Result TimeInfo RowKind
@@ -68,14 +82,28 @@ asked_in word.Return o = return_in o
 
 -- ---- columns that must be empty
 
--- x2 to x6 are empty
+-- x6 and x7 are empty
+abbrev pub are_added_empty : Operation → Bool
+are_added_empty o = is_empty o.x6 && is_empty o.x7
+
+-- x3 to x7 are empty
 abbrev pub are_last_empty : Operation → Bool
-are_last_empty o = is_empty o.x2 && is_empty o.x3 && is_empty o.x4 && is_empty o.x5 && is_empty o.x6
+are_last_empty o = is_empty o.x3 && is_empty o.x4 && is_empty o.x5 && are_added_empty o
+
+-- x2 is empty, but in version 3
+abbrev pub has_no_until : Version → List ℕ → Bool
+has_no_until version.One text = is_empty text
+has_no_until version.Two text = is_empty text
+has_no_until version.Three text = true
+
+-- the columns are empty that neither an opening nor a credit uses: the call, x2 but in version 3, and x3 to x7
+abbrev pub is_money_blank : Operation → Bool
+is_money_blank o = is_empty o.call && has_no_until o.version o.x2 && are_last_empty o
 
 -- the columns that the operation doesn't use are empty
 abbrev pub is_asked_blank : OpWord → Operation → Bool
-is_asked_blank word.Credit o = is_empty o.call && are_last_empty o
+is_asked_blank word.Credit o = is_money_blank o
 is_asked_blank word.Reserve o = true
-is_asked_blank word.SettleNoSwitch o = is_empty o.x4 && is_empty o.x5 && is_empty o.x6
-is_asked_blank word.SettleSwitch o = is_empty o.x5 && is_empty o.x6
-is_asked_blank word.Return o = is_empty o.x1 && are_last_empty o
+is_asked_blank word.SettleNoSwitch o = is_empty o.x4 && is_empty o.x5 && are_added_empty o
+is_asked_blank word.SettleSwitch o = is_empty o.x5 && are_added_empty o
+is_asked_blank word.Return o = is_empty o.x1 && is_empty o.x2 && are_last_empty o

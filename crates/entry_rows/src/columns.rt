@@ -2,7 +2,7 @@
 
 ghost use Rattle.std.specs.Prelude.{◌≡◌, ◌++◌, OnOk, string_bytes};
 ghost use Rattle.account_core.specs.Events.{asked_of};
-ghost use Rattle.entry_rows.specs.Columns.{answer_of, answer_text, operation_of, operation_text, settle_of};
+ghost use Rattle.entry_rows.specs.Columns.{answer_of, answer_text, opening_of, operation_of, operation_text, settle_of};
 
 use account_core::{Op, Reply};
 use std::alloc::AllocError;
@@ -27,28 +27,41 @@ impl fmt::Display for Field {
     }
 }
 
-/// Adds the columns of an operation, from op to x6, each with a comma behind it.
+/// Adds the columns of an opening, from op to x7, each with a comma behind it.
+pub fn write_opening(text: &mut String, opening: u64, until: Option<u64>) -> Result<(), AllocError>
+    ensures { OnOk result (string_bytes text.new ≡ string_bytes text.old
+        ++ operation_text (opening_of opening until)) }
+{
+    let until = Field(until);
+    write!(text, "opening,,{opening},{until},,,,,,")
+}
+
+/// Adds the columns of an operation, from op to x7, each with a comma behind it.
 pub fn write_operation(text: &mut String, op: Op) -> Result<(), AllocError>
     ensures { OnOk result (string_bytes text.new ≡ string_bytes text.old
         ++ operation_text (operation_of (asked_of op))) }
 {
     match op {
-        Op::Credit { amount } => write!(text, "credit,,{amount},,,,,,"),
+        Op::Credit { amount, until } => {
+            let until = Field(until);
+            write!(text, "credit,,{amount},{until},,,,,,")
+        }
         Op::Reserve {
             call,
             plan,
             wanted,
             least,
+            at,
         } => {
             let (fee, before, after) = (plan.fee, plan.before, Field(plan.after));
             let free = plan.free;
             write!(
                 text,
-                "reserve,{call},{fee},{before},{after},{wanted},{least},{free},"
+                "reserve,{call},{fee},{before},{after},{wanted},{least},{free},{at},"
             )
         }
         Op::Settle { call, number, info } => write_settle(text, call, number, info),
-        Op::Return { call } => write!(text, "return,{call},,,,,,,"),
+        Op::Return { call } => write!(text, "return,{call},,,,,,,,"),
     }
 }
 
@@ -58,10 +71,10 @@ fn write_settle(text: &mut String, call: u64, number: u64, info: TimeInfo) -> Re
         ++ operation_text (settle_of call number info)) }
 {
     match info {
-        TimeInfo::NoSwitch { t } => write!(text, "settle,{call},{number},n,{t},,,,"),
+        TimeInfo::NoSwitch { t } => write!(text, "settle,{call},{number},n,{t},,,,,"),
         TimeInfo::Switch { since, interval } => {
             let interval = Field(interval.map(u64::from));
-            write!(text, "settle,{call},{number},s,{since},{interval},,,")
+            write!(text, "settle,{call},{number},s,{since},{interval},,,,")
         }
     }
 }

@@ -13,9 +13,9 @@ mod seat;
 mod version;
 mod words;
 
-pub use columns::{write_answer, write_operation};
+pub use columns::{write_answer, write_opening, write_operation};
 pub use laws::{operations_are_read, replies_are_read};
-pub use operation::{are_last_blank, is_op_blank, read_op};
+pub use operation::{is_money_blank, is_op_blank, read_op, read_until};
 pub use reply::{is_reply_blank, read_reply};
 pub use seat::read_seat;
 pub use version::Version;

@@ -1,4 +1,4 @@
-//! An operation in the fields of a row: its word, its call, and x1 to x6.
+//! An operation in the fields of a row: its word, its call, and x1 to x7.
 
 ghost use Rattle.std.specs.Prelude.{◌≡◌, ◌+◌, ◌<◌, ◌≤◌, length, IfOk};
 ghost use Rattle.std.specs.Result.{result_map_both};
@@ -6,17 +6,17 @@ ghost use Rattle.csv.specs.Records.{fields_of};
 ghost use Rattle.table_core.specs.Fields.{field_in};
 ghost use Rattle.account_core.specs.Events.{asked_of};
 ghost use Rattle.tariff_core.specs.RatesOf.{rates_of};
-ghost use Rattle.entry_rows.specs.Column.{interval_of, is_empty, units_of};
-ghost use Rattle.entry_rows.specs.Columns.{HasOperation, first_operation_at, operation_at, x6_at};
-ghost use Rattle.entry_rows.specs.Operations.{are_last_empty, asked_in, credit_in, free_of, is_asked_blank, no_switch_in, plan_in, reserve_in, return_in, settle_in, switch_in};
+ghost use Rattle.entry_rows.specs.Column.{interval_of, units_of};
+ghost use Rattle.entry_rows.specs.Columns.{HasOperation, first_operation_at, operation_at, x6_at, x7_at};
+ghost use Rattle.entry_rows.specs.Operations.{are_added_empty, are_last_empty, asked_in, at_of, credit_in, free_of, has_no_until, is_asked_blank, is_money_blank, no_switch_in, plan_in, reserve_in, return_in, settle_in, switch_in, until_of};
 
-use crate::places::{CALL, X1, X2, X3, X4, X5, X6};
+use crate::places::{CALL, X1, X2, X3, X4, X5, X6, X7};
 use crate::version::Version;
 use crate::words::OpWord;
 use account_core::Op;
 use csv::ByteRecord;
 use table_core::{RowKind, is_blank, number, optional};
-use tariff_core::{DAY, MAX_MONEY, MAX_RATE, Plan, TimeInfo};
+use tariff_core::{DAY, HORIZON, MAX_MONEY, MAX_RATE, Plan, TimeInfo};
 
 /// The operation of this word whose columns begin at `at`; else `Number`. The columns that must be
 /// empty aren't judged.
@@ -27,7 +27,7 @@ pub fn read_op(row: &ByteRecord, at: usize, version: Version, word: OpWord) -> R
         ≡ asked_in word (operation_at version (fields_of row.now) at) }
 {
     match word {
-        OpWord::Credit => read_credit(row, at),
+        OpWord::Credit => read_credit(row, at, version),
         OpWord::Reserve => read_reserve(row, at, version),
         OpWord::SettleNoSwitch => read_settle(row, at, read_no_switch(row, at)?),
         OpWord::SettleSwitch => read_settle(row, at, read_switch(row, at)?),
@@ -35,14 +35,32 @@ pub fn read_op(row: &ByteRecord, at: usize, version: Version, word: OpWord) -> R
     }
 }
 
-fn read_credit(row: &ByteRecord, at: usize) -> Result<Op, RowKind>
+fn read_credit(row: &ByteRecord, at: usize, version: Version) -> Result<Op, RowKind>
     requires table { at ≤ 16 }
-    requires fields { at + 6 < length (fields_of row.now) }
+    requires fields { HasOperation version (fields_of row.now) at }
     ensures { result_map_both asked_of (λ kind. kind) result
-        ≡ credit_in (first_operation_at (fields_of row.now) at) }
+        ≡ credit_in (operation_at version (fields_of row.now) at) }
 {
     let amount = number(row, at + X1, MAX_MONEY)?;
-    Ok(Op::Credit { amount })
+    let until = read_until(row, at, version)?;
+    Ok(Op::Credit { amount, until })
+}
+
+/// The last moment of an opening or of a credit whose columns begin at `at`, 0 to `HORIZON`: in x2
+/// of version 3, where it may be left out, and none before; else `Number`.
+pub fn read_until(
+    row: &ByteRecord,
+    at: usize,
+    version: Version,
+) -> Result<Option<u64>, RowKind>
+    requires table { at ≤ 16 }
+    requires fields { at + 3 < length (fields_of row.now) }
+    ensures value { result ≡ until_of version (field_in (fields_of row.now) (at + 3)) }
+{
+    match version {
+        Version::One | Version::Two => Ok(None),
+        Version::Three => optional(row, at + X2, HORIZON),
+    }
 }
 
 #[tactic(auto, unfolding(crate::specs::Operations::reserve_in))]
@@ -56,11 +74,13 @@ fn read_reserve(row: &ByteRecord, at: usize, version: Version) -> Result<Op, Row
     let plan = read_plan(row, at, version)?;
     let wanted = read_units(row, at + X4)?;
     let least = read_units(row, at + X5)?;
+    let at = read_moment(row, at, version)?;
     Ok(Op::Reserve {
         call,
         plan,
         wanted,
         least,
+        at,
     })
 }
 
@@ -83,7 +103,19 @@ fn read_plan(row: &ByteRecord, at: usize, version: Version) -> Result<Plan, RowK
     })
 }
 
-/// The free units of a reserve: none in version 1, and given in version 2.
+/// The moment of a reserve: 0 before version 3, and given there.
+fn read_moment(row: &ByteRecord, at: usize, version: Version) -> Result<u64, RowKind>
+    requires table { at ≤ 16 }
+    requires fields { HasOperation version (fields_of row.now) at }
+    ensures { result ≡ at_of version (x7_at version (fields_of row.now) at) }
+{
+    match version {
+        Version::One | Version::Two => Ok(0),
+        Version::Three => number(row, at + X7, HORIZON),
+    }
+}
+
+/// The free units of a reserve: none in version 1, and given from version 2 on.
 fn read_free(row: &ByteRecord, at: usize, version: Version) -> Result<u32, RowKind>
     requires table { at ≤ 16 }
     requires fields { HasOperation version (fields_of row.now) at }
@@ -92,7 +124,7 @@ fn read_free(row: &ByteRecord, at: usize, version: Version) -> Result<u32, RowKi
 {
     match version {
         Version::One => Ok(0),
-        Version::Two => read_units(row, at + X6),
+        Version::Two | Version::Three => read_units(row, at + X6),
     }
 }
 
@@ -165,37 +197,67 @@ pub fn is_op_blank(row: &ByteRecord, at: usize, version: Version, word: OpWord) 
     ensures { result ≡ is_asked_blank word (operation_at version (fields_of row.now) at) }
 {
     match word {
-        OpWord::Credit => is_blank(row, at + CALL) && are_last_blank(row, at, version),
+        OpWord::Credit => is_money_blank(row, at, version),
         OpWord::Reserve => true,
         OpWord::SettleNoSwitch => {
-            is_blank(row, at + X4) && is_blank(row, at + X5) && is_x6_blank(row, at, version)
+            is_blank(row, at + X4)
+                && is_blank(row, at + X5)
+                && are_added_blank(row, at, version)
         }
-        OpWord::SettleSwitch => is_blank(row, at + X5) && is_x6_blank(row, at, version),
-        OpWord::Return => is_blank(row, at + X1) && are_last_blank(row, at, version),
+        OpWord::SettleSwitch => is_blank(row, at + X5) && are_added_blank(row, at, version),
+        OpWord::Return => {
+            is_blank(row, at + X1)
+                && is_blank(row, at + X2)
+                && are_last_blank(row, at, version)
+        }
     }
 }
 
-/// Whether x2 to x6 are empty of an operation whose columns begin at `at`.
-pub fn are_last_blank(row: &ByteRecord, at: usize, version: Version) -> bool
+/// Whether the columns are empty that neither an opening nor a credit uses whose columns begin at
+/// `at`: the call, x2 but in version 3, and x3 to x7.
+pub fn is_money_blank(row: &ByteRecord, at: usize, version: Version) -> bool
+    requires table { at ≤ 16 }
+    requires fields { HasOperation version (fields_of row.now) at }
+    ensures { result ≡ is_money_blank (operation_at version (fields_of row.now) at) }
+{
+    is_blank(row, at + CALL)
+        && has_no_until(row, at, version)
+        && are_last_blank(row, at, version)
+}
+
+/// Whether x2 is empty, but in version 3.
+fn has_no_until(row: &ByteRecord, at: usize, version: Version) -> bool
+    requires table { at ≤ 16 }
+    requires fields { at + 3 < length (fields_of row.now) }
+    ensures { result ≡ has_no_until version (field_in (fields_of row.now) (at + 3)) }
+{
+    match version {
+        Version::One | Version::Two => is_blank(row, at + X2),
+        Version::Three => true,
+    }
+}
+
+/// Whether x3 to x7 are empty of an operation whose columns begin at `at`.
+fn are_last_blank(row: &ByteRecord, at: usize, version: Version) -> bool
     requires table { at ≤ 16 }
     requires fields { HasOperation version (fields_of row.now) at }
     ensures { result ≡ are_last_empty (operation_at version (fields_of row.now) at) }
 {
-    is_blank(row, at + X2)
-        && is_blank(row, at + X3)
+    is_blank(row, at + X3)
         && is_blank(row, at + X4)
         && is_blank(row, at + X5)
-        && is_x6_blank(row, at, version)
+        && are_added_blank(row, at, version)
 }
 
-/// Whether x6 is empty, where there is such a column.
-fn is_x6_blank(row: &ByteRecord, at: usize, version: Version) -> bool
+/// Whether x6 and x7 are empty, where there are such columns.
+fn are_added_blank(row: &ByteRecord, at: usize, version: Version) -> bool
     requires table { at ≤ 16 }
     requires fields { HasOperation version (fields_of row.now) at }
-    ensures { result ≡ is_empty (x6_at version (fields_of row.now) at) }
+    ensures { result ≡ are_added_empty (operation_at version (fields_of row.now) at) }
 {
     match version {
         Version::One => true,
         Version::Two => is_blank(row, at + X6),
+        Version::Three => is_blank(row, at + X6) && is_blank(row, at + X7),
     }
 }

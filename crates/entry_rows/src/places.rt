@@ -14,6 +14,8 @@ pub const X4: usize = 5;
 pub const X5: usize = 6;
 /// See `X1`; only from version 2 on.
 pub const X6: usize = 7;
+/// See `X1`; only from version 3 on.
+pub const X7: usize = 8;
 
 /// The time granted, or the money paid.
 pub const Y1: usize = 1;

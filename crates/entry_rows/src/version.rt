@@ -10,6 +10,8 @@ pub enum Version {
     One,
     /// To `x6`, where a reserve has its free units.
     Two,
+    /// To `x7`, where a reserve has its moment; a credit has its last moment, or none, in `x2`.
+    Three,
 }
 
 impl Version {
@@ -17,21 +19,22 @@ impl Version {
     pub fn at(header: usize) -> Version
         ensures { result ≡ version_at header }
     {
-        if header == 0 {
-            Version::One
-        } else {
-            Version::Two
+        match header {
+            0 => Version::One,
+            1 => Version::Two,
+            _ => Version::Three,
         }
     }
 
     /// How many columns an operation has, its word included.
     pub fn width(self) -> usize
         ensures value { result ≡ width_of self }
-        ensures few { result ≤ 8 }
+        ensures few { result ≤ 9 }
     {
         match self {
             Version::One => 7,
             Version::Two => 8,
+            Version::Three => 9,
         }
     }
 }

@@ -33,7 +33,7 @@ call_more : (before after : BTreeSet ℕ) (what : Happens) (q : ℕ) (is : Bool)
     → contains nat_cmp after q ≡ (is || starts q what)
 call_more before after (Starts call calling called) q is notes has = rw (notes.0 q, is_eq-nat_cmp call q, has) (one_more (call == q) is)
 call_more before after (Meets call event) q is notes has = rw (notes, has) (no_more is)
-call_more before after (Recharges account amount) q is notes has = rw (notes, has) (no_more is)
+call_more before after (Recharges account amount until) q is notes has = rw (notes, has) (no_more is)
 
 calls_more : (before after : BTreeSet ℕ) (event : Event) (earlier : List Event) → Notes event.what before after → HasCalls before earlier → HasCalls after (event ∷ earlier)
 calls_more before after event earlier notes has q = call_more before after event.what q (is_started q earlier) notes (has q)

@@ -1,12 +1,13 @@
 -- What happens in a run.
-use Rattle.std.specs.Prelude.{ℕ, List}
+use Rattle.std.specs.Prelude.{ℕ, List, Option}
 use Rattle.ssf_core.specs.declared.bcsm_event.BcsmEvent.{BcsmEvent}
 
--- a call starts, between a calling and a called party; a call meets an event; an account is recharged by an amount
+-- a call starts, between a calling and a called party; a call meets an event; an account is recharged by an amount, and has another last moment if
+-- there is one
 pub data Happens : Type 0 where
   Starts : ℕ → List ℕ → List ℕ → Happens
   Meets : ℕ → BcsmEvent → Happens
-  Recharges : ℕ → ℕ → Happens
+  Recharges : (account amount : ℕ) (until : Option ℕ) → Happens
 
 -- what happens, and its moment in units of 100 ms
 pub record Event : Type 0 where

@@ -5,15 +5,17 @@ use Rattle.ssf_core.specs.declared.bcsm_event.BcsmEvent.{BcsmEvent}
 use Rattle.ssf_core.specs.declared.bcsm_event.BcsmEvent.TheVariants as bcsm
 use Rattle.table_core.specs.Fields.{has_word, is_blank, number_in}
 use Rattle.table_core.specs.Judging.{after}
+use Rattle.table_core.specs.Rows.{Fields}
 use Rattle.table_core.specs.Tables.{TableForm, table_form, table_of}
 use Rattle.table_core.specs.declared.fault.RowFault.{RowFault}
 use Rattle.table_core.specs.declared.fault.RowKind.{RowKind}
 use Rattle.table_core.specs.declared.fault.RowKind.TheVariants as kind
 use Rattle.run_texts.specs.Happenings.{Event, Happens, Meets, Recharges, Starts}
-use Rattle.run_texts.specs.Setups.{account_in, amount_in, party_in}
+use Rattle.run_texts.specs.Setups.{account_in, amount_in, party_in, until_in}
 use Rattle.run_texts.specs.declared.word.Word.{Word}
 use Rattle.run_texts.specs.declared.word.Word.TheVariants as word
 use Rattle.workers_core.specs.Setups.{has_account}
+use Rattle.workers_core.specs.declared.opening_credit.OpeningCredit.{OpeningCredit}
 use Rattle.tariff_core.specs.declared.times.TheConstants.{LAST_MOMENT}
 
 -- ---- words
@@ -30,7 +32,7 @@ word_in fields =
     if has_word fields 2 (codes "disconnect") then Ok word.Disconnect else
     if has_word fields 2 (codes "recharge") then Ok word.Recharge else Err kind.What
 
--- ---- fields
+-- ---- fields; the last, z, is there under the second header alone, and empty elsewhere
 
 -- what happens, where the fields that must be empty are
 abbrev pub when_blank : Bool → Happens → Result Happens RowKind
@@ -42,11 +44,11 @@ call_in fields = number_in fields 1 18446744073709551615
 
 -- a call starts: x is the calling and y the called party
 abbrev pub start_in : List (List ℕ) → Result Happens RowKind
-start_in fields = after (call_in fields) (λ call. after (party_in fields 3) (λ calling. after (party_in fields 4) (λ called. Ok (Starts call calling called))))
+start_in fields = after (call_in fields) (λ call. after (party_in fields 3) (λ calling. after (party_in fields 4) (λ called. when_blank (is_blank fields 5) (Starts call calling called))))
 
 -- an event of a call that has no more to say
 abbrev pub event_in : List (List ℕ) → BcsmEvent → Result Happens RowKind
-event_in fields event = after (call_in fields) (λ call. when_blank (is_blank fields 3 && is_blank fields 4) (Meets call event))
+event_in fields event = after (call_in fields) (λ call. when_blank (is_blank fields 3 && is_blank fields 4 && is_blank fields 5) (Meets call event))
 
 -- the party that hangs up: the calling one at leg 1, the called one at leg 2
 abbrev pub leg_of : ℕ → Result BcsmEvent RowKind
@@ -54,11 +56,13 @@ leg_of number = if number == 1 then Ok (bcsm.Disconnect leg.One) else if number 
 
 -- a party of a call hangs up: x is its leg
 abbrev pub disconnect_in : List (List ℕ) → Result Happens RowKind
-disconnect_in fields = after (call_in fields) (λ call. after (number_in fields 3 2) (λ number. after (leg_of number) (λ event. when_blank (is_blank fields 4) (Meets call event))))
+disconnect_in fields = after (call_in fields) (λ call. after (number_in fields 3 2) (λ number. after (leg_of number) (λ event. when_blank (is_blank fields 4 && is_blank fields 5) (Meets call event))))
 
--- without a call, the account x is recharged by the amount y
+-- without a call, the account x is recharged by the amount y, and z is its last moment from then on, or empty
 abbrev pub recharge_in : List (List ℕ) → Result Happens RowKind
-recharge_in fields = after (account_in fields 3) (λ account. after (amount_in fields 4) (λ amount. when_blank (is_blank fields 1) (Recharges account amount)))
+recharge_in fields =
+    after (account_in fields 3) (λ account. after (amount_in fields 4) (λ amount. after (until_in fields 5) (λ until.
+    when_blank (is_blank fields 1) (Recharges account amount until))))
 
 -- what happens in a row with this word
 abbrev pub happens_in : List (List ℕ) → Word → Result Happens RowKind
@@ -86,7 +90,7 @@ last_moment (event ∷ earlier) = event.at
 abbrev pub starts : ℕ → Happens → Bool
 starts call (Starts other calling called) = other == call
 starts call (Meets other event) = false
-starts call (Recharges account amount) = false
+starts call (Recharges account amount until) = false
 
 -- whether a call has started
 abbrev pub is_started : ℕ → List Event → Bool
@@ -94,25 +98,30 @@ is_started call [] = false
 is_started call (event ∷ earlier) = is_started call earlier || starts call event.what
 
 -- a call starts once; only a call that has started meets anything, and only an account of the setup is recharged
-abbrev pub judged_by : List (ℕ × ℕ) → List Event → Event → Happens → Result Event RowKind
+abbrev pub judged_by : List (ℕ × OpeningCredit) → List Event → Event → Happens → Result Event RowKind
 judged_by accounts earlier event (Starts call calling called) = if is_started call earlier then Err kind.Repeated else Ok event
 judged_by accounts earlier event (Meets call met) = if is_started call earlier then Ok event else Err kind.Unknown
-judged_by accounts earlier event (Recharges account amount) = if has_account account accounts then Ok event else Err kind.Unknown
+judged_by accounts earlier event (Recharges account amount until) = if has_account account accounts then Ok event else Err kind.Unknown
 
 -- a row may stand after the earlier ones; no moment lies below the one before
-abbrev pub judged : List (ℕ × ℕ) → List Event → Event → Result Event RowKind
+abbrev pub judged : List (ℕ × OpeningCredit) → List Event → Event → Result Event RowKind
 judged accounts earlier event = if nat_lt event.at (last_moment earlier) then Err kind.Order else judged_by accounts earlier event event.what
 
--- what a row of five fields says, after the earlier rows
-unfoldable pub row_at : List (ℕ × ℕ) → List Event → List (List ℕ) → Result Event RowKind
+-- what a row says, after the earlier rows
+unfoldable pub row_at : List (ℕ × OpeningCredit) → List Event → List (List ℕ) → Result Event RowKind
 row_at accounts earlier fields = after (read_in fields) (judged accounts earlier)
 
--- `moment,call,what,x,y`, and 1,000,000 rows at most; each says what happens after the earlier ones
-abbrev pub script_form : List (ℕ × ℕ) → TableForm (List Event) RowKind RowFault
+abbrev pub script_headers : List Fields
+script_headers =
+    (codes "moment" ∷ codes "call" ∷ codes "what" ∷ codes "x" ∷ codes "y" ∷ [])
+    ∷ (codes "moment" ∷ codes "call" ∷ codes "what" ∷ codes "x" ∷ codes "y" ∷ codes "z" ∷ []) ∷ []
+
+-- one of these headers, and 1,000,000 rows at most; each says what happens after the earlier ones
+abbrev pub script_form : List (ℕ × OpeningCredit) → TableForm (List Event) RowKind RowFault
 script_form accounts =
-    table_form ((codes "moment" ∷ codes "call" ∷ codes "what" ∷ codes "x" ∷ codes "y" ∷ []) ∷ []) 1000000 []
+    table_form script_headers 1000000 []
     (λ header earlier fields. after (row_at accounts earlier fields) (λ event. Ok (event ∷ earlier)))
 
 -- what a script says, where these are the accounts of the setup
-abbrev pub script_of : List (ℕ × ℕ) → List (List (List ℕ)) → Result (List Event) RowFault
+abbrev pub script_of : List (ℕ × OpeningCredit) → List (List (List ℕ)) → Result (List Event) RowFault
 script_of accounts rows = first_to_last (table_of (script_form accounts) rows)

@@ -1,23 +1,26 @@
 -- The meaning of a setup: its accounts and subscribers, or the first fault.
-use Rattle.std.specs.Prelude.{ℕ, Bool, List, [], ◌∷◌, length, Result, Ok, Err, if◌then◌else◌, nat_le, codes}
+use Rattle.std.specs.Prelude.{ℕ, Bool, List, [], ◌∷◌, length, Option, Result, Ok, Err, if◌then◌else◌, nat_le, codes}
 use Rattle.std.specs.BTreeMap.{insert_entry}
 use Rattle.std.specs.Cmp.Lexicographic.{slice_cmp}
 use Rattle.std.specs.List.{list_any}
 use Rattle.std.specs.Ordering.{nat_cmp}
 use Rattle.std.specs.Str.{bytes_eq}
 use Rattle.cap_values.specs.Numbers.{is_number}
-use Rattle.table_core.specs.Fields.{field_in, has_word, number_in}
+use Rattle.table_core.specs.Fields.{field_in, has_word, is_blank, number_in, optional_in}
 use Rattle.table_core.specs.Judging.{after}
+use Rattle.table_core.specs.Rows.{Fields}
 use Rattle.table_core.specs.Tables.{TableForm, table_form, table_of}
 use Rattle.table_core.specs.declared.fault.RowFault.{RowFault}
 use Rattle.table_core.specs.declared.fault.RowKind.{RowKind}
 use Rattle.table_core.specs.declared.fault.RowKind.TheVariants as kind
 use Rattle.workers_core.specs.Setups.{has_account}
+use Rattle.workers_core.specs.declared.opening_credit.OpeningCredit.{OpeningCredit}
 use Rattle.tariff_core.specs.declared.money.TheConstants.{MAX_MONEY}
+use Rattle.tariff_core.specs.declared.times.TheConstants.{LAST_MOMENT}
 
 -- accounts in ascending order, each a number and its opening credit, and subscribers in the order of their digits, each with its account
 pub record Setup : Type 0 where
-  pub accounts : List (ℕ × ℕ)
+  pub accounts : List (ℕ × OpeningCredit)
   pub subscribers : List (List ℕ × ℕ)
 
 -- whether a subscriber of these digits is among these
@@ -38,10 +41,14 @@ account_in fields place = number_in fields place 4294967295
 abbrev pub amount_in : List (List ℕ) → ℕ → Result ℕ RowKind
 amount_in fields place = number_in fields place MAX_MONEY
 
--- ---- rows
+-- the last moment in the field at a place, 0 to 10^12; none where the field is empty, or isn't there under the table's header
+abbrev pub until_in : List (List ℕ) → ℕ → Result (Option ℕ) RowKind
+until_in fields place = optional_in fields place LAST_MOMENT
+
+-- ---- rows; the fourth field is there under the second header alone, and empty elsewhere
 
 -- an account more, at its place in the order: its number isn't named before
-abbrev pub name_account : Setup → ℕ → ℕ → Result Setup RowKind
+abbrev pub name_account : Setup → ℕ → OpeningCredit → Result Setup RowKind
 name_account earlier account opening =
     if has_account account earlier.accounts then Err kind.Repeated else Ok (record earlier { accounts = insert_entry nat_cmp earlier.accounts account opening })
 
@@ -52,26 +59,33 @@ name_subscriber earlier digits account =
     if has_account account earlier.accounts then Ok (record earlier { subscribers = insert_entry (slice_cmp nat_cmp) earlier.subscribers digits account })
     else Err kind.Unknown
 
--- `account,NUMBER,OPENING`, one of the 1,000 that a run may have
+-- `account,NUMBER,OPENING,UNTIL`, one of the 1,000 that a run may have
 abbrev pub account_row : Setup → List (List ℕ) → Result Setup RowKind
 account_row earlier fields =
     if nat_le 1000 (length earlier.accounts) then Err kind.TooManyRows else
-    after (account_in fields 1) (λ account. after (amount_in fields 2) (λ opening. name_account earlier account opening))
+    after (account_in fields 1) (λ account. after (amount_in fields 2) (λ amount. after (until_in fields 3) (λ until.
+    name_account earlier account (record { amount = amount; until = until }))))
 
--- `subscriber,DIGITS,ACCOUNT`
+-- `subscriber,DIGITS,ACCOUNT,`
 abbrev pub subscriber_row : Setup → List (List ℕ) → Result Setup RowKind
-subscriber_row earlier fields = after (party_in fields 1) (λ digits. after (account_in fields 2) (λ account. name_subscriber earlier digits account))
+subscriber_row earlier fields =
+    after (party_in fields 1) (λ digits. after (account_in fields 2) (λ account.
+    if is_blank fields 3 then name_subscriber earlier digits account else Err kind.Empty))
 
--- what was named before a row of three fields, and what the row names
+-- what was named before a row, and what the row names
 unfoldable pub row_at : Setup → List (List ℕ) → Result Setup RowKind
 row_at earlier fields =
     if has_word fields 0 (codes "account") then account_row earlier fields else
     if has_word fields 0 (codes "subscriber") then subscriber_row earlier fields else Err kind.What
 
--- `kind,key,value`, and 10,000 rows at most; each names what comes to the earlier ones
+abbrev pub setup_headers : List Fields
+setup_headers =
+    (codes "kind" ∷ codes "key" ∷ codes "value" ∷ []) ∷ (codes "kind" ∷ codes "key" ∷ codes "value" ∷ codes "until" ∷ []) ∷ []
+
+-- one of these headers, and 10,000 rows at most; each names what comes to the earlier ones
 abbrev pub setup_form : TableForm Setup RowKind RowFault
 setup_form =
-    table_form ((codes "kind" ∷ codes "key" ∷ codes "value" ∷ []) ∷ []) 10000 (record { accounts = []; subscribers = [] })
+    table_form setup_headers 10000 (record { accounts = []; subscribers = [] })
     (λ header earlier fields. row_at earlier fields)
 
 -- the setup of a table

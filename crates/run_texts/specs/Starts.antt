@@ -13,4 +13,4 @@ HasCalls set earlier = (call : ℕ) → contains nat_cmp set call ≡ is_started
 abbrev pub Notes : Happens → BTreeSet ℕ → BTreeSet ℕ → Type 0
 Notes (Starts call calling called) old new = Updates nat_cmp old new call true
 Notes (Meets call event) old new = new ≡ old
-Notes (Recharges account amount) old new = new ≡ old
+Notes (Recharges account amount until) old new = new ≡ old

@@ -26,7 +26,7 @@ setup_in listing = record { accounts = listing.accounts; subscribers = with_digi
 abbrev pub happens_of : Happening → Happens
 happens_of (happening.Start call calling called) = Starts call (digits_of calling) (digits_of called)
 happens_of (happening.Meets call event) = Meets call event
-happens_of (happening.Recharge account amount) = Recharges account amount
+happens_of (happening.Recharge account amount until) = Recharges account amount until
 
 -- what a row of a script says
 abbrev pub event_of : ScriptRow → Event

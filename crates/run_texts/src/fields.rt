@@ -1,16 +1,19 @@
 //! Accounts, amounts and parties in the fields of a row.
 
-ghost use Rattle.std.specs.Prelude.{◌≡◌, ◌<◌, ◌≤◌, length, IfOk};
+ghost use Rattle.std.specs.Prelude.{◌≡◌, ◌<◌, ◌≤◌, length, true, IfOk};
 ghost use Rattle.std.specs.Result.{result_map_both};
 ghost use Rattle.cap_values.specs.NumberDigits.{digits_of};
 ghost use Rattle.csv.specs.Records.{fields_of};
-ghost use Rattle.run_texts.specs.Setups.{account_in, amount_in, party_in};
+ghost use Rattle.run_texts.specs.Setups.{account_in, amount_in, party_in, until_in};
+ghost use Rattle.table_core.specs.Fields.{is_blank};
+ghost use Rattle.workers_core.specs.Openings.{expires_in_time};
 
 use cap_values::Number;
 use csv::ByteRecord;
+use ssf_core::Moment;
 use std::str;
-use table_core::{RowKind, field, number};
-use tariff_core::MAX_MONEY;
+use table_core::{RowKind, field, is_blank, number};
+use tariff_core::{LAST_MOMENT, MAX_MONEY};
 
 /// The number of an account: a decimal of 32 bits.
 pub(crate) fn account(row: &ByteRecord, place: usize) -> Result<u32, RowKind>
@@ -27,6 +30,24 @@ pub(crate) fn amount(row: &ByteRecord, place: usize) -> Result<u64, RowKind>
     ensures within { IfOk result (λ amount. amount ≤ MAX_MONEY) }
 {
     number(row, place, MAX_MONEY)
+}
+
+/// The last moment in the field at `place`: 0 to `LAST_MOMENT`, or none where the field is left out.
+pub(crate) fn until(row: &ByteRecord, place: usize) -> Result<Option<Moment>, RowKind>
+    ensures value { result ≡ until_in (fields_of row.now) place }
+    ensures within { IfOk result (λ until. expires_in_time until ≡ true) }
+{
+    if is_left_out(row, place) {
+        return Ok(None);
+    }
+    Ok(Some(number(row, place, LAST_MOMENT)?))
+}
+
+/// Whether the field at `place` is empty, or the row ends before it.
+pub(crate) fn is_left_out(row: &ByteRecord, place: usize) -> bool
+    ensures { result ≡ is_blank (fields_of row.now) place }
+{
+    row.len() <= place || is_blank(row, place)
 }
 
 /// The number of a party.

@@ -3,10 +3,10 @@
 ghost use Rattle.std.specs.Prelude.{◌≡◌, ◌≤◌, IfOk, length};
 ghost use Rattle.std.specs.Result.{result_map_both};
 ghost use Rattle.csv.specs.Records.{fields_of};
-ghost use Rattle.run_texts.specs.Scripts.{call_in, disconnect_in, event_in, happens_in, leg_of, read_in, recharge_in, start_in};
+ghost use Rattle.run_texts.specs.Scripts.{call_in, disconnect_in, event_in, happens_in, leg_of, read_in, recharge_in, start_in, when_blank};
 ghost use Rattle.run_texts.specs.Views.{event_of, happens_of};
 
-use crate::fields::{account, amount, party};
+use crate::fields::{account, amount, is_left_out, party, until};
 use crate::word::{Word, read_word};
 use crate::{Happening, ScriptRow};
 use cap_values::Leg;
@@ -15,9 +15,9 @@ use ssf_core::BcsmEvent;
 use table_core::{RowKind, is_blank, number};
 use tariff_core::LAST_MOMENT;
 
-/// What a row of five fields says, wherever it stands.
+/// What a row says, wherever it stands: of five fields, or of six under the second header.
 pub(crate) fn read_row(row: &ByteRecord) -> Result<ScriptRow, RowKind>
-    requires { length (fields_of row.now) ≡ 5 }
+    requires { 5 ≤ length (fields_of row.now) }
     ensures says { result_map_both event_of (λ kind. kind) result ≡ read_in (fields_of row.now) }
     ensures in_range { IfOk result (λ row. row.at ≤ LAST_MOMENT) }
 {
@@ -28,7 +28,7 @@ pub(crate) fn read_row(row: &ByteRecord) -> Result<ScriptRow, RowKind>
 }
 
 fn read_happening(row: &ByteRecord, word: Word) -> Result<Happening, RowKind>
-    requires { length (fields_of row.now) ≡ 5 }
+    requires { 5 ≤ length (fields_of row.now) }
     ensures { result_map_both happens_of (λ kind. kind) result
         ≡ happens_in (fields_of row.now) word }
 {
@@ -41,48 +41,54 @@ fn read_happening(row: &ByteRecord, word: Word) -> Result<Happening, RowKind>
 }
 
 fn read_call(row: &ByteRecord) -> Result<u64, RowKind>
-    requires { length (fields_of row.now) ≡ 5 }
+    requires { 5 ≤ length (fields_of row.now) }
     ensures { result ≡ call_in (fields_of row.now) }
 {
     number(row, 1, u64::MAX)
 }
 
 fn read_start(row: &ByteRecord) -> Result<Happening, RowKind>
-    requires { length (fields_of row.now) ≡ 5 }
+    requires { 5 ≤ length (fields_of row.now) }
     ensures { result_map_both happens_of (λ kind. kind) result ≡ start_in (fields_of row.now) }
 {
     let call = read_call(row)?;
     let calling = party(row, 3)?;
     let called = party(row, 4)?;
-    Ok(Happening::Start {
+    let start = Happening::Start {
         call,
         calling,
         called,
-    })
+    };
+    when_blank(is_left_out(row, 5), start)
 }
 
 fn read_event(row: &ByteRecord, event: BcsmEvent) -> Result<Happening, RowKind>
-    requires { length (fields_of row.now) ≡ 5 }
+    requires { 5 ≤ length (fields_of row.now) }
     ensures { result_map_both happens_of (λ kind. kind) result
         ≡ event_in (fields_of row.now) event }
 {
     let call = read_call(row)?;
-    if is_blank(row, 3) && is_blank(row, 4) {
-        Ok(Happening::Meets { call, event })
-    } else {
-        Err(RowKind::Empty)
-    }
+    let blank = is_blank(row, 3) && is_blank(row, 4) && is_left_out(row, 5);
+    when_blank(blank, Happening::Meets { call, event })
 }
 
 fn read_disconnect(row: &ByteRecord) -> Result<Happening, RowKind>
-    requires { length (fields_of row.now) ≡ 5 }
+    requires { 5 ≤ length (fields_of row.now) }
     ensures { result_map_both happens_of (λ kind. kind) result ≡ disconnect_in (fields_of row.now) }
 {
     let call = read_call(row)?;
     let leg = number(row, 3, 2)?;
     let event = disconnect(leg)?;
-    if is_blank(row, 4) {
-        Ok(Happening::Meets { call, event })
+    let blank = is_blank(row, 4) && is_left_out(row, 5);
+    when_blank(blank, Happening::Meets { call, event })
+}
+
+/// What happens, where the fields that must be empty are.
+fn when_blank(blank: bool, what: Happening) -> Result<Happening, RowKind>
+    ensures { result_map_both happens_of (λ kind. kind) result ≡ when_blank blank (happens_of what) }
+{
+    if blank {
+        Ok(what)
     } else {
         Err(RowKind::Empty)
     }
@@ -99,14 +105,16 @@ fn disconnect(leg: u64) -> Result<BcsmEvent, RowKind>
 }
 
 fn read_recharge(row: &ByteRecord) -> Result<Happening, RowKind>
-    requires { length (fields_of row.now) ≡ 5 }
+    requires { 5 ≤ length (fields_of row.now) }
     ensures { result_map_both happens_of (λ kind. kind) result ≡ recharge_in (fields_of row.now) }
 {
     let account = account(row, 3)?;
     let amount = amount(row, 4)?;
-    if is_blank(row, 1) {
-        Ok(Happening::Recharge { account, amount })
-    } else {
-        Err(RowKind::Empty)
-    }
+    let until = until(row, 5)?;
+    let recharge = Happening::Recharge {
+        account,
+        amount,
+        until,
+    };
+    when_blank(is_blank(row, 1), recharge)
 }

@@ -23,15 +23,15 @@ use workers_core::Directory;
 /// The most rows of a script, its header not counted.
 const MAX_ROWS: u32 = 1_000_000;
 
-/// What a script says, a table with the header `moment,call,what,x,y`, where the directory has the
-/// accounts of the setup.
+/// What a script says, a table with the header `moment,call,what,x,y,z`, or the older one without
+/// `z`, where the directory has the accounts of the setup.
 ///
 /// `what` is `start` (x the calling and y the called party), `answer`, `busy`, `noanswer`,
 /// `routefail`, `abandon`, `disconnect` (x the leg, 1 or 2) or `recharge` (without a call, x the
-/// account and y the amount); fields not named are empty.
+/// account, y the amount, and z its last moment from then on or empty); fields not named are empty.
 ///
-/// Rows are judged in order as they are read, a row in this order: `Csv` where it hasn't five
-/// fields; `TooManyRows` past 1,000,000 rows; `What` where its word is another one; `Number` where
+/// Rows are judged in order as they are read, a row in this order: `Csv` where it hasn't the
+/// header's fields; `TooManyRows` past 1,000,000 rows; `What` where its word is another one; `Number` where
 /// a field isn't a decimal, or digits, within its range; `Empty` where a field that must be empty
 /// isn't; `Order` where its moment lies below the one before; `Repeated` where a call starts again;
 /// `Unknown` where no earlier row starts its call, or the setup hasn't its account. `Header` is the
@@ -47,7 +47,10 @@ pub fn read_script<I: Read + Drop>(
     ensures in_range { IfOk result (λ rows. All (λ row. row.at ≤ LAST_MOMENT) rows.items) }
     ensures in_order { IfOk result (λ rows. are_in_order 0 rows.items ≡ true) }
 {
-    let headers: &[&[&str]] = &[&["moment", "call", "what", "x", "y"]];
+    let headers: &[&[&str]] = &[
+        &["moment", "call", "what", "x", "y"],
+        &["moment", "call", "what", "x", "y", "z"],
+    ];
     let mut table = Table::open(alloc, reader, headers, MAX_ROWS)?;
     let mut calls = BTreeSet::new(alloc);
     let mut rows = Vec::new(alloc);
@@ -73,7 +76,7 @@ fn judge(
     last: Moment,
     row: &ByteRecord,
 ) -> Result<ScriptRow, RowKind>
-    requires { length (fields_of row.now) ≡ 5 }
+    requires { 5 ≤ length (fields_of row.now) }
     ensures says { (earlier : _) → HasCalls calls.now earlier → last ≡ last_moment earlier
         → result_map_both event_of (λ kind. kind) result
         ≡ row_at directory.now.accounts earlier (fields_of row.now) }

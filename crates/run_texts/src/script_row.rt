@@ -37,5 +37,7 @@ pub enum Happening {
         account: u32,
         /// How much, 0 to `tariff_core::MAX_MONEY`.
         amount: u64,
+        /// Its last moment from then on, 0 to `LAST_MOMENT`; none leaves it as it is.
+        until: Option<Moment>,
     },
 }

@@ -10,23 +10,25 @@ ghost use Rattle.table_core.specs.Rows.{rows_of};
 ghost use Rattle.workers_core.specs.Setups.{IsWithin};
 
 use crate::entry_fault::EntryFault;
-use crate::fields::{account, amount, party};
+use crate::fields::{account, amount, is_left_out, party, until};
 use csv::ByteRecord;
 use std::alloc::Global;
 use std::io::Read;
 use table_core::{RowKind, Table, TableFault, is_word};
-use workers_core::{Directory, MAX_ACCOUNTS};
+use workers_core::{Directory, MAX_ACCOUNTS, OpeningCredit};
 
 /// The most rows of a setup, its header not counted.
 const MAX_ROWS: u32 = 10_000;
 
-/// The accounts and the subscribers of a table with the header `kind,key,value`, whose rows are
-/// `account,NUMBER,OPENING` and `subscriber,DIGITS,ACCOUNT`.
+/// The accounts and the subscribers of a table with the header `kind,key,value,until`, whose rows
+/// are `account,NUMBER,OPENING,UNTIL`, where UNTIL may be empty, and `subscriber,DIGITS,ACCOUNT,`;
+/// or with the older header `kind,key,value`, where no account has a last moment.
 ///
-/// Rows are judged in order as they are read, a row in this order: `Csv` where it hasn't three
-/// fields; `TooManyRows` past 10,000 rows and 1,000 accounts; `What` where its first word is
+/// Rows are judged in order as they are read, a row in this order: `Csv` where it hasn't the
+/// header's fields; `TooManyRows` past 10,000 rows and 1,000 accounts; `What` where its first word is
 /// another one; `Number` where an account's number isn't a decimal of 32 bits, an opening credit
-/// not one of 0 to `tariff_core::MAX_MONEY`, or a subscriber not 1 to 15 digits; `Repeated` where
+/// not one of 0 to `tariff_core::MAX_MONEY`, its last moment not one of 0 to `LAST_MOMENT`, or a
+/// subscriber not 1 to 15 digits; `Empty` where a subscriber has a last moment; `Repeated` where
 /// it names an account or a subscriber again; `Unknown` where no earlier row has a subscriber's
 /// account. `Header` is the fault of row 1.
 pub fn read_setup<I: Read + Drop>(alloc: Global, reader: I) -> Result<Directory, TableFault>
@@ -34,7 +36,8 @@ pub fn read_setup<I: Read + Drop>(alloc: Global, reader: I) -> Result<Directory,
         (λ text. Gives setup_in result (setup_of (rows_of text))) }
     ensures within { IfOk result IsWithin }
 {
-    let mut table = Table::open(alloc, reader, &[&["kind", "key", "value"]], MAX_ROWS)?;
+    let headers: &[&[&str]] = &[&["kind", "key", "value"], &["kind", "key", "value", "until"]];
+    let mut table = Table::open(alloc, reader, headers, MAX_ROWS)?;
     let mut directory = Directory::new(alloc);
     while table.next_row()? {
         match enter(&mut directory, table.row()) {
@@ -49,7 +52,7 @@ pub fn read_setup<I: Read + Drop>(alloc: Global, reader: I) -> Result<Directory,
 /// Enters what a row names.
 #[tactic(auto, unfolding(crate::specs::Setups::row_at))]
 fn enter(directory: &mut Directory, row: &ByteRecord) -> Result<(), EntryFault>
-    requires fields { length (fields_of row.now) ≡ 3 }
+    requires fields { 3 ≤ length (fields_of row.now) }
     requires few { length directory.old.accounts ≤ 1000 }
     ensures means { Enters result (setup_in directory.new)
         (row_at (setup_in directory.old) (fields_of row.now)) }
@@ -67,7 +70,7 @@ fn enter(directory: &mut Directory, row: &ByteRecord) -> Result<(), EntryFault>
 }
 
 fn enter_account(directory: &mut Directory, row: &ByteRecord) -> Result<(), EntryFault>
-    requires fields { length (fields_of row.now) ≡ 3 }
+    requires fields { 3 ≤ length (fields_of row.now) }
     requires few { length directory.old.accounts ≤ 1000 }
     ensures means { Enters result (setup_in directory.new)
         (account_row (setup_in directory.old) (fields_of row.now)) }
@@ -79,13 +82,16 @@ fn enter_account(directory: &mut Directory, row: &ByteRecord) -> Result<(), Entr
         return Err(EntryFault::Row(RowKind::TooManyRows));
     }
     let number = account(row, 1)?;
-    let opening = amount(row, 2)?;
+    let opening = OpeningCredit {
+        amount: amount(row, 2)?,
+        until: until(row, 3)?,
+    };
     directory.account(number, opening)?;
     Ok(())
 }
 
 fn enter_subscriber(directory: &mut Directory, row: &ByteRecord) -> Result<(), EntryFault>
-    requires fields { length (fields_of row.now) ≡ 3 }
+    requires fields { 3 ≤ length (fields_of row.now) }
     requires few { length directory.old.accounts ≤ 1000 }
     ensures means { Enters result (setup_in directory.new)
         (subscriber_row (setup_in directory.old) (fields_of row.now)) }
@@ -95,6 +101,9 @@ fn enter_subscriber(directory: &mut Directory, row: &ByteRecord) -> Result<(), E
 {
     let number = party(row, 1)?;
     let account = account(row, 2)?;
+    if !is_left_out(row, 3) {
+        return Err(EntryFault::Row(RowKind::Empty));
+    }
     directory.subscriber(number, account)?;
     Ok(())
 }

@@ -1,6 +1,6 @@
 //! The words of a script.
 
-ghost use Rattle.std.specs.Prelude.{◌≡◌, length};
+ghost use Rattle.std.specs.Prelude.{◌≡◌, ◌≤◌, length};
 ghost use Rattle.csv.specs.Records.{fields_of};
 ghost use Rattle.run_texts.specs.Scripts.{word_in};
 
@@ -23,7 +23,7 @@ pub(crate) enum Word {
 
 /// The word in a row, its third field.
 pub(crate) fn read_word(row: &ByteRecord) -> Result<Word, RowKind>
-    requires { length (fields_of row.now) ≡ 5 }
+    requires { 5 ≤ length (fields_of row.now) }
     ensures { result ≡ word_in (fields_of row.now) }
 {
     if is_word(row, 2, "start") {

@@ -7,6 +7,8 @@ use Rattle.std.proofs.lemmas.List.{length-map, length-replicate, map-append, tak
 use Rattle.std.proofs.lemmas.List.Elements.{All-head, All-nil, All-push, All-tail}
 use Rattle.shared_account.specs.Seats.{are_numbered}
 use Rattle.shared_account.specs.Terms.{Terms}
+use Rattle.workers_core.specs.Openings.{no_credit}
+use Rattle.workers_core.specs.declared.opening_credit.OpeningCredit.{OpeningCredit}
 use Rattle.runs_core.specs.Dealing.{dealt}
 use Rattle.runs_core.specs.Teams.{AreFresh, IsFresh, IsNew, Reads, terms_of, terms_with}
 use Rattle.runs_core.proofs.Deals.{dealt_length}
@@ -18,7 +20,7 @@ first_by false rest are = absurd (cc)
 same_number : (s t : ℕ) → (s == t) ≡ true → s ≡ t
 same_number s t is = grind (arith, nat_tests, is)
 
-pair : {s t u v : ℕ} → s ≡ t → u ≡ v → Path (ℕ × ℕ) (s, u) (t, v)
+pair : {X : Type 0} {s t : ℕ} {u v : X} → s ≡ t → u ≡ v → Path (ℕ × X) (s, u) (t, v)
 pair one other = cc
 
 -- ---- opening
@@ -54,28 +56,28 @@ dealt_fresh read keys key number (team ∷ teams) (seat ∷ seats) fresh enough 
     )
 
 -- the accounts and the teams before any account is opened
-pub none_opened : {K T S V : Type 0} (read : Reads K T) (terms : S → Terms) (key : S → K) (inside : V → List T) (limit workers : ℕ) (all : List (ℕ × ℕ)) (accounts : List S) (teams : List V)
+pub none_opened : {K T S V : Type 0} (read : Reads K T) (terms : S → Terms) (key : S → K) (inside : V → List T) (limit workers : ℕ) (all : List (ℕ × OpeningCredit)) (accounts : List S) (teams : List V)
     → accounts ≡ [] → map inside teams ≡ replicate workers []
     → (map terms accounts ≡ terms_of limit workers (take 0 all)) × (length teams ≡ workers) × AreFresh read (map key accounts) 0 (map inside teams)
 none_opened read terms key inside limit workers all accounts teams none are =
     rw (none, are)
     (refl, sym (length-map teams inside) ∙ ap length are ∙ length-replicate workers [], fresh_teams read 0 workers)
 
-terms_more : (limit workers : ℕ) (all : List (ℕ × ℕ)) (place : ℕ) (number opening : ℕ) → place < length all
+terms_more : (limit workers : ℕ) (all : List (ℕ × OpeningCredit)) (place number : ℕ) (opening : OpeningCredit) → place < length all
     → HoldsAt (λ account. account.0 ≡ number) all place → HoldsAt (λ account. account.1 ≡ opening) all place
     → terms_of limit workers (take (place + 1) all)
-    ≡ terms_of limit workers (take place all) ++ record { number = number; opening = opening; limit = limit; seats = workers } ∷ []
+    ≡ terms_of limit workers (take place all) ++ record { number = number; opening = opening.amount; until = opening.until; limit = limit; seats = workers } ∷ []
 terms_more limit workers all place number opening within numbered opened =
-    let make = λ (account : ℕ × ℕ). terms_with limit workers account in
-    ap (map make) (take_more all place (0, 0) within) ∙ map-append make (take place all) (get_or all place (0, 0) ∷ [])
-    ∙ ap (λ account. map make (take place all) ++ make account ∷ []) (pair (numbered (0, 0)) (opened (0, 0)))
+    let make = λ (account : ℕ × OpeningCredit). terms_with limit workers account in
+    ap (map make) (take_more all place (0, no_credit) within) ∙ map-append make (take place all) (get_or all place (0, no_credit) ∷ [])
+    ∙ ap (λ account. map make (take place all) ++ make account ∷ []) (pair (numbered (0, no_credit)) (opened (0, no_credit)))
 
 -- one account more is opened
-pub one_opened : {K T S V : Type 0} (read : Reads K T) (terms : S → Terms) (key : S → K) (inside : V → List T) (limit workers : ℕ) (all : List (ℕ × ℕ)) (place number opening : ℕ)
+pub one_opened : {K T S V : Type 0} (read : Reads K T) (terms : S → Terms) (key : S → K) (inside : V → List T) (limit workers : ℕ) (all : List (ℕ × OpeningCredit)) (place number : ℕ) (opening : OpeningCredit)
     (accounts : List S) (teams dealt_teams : List V) (account : S) (seats : List T)
     → place < length all → HoldsAt (λ account. account.0 ≡ number) all place → HoldsAt (λ account. account.1 ≡ opening) all place
     → (map terms accounts ≡ terms_of limit workers (take place all)) × (length teams ≡ workers) × AreFresh read (map key accounts) 0 (map inside teams)
-    → terms account ≡ record { number = number; opening = opening; limit = limit; seats = workers } → IsNew read (key account) workers seats
+    → terms account ≡ record { number = number; opening = opening.amount; until = opening.until; limit = limit; seats = workers } → IsNew read (key account) workers seats
     → map inside dealt_teams ≡ dealt (map inside teams) seats
     → (map terms (accounts ++ account ∷ []) ≡ terms_of limit workers (take (place + 1) all)) × (length dealt_teams ≡ workers)
     × AreFresh read (map key (accounts ++ account ∷ [])) 0 (map inside dealt_teams)

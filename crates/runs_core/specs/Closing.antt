@@ -8,9 +8,9 @@ use Rattle.workers_core.specs.declared.post.Post.{Post}
 use Rattle.runs_core.specs.Teams.{Reads}
 use Rattle.runs_core.specs.declared.line.Left.{Left}
 
--- what a book shows of its account: its number, the credit that it was opened with, how many entries it may have, and how many seats it has
+-- what a book shows of its account: its number, the credit that it was opened with and its last moment, how many entries it may have, and how many seats it has
 abbrev pub terms_shown : Closed → Terms
-terms_shown book = record { number = book.account; opening = book.opening; limit = book.limit; seats = length book.own }
+terms_shown book = record { number = book.account; opening = book.opening; until = book.until; limit = book.limit; seats = length book.own }
 
 -- each row of seats is of its account
 abbrev pub AreOf : {K T : Type 0} → (T → K) → List K → List (List T) → Type 0

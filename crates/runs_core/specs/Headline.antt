@@ -31,4 +31,4 @@ pub record IsRight (book : Closed) : Type 0 where
 
 -- a book whose history is legal is right; each book of a run has one, and the opening credit of its account
 abbrev pub BooksAreRight : Type 0
-BooksAreRight = (book : Closed) → book.opening ≤ MAX_MONEY → IsLegal book.opening book.history → IsRight book
+BooksAreRight = (book : Closed) → book.opening ≤ MAX_MONEY → IsLegal book.opening book.until book.history → IsRight book

@@ -7,7 +7,7 @@ use Rattle.workers_core.specs.declared.post.Post.{Post}
 -- a call, or an account, goes to the worker of its remainder
 abbrev pub worker_of : ℕ → Body → ℕ
 worker_of workers (Ssf call msg) = call % workers
-worker_of workers (Recharge account amount) = account % workers
+worker_of workers (Recharge account amount until) = account % workers
 
 -- a number, a moment and what is posted then
 pub record Item : Type 0 where

@@ -4,6 +4,7 @@ use Rattle.account_core.specs.Events.{Event}
 use Rattle.shared_account.specs.Seats.{are_all}
 use Rattle.shared_account.specs.Terms.{Terms}
 use Rattle.workers_core.specs.Served.{AreServed}
+use Rattle.workers_core.specs.declared.opening_credit.OpeningCredit.{OpeningCredit}
 use Rattle.workers_core.specs.declared.post.Post.{Post}
 
 -- there can be so many workers: 1 to 16
@@ -11,10 +12,10 @@ abbrev pub are_workers : ℕ → Bool
 are_workers workers = nat_le 1 workers && nat_le workers 16
 
 -- what the accounts of a run are made with
-abbrev pub terms_with : ℕ → ℕ → ℕ × ℕ → Terms
-terms_with limit seats account = record { number = account.0; opening = account.1; limit = limit; seats = seats }
+abbrev pub terms_with : ℕ → ℕ → ℕ × OpeningCredit → Terms
+terms_with limit seats account = record { number = account.0; opening = account.1.amount; until = account.1.until; limit = limit; seats = seats }
 
-abbrev pub terms_of : ℕ → ℕ → List (ℕ × ℕ) → List Terms
+abbrev pub terms_of : ℕ → ℕ → List (ℕ × OpeningCredit) → List Terms
 terms_of limit seats accounts = map (terms_with limit seats) accounts
 
 -- what is known of a seat: the key of its account, its number there, and its entries

@@ -24,7 +24,7 @@ pub(crate) fn close_accounts<S: Shared>(
     ensures terms { IfOk result
         (λ all. map terms_shown all.books.items ≡ map S.terms accounts.items) }
     ensures legal { IfOk result
-        (λ all. All (λ book. IsLegal book.opening book.history) all.books.items) }
+        (λ all. All (λ book. IsLegal book.opening book.until book.history) all.books.items) }
     ensures merged { IfOk result
         (λ all. All (λ book. IsMerged book.history book.own) all.books.items) }
     ensures handled { IfOk result (λ all.
@@ -56,7 +56,7 @@ fn close_each<S: Shared>(
     ensures own { IfOk result (λ books.
         map (λ book. book.own) books.items ≡ map (λ row. map S.mine_of row.items) rows.items) }
     ensures legal { IfOk result
-        (λ books. All (λ book. IsLegal book.opening book.history) books.items) }
+        (λ books. All (λ book. IsLegal book.opening book.until book.history) books.items) }
     ensures merged { IfOk result
         (λ books. All (λ book. IsMerged book.history book.own) books.items) }
     ensures fault { (result ≢ Err RunFault.GateClosed) × (result ≢ Err RunFault.Workers) }
@@ -77,7 +77,7 @@ fn close<S: Shared>(alloc: Global, account: S, seats: Vec<S::Seat>) -> Result<Bo
     requires { All (λ seat. S.key_of seat ≡ S.key account) seats.items }
     ensures terms { IfOk result (λ book. terms_shown book ≡ S.terms account) }
     ensures own { IfOk result (λ book. book.own ≡ map S.mine_of seats.items) }
-    ensures legal { IfOk result (λ book. IsLegal book.opening book.history) }
+    ensures legal { IfOk result (λ book. IsLegal book.opening book.until book.history) }
     ensures merged { IfOk result (λ book. IsMerged book.history book.own) }
     ensures fault { (result ≢ Err RunFault.GateClosed) × (result ≢ Err RunFault.Workers) }
 {

@@ -8,7 +8,7 @@ use crate::dealing::deal;
 use shared_account::Shared;
 use std::alloc::{AllocError, Global};
 use tariff_core::MAX_MONEY;
-use workers_core::RunSetup;
+use workers_core::{OpeningCredit, RunSetup};
 
 /// The accounts of a run, in order, and the seats of each worker, one of each account.
 #[derive(Drop)]
@@ -44,20 +44,21 @@ pub(crate) fn open_accounts<S: Shared, R>(
     Ok(Opened { accounts, teams })
 }
 
-/// Opens an account, named by its number and its opening credit.
+/// Opens an account, named by its number, with its opening credit.
 fn open_account<S: Shared, R>(
     rt: &R,
     alloc: Global,
-    account: (u32, u64),
+    account: (u32, OpeningCredit),
     limit: u32,
     workers: u32,
 ) -> Result<(S, Vec<S::Seat>), RunFault>
-    requires opening { account.1 ≤ MAX_MONEY }
+    requires opening { account.1.amount ≤ MAX_MONEY }
     requires some { 1 ≤ workers }
     requires few { workers ≤ 16 }
     ensures terms { IfOk result (λ made. S.terms made.0 ≡ record {
       number = account.0;
-      opening = account.1;
+      opening = account.1.amount;
+      until = account.1.until;
       limit = limit;
       seats = workers;
     }) }
@@ -65,7 +66,16 @@ fn open_account<S: Shared, R>(
         (S.key made.0) workers made.1.items) }
     ensures fault { IfErr result (λ fault. fault ≡ RunFault.OutOfMemory) }
 {
-    match S::new(rt, alloc, account.0, account.1, limit, workers) {
+    let (number, opening) = account;
+    match S::new(
+        rt,
+        alloc,
+        number,
+        opening.amount,
+        opening.until,
+        limit,
+        workers,
+    ) {
         Ok(made) => Ok(made),
         Err(_) => Err(RunFault::OutOfMemory),
     }

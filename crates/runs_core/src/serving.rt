@@ -49,7 +49,7 @@ pub fn serve<D: Driver, R: Wait + Threads + Sync, G: Gate + Sync>(
     ensures books { IfOk result (λ all.
         map terms_shown all.books.items ≡ terms_of setup.now.limit workers setup.now.accounts) }
     ensures legal { IfOk result
-        (λ all. All (λ book. IsLegal book.opening book.history) all.books.items) }
+        (λ all. All (λ book. IsLegal book.opening book.until book.history) all.books.items) }
     ensures merged { IfOk result
         (λ all. All (λ book. IsMerged book.history book.own) all.books.items) }
     ensures served { IfOk result (λ all. All (λ book. AreServedBy book.account
@@ -78,7 +78,7 @@ pub fn serve_over<D: Driver, S: Shared, R: Wait + Threads + Sync, G: Gate + Sync
     ensures books { IfOk result (λ all.
         map terms_shown all.books.items ≡ terms_of setup.now.limit workers setup.now.accounts) }
     ensures legal { IfOk result
-        (λ all. All (λ book. IsLegal book.opening book.history) all.books.items) }
+        (λ all. All (λ book. IsLegal book.opening book.until book.history) all.books.items) }
     ensures merged { IfOk result
         (λ all. All (λ book. IsMerged book.history book.own) all.books.items) }
     ensures served { IfOk result (λ all. All (λ book. AreServedBy book.account

@@ -33,9 +33,9 @@ adds_row before after at (happening.Start call calling called) takes = record {
   grown = takes.adds;
 }
 adds_row before after at (happening.Meets call event) takes = adds_grown before after takes.adds
-adds_row before after at (happening.Recharge account amount) takes = record {
+adds_row before after at (happening.Recharge account amount until) takes = record {
   same_config = takes.same_config;
-  added = (at, body.Recharge account amount) ∷ [];
+  added = (at, body.Recharge account amount until) ∷ [];
   grown = takes.adds;
 }
 
@@ -78,9 +78,9 @@ follows_grown taken before after grows follows = record {
   recharged = grows.same_recharges ∙ follows.recharged;
 }
 
-items_of-recharged : (call : ℕ) (given : List (ℕ × Body)) (at account amount : ℕ) → items_of call (given ++ (at, body.Recharge account amount) ∷ []) ≡ items_of call given
-items_of-recharged call given at account amount =
-    filter-append (λ (item : ℕ × Body). is_of call item.1) given ((at, body.Recharge account amount) ∷ []) ∙ append-nil (items_of call given)
+items_of-recharged : (call : ℕ) (given : List (ℕ × Body)) (at account amount : ℕ) (until : Option ℕ) → items_of call (given ++ (at, body.Recharge account amount until) ∷ []) ≡ items_of call given
+items_of-recharged call given at account amount until =
+    filter-append (λ (item : ℕ × Body). is_of call item.1) given ((at, body.Recharge account amount until) ∷ []) ∙ append-nil (items_of call given)
 
 -- the items of a call where another one may start
 items_of-unless : (other call at : ℕ) (calling called : Number) (items : List (ℕ × Body)) → (other == call) ≡ false
@@ -122,16 +122,16 @@ begun_row taken before after at (happening.Start other calling called) call adds
     rw adds (begins_started _ (opening_of call taken) other call at calling called before.given refl begun)
 begun_row taken before after at (happening.Meets other event) call adds begun =
     rw (first_of-none (opening_of call taken)) (begins_on (opening_of call taken) call before after adds begun)
-begun_row taken before after at (happening.Recharge account amount) call adds begun =
-    rw (first_of-none (opening_of call taken), adds, items_of-recharged call before.given at account amount) begun
+begun_row taken before after at (happening.Recharge account amount until) call adds begun =
+    rw (first_of-none (opening_of call taken), adds, items_of-recharged call before.given at account amount until) begun
 
 recharged_row : (before after : Shown) (at : ℕ) (what : Happening) → AddsRow before after at what → recharges_in after.given ≡ recharges_in before.given ++ recharge_of at what
 recharged_row before after at (happening.Start call calling called) adds =
     ap recharges_in adds ∙ filter-append (λ (item : ℕ × Body). is_recharge item.1) before.given (unless_begun (items_of call before.given) (initial at call calling called))
     ∙ rw (recharges_in-unless call at calling called (items_of call before.given)) refl
 recharged_row before after at (happening.Meets call event) adds = adds.same_recharges ∙ sym (append-nil (recharges_in before.given))
-recharged_row before after at (happening.Recharge account amount) adds =
-    ap recharges_in adds ∙ filter-append (λ (item : ℕ × Body). is_recharge item.1) before.given ((at, body.Recharge account amount) ∷ [])
+recharged_row before after at (happening.Recharge account amount until) adds =
+    ap recharges_in adds ∙ filter-append (λ (item : ℕ × Body). is_recharge item.1) before.given ((at, body.Recharge account amount until) ∷ [])
 
 -- what was given follows the rows and the one that is taken
 pub follows_row : (taken : List ScriptRow) (row : ScriptRow) (before after : Shown) → TakesRow before after row.at row.what → FollowsRows taken before.given

@@ -16,7 +16,7 @@ deliveries_at at call (op ∷ ops) = record { at = at; call = call; op = op } �
 -- operations that answer an item: they are for its call, and delivered a delay after its moment
 abbrev pub deliveries_to : ℕ → List ScfOp → ℕ → Body → List Delivery
 deliveries_to delay ops at (body.Ssf call msg) = deliveries_at (at + delay) call ops
-deliveries_to delay ops at (body.Recharge account amount) = []
+deliveries_to delay ops at (body.Recharge account amount until) = []
 
 abbrev pub deliveries_for : ℕ → List ScfOp → Option (ℕ × Body) → List Delivery
 deliveries_for delay ops None = []

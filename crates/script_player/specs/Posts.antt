@@ -24,11 +24,11 @@ posts_of call (out ∷ outs) = post_of call out.at out.item ++ posts_of call out
 
 abbrev pub is_of : ℕ → Body → Bool
 is_of call (body.Ssf other msg) = other == call
-is_of call (body.Recharge account amount) = false
+is_of call (body.Recharge account amount until) = false
 
 abbrev pub is_recharge : Body → Bool
 is_recharge (body.Ssf call msg) = false
-is_recharge (body.Recharge account amount) = true
+is_recharge (body.Recharge account amount until) = true
 
 -- the items of a call, in order
 abbrev pub items_of : ℕ → List (ℕ × Body) → List (ℕ × Body)
@@ -42,7 +42,7 @@ recharges_in items = filter (λ item. is_recharge item.1) items
 abbrev pub recharge_of : ℕ → Happening → List (ℕ × Body)
 recharge_of at (happening.Start call calling called) = []
 recharge_of at (happening.Meets call event) = []
-recharge_of at (happening.Recharge account amount) = (at, body.Recharge account amount) ∷ []
+recharge_of at (happening.Recharge account amount until) = (at, body.Recharge account amount until) ∷ []
 
 -- the recharges that rows say, in order
 abbrev pub recharges_of : List ScriptRow → List (ℕ × Body)
@@ -57,7 +57,7 @@ initial at call calling called = (at, body.Ssf call (message.InitialDp call call
 abbrev pub start_of : ℕ → ℕ → Happening → Option (ℕ × Body)
 start_of call at (happening.Start other calling called) = if other == call then Some (initial at call calling called) else None
 start_of call at (happening.Meets other event) = None
-start_of call at (happening.Recharge account amount) = None
+start_of call at (happening.Recharge account amount until) = None
 
 -- the first of two, where there is one
 abbrev pub first_of : Option (ℕ × Body) → Option (ℕ × Body) → Option (ℕ × Body)

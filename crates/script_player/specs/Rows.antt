@@ -32,7 +32,7 @@ Starts before after call item = after ≡ before ++ unless_begun (items_of call 
 abbrev pub AddsRow : Shown → Shown → ℕ → Happening → Type 0
 AddsRow before after at (happening.Start call calling called) = Starts before.given after.given call (initial at call calling called)
 AddsRow before after at (happening.Meets call event) = Grows before after
-AddsRow before after at (happening.Recharge account amount) = after.given ≡ before.given ++ (at, body.Recharge account amount) ∷ []
+AddsRow before after at (happening.Recharge account amount until) = after.given ≡ before.given ++ (at, body.Recharge account amount until) ∷ []
 
 -- a row is taken
 pub record TakesRow (before after : Shown) (at : ℕ) (what : Happening) : Type 0 where

@@ -108,15 +108,26 @@ impl Network {
         keep_due(&mut self.dues, call, fed.before, fed.after)
     }
 
-    /// Adds a recharge.
-    pub fn recharge(&mut self, now: Moment, account: u32, amount: u64) -> Result<(), AllocError>
+    /// Adds a recharge: the money for an account, and its last moment from then on.
+    pub fn recharge(
+        &mut self,
+        now: Moment,
+        account: u32,
+        amount: u64,
+        until: Option<Moment>,
+    ) -> Result<(), AllocError>
         requires { now ≤ HORIZON }
         ensures config { self.new.config ≡ self.old.config }
         ensures added { OnOk result
-            (self.new.given ≡ self.old.given ++ (now, body.Recharge account amount) ∷ []) }
+            (self.new.given ≡ self.old.given ++ (now, body.Recharge account amount until) ∷ []) }
         ensures unchanged { OnErr result (self.new ≡ self.old) }
     {
-        self.given.push((now, Body::Recharge { account, amount }))?;
+        let money = Body::Recharge {
+            account,
+            amount,
+            until,
+        };
+        self.given.push((now, money))?;
         Ok(())
     }
 

@@ -57,6 +57,10 @@ fn take_row(network: &mut Network, row: ScriptRow) -> Result<(), AllocError>
             called,
         } => network.start(row.at, call, calling, called),
         Happening::Meets { call, event } => network.give(row.at, call, Input::Meet(event)),
-        Happening::Recharge { account, amount } => network.recharge(row.at, account, amount),
+        Happening::Recharge {
+            account,
+            amount,
+            until,
+        } => network.recharge(row.at, account, amount, until),
     }
 }

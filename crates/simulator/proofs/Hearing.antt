@@ -68,7 +68,7 @@ resting_later : (call : ℕ) (meter after : Meter) (queued : List Paid) (kept : 
     → IsResting call after queued kept phase
 resting_later call meter after queued kept (FirstAsk t) later rests = tt
 resting_later call meter after queued kept (Running t) later rests = (rests.0, covered_later meter after queued kept later rests.1)
-resting_later call meter after queued kept (Settling t active) later rests = tt
+resting_later call meter after queued kept (Settling t active since) later rests = tt
 resting_later call meter after queued kept (MoreAsk t) later rests = tt
 resting_later call meter after queued kept (Returning then) later rests = tt
 resting_later call meter after queued kept Ending later rests = tt
@@ -137,7 +137,7 @@ resting_ends : (call : ℕ) (handed queued : List Paid) (meter after : Meter) (k
     → IsResting call meter (handed ++ queued) kept phase → IsResting call after queued kept phase
 resting_ends call handed queued meter after kept (FirstAsk t) ends rests = tt
 resting_ends call handed queued meter after kept (Running t) ends rests = (rests.0, covered_ends handed queued meter after kept ends rests.1)
-resting_ends call handed queued meter after kept (Settling t active) ends rests = tt
+resting_ends call handed queued meter after kept (Settling t active since) ends rests = tt
 resting_ends call handed queued meter after kept (MoreAsk t) ends rests = tt
 resting_ends call handed queued meter after kept (Returning then) ends rests = tt
 resting_ends call handed queued meter after kept Ending ends rests = tt
@@ -177,42 +177,42 @@ event_fits call meter queued kept t event.Answer mode rests = nothing_queued cal
 event_fits call meter queued kept t event.Disconnect mode rests = rests.0
 event_fits call meter queued kept t event.Abandon mode rests = rests.0
 
-told_fits : (call number now : ℕ) (meter after : Meter) (queued : List Paid) (kept : Known) (phase : Phase) (message : SsfMsg) → IsResting call meter queued kept phase
-    → meters.Sends meter now (item.Msg message) after → FitsThen call after queued kept phase (told phase number message)
-told_fits call number now meter after queued kept (FirstAsk t) message rests sends = tt
-told_fits call number now meter after queued kept (Running t) (msg.InitialDp id calling called) rests later = resting_later call meter after queued kept (Running t) later rests
-told_fits call number now meter after queued kept (Running t) (msg.EventReport e leg mode) rests later =
+told_fits : (call number moment now : ℕ) (meter after : Meter) (queued : List Paid) (kept : Known) (phase : Phase) (message : SsfMsg) → IsResting call meter queued kept phase
+    → meters.Sends meter now (item.Msg message) after → FitsThen call after queued kept phase (told phase number moment message)
+told_fits call number moment now meter after queued kept (FirstAsk t) message rests sends = tt
+told_fits call number moment now meter after queued kept (Running t) (msg.InitialDp id calling called) rests later = resting_later call meter after queued kept (Running t) later rests
+told_fits call number moment now meter after queued kept (Running t) (msg.EventReport e leg mode) rests later =
     event_fits call after queued kept t e mode (resting_later call meter after queued kept (Running t) later rests)
-told_fits call number now meter after queued kept (Running t) (msg.ChargingReport active info) rests reports =
+told_fits call number moment now meter after queued kept (Running t) (msg.ChargingReport active info) rests reports =
     let settles = every_report_settles meter after queued kept now active info rests.1 reports in
     record { ours = rests.0; its_call = rests.0; accepted = settles.accepted; goes_on = settles.goes_on }
-told_fits call number now meter after queued kept (Running t) msg.Ended rests later = rests.0
-told_fits call number now meter after queued kept (Settling t active) message rests sends = tt
-told_fits call number now meter after queued kept (MoreAsk t) message rests sends = tt
-told_fits call number now meter after queued kept (Returning then) message rests sends = tt
-told_fits call number now meter after queued kept Ending (msg.InitialDp id calling called) rests sends = tt
-told_fits call number now meter after queued kept Ending (msg.EventReport e leg mode) rests sends = sequel_fits call after queued kept (going_on mode)
-told_fits call number now meter after queued kept Ending (msg.ChargingReport active info) rests sends = tt
-told_fits call number now meter after queued kept Ending msg.Ended rests sends = tt
-told_fits call number now meter after queued kept Closed message rests sends = tt
+told_fits call number moment now meter after queued kept (Running t) msg.Ended rests later = rests.0
+told_fits call number moment now meter after queued kept (Settling t active since) message rests sends = tt
+told_fits call number moment now meter after queued kept (MoreAsk t) message rests sends = tt
+told_fits call number moment now meter after queued kept (Returning then) message rests sends = tt
+told_fits call number moment now meter after queued kept Ending (msg.InitialDp id calling called) rests sends = tt
+told_fits call number moment now meter after queued kept Ending (msg.EventReport e leg mode) rests sends = sequel_fits call after queued kept (going_on mode)
+told_fits call number moment now meter after queued kept Ending (msg.ChargingReport active info) rests sends = tt
+told_fits call number moment now meter after queued kept Ending msg.Ended rests sends = tt
+told_fits call number moment now meter after queued kept Closed message rests sends = tt
 
-pub heard : (call number now : ℕ) (meter after : Meter) (queued : List Paid) (standing : Option Known) (old new : Phase) (said : Says) (message : SsfMsg)
-    → told old number message ≡ Ok (said, new) → IsAtRest call meter queued standing old → meters.Sends meter now (item.Msg message) after
+pub heard : (call number moment now : ℕ) (meter after : Meter) (queued : List Paid) (standing : Option Known) (old new : Phase) (said : Says) (message : SsfMsg)
+    → told old number moment message ≡ Ok (said, new) → IsAtRest call meter queued standing old → meters.Sends meter now (item.Msg message) after
     → IsReady call after queued standing new said
-heard call number now meter after queued standing old new said message is rest sends = record {
+heard call number moment now meter after queued standing old new said message is rest sends = record {
   kept = rest.kept;
   stands = rest.stands;
-  fits = rw is at (told_fits call number now meter after queued rest.kept old message rest.fits sends);
+  fits = rw is at (told_fits call number moment now meter after queued rest.kept old message rest.fits sends);
 }
 
-pub unheard : (call number now : ℕ) (meter after : Meter) (queued : List Paid) (standing : Option Known) (old new : Phase) (message : SsfMsg) (fault : DialogueFault)
-    → told old number message ≡ Err fault → new ≡ old → IsAtRest call meter queued standing old → meters.Sends meter now (item.Msg message) after
+pub unheard : (call number moment now : ℕ) (meter after : Meter) (queued : List Paid) (standing : Option Known) (old new : Phase) (message : SsfMsg) (fault : DialogueFault)
+    → told old number moment message ≡ Err fault → new ≡ old → IsAtRest call meter queued standing old → meters.Sends meter now (item.Msg message) after
     → IsAtRest call after (queued ++ paid_by (orders_of [])) standing new
-unheard call number now meter after queued standing old new message fault is same rest sends =
+unheard call number moment now meter after queued standing old new message fault is same rest sends =
     rw (append-nil queued, same) (record {
       kept = rest.kept;
       stands = rest.stands;
-      fits = rw is at (told_fits call number now meter after queued rest.kept old message rest.fits sends);
+      fits = rw is at (told_fits call number moment now meter after queued rest.kept old message rest.fits sends);
     })
 
 -- ---- operations are on their way

@@ -29,7 +29,7 @@ pub record IsAsked (before after : ℕ → Option Known) (asked : Asked) (old ne
 
 -- the asks that can follow the one that is pending in a phase
 abbrev pub asks_after : Phase → ℕ
-asks_after (Settling t active) = 2
+asks_after (Settling t active since) = 2
 asks_after (MoreAsk t) = 1
 asks_after phase = 0
 

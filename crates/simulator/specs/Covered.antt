@@ -86,9 +86,9 @@ pub record IsMore (call : ℕ) (meter : Meter) (queued : List Paid) (kept : Know
 
 -- the port is asked this, in this phase
 abbrev pub IsAsking : ℕ → Meter → List Paid → Known → Phase → Asked → Type 0
-IsAsking call meter queued kept (FirstAsk t) (Reserves of plan wanted least) = IsFresh call meter queued kept t plan of
-IsAsking call meter queued kept (Settling t active) (Settles of number info) = IsSettled call meter queued kept t active of info
-IsAsking call meter queued kept (MoreAsk t) (Reserves of plan wanted least) = IsMore call meter queued kept t of
+IsAsking call meter queued kept (FirstAsk t) (Reserves of plan wanted least moment) = IsFresh call meter queued kept t plan of
+IsAsking call meter queued kept (Settling t active since) (Settles of number info) = IsSettled call meter queued kept t active of info
+IsAsking call meter queued kept (MoreAsk t) (Reserves of plan wanted least moment) = IsMore call meter queued kept t of
 IsAsking call meter queued kept (Returning after) (Returns of) = of ≡ call
 IsAsking call meter queued kept phase asked = ⊥
 

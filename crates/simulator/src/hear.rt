@@ -19,12 +19,13 @@ use dialogue_core::Dialogue;
 use ssf_core::{Item, Moment, Out};
 use std::collections::VecDeque;
 
-/// Hands a message to the dialogue, and gives the operations that it answers with. A message that
-/// has no place in the dialogue is answered by none.
+/// Hands a message to the dialogue at its moment, and gives the operations that it answers with. A
+/// message that has no place in the dialogue is answered by none.
 fn hear<P: Port>(
     port: &mut P,
     dialogue: &mut Dialogue,
     tally: &mut Tally,
+    at: Moment,
     message: SsfMsg,
 ) -> ArrayVec<ScfOp, 4>
     ensures kept { (call now : ℕ) (meter after : Meter) (queued : List Paid)
@@ -39,7 +40,7 @@ fn hear<P: Port>(
 {
     let number = tally.messages;
     *tally = tally.with_message(&message);
-    match dialogue.take(number, message) {
+    match dialogue.take(number, at, message) {
         Ok(turn) => converse(port, dialogue, tally, turn),
         Err(_) => ArrayVec::new(),
     }
@@ -52,25 +53,25 @@ fn hear_one<P: Port>(
     tally: &mut Tally,
     deliveries: &mut VecDeque<Delivery>,
     due: Moment,
-    item: Item,
+    out: Out,
 ) -> Result<(), DriveFault>
     ensures kept { (call now : ℕ) (meter after : Meter) (handed : List Paid)
         → IsAtRest call meter (handed ++ queued_in deliveries.old.items)
         (P.standing port.old call) (phase_of dialogue.old)
-        → Sends meter now item after
+        → Sends meter now out.item after
         → tally.new.forfeits ≡ tally.old.forfeits }
     ensures rests { (call now : ℕ) (meter after : Meter) (handed : List Paid)
         → IsAtRest call meter (handed ++ queued_in deliveries.old.items)
         (P.standing port.old call) (phase_of dialogue.old)
-        → Sends meter now item after
+        → Sends meter now out.item after
         → IfOk result (λ _. IsAtRest call after (handed ++ queued_in deliveries.new.items)
         (P.standing port.new call) (phase_of dialogue.new)) }
     ensures sent { IfOk result (λ _. AreSent due deliveries.old.items deliveries.new.items) }
     ensures fault { IfErr result (λ fault. fault ≡ DriveFault.OutOfMemory) }
 {
-    match item {
+    match out.item {
         Item::Msg(message) => {
-            let ops = hear(port, dialogue, tally, message);
+            let ops = hear(port, dialogue, tally, out.at, message);
             send(deliveries, due, ops.as_slice())
         }
         Item::Proceed => Ok(()),
@@ -102,7 +103,7 @@ pub(crate) fn hear_all<P: Port>(
     ensures fault { IfErr result (λ fault. fault ≡ DriveFault.OutOfMemory) }
 {
     for out in sent {
-        hear_one(port, dialogue, tally, deliveries, due, out.item)?;
+        hear_one(port, dialogue, tally, deliveries, due, *out)?;
     }
     Ok(())
 }

@@ -55,12 +55,12 @@ keeps_replied call (FirstAsk t) (Granted units last a) about = keeps_given call 
 keeps_replied call (FirstAsk t) (Denied a) about = (tt, tt, refl)
 keeps_replied call (FirstAsk t) reply about = tt
 keeps_replied call (Running t) reply about = tt
-keeps_replied call (Settling t true) (Settled p a) about = (about, about, refl)
-keeps_replied call (Settling t true) (Forfeit p a) about = (tt, about, refl)
-keeps_replied call (Settling t true) reply about = tt
-keeps_replied call (Settling t false) (Settled p a) about = (tt, about, refl)
-keeps_replied call (Settling t false) (Forfeit p a) about = (tt, about, refl)
-keeps_replied call (Settling t false) reply about = tt
+keeps_replied call (Settling t true since) (Settled p a) about = (about, about, refl)
+keeps_replied call (Settling t true since) (Forfeit p a) about = (tt, about, refl)
+keeps_replied call (Settling t true since) reply about = tt
+keeps_replied call (Settling t false since) (Settled p a) about = (tt, about, refl)
+keeps_replied call (Settling t false since) (Forfeit p a) about = (tt, about, refl)
+keeps_replied call (Settling t false since) reply about = tt
 keeps_replied call (MoreAsk t) (Granted units last a) about = keeps_given call (are_units units) _ (Running t) about
 keeps_replied call (MoreAsk t) (Denied a) about = (tt, about, refl)
 keeps_replied call (MoreAsk t) reply about = tt
@@ -72,8 +72,8 @@ keeps_replied call Closed reply about = tt
 keeps_unanswered : (call : ℕ) (phase : Phase) → IsAbout call phase → KeepsTo call (unanswered phase)
 keeps_unanswered call (FirstAsk t) about = (tt, tt, refl)
 keeps_unanswered call (Running t) about = tt
-keeps_unanswered call (Settling t true) about = (tt, about, refl)
-keeps_unanswered call (Settling t false) about = (tt, about, refl)
+keeps_unanswered call (Settling t true since) about = (tt, about, refl)
+keeps_unanswered call (Settling t false since) about = (tt, about, refl)
 keeps_unanswered call (MoreAsk t) about = (tt, about, refl)
 keeps_unanswered call (Returning after) about = keeps_sequel call after
 keeps_unanswered call Ending about = tt
@@ -98,7 +98,7 @@ says_of_call call first [] about says = says
 says_of_call call first (got ∷ earlier) about says = (kept_got call (talked first earlier).1 got (talked_about call first earlier about)).1
 
 entry_held : (seat call : ℕ) (calls : List ℕ) (said : Says) (got : Got) → SaysOf call said → Contains calls call → All (λ c. Contains calls c) (held_of (entry_of seat said got))
-entry_held seat call calls (Asks (Credits amount)) got says has = absurd says
+entry_held seat call calls (Asks (Credits amount until)) got says has = absurd says
 entry_held seat call calls (Asks (Reserves other plan wanted least)) (Ok reply) says has = All-cons (λ c. Contains calls c) other [] (let P : ℕ → Type 0 = λ c. Contains calls c in subst P (sym says) has) (All-nil (λ c. Contains calls c))
 entry_held seat call calls (Asks (Reserves other plan wanted least)) (Err fault) says has = All-nil (λ c. Contains calls c)
 entry_held seat call calls (Asks (Settles other number info)) (Ok reply) says has = All-nil (λ c. Contains calls c)
@@ -118,7 +118,7 @@ talk_held seat call calls first (got ∷ earlier) about says has =
     (entry_held seat call calls (talked first earlier).0 got (says_of_call call first earlier about says) has))
 
 no_credit : (seat call : ℕ) (said : Says) (got : Got) → SaysOf call said → credits_of (entry_of seat said got) ≡ []
-no_credit seat call (Asks (Credits amount)) got says = absurd says
+no_credit seat call (Asks (Credits amount until)) got says = absurd says
 no_credit seat call (Asks (Reserves other plan wanted least)) (Ok reply) says = refl
 no_credit seat call (Asks (Reserves other plan wanted least)) (Err fault) says = refl
 no_credit seat call (Asks (Settles other number info)) (Ok reply) says = refl
@@ -137,7 +137,7 @@ talk_credits seat call first (got ∷ earlier) about says =
     ∙ no_credit seat call (talked first earlier).0 got (says_of_call call first earlier about says)
 
 entry_settles : (seat : ℕ) (said : Says) (got : Got) → IsPart (settles_of (entry_of seat said got)) (settled_by said)
-entry_settles seat (Asks (Credits amount)) (Ok reply) = tt
+entry_settles seat (Asks (Credits amount until)) (Ok reply) = tt
 entry_settles seat (Asks (Reserves other plan wanted least)) (Ok reply) = tt
 entry_settles seat (Asks (Settles other number info)) (Ok reply) = inl (refl, tt)
 entry_settles seat (Asks (Returns other)) (Ok reply) = tt
@@ -184,20 +184,20 @@ abbrev pub TakesTo : ℕ → ℕ → SsfMsg → Step → Type 0
 TakesTo call number message (Ok next) = IsAbout call next.1 × SaysOf call next.0 × IsPart (settled_by next.0) (report_in number call message)
 TakesTo call number message (Err fault) = Unit {0}
 
-pub takes_told : (call number : ℕ) (phase : Phase) (message : SsfMsg) → IsAbout call phase → TakesTo call number message (told phase number message)
-takes_told call number (FirstAsk t) message about = tt
-takes_told call number (Running t) (msg.InitialDp other calling called) about = tt
-takes_told call number (Running t) (msg.EventReport event.Answer leg mode) about = (about, tt, tt)
-takes_told call number (Running t) (msg.EventReport event leg mode) about = (tt, about, tt)
-takes_told call number (Running t) (msg.ChargingReport active info) about = (about, about, inl (ap (λ c. (number, c, info)) about, tt))
-takes_told call number (Running t) msg.Ended about = (tt, about, tt)
-takes_told call number (Settling t active) message about = tt
-takes_told call number (MoreAsk t) message about = tt
-takes_told call number (Returning after) message about = tt
-takes_told call number Ending (msg.InitialDp other calling called) about = tt
-takes_told call number Ending (msg.EventReport event leg Interrupted) about = (tt, tt, tt)
-takes_told call number Ending (msg.EventReport event leg NotifyAndContinue) about = (tt, tt, tt)
-takes_told call number Ending (msg.EventReport event leg Transparent) about = (tt, tt, tt)
-takes_told call number Ending (msg.ChargingReport active info) about = tt
-takes_told call number Ending msg.Ended about = (tt, tt, tt)
-takes_told call number Closed message about = tt
+pub takes_told : (call number at : ℕ) (phase : Phase) (message : SsfMsg) → IsAbout call phase → TakesTo call number message (told phase number at message)
+takes_told call number at (FirstAsk t) message about = tt
+takes_told call number at (Running t) (msg.InitialDp other calling called) about = tt
+takes_told call number at (Running t) (msg.EventReport event.Answer leg mode) about = (about, tt, tt)
+takes_told call number at (Running t) (msg.EventReport event leg mode) about = (tt, about, tt)
+takes_told call number at (Running t) (msg.ChargingReport active info) about = (about, about, inl (ap (λ c. (number, c, info)) about, tt))
+takes_told call number at (Running t) msg.Ended about = (tt, about, tt)
+takes_told call number at (Settling t active since) message about = tt
+takes_told call number at (MoreAsk t) message about = tt
+takes_told call number at (Returning after) message about = tt
+takes_told call number at Ending (msg.InitialDp other calling called) about = tt
+takes_told call number at Ending (msg.EventReport event leg Interrupted) about = (tt, tt, tt)
+takes_told call number at Ending (msg.EventReport event leg NotifyAndContinue) about = (tt, tt, tt)
+takes_told call number at Ending (msg.EventReport event leg Transparent) about = (tt, tt, tt)
+takes_told call number at Ending (msg.ChargingReport active info) about = tt
+takes_told call number at Ending msg.Ended about = (tt, tt, tt)
+takes_told call number at Closed message about = tt

@@ -60,16 +60,16 @@ stands_now old new call talk kept other = ap (option_map standing_of) (kept othe
 
 -- ---- what is done
 
-pub recharged_by : (numbers : List ℕ) (place amount seat : ℕ) (lists grew : List (List Event)) (talks : ℕ → Option Standing) (before after : List Event) (told : Told)
-    → IsCredited seat (Credits amount) before after told → seat ≡ slice_index_or numbers place 0
+pub recharged_by : (numbers : List ℕ) (place amount : ℕ) (until : Option ℕ) (seat : ℕ) (lists grew : List (List Event)) (talks : ℕ → Option Standing) (before after : List Event) (told : Told)
+    → IsCredited seat (Credits amount until) before after told → seat ≡ slice_index_or numbers place 0
     → ((entries : List Event) → after ≡ before ++ entries → grew ≡ grown lists place entries)
-    → IsRecharged numbers place amount (record { lists = lists; talks = talks }) (record { lists = grew; talks = talks }) told
-recharged_by numbers place amount seat lists grew talks before after told is number grows = record {
+    → IsRecharged numbers place amount until (record { lists = lists; talks = talks }) (record { lists = grew; talks = talks }) told
+recharged_by numbers place amount until seat lists grew talks before after told is number grows = record {
   got = is.got;
   orders = is.orders;
   stray = is.stray;
   refused = is.refuses ∙ fault_after [] is.got;
-  lists = rw (← number) (grows (entry_of seat (Asks (Credits amount)) is.got) is.enters);
+  lists = rw (← number) (grows (entry_of seat (Asks (Credits amount until)) is.got) is.enters);
   talks = λ call. refl;
 }
 

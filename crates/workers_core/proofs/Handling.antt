@@ -19,82 +19,84 @@ use Rattle.workers_core.proofs.Abouts.{SaysOf, TakesTo, begun_about, begun_says,
 use Rattle.workers_core.proofs.Parts.{IsEntered, all_served_grown, all_served_more, begun_more, part_through}
 use Rattle.workers_core.specs.Cases.{IsActed, IsCase, IsWithin, with_room}
 use Rattle.workers_core.specs.Handled.{Holding, IsDone, IsRecharged, IsTalked, IsUnasked, Stay, Told}
-use Rattle.workers_core.specs.Served.{IsPart, Report, begun_by, begun_of, recharged_in, reported_in, settles_of}
+use Rattle.workers_core.specs.Served.{IsPart, Money, Report, begun_by, begun_of, recharged_in, reported_in, settles_of}
+use Rattle.workers_core.specs.Openings.{no_credit}
 use Rattle.workers_core.specs.Setups.{Setup, account_of}
 use Rattle.workers_core.specs.Talks.{Got, entries_of, entry_of}
 use Rattle.workers_core.specs.Verdicts.{Standing, Verdict, Strays, Rejects, Recharges, Begins, GoesOn, begins, fresh, goes_on, home_of, place_of, recharged, spoken, strays, verdict, verdict_on}
 use Rattle.workers_core.specs.Workers.{IsAbout, IsOwn, IsSound, standing_of}
 use Rattle.workers_core.specs.declared.case.Case.{Case}
 use Rattle.workers_core.specs.declared.case.Case.TheVariants as case
+use Rattle.workers_core.specs.declared.opening_credit.OpeningCredit.{OpeningCredit}
 use Rattle.workers_core.specs.declared.post.Body.{Body}
 use Rattle.workers_core.specs.declared.post.Body.TheVariants.{Ssf, Recharge}
 use Rattle.workers_core.specs.declared.post.Post.{Post}
 
 -- ---- what a verdict says of its post
 
-record IsOfAccount (setup : Setup) (body : Body) (place amount : ℕ) : Type 0 where
+record IsOfAccount (setup : Setup) (body : Body) (place amount : ℕ) (until : Option ℕ) : Type 0 where
   account : ℕ
-  is : body ≡ Recharge account amount
+  is : body ≡ Recharge account amount until
   at : place_of account setup ≡ Some place
 
 record IsOfBeginning (setup : Setup) (body : Body) (call place : ℕ) : Type 0 where
   begins : begun_by body ≡ call ∷ []
   within : place < length setup.accounts
 
-record IsOfDialogue (talks : ℕ → Option Standing) (number : ℕ) (body : Body) (call place : ℕ) (said : Says) (phase : Phase) : Type 0 where
+record IsOfDialogue (talks : ℕ → Option Standing) (number at : ℕ) (body : Body) (call place : ℕ) (said : Says) (phase : Phase) : Type 0 where
   standing : Standing
   message : SsfMsg
   stands : talks call ≡ Some standing
   same : standing.place ≡ place
   is : body ≡ Ssf call message
-  takes : told standing.phase number message ≡ Ok (said, phase)
+  takes : told standing.phase number at message ≡ Ok (said, phase)
 
-abbrev Means : Setup → (ℕ → Option Standing) → ℕ → Body → Verdict → Type 0
-Means setup talks number body Strays = Unit {0}
-Means setup talks number body Rejects = Unit {0}
-Means setup talks number body (Recharges place amount) = IsOfAccount setup body place amount
-Means setup talks number body (Begins call place called) = IsOfBeginning setup body call place
-Means setup talks number body (GoesOn call place said phase) = IsOfDialogue talks number body call place said phase
+abbrev Means : Setup → (ℕ → Option Standing) → ℕ → ℕ → Body → Verdict → Type 0
+Means setup talks number at body Strays = Unit {0}
+Means setup talks number at body Rejects = Unit {0}
+Means setup talks number at body (Recharges place amount until) = IsOfAccount setup body place amount until
+Means setup talks number at body (Begins call place called) = IsOfBeginning setup body call place
+Means setup talks number at body (GoesOn call place said phase) = IsOfDialogue talks number at body call place said phase
 
-at_place : (setup : Setup) (account place : ℕ) → place_of account setup ≡ Some place → (place < length setup.accounts) × (((get_or setup.accounts place (0, 0)).0 == account) ≡ true)
+at_place : (setup : Setup) (account place : ℕ) → place_of account setup ≡ Some place → (place < length setup.accounts) × (((get_or setup.accounts place (0, no_credit)).0 == account) ≡ true)
 at_place setup account place at =
-    let found = position-Some (λ (other : ℕ × ℕ). other.0 == account) setup.accounts place (0, 0) at in (found.0, found.1)
+    let found = position-Some (λ (other : ℕ × OpeningCredit). other.0 == account) setup.accounts place (0, no_credit) at in (found.0, found.1)
 
 home_within : (setup : Setup) (account : Option ℕ) (place : ℕ) → option_and_then (λ a. place_of a setup) account ≡ Some place → place < length setup.accounts
 home_within setup None place at = cc
 home_within setup (Some account) place at = (at_place setup account place at).0
 
-means_recharged : (setup : Setup) (talks : ℕ → Option Standing) (number account amount : ℕ) (place : Option ℕ) → place_of account setup ≡ place
-    → Means setup talks number (Recharge account amount) (recharged amount place)
-means_recharged setup talks number account amount None at = tt
-means_recharged setup talks number account amount (Some place) at = record { account = account; is = refl; at = at }
+means_recharged : (setup : Setup) (talks : ℕ → Option Standing) (number at account amount : ℕ) (until : Option ℕ) (place : Option ℕ) → place_of account setup ≡ place
+    → Means setup talks number at (Recharge account amount until) (recharged amount until place)
+means_recharged setup talks number at account amount until None found = tt
+means_recharged setup talks number at account amount until (Some place) found = record { account = account; is = refl; at = found }
 
-means_begins : (setup : Setup) (talks : ℕ → Option Standing) (number call other : ℕ) (calling called : Number) (place : Option ℕ) → home_of calling setup ≡ place
-    → Means setup talks number (Ssf call (msg.InitialDp other calling called)) (begins call called place)
-means_begins setup talks number call other calling called None at = tt
-means_begins setup talks number call other calling called (Some place) at =
-    record { begins = refl; within = home_within setup (account_of calling setup.subscribers) place at }
+means_begins : (setup : Setup) (talks : ℕ → Option Standing) (number at call other : ℕ) (calling called : Number) (place : Option ℕ) → home_of calling setup ≡ place
+    → Means setup talks number at (Ssf call (msg.InitialDp other calling called)) (begins call called place)
+means_begins setup talks number at call other calling called None found = tt
+means_begins setup talks number at call other calling called (Some place) found =
+    record { begins = refl; within = home_within setup (account_of calling setup.subscribers) place found }
 
-means_fresh : (setup : Setup) (talks : ℕ → Option Standing) (number call : ℕ) (message : SsfMsg) → Means setup talks number (Ssf call message) (fresh setup call message)
-means_fresh setup talks number call (msg.InitialDp other calling called) = means_begins setup talks number call other calling called (home_of calling setup) refl
-means_fresh setup talks number call (msg.EventReport event leg mode) = tt
-means_fresh setup talks number call (msg.ChargingReport active info) = tt
-means_fresh setup talks number call msg.Ended = tt
+means_fresh : (setup : Setup) (talks : ℕ → Option Standing) (number at call : ℕ) (message : SsfMsg) → Means setup talks number at (Ssf call message) (fresh setup call message)
+means_fresh setup talks number at call (msg.InitialDp other calling called) = means_begins setup talks number at call other calling called (home_of calling setup) refl
+means_fresh setup talks number at call (msg.EventReport event leg mode) = tt
+means_fresh setup talks number at call (msg.ChargingReport active info) = tt
+means_fresh setup talks number at call msg.Ended = tt
 
-means_goes_on : (setup : Setup) (talks : ℕ → Option Standing) (number call : ℕ) (message : SsfMsg) (standing : Standing) (step : Step) → talks call ≡ Some standing
-    → told standing.phase number message ≡ step → Means setup talks number (Ssf call message) (goes_on call standing.place step)
-means_goes_on setup talks number call message standing (Ok next) stands takes =
+means_goes_on : (setup : Setup) (talks : ℕ → Option Standing) (number at call : ℕ) (message : SsfMsg) (standing : Standing) (step : Step) → talks call ≡ Some standing
+    → told standing.phase number at message ≡ step → Means setup talks number at (Ssf call message) (goes_on call standing.place step)
+means_goes_on setup talks number at call message standing (Ok next) stands takes =
     record { standing = standing; message = message; stands = stands; same = refl; is = refl; takes = takes }
-means_goes_on setup talks number call message standing (Err fault) stands takes = tt
+means_goes_on setup talks number at call message standing (Err fault) stands takes = tt
 
-means_spoken : (setup : Setup) (talks : ℕ → Option Standing) (number call : ℕ) (message : SsfMsg) (standing : Option Standing) → talks call ≡ standing
-    → Means setup talks number (Ssf call message) (spoken setup number call message standing)
-means_spoken setup talks number call message None stands = means_fresh setup talks number call message
-means_spoken setup talks number call message (Some standing) stands = means_goes_on setup talks number call message standing (told standing.phase number message) stands refl
+means_spoken : (setup : Setup) (talks : ℕ → Option Standing) (number at call : ℕ) (message : SsfMsg) (standing : Option Standing) → talks call ≡ standing
+    → Means setup talks number at (Ssf call message) (spoken setup number at call message standing)
+means_spoken setup talks number at call message None stands = means_fresh setup talks number at call message
+means_spoken setup talks number at call message (Some standing) stands = means_goes_on setup talks number at call message standing (told standing.phase number at message) stands refl
 
-means_on : (setup : Setup) (talks : ℕ → Option Standing) (number : ℕ) (body : Body) → Means setup talks number body (verdict_on setup talks number body)
-means_on setup talks number (Ssf call message) = means_spoken setup talks number call message (talks call) refl
-means_on setup talks number (Recharge account amount) = means_recharged setup talks number account amount (place_of account setup) refl
+means_on : (setup : Setup) (talks : ℕ → Option Standing) (number at : ℕ) (body : Body) → Means setup talks number at body (verdict_on setup talks number at body)
+means_on setup talks number at (Ssf call message) = means_spoken setup talks number at call message (talks call) refl
+means_on setup talks number at (Recharge account amount until) = means_recharged setup talks number at account amount until (place_of account setup) refl
 
 -- ---- the place of a case
 
@@ -104,20 +106,20 @@ own_of count posts call standing None is own = cc
 own_of count posts call standing (Some other) is own = let same : other ≡ standing = cc in let P : Standing → Type 0 = λ s. IsOwn count posts call s in subst P same own
 
 many_keys : (setup : Setup) → length (keys_of setup.accounts) ≡ length setup.accounts
-many_keys setup = length-map setup.accounts (λ (e : ℕ × ℕ). e.0)
+many_keys setup = length-map setup.accounts (λ (e : ℕ × OpeningCredit). e.0)
 
 within_by : (setup : Setup) (at : ℕ) (posts : List Post) (old : Holding) (number : ℕ) (body : Body) (v : Verdict) (case : Case) → IsSound (keys_of setup.accounts) posts old
-    → Means setup old.talks number body v → IsCase setup at v case → IsWithin (length setup.accounts) case
+    → Means setup old.talks number at body v → IsCase setup at v case → IsWithin (length setup.accounts) case
 within_by setup at posts old number body v case.Stray sound means is = tt
 within_by setup at posts old number body v case.Rejected sound means is = tt
-within_by setup at posts old number body v (case.Recharge place amount) sound means is =
-    let P : Verdict → Type 0 = λ w. Means setup old.talks number body w in
-    let m : IsOfAccount setup body place amount = subst P is means in (at_place setup m.account place m.at).0
+within_by setup at posts old number body v (case.Recharge place amount until) sound means is =
+    let P : Verdict → Type 0 = λ w. Means setup old.talks number at body w in
+    let m : IsOfAccount setup body place amount until = subst P is means in (at_place setup m.account place m.at).0
 within_by setup at posts old number body v (case.Talk call talk turn) sound means is =
-    let P : Verdict → Type 0 = λ w. Means setup old.talks number body w in
+    let P : Verdict → Type 0 = λ w. Means setup old.talks number at body w in
     elim is [
       | inl goes ↦
-          (let m : IsOfDialogue old.talks number body call talk.place (says_of turn) (phase_of talk.dialogue) = subst P goes means in
+          (let m : IsOfDialogue old.talks number at body call talk.place (says_of turn) (phase_of talk.dialogue) = subst P goes means in
           let own = own_of (length (keys_of setup.accounts)) posts call m.standing (old.talks call) m.stands (sound.talks call) in
           rw (← m.same, ← many_keys setup) own.placed)
       | inr first ↦ (let m : IsOfBeginning setup body call talk.place = subst P first.is means in m.within)
@@ -126,7 +128,7 @@ within_by setup at posts old number body v (case.Talk call talk turn) sound mean
 pub case_within : (setup : Setup) (posts : List Post) (old : Holding) (post : Post) (case : Case) → IsSound (keys_of setup.accounts) posts old
     → IsCase setup post.at (verdict setup old.talks post) case → IsWithin (length setup.accounts) case
 case_within setup posts old post case sound is =
-    within_by setup post.at posts old post.number post.body (verdict setup old.talks post) case sound (means_on setup old.talks post.number post.body) is
+    within_by setup post.at posts old post.number post.body (verdict setup old.talks post) case sound (means_on setup old.talks post.number post.at post.body) is
 
 -- ---- what is done, by the verdict
 
@@ -162,7 +164,7 @@ pub done_by : (setup : Setup) (numbers : List ℕ) (at : ℕ) (v : Verdict) (cas
     → IsDone setup numbers at v (record { lists = lists; talks = talks }) new t
 done_by setup numbers at v case.Stray lists talks between new t is room acted = rw is (unasked_past [] true lists talks between new t room acted)
 done_by setup numbers at v case.Rejected lists talks between new t is room acted = rw is (unasked_past (Release 21 ∷ []) false lists talks between new t room acted)
-done_by setup numbers at v (case.Recharge place amount) lists talks between new t is room acted =
+done_by setup numbers at v (case.Recharge place amount until) lists talks between new t is room acted =
     rw is
     (record {
       got = acted.got;
@@ -184,14 +186,14 @@ done_by setup numbers at v (case.Talk call talk turn) lists talks between new t 
 pub stray_is : (setup : Setup) (numbers : List ℕ) (at : ℕ) (v : Verdict) (old new : Holding) (t : Told) → IsDone setup numbers at v old new t → t.stray ≡ strays v
 stray_is setup numbers at Strays old new t done = done.stray_is
 stray_is setup numbers at Rejects old new t done = done.stray_is
-stray_is setup numbers at (Recharges place amount) old new t done = done.stray
+stray_is setup numbers at (Recharges place amount until) old new t done = done.stray
 stray_is setup numbers at (Begins call place called) old new t done = done.talked.stray
 stray_is setup numbers at (GoesOn call place said phase) old new t done = done.stray
 
 pub stray_lists : (setup : Setup) (numbers : List ℕ) (at : ℕ) (v : Verdict) (old new : Holding) (t : Told) → IsDone setup numbers at v old new t → t.stray ≡ true → new.lists ≡ old.lists
 stray_lists setup numbers at Strays old new t done is = done.lists
 stray_lists setup numbers at Rejects old new t done is = done.lists
-stray_lists setup numbers at (Recharges place amount) old new t done is = let not = done.stray in cc
+stray_lists setup numbers at (Recharges place amount until) old new t done is = let not = done.stray in cc
 stray_lists setup numbers at (Begins call place called) old new t done is = let not = done.talked.stray in cc
 stray_lists setup numbers at (GoesOn call place said phase) old new t done is = let not = done.stray in cc
 
@@ -200,9 +202,9 @@ pub rejected_so : (setup : Setup) (numbers : List ℕ) (at : ℕ) (v : Verdict) 
 rejected_so setup numbers at v old new t done is =
     let P : Verdict → Type 0 = λ w. IsDone setup numbers at w old new t in let u : IsUnasked (Release 21 ∷ []) false old new t = subst P is done in (u.orders_are, u.lists)
 
-pub recharged_so : (setup : Setup) (numbers : List ℕ) (at : ℕ) (v : Verdict) (old new : Holding) (t : Told) (place amount : ℕ) → IsDone setup numbers at v old new t → v ≡ Recharges place amount
-    → IsRecharged numbers place amount old new t
-recharged_so setup numbers at v old new t place amount done is = let P : Verdict → Type 0 = λ w. IsDone setup numbers at w old new t in subst P is done
+pub recharged_so : (setup : Setup) (numbers : List ℕ) (at : ℕ) (v : Verdict) (old new : Holding) (t : Told) (place amount : ℕ) (until : Option ℕ) → IsDone setup numbers at v old new t → v ≡ Recharges place amount until
+    → IsRecharged numbers place amount until old new t
+recharged_so setup numbers at v old new t place amount until done is = let P : Verdict → Type 0 = λ w. IsDone setup numbers at w old new t in subst P is done
 
 -- ---- what a worker holds stays in order
 
@@ -245,7 +247,7 @@ talked_sound accounts numbers call place first posts post old new t sound within
     let entered : IsEntered (get_or accounts place 0) posts post (entries_of seat first is.gots) = record {
       settles = part_through (settles_of (entries_of seat first is.gots)) (settled_by first.0) (reported_in post.number post.body) (talk_settles seat call first is.gots about) settles;
       credits =
-          let P : List ℕ → Type 0 = λ l. IsPart l (recharged_in (get_or accounts place 0) post.body) in subst P (sym (talk_credits seat call first is.gots about says)) tt;
+          let P : List Money → Type 0 = λ l. IsPart l (recharged_in (get_or accounts place 0) post.body) in subst P (sym (talk_credits seat call first is.gots about says)) tt;
       calls = talk_held seat call (begun_of (posts ++ post ∷ [])) first is.gots about says has;
     } in
     let stands : IsAbout call is.phase = let P : (Says × Phase) → Type 0 = λ p. IsAbout call p.1 in subst P is.talk (talked_about call first is.gots about) in
@@ -256,35 +258,35 @@ talked_sound accounts numbers call place first posts post old new t sound within
           (record { placed = within; about = stands; begun = has }) (sound.talks other);
     }
 
-credit_entered : (account : ℕ) (posts : List Post) (post : Post) (seat amount : ℕ) (got : Got) → recharged_in account post.body ≡ amount ∷ []
-    → IsEntered account posts post (entry_of seat (Asks (Credits amount)) got)
-credit_entered account posts post seat amount (Ok reply) is = record {
+credit_entered : (account : ℕ) (posts : List Post) (post : Post) (seat amount : ℕ) (until : Option ℕ) (got : Got) → recharged_in account post.body ≡ (amount, until) ∷ []
+    → IsEntered account posts post (entry_of seat (Asks (Credits amount until)) got)
+credit_entered account posts post seat amount until (Ok reply) is = record {
   settles = tt;
-  credits = let P : List ℕ → Type 0 = λ l. IsPart (amount ∷ []) l in subst P (sym is) (inl (refl, tt));
+  credits = let P : List Money → Type 0 = λ l. IsPart ((amount, until) ∷ []) l in subst P (sym is) (inl (refl, tt));
   calls = All-nil (λ call. Contains (begun_of (posts ++ post ∷ [])) call);
 }
-credit_entered account posts post seat amount (Err fault) is =
+credit_entered account posts post seat amount until (Err fault) is =
     record { settles = tt; credits = tt; calls = All-nil (λ call. Contains (begun_of (posts ++ post ∷ [])) call) }
 
-of_account : (setup : Setup) (body : Body) (place amount : ℕ) → IsOfAccount setup body place amount → recharged_in (get_or (keys_of setup.accounts) place 0) body ≡ amount ∷ []
-of_account setup body place amount m =
+of_account : (setup : Setup) (body : Body) (place amount : ℕ) (until : Option ℕ) → IsOfAccount setup body place amount until → recharged_in (get_or (keys_of setup.accounts) place 0) body ≡ (amount, until) ∷ []
+of_account setup body place amount until m =
     let found = at_place setup m.account place m.at in
     let key : get_or (keys_of setup.accounts) place 0 ≡ m.account =
-    get_or-map (λ (e : ℕ × ℕ). e.0) setup.accounts place (0, 0) 0 found.0 ∙ same_number (get_or setup.accounts place (0, 0)).0 m.account found.1 in
+    get_or-map (λ (e : ℕ × OpeningCredit). e.0) setup.accounts place (0, no_credit) 0 found.0 ∙ same_number (get_or setup.accounts place (0, no_credit)).0 m.account found.1 in
     rw (key, m.is, is_itself m.account) refl
 
 sound_by : (setup : Setup) (numbers : List ℕ) (posts : List Post) (post : Post) (v : Verdict) (old new : Holding) (t : Told) → IsSound (keys_of setup.accounts) posts old
-    → Means setup old.talks post.number post.body v → IsDone setup numbers post.at v old new t → IsSound (keys_of setup.accounts) (posts ++ post ∷ []) new
+    → Means setup old.talks post.number post.at post.body v → IsDone setup numbers post.at v old new t → IsSound (keys_of setup.accounts) (posts ++ post ∷ []) new
 sound_by setup numbers posts post Strays old new t sound m done = unasked_sound (keys_of setup.accounts) posts post old new sound done.lists done.talks
 sound_by setup numbers posts post Rejects old new t sound m done = unasked_sound (keys_of setup.accounts) posts post old new sound done.lists done.talks
-sound_by setup numbers posts post (Recharges place amount) old new t sound m done =
+sound_by setup numbers posts post (Recharges place amount until) old new t sound m done =
     let within : place < length (keys_of setup.accounts) = rw (many_keys setup) (at_place setup m.account place m.at).0 in
     let seat : ℕ = slice_index_or numbers place 0 in
     record {
       served =
           rw done.lists
-          (all_served_grown (keys_of setup.accounts) posts post old.lists place (entry_of seat (Asks (Credits amount)) done.got) sound.served within
-          (credit_entered (get_or (keys_of setup.accounts) place 0) posts post seat amount done.got (of_account setup post.body place amount m)));
+          (all_served_grown (keys_of setup.accounts) posts post old.lists place (entry_of seat (Asks (Credits amount until)) done.got) sound.served within
+          (credit_entered (get_or (keys_of setup.accounts) place 0) posts post seat amount until done.got (of_account setup post.body place amount until m)));
       talks = λ call. own_same (length (keys_of setup.accounts)) posts post call (old.talks call) (new.talks call) (done.talks call) (sound.talks call);
     }
 sound_by setup numbers posts post (Begins call place called) old new t sound m done =
@@ -302,11 +304,11 @@ sound_by setup numbers posts post (GoesOn call place said phase) old new t sound
     let within : place < length (keys_of setup.accounts) = rw (← m.same) own.placed in
     let takes : TakesTo call post.number m.message (Ok (said, phase)) =
     let P : Step → Type 0 = λ step. TakesTo call post.number m.message step in
-    subst P m.takes (takes_told call post.number m.standing.phase m.message own.about) in
+    subst P m.takes (takes_told call post.number post.at m.standing.phase m.message own.about) in
     talked_sound (keys_of setup.accounts) numbers call place (said, phase) posts post old new t sound within (begun_more posts post call own.begun) takes.0 takes.1 (rw m.is takes.2) done
 
 -- what a worker holds stays in order
 pub sound_after : (setup : Setup) (numbers : List ℕ) (posts : List Post) (post : Post) (old new : Holding) (t : Told) → IsSound (keys_of setup.accounts) posts old
     → IsDone setup numbers post.at (verdict setup old.talks post) old new t → IsSound (keys_of setup.accounts) (posts ++ post ∷ []) new
 sound_after setup numbers posts post old new t sound done =
-    sound_by setup numbers posts post (verdict setup old.talks post) old new t sound (means_on setup old.talks post.number post.body) done
+    sound_by setup numbers posts post (verdict setup old.talks post) old new t sound (means_on setup old.talks post.number post.at post.body) done

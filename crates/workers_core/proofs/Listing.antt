@@ -16,7 +16,9 @@ use Rattle.std.proofs.lemmas.Slice.Eq.{bytes_eq-Decides}
 use Rattle.cap_values.specs.NumberDigits.{by_digits, digits_of}
 use Rattle.cap_values.specs.declared.number.Number.{Number}
 use Rattle.workers_core.proofs.Judging.{ends, lookup-alike, lookup-append, one_more, passes, stops}
+use Rattle.workers_core.specs.Openings.{is_in_range}
 use Rattle.workers_core.specs.Setups.{account_fault, account_of, first_fault, has_account, opening_of, subscriber_fault}
+use Rattle.workers_core.specs.declared.opening_credit.OpeningCredit.{OpeningCredit}
 use Rattle.workers_core.specs.declared.setup_fault.SetupFault.{SetupFault}
 use Rattle.workers_core.specs.declared.setup_fault.SetupFault.TheVariants as fault
 
@@ -116,32 +118,32 @@ module _ {K V : Type 0} (kind : Items K V) where
 pub same_number : (k other : ℕ) → is_at (nat_cmp k) other ≡ (other == k)
 same_number k other = grind (arith, nat_tests)
 
-pub number_alike : (k q : ℕ) → (k == q) ≡ true → (es : List (ℕ × ℕ)) → opening_of k es ≡ opening_of q es
+pub number_alike : (k q : ℕ) → (k == q) ≡ true → (es : List (ℕ × OpeningCredit)) → opening_of k es ≡ opening_of q es
 number_alike k q is es = let same : k ≡ q = grind (arith, nat_tests, is) in ap (λ n. opening_of n es) same
 
-pub new_account : (high named : Bool) → (if high then Some fault.OutOfRange else if named then Some fault.Repeated else None) ≡ None → named ≡ false
-new_account true named fine = cc
-new_account false true fine = cc
-new_account false false fine = refl
+pub new_account : (ranged named : Bool) → (if ranged then if named then Some fault.Repeated else None else Some fault.OutOfRange) ≡ None → named ≡ false
+new_account false named fine = cc
+new_account true true fine = cc
+new_account true false fine = refl
 
-abbrev pub account_items : Items ℕ ℕ
+abbrev pub account_items : Items ℕ OpeningCredit
 account_items = record {
   order = nat_cmp;
   same = λ other account. other == account;
   agrees = same_number;
   alike = number_alike;
   judge = λ named account. account_fault named account.1;
-  is_new = λ named account. new_account (nat_lt 1000000000000000 account.1) named;
+  is_new = λ named account. new_account (is_in_range account.1) named;
 }
 
 -- what a map of the accounts finds
-pub opening_of-entries : (accounts : List (ℕ × ℕ)) (account : ℕ) → opening_of account accounts ≡ lookup (is_at (nat_cmp account)) accounts
+pub opening_of-entries : (accounts : List (ℕ × OpeningCredit)) (account : ℕ) → opening_of account accounts ≡ lookup (is_at (nat_cmp account)) accounts
 opening_of-entries accounts account = sym (lookup-alike (is_at (nat_cmp account)) (λ other. other == account) (same_number account) accounts)
 
 -- what holds of each value holds of each entry's
-pub values_entries : (P : ℕ → Type 0) (entries : List (ℕ × ℕ)) → All P (values_of entries) → All (λ entry. P entry.1) entries
+pub values_entries : (P : OpeningCredit → Type 0) (entries : List (ℕ × OpeningCredit)) → All P (values_of entries) → All (λ entry. P entry.1) entries
 values_entries P entries all k d below =
-    rw (get_or-map (λ (entry : ℕ × ℕ). entry.1) entries k d) at (all k d.1 (rw (length-map entries (λ (entry : ℕ × ℕ). entry.1)) below))
+    rw (get_or-map (λ (entry : ℕ × OpeningCredit). entry.1) entries k d) at (all k d.1 (rw (length-map entries (λ (entry : ℕ × OpeningCredit). entry.1)) below))
 
 -- ---- subscribers
 
@@ -159,7 +161,7 @@ new_subscriber true known fine = cc
 new_subscriber false known fine = refl
 
 -- those that have one of these accounts
-abbrev pub subscriber_items : List (ℕ × ℕ) → Items Number ℕ
+abbrev pub subscriber_items : List (ℕ × OpeningCredit) → Items Number ℕ
 subscriber_items accounts = record {
   order = by_digits;
   same = λ other number. bytes_eq (digits_of other) (digits_of number);

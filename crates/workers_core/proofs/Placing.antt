@@ -14,21 +14,23 @@ use Rattle.std.proofs.lemmas.List.{length-map}
 use Rattle.std.proofs.lemmas.List.Sums.{position_or_len_is}
 use Rattle.std.proofs.lemmas.Map.Keys.{below_from_sorted, non_decreasing_from_sorted}
 use Rattle.std.proofs.lemmas.Map.Lookups.{exact_unsigned}
+use Rattle.workers_core.specs.Openings.{no_credit}
 use Rattle.workers_core.specs.Setups.{opening_of}
+use Rattle.workers_core.specs.declared.opening_credit.OpeningCredit.{OpeningCredit}
 
-pub found_at : (accounts : List (ℕ × ℕ)) (account place : ℕ) → HoldsAt (λ entry. nat_cmp entry.0 account ≡ Equal) accounts place → HoldsAt (λ entry. entry.0 ≡ account) accounts place
+pub found_at : (accounts : List (ℕ × OpeningCredit)) (account place : ℕ) → HoldsAt (λ entry. nat_cmp entry.0 account ≡ Equal) accounts place → HoldsAt (λ entry. entry.0 ≡ account) accounts place
 found_at accounts account place equal d = exact_unsigned _ account (equal d)
 
-not_named : (accounts : List (ℕ × ℕ)) (account : ℕ) → ((k : ℕ) (d : ℕ × ℕ) → k < length accounts → ((get_or accounts k d).0 == account) ≡ false) → opening_of account accounts ≡ None
+not_named : (accounts : List (ℕ × OpeningCredit)) (account : ℕ) → ((k : ℕ) (d : ℕ × OpeningCredit) → k < length accounts → ((get_or accounts k d).0 == account) ≡ false) → opening_of account accounts ≡ None
 not_named [] account differs = refl
 not_named (first ∷ accounts) account differs =
     rw (differs 0 first (omega arith)) (not_named accounts account (λ k d within. differs (suc k) d (omega (arith, within))))
 
-unnamed_first : (is : Bool) (opening : ℕ) (rest : Option ℕ) → (if is then Some opening else rest) ≡ None → is ≡ false
+unnamed_first : (is : Bool) (opening : OpeningCredit) (rest : Option OpeningCredit) → (if is then Some opening else rest) ≡ None → is ≡ false
 unnamed_first true opening rest none = cc
 unnamed_first false opening rest none = refl
 
-unnamed_rest : (is : Bool) (opening : ℕ) (rest : Option ℕ) → (if is then Some opening else rest) ≡ None → rest ≡ None
+unnamed_rest : (is : Bool) (opening : OpeningCredit) (rest : Option OpeningCredit) → (if is then Some opening else rest) ≡ None → rest ≡ None
 unnamed_rest true opening rest none = cc
 unnamed_rest false opening rest none = none
 
@@ -54,40 +56,40 @@ not_below : (n : ℕ) → nat_lt n n ≡ false
 not_below n = grind (arith, nat_tests)
 
 -- where a look-up finds nothing, each number differs
-unnamed : (accounts : List (ℕ × ℕ)) (account : ℕ) → opening_of account accounts ≡ None → (k : ℕ) → k < length accounts → ((get_or accounts k (0, 0)).0 == account) ≡ false
+unnamed : (accounts : List (ℕ × OpeningCredit)) (account : ℕ) → opening_of account accounts ≡ None → (k : ℕ) → k < length accounts → ((get_or accounts k (0, no_credit)).0 == account) ≡ false
 unnamed [] account none k within = absurd (omega (arith, within))
 unnamed (first ∷ accounts) account none zero within = unnamed_first (first.0 == account) first.1 (opening_of account accounts) none
 unnamed (first ∷ accounts) account none (suc k) within =
     unnamed accounts account (unnamed_rest (first.0 == account) first.1 (opening_of account accounts) none) k (omega (arith, within))
 
 -- the numbers of accounts in ascending order don't fall
-pub never_fall : (accounts : List (ℕ × ℕ)) → IsStrictlySortedBy nat_cmp (keys_of accounts) → IsNonDecreasingBy (λ entry. entry.0) accounts
+pub never_fall : (accounts : List (ℕ × OpeningCredit)) → IsStrictlySortedBy nat_cmp (keys_of accounts) → IsNonDecreasingBy (λ entry. entry.0) accounts
 never_fall accounts sorted a b d le within =
-    let numbers = non_decreasing_from_sorted (keys_of accounts) sorted a b d.0 le (rw (length-map accounts (λ (entry : ℕ × ℕ). entry.0)) within) in
-    rw (get_or-map (λ (entry : ℕ × ℕ). entry.0) accounts a d, get_or-map (λ (entry : ℕ × ℕ). entry.0) accounts b d) at numbers
+    let numbers = non_decreasing_from_sorted (keys_of accounts) sorted a b d.0 le (rw (length-map accounts (λ (entry : ℕ × OpeningCredit). entry.0)) within) in
+    rw (get_or-map (λ (entry : ℕ × OpeningCredit). entry.0) accounts a d, get_or-map (λ (entry : ℕ × OpeningCredit). entry.0) accounts b d) at numbers
 
 -- an account stands first where its number is found, since the numbers rise
-pub first_at : (accounts : List (ℕ × ℕ)) (account place : ℕ) → IsStrictlySortedBy nat_cmp (keys_of accounts) → place < length accounts → HoldsAt (λ entry. entry.0 ≡ account) accounts place
-    → position (λ (other : ℕ × ℕ). other.0 == account) accounts ≡ Some place
+pub first_at : (accounts : List (ℕ × OpeningCredit)) (account place : ℕ) → IsStrictlySortedBy nat_cmp (keys_of accounts) → place < length accounts → HoldsAt (λ entry. entry.0 ≡ account) accounts place
+    → position (λ (other : ℕ × OpeningCredit). other.0 == account) accounts ≡ Some place
 first_at accounts account place sorted within found =
     let differs = λ (k : ℕ) (before : k < place).
-    let rising = below_from_sorted (keys_of accounts) k place 0 sorted before (rw (length-map accounts (λ (entry : ℕ × ℕ). entry.0)) within) in
-    let lower = rw (get_or-map (λ (entry : ℕ × ℕ). entry.0) accounts k (0, 0), get_or-map (λ (entry : ℕ × ℕ). entry.0) accounts place (0, 0), found (0, 0)) at rising in
-    differs_below (get_or accounts k (0, 0)).0 account lower in
-    let at : position_or_len (λ (other : ℕ × ℕ). other.0 == account) accounts ≡ place =
-    position_or_len_is (λ (other : ℕ × ℕ). other.0 == account) accounts place (0, 0) (omega (arith, within)) differs (λ _. rw (found (0, 0)) (is_itself account)) in
+    let rising = below_from_sorted (keys_of accounts) k place 0 sorted before (rw (length-map accounts (λ (entry : ℕ × OpeningCredit). entry.0)) within) in
+    let lower = rw (get_or-map (λ (entry : ℕ × OpeningCredit). entry.0) accounts k (0, no_credit), get_or-map (λ (entry : ℕ × OpeningCredit). entry.0) accounts place (0, no_credit), found (0, no_credit)) at rising in
+    differs_below (get_or accounts k (0, no_credit)).0 account lower in
+    let at : position_or_len (λ (other : ℕ × OpeningCredit). other.0 == account) accounts ≡ place =
+    position_or_len_is (λ (other : ℕ × OpeningCredit). other.0 == account) accounts place (0, no_credit) (omega (arith, within)) differs (λ _. rw (found (0, no_credit)) (is_itself account)) in
     rw (at, is_below place (length accounts) within) refl
 
 -- where no account has a number, it has no place
-pub nowhere : (accounts : List (ℕ × ℕ)) (account : ℕ) → opening_of account accounts ≡ None → position (λ (other : ℕ × ℕ). other.0 == account) accounts ≡ None
+pub nowhere : (accounts : List (ℕ × OpeningCredit)) (account : ℕ) → opening_of account accounts ≡ None → position (λ (other : ℕ × OpeningCredit). other.0 == account) accounts ≡ None
 nowhere accounts account none =
-    let at : position_or_len (λ (other : ℕ × ℕ). other.0 == account) accounts ≡ length accounts =
-    position_or_len_is (λ (other : ℕ × ℕ). other.0 == account) accounts (length accounts) (0, 0) (omega arith) (unnamed accounts account none) (λ past. absurd (omega (arith, past))) in
+    let at : position_or_len (λ (other : ℕ × OpeningCredit). other.0 == account) accounts ≡ length accounts =
+    position_or_len_is (λ (other : ℕ × OpeningCredit). other.0 == account) accounts (length accounts) (0, no_credit) (omega arith) (unnamed accounts account none) (λ past. absurd (omega (arith, past))) in
     rw (at, not_below (length accounts)) refl
 
 -- where the search finds no account, there is none
-pub missing_from : (accounts : List (ℕ × ℕ)) (account place : ℕ) → IsNonDecreasingBy (λ entry. entry.0) accounts
-    → (IsNonDecreasingBy (λ (entry : ℕ × ℕ). ordering_index (nat_cmp entry.0 account)) accounts → IsPartitionPoint (λ entry. nat_cmp entry.0 account ≡ Less) (λ entry. nat_cmp entry.0 account ≡ Greater) accounts place)
+pub missing_from : (accounts : List (ℕ × OpeningCredit)) (account place : ℕ) → IsNonDecreasingBy (λ entry. entry.0) accounts
+    → (IsNonDecreasingBy (λ (entry : ℕ × OpeningCredit). ordering_index (nat_cmp entry.0 account)) accounts → IsPartitionPoint (λ entry. nat_cmp entry.0 account ≡ Less) (λ entry. nat_cmp entry.0 account ≡ Greater) accounts place)
     → opening_of account accounts ≡ None
 missing_from accounts account place ordered parts =
     let part = parts (λ a b d le within. rises _ _ account (ordered a b d le within)) in

@@ -57,7 +57,7 @@ so_ended seat first before after last phase orders refused so rests sends = reco
 abbrev pub asks_after : Phase → ℕ
 asks_after (FirstAsk t) = 0
 asks_after (Running t) = 0
-asks_after (Settling t active) = 2
+asks_after (Settling t active since) = 2
 asks_after (MoreAsk t) = 1
 asks_after (Returning after) = 0
 asks_after Ending = 0
@@ -88,10 +88,10 @@ fewer_replied : (phase : Phase) (reply : Reply) → left_by (replied phase reply
 fewer_replied (FirstAsk t) (Granted units last a) = fewer_given (are_units units) _ (Running t) 0
 fewer_replied (FirstAsk t) reply = omega arith
 fewer_replied (Running t) reply = omega arith
-fewer_replied (Settling t true) (Settled p a) = omega arith
-fewer_replied (Settling t true) reply = omega arith
-fewer_replied (Settling t false) (Settled p a) = omega arith
-fewer_replied (Settling t false) reply = omega arith
+fewer_replied (Settling t true since) (Settled p a) = omega arith
+fewer_replied (Settling t true since) reply = omega arith
+fewer_replied (Settling t false since) (Settled p a) = omega arith
+fewer_replied (Settling t false since) reply = omega arith
 fewer_replied (MoreAsk t) (Granted units last a) = fewer_given (are_units units) _ (Running t) 1
 fewer_replied (MoreAsk t) reply = omega arith
 fewer_replied (Returning after) (Returned p a) = fewer_sequel after
@@ -102,8 +102,8 @@ fewer_replied Closed reply = omega arith
 fewer_unanswered : (phase : Phase) → left_by (unanswered phase) ≤ asks_after phase
 fewer_unanswered (FirstAsk t) = omega arith
 fewer_unanswered (Running t) = omega arith
-fewer_unanswered (Settling t true) = omega arith
-fewer_unanswered (Settling t false) = omega arith
+fewer_unanswered (Settling t true since) = omega arith
+fewer_unanswered (Settling t false since) = omega arith
 fewer_unanswered (MoreAsk t) = omega arith
 fewer_unanswered (Returning after) = fewer_sequel after
 fewer_unanswered Ending = omega arith

@@ -33,7 +33,7 @@ pub record IsFirst (setup : Setup) (at : ℕ) (verdict : Verdict) (call place : 
 abbrev pub IsCase : Setup → ℕ → Verdict → Case → Type 0
 IsCase setup at verdict case.Stray = verdict ≡ Strays
 IsCase setup at verdict case.Rejected = verdict ≡ Rejects
-IsCase setup at verdict (case.Recharge place amount) = verdict ≡ Recharges place amount
+IsCase setup at verdict (case.Recharge place amount until) = verdict ≡ Recharges place amount until
 IsCase setup at verdict (case.Talk call talk turn) =
     (verdict ≡ GoesOn call talk.place (says_of turn) (phase_of talk.dialogue)) ⊎ IsFirst setup at verdict call talk.place (says_of turn, phase_of talk.dialogue)
 
@@ -41,28 +41,28 @@ IsCase setup at verdict (case.Talk call talk turn) =
 abbrev pub IsWithin : ℕ → Case → Type 0
 IsWithin count case.Stray = Unit {0}
 IsWithin count case.Rejected = Unit {0}
-IsWithin count (case.Recharge place amount) = place < count
+IsWithin count (case.Recharge place amount until) = place < count
 IsWithin count (case.Talk call talk turn) = talk.place < count
 
 -- the dialogue of a case has its place among the dialogues
 abbrev pub HasRoom : Case → BTreeMap ℕ Talk → Type 0
 HasRoom case.Stray talks = Unit {0}
 HasRoom case.Rejected talks = Unit {0}
-HasRoom (case.Recharge place amount) talks = Unit {0}
+HasRoom (case.Recharge place amount until) talks = Unit {0}
 HasRoom (case.Talk call talk turn) talks = IsSome (get nat_cmp talks call)
 
 -- where dialogues stand with that of a case among them
 abbrev pub with_room : Case → (ℕ → Option Standing) → ℕ → Option Standing
 with_room case.Stray talks other = talks other
 with_room case.Rejected talks other = talks other
-with_room (case.Recharge place amount) talks other = talks other
+with_room (case.Recharge place amount until) talks other = talks other
 with_room (case.Talk call talk turn) talks other = if other == call then Some (standing_of talk) else talks other
 
 -- what is done in a case
 abbrev pub IsActed : List ℕ → Case → Holding → Holding → Told → Type 0
 IsActed numbers case.Stray old new told = IsUnasked [] true old new told
 IsActed numbers case.Rejected old new told = IsUnasked (Release 21 ∷ []) false old new told
-IsActed numbers (case.Recharge place amount) old new told = IsRecharged numbers place amount old new told
+IsActed numbers (case.Recharge place amount until) old new told = IsRecharged numbers place amount until old new told
 IsActed numbers (case.Talk call talk turn) old new told = IsTalked numbers call talk.place (says_of turn, phase_of talk.dialogue) old new told
 
 -- a fault that is asked for after others takes their place

@@ -53,12 +53,12 @@ pub record IsUnasked (orders : List Order) (stray : Bool) (old new : Holding) (t
   pub talks : Stay old.talks new.talks
 
 -- the account at a place is asked for one Credit
-pub record IsRecharged (numbers : List ℕ) (place amount : ℕ) (old new : Holding) (told : Told) : Type 0 where
+pub record IsRecharged (numbers : List ℕ) (place amount : ℕ) (until : Option ℕ) (old new : Holding) (told : Told) : Type 0 where
   pub got : Got
   pub orders : told.orders ≡ []
   pub stray : told.stray ≡ false
   pub refused : told.refused ≡ last_fault (got ∷ [])
-  pub lists : new.lists ≡ grown old.lists place (entry_of (slice_index_or numbers place 0) (Asks (Credits amount)) got)
+  pub lists : new.lists ≡ grown old.lists place (entry_of (slice_index_or numbers place 0) (Asks (Credits amount until)) got)
   pub talks : Stay old.talks new.talks
 
 -- the dialogue of a call talks with the account at a place, from what it says first until no ask is left
@@ -89,7 +89,7 @@ pub record IsBegun (setup : Setup) (numbers : List ℕ) (at call place : ℕ) (c
 abbrev pub IsDone : Setup → List ℕ → ℕ → Verdict → Holding → Holding → Told → Type 0
 IsDone setup numbers at Strays old new told = IsUnasked [] true old new told
 IsDone setup numbers at Rejects old new told = IsUnasked (Release 21 ∷ []) false old new told
-IsDone setup numbers at (Recharges place amount) old new told = IsRecharged numbers place amount old new told
+IsDone setup numbers at (Recharges place amount until) old new told = IsRecharged numbers place amount until old new told
 IsDone setup numbers at (Begins call place called) old new told = IsBegun setup numbers at call place called old new told
 IsDone setup numbers at (GoesOn call place said phase) old new told = IsTalked numbers call place (said, phase) old new told
 

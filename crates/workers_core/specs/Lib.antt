@@ -2,6 +2,7 @@ pub mod Cases
 pub mod Ends
 pub mod Handled
 pub mod Logs
+pub mod Openings
 pub mod Served
 pub mod SetupFaults
 pub mod Setups

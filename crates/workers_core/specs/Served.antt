@@ -1,5 +1,5 @@
 -- What the entries of a worker's seats have to do with the posts that it handled.
-use Rattle.std.specs.Prelude.{◌≡◌, ◌==◌, ◌⊎◌, ℕ, List, [], ◌∷◌, All, Contains, flat_map, if◌then◌else◌}
+use Rattle.std.specs.Prelude.{◌≡◌, ◌==◌, ◌⊎◌, ℕ, Option, List, [], ◌∷◌, All, Contains, flat_map, if◌then◌else◌}
 use Rattle.account_core.specs.Asked.{Asked, Credits, Reserves, Settles, Returns}
 use Rattle.account_core.specs.Events.{Event}
 use Rattle.cap_values.specs.declared.message.SsfMsg.{SsfMsg}
@@ -27,15 +27,15 @@ report_in number call Ended = []
 
 abbrev pub reported_in : ℕ → Body → List Report
 reported_in number (Ssf call message) = report_in number call message
-reported_in number (Recharge account amount) = []
+reported_in number (Recharge account amount until) = []
 
 -- the charging reports among posts
 abbrev pub reports_of : List Post → List Report
 reports_of posts = flat_map (λ post. reported_in post.number post.body) posts
 
 abbrev pub settled_in : Asked → List Report
-settled_in (Credits amount) = []
-settled_in (Reserves call plan wanted least) = []
+settled_in (Credits amount until) = []
+settled_in (Reserves call plan wanted least moment) = []
 settled_in (Settles call number info) = (number, call, info) ∷ []
 settled_in (Returns call) = []
 
@@ -43,22 +43,26 @@ settled_in (Returns call) = []
 abbrev pub settles_of : List Event → List Report
 settles_of mine = flat_map (λ event. settled_in event.asked) mine
 
-abbrev pub recharged_in : ℕ → Body → List ℕ
-recharged_in account (Ssf call message) = []
-recharged_in account (Recharge other amount) = if other == account then amount ∷ [] else []
+-- money for an account: how much, and its last moment from then on, if it is moved
+abbrev pub Money : Type 0
+Money = ℕ × Option ℕ
 
--- the amounts of the recharges of an account among posts
-abbrev pub recharges_of : ℕ → List Post → List ℕ
+abbrev pub recharged_in : ℕ → Body → List Money
+recharged_in account (Ssf call message) = []
+recharged_in account (Recharge other amount until) = if other == account then (amount, until) ∷ [] else []
+
+-- the money of the recharges of an account among posts
+abbrev pub recharges_of : ℕ → List Post → List Money
 recharges_of account posts = flat_map (λ post. recharged_in account post.body) posts
 
-abbrev pub credited_in : Asked → List ℕ
-credited_in (Credits amount) = amount ∷ []
-credited_in (Reserves call plan wanted least) = []
+abbrev pub credited_in : Asked → List Money
+credited_in (Credits amount until) = (amount, until) ∷ []
+credited_in (Reserves call plan wanted least moment) = []
 credited_in (Settles call number info) = []
 credited_in (Returns call) = []
 
--- the amounts of the Credits among entries
-abbrev pub credits_of : List Event → List ℕ
+-- the money of the Credits among entries
+abbrev pub credits_of : List Event → List Money
 credits_of mine = flat_map (λ event. credited_in event.asked) mine
 
 abbrev pub begun_in : ℕ → SsfMsg → List ℕ
@@ -69,15 +73,15 @@ begun_in call Ended = []
 
 abbrev pub begun_by : Body → List ℕ
 begun_by (Ssf call message) = begun_in call message
-begun_by (Recharge account amount) = []
+begun_by (Recharge account amount until) = []
 
 -- the calls with an InitialDp among posts
 abbrev pub begun_of : List Post → List ℕ
 begun_of posts = flat_map (λ post. begun_by post.body) posts
 
 abbrev pub held_in : Asked → List ℕ
-held_in (Credits amount) = []
-held_in (Reserves call plan wanted least) = call ∷ []
+held_in (Credits amount until) = []
+held_in (Reserves call plan wanted least moment) = call ∷ []
 held_in (Settles call number info) = []
 held_in (Returns call) = call ∷ []
 

@@ -28,14 +28,14 @@ home_of calling setup = option_and_then (λ account. place_of account setup) (ac
 pub data Verdict : Type 0 where
   Strays : Verdict
   Rejects : Verdict
-  Recharges : (place amount : ℕ) → Verdict
+  Recharges : (place amount : ℕ) (until : Option ℕ) → Verdict
   Begins : (call place : ℕ) (called : Number) → Verdict
   GoesOn : (call place : ℕ) (said : Says) (phase : Phase) → Verdict
 
 -- a recharge, at the place of its account
-abbrev pub recharged : ℕ → Option ℕ → Verdict
-recharged amount None = Strays
-recharged amount (Some place) = Recharges place amount
+abbrev pub recharged : ℕ → Option ℕ → Option ℕ → Verdict
+recharged amount until None = Strays
+recharged amount until (Some place) = Recharges place amount until
 
 -- an InitialDp of a call without dialogue, at the place of the caller's account
 abbrev pub begins : ℕ → Number → Option ℕ → Verdict
@@ -54,21 +54,21 @@ abbrev pub goes_on : ℕ → ℕ → Step → Verdict
 goes_on call place (Ok next) = GoesOn call place next.0 next.1
 goes_on call place (Err fault) = Strays
 
-abbrev pub spoken : Setup → ℕ → ℕ → SsfMsg → Option Standing → Verdict
-spoken setup number call message None = fresh setup call message
-spoken setup number call message (Some standing) = goes_on call standing.place (told standing.phase number message)
+abbrev pub spoken : Setup → ℕ → ℕ → ℕ → SsfMsg → Option Standing → Verdict
+spoken setup number at call message None = fresh setup call message
+spoken setup number at call message (Some standing) = goes_on call standing.place (told standing.phase number at message)
 
-abbrev pub verdict_on : Setup → (ℕ → Option Standing) → ℕ → Body → Verdict
-verdict_on setup talks number (Ssf call message) = spoken setup number call message (talks call)
-verdict_on setup talks number (Recharge account amount) = recharged amount (place_of account setup)
+abbrev pub verdict_on : Setup → (ℕ → Option Standing) → ℕ → ℕ → Body → Verdict
+verdict_on setup talks number at (Ssf call message) = spoken setup number at call message (talks call)
+verdict_on setup talks number at (Recharge account amount until) = recharged amount until (place_of account setup)
 
 -- by the setup and the dialogues of the worker
 abbrev pub verdict : Setup → (ℕ → Option Standing) → Post → Verdict
-verdict setup talks post = verdict_on setup talks post.number post.body
+verdict setup talks post = verdict_on setup talks post.number post.at post.body
 
 abbrev pub strays : Verdict → Bool
 strays Strays = true
 strays Rejects = false
-strays (Recharges place amount) = false
+strays (Recharges place amount until) = false
 strays (Begins call place called) = false
 strays (GoesOn call place said phase) = false

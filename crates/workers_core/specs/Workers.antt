@@ -48,7 +48,7 @@ holding mine_of worker = record { lists = map mine_of (seats_of worker); talks =
 abbrev pub IsAbout : ℕ → Phase → Type 0
 IsAbout call (FirstAsk t) = t.call ≡ call
 IsAbout call (Running t) = t.call ≡ call
-IsAbout call (Settling t active) = t.call ≡ call
+IsAbout call (Settling t active since) = t.call ≡ call
 IsAbout call (MoreAsk t) = t.call ≡ call
 IsAbout call (Returning after) = Unit {0}
 IsAbout call Ending = Unit {0}

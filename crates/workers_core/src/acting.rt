@@ -86,14 +86,18 @@ pub(crate) fn act<S: Shared, R: Wait, G: Gate>(
     match case {
         Case::Stray => Ok(unasked(number, ArrayVec::new(), true)),
         Case::Rejected => Ok(unasked(number, rejection(), false)),
-        Case::Recharge { place, amount } => {
+        Case::Recharge {
+            place,
+            amount,
+            until,
+        } => {
             recharge(
                 rt,
                 gate,
                 &accounts[place],
                 &mut seats[place],
                 number,
-                amount,
+                (amount, until),
             )
         }
         Case::Talk { call, talk, turn } => {
@@ -141,25 +145,25 @@ fn rejection() -> ArrayVec<ScfOp, 4>
     ops
 }
 
-/// Adds money to an account.
+/// Adds money to an account, and moves its last moment where one is given.
 fn recharge<S: Shared, R: Wait, G: Gate>(
     rt: &R,
     gate: &G,
     account: &S,
     seat: &mut S::Seat,
     number: u64,
-    amount: u64,
+    (amount, until): (u64, Option<u64>),
 ) -> Result<Answer, WorkerFault>
     requires { S.key_of seat.old ≡ S.key account.now }
     ensures same_key { S.key_of seat.new ≡ S.key_of seat.old }
     ensures same_number { S.number_of seat.new ≡ S.number_of seat.old }
     ensures number { IfOk result (λ answer. answer.number ≡ number) }
-    ensures credited { IfOk result (λ answer. IsCredited (S.number_of seat.old) (Credits amount)
-        (S.mine_of seat.old) (S.mine_of seat.new) (told_of answer)) }
+    ensures credited { IfOk result (λ answer. IsCredited (S.number_of seat.old)
+        (Credits amount until) (S.mine_of seat.old) (S.mine_of seat.new) (told_of answer)) }
     ensures fault { IfErr result (λ fault. fault ≡ WorkerFault.GateClosed) }
     ensures gate { result ≡ Err WorkerFault.GateClosed → G.may_shut gate.now }
 {
-    let refused = match account.call(rt, seat, Op::Credit { amount }, gate) {
+    let refused = match account.call(rt, seat, Op::Credit { amount, until }, gate) {
         Ok(_) => None,
         Err(AccountFault::GateClosed) => return Err(WorkerFault::GateClosed),
         Err(fault) => Some(fault),

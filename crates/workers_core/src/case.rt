@@ -22,7 +22,11 @@ pub(crate) enum Case {
     /// A call asks for the service, and its calling number is no subscriber's.
     Rejected,
     /// Money for the account at a place.
-    Recharge { place: usize, amount: u64 },
+    Recharge {
+        place: usize,
+        amount: u64,
+        until: Option<u64>,
+    },
     /// A dialogue that begins, or has taken a message, and its next turn.
     Talk { call: u64, talk: Talk, turn: Turn },
 }
@@ -34,35 +38,43 @@ pub(crate) fn judge(setup: &RunSetup, talks: &BTreeMap<u64, Talk>, post: &Post) 
         (verdict setup.now (standings_in talks.now) post.now) result }
 {
     match post.body {
-        Body::Recharge { account, amount } => recharge(setup, account, amount),
+        Body::Recharge {
+            account,
+            amount,
+            until,
+        } => recharge(setup, account, amount, until),
         Body::Ssf { call, msg } => match talks.get(&call) {
-            Some(talk) => go_on(*talk, post.number, call, msg),
+            Some(talk) => go_on(*talk, post.number, post.at, call, msg),
             None => begin(setup, post.at, call, msg),
         },
     }
 }
 
 /// A recharge: of an account that there is, or none.
-fn recharge(setup: &RunSetup, account: u32, amount: u64) -> Case
-    ensures { (at : _) → IsCase setup.now at (recharged amount (place_of account setup.now))
-        result }
+fn recharge(setup: &RunSetup, account: u32, amount: u64, until: Option<u64>) -> Case
+    ensures { (at : _) → IsCase setup.now at
+        (recharged amount until (place_of account setup.now)) result }
 {
     match setup.place_of(account) {
-        Some(place) => Case::Recharge { place, amount },
+        Some(place) => Case::Recharge {
+            place,
+            amount,
+            until,
+        },
         None => Case::Stray,
     }
 }
 
 /// A message of a call that has a dialogue: the dialogue takes it, or refuses it.
-fn go_on(talk: Talk, number: u64, call: u64, msg: SsfMsg) -> Case
-    ensures { (setup : _) (at : _) → IsCase setup at (goes_on call talk.place (told
-        (phase_of talk.dialogue) number msg)) result }
+fn go_on(talk: Talk, number: u64, at: u64, call: u64, msg: SsfMsg) -> Case
+    ensures { (setup : _) → IsCase setup at (goes_on call talk.place
+        (told (phase_of talk.dialogue) number at msg)) result }
 {
     let Talk {
         mut dialogue,
         place,
     } = talk;
-    match dialogue.take(number, msg) {
+    match dialogue.take(number, at, msg) {
         Ok(turn) => Case::Talk {
             call,
             talk: Talk { dialogue, place },

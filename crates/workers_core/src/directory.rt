@@ -1,31 +1,31 @@
 //! The accounts and the subscribers that a run is set up with, judged one by one.
 
-ghost use Rattle.std.specs.Prelude.{◌≡◌, ◌≢◌, ◌≤◌, ◌+◌, None, Some, length, is_some, All, IfErr, IfOk, OnErr, OnOk};
+ghost use Rattle.std.specs.Prelude.{◌≡◌, ◌≢◌, ◌+◌, None, Some, true, length, is_some, All, IfErr, IfOk, OnErr, OnOk};
 ghost use Rattle.std.specs.List.Sorted.{IsStrictlySortedBy};
 ghost use Rattle.std.specs.Map.{keys_of};
 ghost use Rattle.std.specs.Ordering.{nat_cmp};
+ghost use Rattle.workers_core.specs.Openings.{is_in_range};
 ghost use Rattle.workers_core.specs.Setups.{account_fault, account_of, has_account, nothing, subscriber_fault, with_account, with_subscriber};
 
-use crate::SetupFault;
+use crate::{OpeningCredit, SetupFault};
 use cap_values::Number;
 use std::alloc::{AllocError, Global};
 use std::collections::BTreeMap;
 use std::marker::Model;
-use tariff_core::MAX_MONEY;
 
 /// The accounts and the subscribers of a run, each of them judged as it came: no number is there
-/// twice, each opening credit is 0 to `MAX_MONEY`, and each subscriber has one of the accounts.
+/// twice, each opening credit is in its range, and each subscriber has one of the accounts.
 #[derive(Drop)]
 pub struct Directory {
-    accounts: BTreeMap<u32, u64>,
+    accounts: BTreeMap<u32, OpeningCredit>,
     subscribers: BTreeMap<Number, u32>,
 }
 
 impl Model for Directory {
-    ghost use Rattle.std.specs.Prelude.{◌≤◌, All};
+    ghost use Rattle.std.specs.Prelude.{◌≡◌, true, All};
     ghost use Rattle.std.specs.Map.{values_of};
+    ghost use Rattle.workers_core.specs.Openings.{is_in_range};
     ghost use Rattle.workers_core.specs.Setups.{Listing};
-    ghost use Rattle.tariff_core.specs.declared.money.TheConstants.{MAX_MONEY};
 
     ghost Value = { Listing };
 
@@ -34,7 +34,7 @@ impl Model for Directory {
       subscribers = d.subscribers.entries;
     } };
 
-    ghost invariant = { λ d. All (λ opening. opening ≤ MAX_MONEY)
+    ghost invariant = { λ d. All (λ opening. is_in_range opening ≡ true)
         (values_of d.accounts.entries) };
 }
 
@@ -51,9 +51,10 @@ impl Directory {
 
     /// Lists an account with its opening credit.
     ///
-    /// `OutOfRange` comes where the opening credit is above `MAX_MONEY`, then `Repeated` where the
-    /// account is there already. After a fault the directory is as before.
-    pub fn account(&mut self, number: u32, opening: u64) -> Result<(), SetupFault>
+    /// `OutOfRange` comes where the credit is above `MAX_MONEY`, or its last moment above
+    /// `LAST_MOMENT`, then `Repeated` where the account is there already. After a fault the
+    /// directory is as before.
+    pub fn account(&mut self, number: u32, opening: OpeningCredit) -> Result<(), SetupFault>
         ensures made { OnOk result
             (account_fault (has_account number self.old.accounts) opening ≡ None) }
         ensures listed { OnOk result (self.new ≡ with_account self.old number opening) }
@@ -62,7 +63,7 @@ impl Directory {
             → account_fault (has_account number self.old.accounts) opening ≡ Some fault) }
         ensures unchanged { OnErr result (self.new ≡ self.old) }
     {
-        if opening > MAX_MONEY {
+        if !opening.is_in_range() {
             return Err(SetupFault::OutOfRange);
         }
         if self.accounts.contains_key(&number) {
@@ -116,12 +117,12 @@ impl Directory {
     pub(crate) fn into_parts(
         self,
         alloc: Global,
-    ) -> Result<(Vec<(u32, u64)>, BTreeMap<Number, u32>), AllocError>
+    ) -> Result<(Vec<(u32, OpeningCredit)>, BTreeMap<Number, u32>), AllocError>
         ensures accounts { IfOk result (λ parts. parts.0.items ≡ self.accounts) }
         ensures ordered { IfOk result
             (λ parts. IsStrictlySortedBy nat_cmp (keys_of parts.0.items)) }
         ensures range { IfOk result
-            (λ parts. All (λ account. account.1 ≤ MAX_MONEY) parts.0.items) }
+            (λ parts. All (λ account. is_in_range account.1 ≡ true) parts.0.items) }
         ensures subscribers { IfOk result (λ parts. parts.1.entries ≡ self.subscribers) }
     {
         let Directory {
@@ -133,7 +134,10 @@ impl Directory {
 }
 
 /// The entries of a map, in ascending order.
-fn ascending(alloc: Global, accounts: &BTreeMap<u32, u64>) -> Result<Vec<(u32, u64)>, AllocError>
+fn ascending(
+    alloc: Global,
+    accounts: &BTreeMap<u32, OpeningCredit>,
+) -> Result<Vec<(u32, OpeningCredit)>, AllocError>
     ensures items { IfOk result (λ ascending. ascending.items ≡ accounts.now.entries) }
     ensures ordered { IfOk result
         (λ ascending. IsStrictlySortedBy nat_cmp (keys_of ascending.items)) }

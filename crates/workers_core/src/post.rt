@@ -21,6 +21,8 @@ pub enum Body {
         account: u32,
         /// How much.
         amount: u64,
+        /// The account's last moment from then on; none leaves it as it is.
+        until: Option<u64>,
     },
 }
 

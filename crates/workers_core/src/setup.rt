@@ -8,7 +8,7 @@ ghost use Rattle.std.specs.Ordering.{nat_cmp};
 ghost use Rattle.workers_core.specs.Verdicts.{place_of};
 ghost use Rattle.workers_core.specs.Setups.{AreAscending, IsWithin, account_of, counts_fault, items_fault, opening_of, setup_fault};
 
-use crate::{Directory, SetupFault};
+use crate::{Directory, OpeningCredit, SetupFault};
 use account_core::{MAX_LIMIT, MIN_LIMIT};
 use cap_values::Number;
 use dialogue_core::ServiceConfig;
@@ -27,7 +27,7 @@ pub const MAX_SUBSCRIBERS: usize = 10_000;
 /// tariff, what the service asks for, and the history limit of each account.
 #[derive(Drop)]
 pub struct RunSetup {
-    accounts: Vec<(u32, u64)>,
+    accounts: Vec<(u32, OpeningCredit)>,
     subscribers: BTreeMap<Number, u32>,
     tariff: Tariff,
     service: ServiceConfig,
@@ -35,12 +35,12 @@ pub struct RunSetup {
 }
 
 impl Model for RunSetup {
-    ghost use Rattle.std.specs.Prelude.{◌≤◌, All};
+    ghost use Rattle.std.specs.Prelude.{◌≡◌, true, All};
     ghost use Rattle.std.specs.List.Sorted.{IsStrictlySortedBy};
     ghost use Rattle.std.specs.Map.{keys_of};
     ghost use Rattle.std.specs.Ordering.{nat_cmp};
     ghost use Rattle.workers_core.specs.Setups.{Setup};
-    ghost use Rattle.tariff_core.specs.declared.money.TheConstants.{MAX_MONEY};
+    ghost use Rattle.workers_core.specs.Openings.{is_in_range};
 
     ghost Value = { Setup };
 
@@ -53,19 +53,20 @@ impl Model for RunSetup {
     } };
 
     ghost invariant = { λ s. IsStrictlySortedBy nat_cmp (keys_of s.accounts.items)
-        × All (λ account. account.1 ≤ MAX_MONEY) s.accounts.items };
+        × All (λ account. is_in_range account.1 ≡ true) s.accounts.items };
 }
 
 impl RunSetup {
-    /// The setup of these accounts, each a number and an opening credit of 0 to `MAX_MONEY`; of
-    /// these subscribers, each a number and one of the accounts; and of a limit of `MIN_LIMIT` to
-    /// `MAX_LIMIT`. At most 1,000 accounts and 10,000 subscribers; there may be none.
+    /// The setup of these accounts, each a number and an opening credit of 0 to `MAX_MONEY`, with a
+    /// last moment of 0 to `LAST_MOMENT` or none; of these subscribers, each a number and one of
+    /// the accounts; and of a limit of `MIN_LIMIT` to `MAX_LIMIT`. At most 1,000 accounts and
+    /// 10,000 subscribers; there may be none.
     ///
     /// The limit and the counts are judged first, then the accounts in order, then the subscribers
     /// in order; of one item OutOfRange, Repeated, Unknown. OutOfMemory comes where it happens.
     pub fn new(
         alloc: Global,
-        accounts: &[(u32, u64)],
+        accounts: &[(u32, OpeningCredit)],
         subscribers: &[(Number, u32)],
         tariff: Tariff,
         service: ServiceConfig,
@@ -141,10 +142,10 @@ impl RunSetup {
     }
 
     /// The opening credit of the account at a place of the ascending order.
-    pub fn opening(&self, place: usize) -> u64
+    pub fn opening(&self, place: usize) -> OpeningCredit
         requires { place < length self.now.accounts }
         ensures value { HoldsAt (λ account. account.1 ≡ result) self.now.accounts place }
-        ensures range { result ≤ MAX_MONEY }
+        ensures range { result.amount ≤ MAX_MONEY }
     {
         self.accounts[place].1
     }
@@ -201,7 +202,7 @@ fn are_in_range(limit: u32, accounts: usize, subscribers: usize) -> bool
 /// The directory of these accounts and subscribers, where nothing is wrong with them.
 fn list(
     alloc: Global,
-    accounts: &[(u32, u64)],
+    accounts: &[(u32, OpeningCredit)],
     subscribers: &[(Number, u32)],
 ) -> Result<Directory, SetupFault>
     ensures made { OnOk result (items_fault accounts.now subscribers.now ≡ None) }

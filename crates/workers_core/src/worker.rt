@@ -1,6 +1,6 @@
 //! A worker: it handles the posts of its calls and the recharges of its accounts.
 
-ghost use Rattle.std.specs.Prelude.{◌≡◌, ◌++◌, ◌∷◌, ◌≤◌, ℕ, [], None, true, map, All, IfErr, IfOk, OnOk};
+ghost use Rattle.std.specs.Prelude.{◌≡◌, ◌++◌, ◌∷◌, ◌≤◌, ℕ, [], None, Option, true, map, All, IfErr, IfOk, OnOk};
 ghost use Rattle.std.specs.Map.{keys_of};
 ghost use Rattle.workers_core.specs.Handled.{IsHandled, IsRecharged, told_of};
 ghost use Rattle.workers_core.specs.Served.{AreServed};
@@ -94,9 +94,10 @@ impl<'s, S: Shared> Worker<'s, S> {
             (λ answer. verdict (setup_of self.old) (talks_of self.old) post ≡ Rejects
             → (orders_of answer.ops.items ≡ Release 21 ∷ []) × (map S.mine_of (seats_of self.new)
             ≡ map S.mine_of (seats_of self.old))) }
-        ensures recharged { IfOk result (λ answer. (place amount : ℕ)
-            → verdict (setup_of self.old) (talks_of self.old) post ≡ Recharges place amount
-            → IsRecharged (map S.number_of (seats_of self.old)) place amount
+        ensures recharged { IfOk result (λ answer. (place amount : ℕ) (until : Option ℕ)
+            → verdict (setup_of self.old) (talks_of self.old) post
+            ≡ Recharges place amount until
+            → IsRecharged (map S.number_of (seats_of self.old)) place amount until
             (holding S.mine_of self.old) (holding S.mine_of self.new) (told_of answer)) }
         ensures posts { OnOk result (posts_of self.new ≡ posts_of self.old ++ post ∷ []) }
         ensures setup { OnOk result (setup_of self.new ≡ setup_of self.old) }

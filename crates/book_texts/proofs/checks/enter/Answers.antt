@@ -15,13 +15,13 @@ pub hear-requires : goal.hear-requires
 hear-requires c =
     let (books, are) = c.requires in
     let (told, is, heard) = is_found _ _ c.in-Some.check.now (found (is_at (nat_cmp c.args.account)) books c.args.checks.now.entries are) (sym c.in-Some.ensures.value) in
-    (told.opening, reverse told.history, heard)
+    (told.opening, told.until, reverse told.history, heard)
 
 pub returns : goal.returns
 returns c = λ books are.
     let (told, is, heard) = is_found _ _ c.in-Some.check.now (found (is_at (nat_cmp c.args.account)) books c.args.checks.now.entries are) (sym c.in-Some.ensures.value) in
     let event = event_of c.args.entry in
-    let after = c.in_ok-hear.ensures.heard told.opening (reverse told.history) heard in
+    let after = c.in_ok-hear.ensures.heard told.opening told.until (reverse told.history) heard in
     rw (is, (c.get_mut.follows.holds c.hear.new.self).0)
     (checks_set (is_at (nat_cmp c.args.account)) (record told { history = told.history ++ event ∷ [] }) c.hear.new.self
     (rw (reverse-append told.history (event ∷ [])) after) books c.args.checks.now.entries are)

@@ -13,4 +13,4 @@ pub returns : goal.returns
 returns c = λ books are.
     let none = is_new _ _ (found (is_at (nat_cmp c.args.account)) books c.args.checks.now.entries are) (sym c.contains_key.ensures ∙ c.if-contains_key.false) in
     rw (none, c.in_ok-insert.ensures.entries)
-    (checks_inserted nat_cmp c.args.account (record { opening = c.args.opening; history = [] }) c.new.result c.new.ensures books c.args.checks.now.entries are)
+    (checks_inserted nat_cmp c.args.account (record { opening = c.args.opening; until = c.args.until; history = [] }) c.new.result c.new.ensures books c.args.checks.now.entries are)

@@ -3,9 +3,10 @@ use Rattle.std.proofs.lemmas.List.Elements.{All-push}
 use Rattle.table_core.specs.Rows.{rows_of}
 use Rattle.table_core.specs.Tables.{table_of}
 use Rattle.table_core.proofs.Known.{map_known}
-use Rattle.table_core.proofs.TableLemmas.{ended, not_opened, opened, refused, refuses, row_width, stopped, taken, told}
+use Rattle.table_core.proofs.TableLemmas.{ended, header_stays, not_opened, opened, refused, refuses, row_columns, stopped, taken, told}
 use Rattle.run_texts.specs.Scripts.{first_to_last, script_form, script_of}
 use Rattle.run_texts.specs.declared.script_row.ScriptRow.{ScriptRow}
+use Rattle.run_texts.proofs.FieldLemmas.{script_columns}
 use Rattle.run_texts.proofs.ScriptLemmas.{calls_after, earlier_more, earlier_of, end_more, order_more, rows_in_turn}
 use Rattle.run_texts.proofs.script.read_script.Goals as goal
 
@@ -25,8 +26,11 @@ returns-in_err-next_row-clause-means g c =
 
 pub judge-requires : goal.judge-requires
 judge-requires g c =
-    rw c.row.ensures (row_width (script_form c.args.directory.now.accounts) g.I.Read.remaining _ c.loop-rows.table c.next_row.new.self _ c.loop-rows.invariant.so_far _ refl
-    (rw c.if-branch.true at c.in_ok-next_row.ensures.moves))
+    let next = rw c.if-branch.true at c.in_ok-next_row.ensures.moves in
+    let form = script_form c.args.directory.now.accounts in
+    rw c.row.ensures
+    (script_columns _ _ (header_stays form g.I.Read.remaining _ c.loop-rows.table c.next_row.new.self _ c.loop-rows.invariant.so_far next)
+    (row_columns form g.I.Read.remaining _ c.loop-rows.table c.next_row.new.self _ c.loop-rows.invariant.so_far next))
 
 pub loop-rows-init : goal.loop-rows-init
 loop-rows-init g c = record {

@@ -1,7 +1,8 @@
 use Rattle.std.proofs.Common.{refl, arith}
 use Rattle.table_core.specs.Rows.{rows_of}
-use Rattle.table_core.proofs.TableLemmas.{ended, not_opened, opened, refused, refuses, row_width, stopped, taken, told}
+use Rattle.table_core.proofs.TableLemmas.{ended, header_stays, not_opened, opened, refused, refuses, row_columns, stopped, taken, told}
 use Rattle.run_texts.specs.Setups.{setup_form, setup_of}
+use Rattle.run_texts.proofs.FieldLemmas.{setup_columns}
 use Rattle.run_texts.proofs.setup.read_setup.Goals as goal
 
 pub returns-in_err-table-clause-means : goal.returns-in_err-table-clause-means
@@ -26,8 +27,10 @@ returns-in_err-next_row-clause-means g c =
 
 pub enter-requires-clause-fields : goal.enter-requires-clause-fields
 enter-requires-clause-fields g c =
-    rw c.row.ensures (row_width setup_form g.I.Read.remaining _ c.loop-directory.table c.next_row.new.self _ c.loop-directory.invariant.so_far _ refl
-    (rw c.if-branch.true at c.in_ok-next_row.ensures.moves))
+    let next = rw c.if-branch.true at c.in_ok-next_row.ensures.moves in
+    rw c.row.ensures
+    (setup_columns _ _ (header_stays setup_form g.I.Read.remaining _ c.loop-directory.table c.next_row.new.self _ c.loop-directory.invariant.so_far next)
+    (row_columns setup_form g.I.Read.remaining _ c.loop-directory.table c.next_row.new.self _ c.loop-directory.invariant.so_far next))
 
 pub loop-directory-preserved : goal.loop-directory-preserved
 loop-directory-preserved g c =

@@ -11,5 +11,5 @@ invariant-loop-account g l =
     AreOf g.S.Shared.key_of (map g.S.Shared.key (into_iter_items l.account-iterator)) (map (λ row. row.items) (into_iter_items l.rows_left))
     × (map terms_shown l.books.items ++ map g.S.Shared.terms (into_iter_items l.account-iterator) ≡ map g.S.Shared.terms l.fn.accounts.items)
     × (map (λ book. book.own) l.books.items ++ map (λ row. map g.S.Shared.mine_of row.items) (into_iter_items l.rows_left) ≡ map (λ row. map g.S.Shared.mine_of row.items) l.fn.rows.items)
-    × All (λ book. IsLegal book.opening book.history) l.books.items
+    × All (λ book. IsLegal book.opening book.until book.history) l.books.items
     × All (λ book. IsMerged book.history book.own) l.books.items

@@ -33,7 +33,7 @@ returns-in-Recharge-clause-acted g c =
     (IfOk-weaker c.recharge.result _ _ (λ answer is.
     let there : c.in-Recharge.place < length c.args.seats.now.items =
     rw (as_many g.S.Shared.key_of g.S.Shared.key c.args.seats.now.items c.args.accounts.now c.requires.keys) (rw c.in-Recharge.is at c.requires.within) in
-    recharged_by (map g.S.Shared.number_of c.args.seats.now.items) c.in-Recharge.place c.in-Recharge.amount (g.S.Shared.number_of c.index_mut.result.now) _ _ (standings_in c.args.talks.now)
+    recharged_by (map g.S.Shared.number_of c.args.seats.now.items) c.in-Recharge.place c.in-Recharge.amount c.in-Recharge.until (g.S.Shared.number_of c.index_mut.result.now) _ _ (standings_in c.args.talks.now)
     (g.S.Shared.mine_of c.index_mut.result.now) (g.S.Shared.mine_of c.recharge.new.seat) (told_of answer) is
     (numbered_at g.S.Shared.number_of c.args.seats.now.items c.in-Recharge.place c.index_mut.result.now there c.index_mut.ensures.value)
     (λ entries. grown_at g.S.Shared.mine_of c.args.seats.now.items c.in-Recharge.place c.index_mut.result.now c.recharge.new.seat entries there c.index_mut.ensures.value))

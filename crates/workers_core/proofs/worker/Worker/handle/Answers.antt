@@ -50,4 +50,4 @@ pub returns-clause-rejected : goal.returns-clause-rejected
 returns-clause-rejected g c = λ is. rejected_so _ _ _ _ _ _ (told_of c.in_ok-answer.answer) (done g c).done is
 
 pub returns-clause-recharged : goal.returns-clause-recharged
-returns-clause-recharged g c = λ place amount is. recharged_so _ _ _ _ _ _ (told_of c.in_ok-answer.answer) place amount (done g c).done is
+returns-clause-recharged g c = λ place amount until is. recharged_so _ _ _ _ _ _ (told_of c.in_ok-answer.answer) place amount until (done g c).done is
