@@ -9,6 +9,7 @@ use Rattle.tariff_core.specs.declared.time_info.TimeInfo.{TimeInfo}
 use Rattle.account_core.specs.Asked.{Asked, Credits, Reserves, Settles, Returns, call_of, is_in_range}
 use Rattle.account_core.specs.Available.{available, credits}
 use Rattle.account_core.specs.Events.{Event}
+use Rattle.account_core.specs.Expiry.{is_past, last_moment}
 use Rattle.account_core.specs.Known.{Known, is_open, known, paid_of, plan_in_force, price_under, taken_of}
 use Rattle.account_core.specs.declared.entry.Reply.{Reply}
 use Rattle.account_core.specs.declared.entry.Reply.TheVariants as reply
@@ -18,8 +19,8 @@ use Rattle.tariff_core.specs.declared.money.TheConstants.{MAX_MONEY}
 
 -- a Settle and a Return are of an open call, and a Reserve isn't of one that was returned
 abbrev pub misplaced : Known → Asked → Option AccountFault
-misplaced call (Credits amount) = None
-misplaced call (Reserves number plan wanted least) = if call.returned then Some fault.CallUsed else None
+misplaced call (Credits amount moment) = None
+misplaced call (Reserves number plan wanted least at) = if call.returned then Some fault.CallUsed else None
 misplaced call (Settles number mail info) = if is_open call then None else Some fault.NotOpen
 misplaced call (Returns number) = if is_open call then None else Some fault.NotOpen
 
@@ -47,20 +48,21 @@ accepted_times known info = if known.forfeited then None else lawful_times known
 abbrev pub credit_verdict : ℕ → ℕ → Reply
 credit_verdict funds amount = if nat_le (funds + amount) MAX_MONEY then reply.Credited 0 else reply.CreditOver 0
 
-abbrev pub reserve_verdict : ℕ → ℕ → ℕ → Bool → Reply
-reserve_verdict units wanted least forfeited =
-    if nat_lt units least || (units == 0) || forfeited then reply.Denied 0 else reply.Granted units (nat_lt units wanted) 0
+-- too little time, a forfeit of the call, and a moment past the last one each deny it
+abbrev pub reserve_verdict : ℕ → ℕ → ℕ → Bool → Bool → Reply
+reserve_verdict units wanted least forfeited late =
+    if nat_lt units least || (units == 0) || forfeited || late then reply.Denied 0 else reply.Granted units (nat_lt units wanted) 0
 
 abbrev pub settle_verdict : Known → Option Elapsed → Reply
 settle_verdict known (Some times) = reply.Settled (price_under known.plan times) 0
 settle_verdict known None = reply.Forfeit known.top 0
 
-abbrev pub verdict : ℕ → List Event → Asked → Reply
-verdict opening h (Credits amount) = credit_verdict (opening + credits h) amount
-verdict opening h (Reserves call plan wanted least) =
-    reserve_verdict (units_offered (available opening h) (known call h) plan wanted) wanted least (known call h).forfeited
-verdict opening h (Settles call number info) = settle_verdict (known call h) (accepted_times (known call h) info)
-verdict opening h (Returns call) = reply.Returned (paid_of (known call h)) 0
+abbrev pub verdict : ℕ → Option ℕ → List Event → Asked → Reply
+verdict opening until h (Credits amount moment) = credit_verdict (opening + credits h) amount
+verdict opening until h (Reserves call plan wanted least at) =
+    reserve_verdict (units_offered (available opening h) (known call h) plan wanted) wanted least (known call h).forfeited (is_past (last_moment until h) at)
+verdict opening until h (Settles call number info) = settle_verdict (known call h) (accepted_times (known call h) info)
+verdict opening until h (Returns call) = reply.Returned (paid_of (known call h)) 0
 
 -- a reply that shows another credit
 abbrev pub showing : ℕ → Reply → Reply
@@ -83,20 +85,20 @@ shown_by (reply.Forfeit paid available) = available
 shown_by (reply.Returned paid available) = available
 
 -- the reply to an operation: it shows what is available after the entry, whoever asked
-unfoldable pub answer : ℕ → List Event → Asked → Reply
-answer opening h asked =
-    showing (available opening (record { seat = 0; asked = asked; reply = verdict opening h asked } ∷ h)) (verdict opening h asked)
+unfoldable pub answer : ℕ → Option ℕ → List Event → Asked → Reply
+answer opening until h asked =
+    showing (available opening (record { seat = 0; asked = asked; reply = verdict opening until h asked } ∷ h)) (verdict opening until h asked)
 
 -- an entry whose operation was admissible and got the answer
-pub record IsAnswered (opening : ℕ) (h : List Event) (event : Event) : Type 0 where
+pub record IsAnswered (opening : ℕ) (until : Option ℕ) (h : List Event) (event : Event) : Type 0 where
   pub admissible : inadmissible h event.asked ≡ None
-  pub answered : event.reply ≡ answer opening h event.asked
+  pub answered : event.reply ≡ answer opening until h event.asked
 
 -- every entry was answered in its place
-abbrev pub IsLegalPast : ℕ → List Event → Type 0
-IsLegalPast opening [] = Unit {0}
-IsLegalPast opening (event ∷ h) = IsLegalPast opening h × IsAnswered opening h event
+abbrev pub IsLegalPast : ℕ → Option ℕ → List Event → Type 0
+IsLegalPast opening until [] = Unit {0}
+IsLegalPast opening until (event ∷ h) = IsLegalPast opening until h × IsAnswered opening until h event
 
 -- the same of a history that is listed oldest first
-abbrev pub IsLegal : ℕ → List Event → Type 0
-IsLegal opening history = IsLegalPast opening (reverse history)
+abbrev pub IsLegal : ℕ → Option ℕ → List Event → Type 0
+IsLegal opening until history = IsLegalPast opening until (reverse history)

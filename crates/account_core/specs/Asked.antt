@@ -1,39 +1,40 @@
 -- What an account is asked, as plain data.
-use Rattle.std.specs.Prelude.{◌≡◌, ◌&&◌, ℕ, Bool, true, nat_le}
+use Rattle.std.specs.Prelude.{◌≡◌, ◌&&◌, ℕ, Bool, true, Option, nat_le}
 use Rattle.tariff_core.specs.Rates.{Rates}
 use Rattle.tariff_core.specs.declared.time_info.TimeInfo.{TimeInfo}
 use Rattle.tariff_core.specs.declared.money.TheConstants.{MAX_MONEY}
 use Rattle.tariff_core.specs.declared.times.TheConstants.{DAY}
 
--- an operation: money is added, held for more time of a call, settled as a report tells, and given back
+-- an operation: money is added, which may give the account another last moment; held for more time of a call, which is asked for at a moment; settled as a report tells;
+-- and given back. Moments are in units of 100 ms
 pub data Asked : Type 0 where
-  Credits : (amount : ℕ) → Asked
-  Reserves : (call : ℕ) (plan : Rates) (wanted least : ℕ) → Asked
+  Credits : (amount : ℕ) (until : Option ℕ) → Asked
+  Reserves : (call : ℕ) (plan : Rates) (wanted least at : ℕ) → Asked
   Settles : (call number : ℕ) (info : TimeInfo) → Asked
   Returns : (call : ℕ) → Asked
 
 -- the call of an operation, and 0 where it has none
 abbrev pub call_of : Asked → ℕ
-call_of (Credits amount) = 0
-call_of (Reserves call plan wanted least) = call
+call_of (Credits amount moment) = 0
+call_of (Reserves call plan wanted least at) = call
 call_of (Settles call number info) = call
 call_of (Returns call) = call
 
 -- whether an amount is 1 to `MAX_MONEY`, and a time is a day at most
 abbrev pub is_in_range : Asked → Bool
-is_in_range (Credits amount) = nat_le 1 amount && nat_le amount MAX_MONEY
-is_in_range (Reserves call plan wanted least) = nat_le 1 wanted && nat_le wanted DAY && nat_le least DAY
+is_in_range (Credits amount moment) = nat_le 1 amount && nat_le amount MAX_MONEY
+is_in_range (Reserves call plan wanted least at) = nat_le 1 wanted && nat_le wanted DAY && nat_le least DAY
 is_in_range (Settles call number info) = true
 is_in_range (Returns call) = true
 
 -- an operation that adds money
 abbrev pub IsCredit : Asked → Type 0
-IsCredit (Credits amount) = Unit {0}
+IsCredit (Credits amount moment) = Unit {0}
 IsCredit asked = ⊥
 
 -- an operation of this call
 abbrev pub IsOfCall : ℕ → Asked → Type 0
-IsOfCall call (Credits amount) = ⊥
-IsOfCall call (Reserves other plan wanted least) = other ≡ call
+IsOfCall call (Credits amount moment) = ⊥
+IsOfCall call (Reserves other plan wanted least at) = other ≡ call
 IsOfCall call (Settles other number info) = other ≡ call
 IsOfCall call (Returns other) = other ≡ call

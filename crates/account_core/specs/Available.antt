@@ -8,7 +8,7 @@ use Rattle.account_core.specs.declared.entry.Reply.TheVariants as reply
 
 -- what an entry adds
 abbrev pub credited : Asked → Reply → ℕ
-credited (Credits amount) (reply.Credited available) = amount
+credited (Credits amount moment) (reply.Credited available) = amount
 credited asked answer = 0
 
 -- the credits that were accepted

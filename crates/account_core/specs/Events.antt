@@ -15,8 +15,8 @@ pub record Event : Type 0 where
 
 -- what an operation of the code asks
 abbrev pub asked_of : Op → Asked
-asked_of (op.Credit amount) = Credits amount
-asked_of (op.Reserve call plan wanted least) = Reserves call (rates_of plan) wanted least
+asked_of (op.Credit amount until) = Credits amount until
+asked_of (op.Reserve call plan wanted least at) = Reserves call (rates_of plan) wanted least at
 asked_of (op.Settle call number info) = Settles call number info
 asked_of (op.Return call) = Returns call
 

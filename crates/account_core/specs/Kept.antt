@@ -1,5 +1,5 @@
 -- What an account keeps beside its entries.
-use Rattle.std.specs.Prelude.{◌≡◌, ◌+◌, ◌≤◌, ℕ, None, List, false, length, unwrap_or}
+use Rattle.std.specs.Prelude.{◌≡◌, ◌+◌, ◌≤◌, ℕ, Option, None, List, false, length, unwrap_or}
 use Rattle.std.specs.Option.{option_map}
 use Rattle.std.specs.BTreeMap.{BTreeMap, get}
 use Rattle.std.specs.Ordering.{nat_cmp}
@@ -8,6 +8,7 @@ use Rattle.tariff_core.specs.Times.{no_times}
 use Rattle.account_core.specs.Answers.{IsLegalPast}
 use Rattle.account_core.specs.Available.{available, credits}
 use Rattle.account_core.specs.Events.{Event}
+use Rattle.account_core.specs.Expiry.{last_moment}
 use Rattle.account_core.specs.Known.{Known, known}
 use Rattle.account_core.specs.Places.{owed}
 use Rattle.account_core.specs.declared.standing.Standing.{Standing}
@@ -33,13 +34,14 @@ unknown = record { plan = None; times = no_times; granted = 0; top = 0; forfeite
 abbrev pub TellsEach : BTreeMap ℕ Standing → List Event → Type 0
 TellsEach standings h = (call : ℕ) → known_of (unwrap_or (get nat_cmp standings call) unknown) ≡ known call h
 
--- the history is legal and within its limit, with a place for each that is owed, in memory too, and the map and the totals are those of the history
-pub record IsKept (opening limit : ℕ) (h : List Event) (standings : BTreeMap ℕ Standing) (funds credit places capacity : ℕ) : Type 0 where
+-- the history is legal and within its limit, with a place for each that is owed, in memory too, and the map, the totals and the last moment are those of the history
+pub record IsKept (opening : ℕ) (until : Option ℕ) (limit : ℕ) (h : List Event) (standings : BTreeMap ℕ Standing) (funds credit : ℕ) (last : Option ℕ) (places capacity : ℕ) : Type 0 where
   pub small : opening ≤ MAX_MONEY
-  pub legal : IsLegalPast opening h
+  pub legal : IsLegalPast opening until h
   pub within_limit : length h + places ≤ limit
   pub room : length h + places ≤ capacity
   pub tells : TellsEach standings h
   pub funds_are : funds ≡ opening + credits h
   pub credit_is : credit ≡ available opening h
+  pub last_is : last ≡ last_moment until h
   pub places_are : places ≡ owed h

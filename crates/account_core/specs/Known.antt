@@ -21,7 +21,7 @@ pub data Deed : Type 0 where
 
 -- by what was asked and answered. A Credit, and a Reserve that is denied, change no call
 abbrev pub deed_of : Asked → Reply → Deed
-deed_of (Reserves call plan wanted least) (reply.Granted units last available) = Grants plan units
+deed_of (Reserves call plan wanted least at) (reply.Granted units last available) = Grants plan units
 deed_of (Settles call number info) (reply.Settled paid available) = Reports info
 deed_of (Settles call number info) (reply.Forfeit paid available) = Forfeits
 deed_of (Returns call) (reply.Returned paid available) = Ends paid

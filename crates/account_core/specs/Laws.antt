@@ -1,5 +1,5 @@
 -- What is true of every legal history, in words of its own.
-use Rattle.std.specs.Prelude.{◌≡◌, ◌+◌, ◌==◌, ◌≤◌, ℕ, true, false, Option, Some, None, List, [], ◌∷◌, ◌++◌, if◌then◌else◌, reverse}
+use Rattle.std.specs.Prelude.{◌≡◌, ◌+◌, ◌==◌, ◌≤◌, ℕ, true, false, Option, Some, None, List, [], ◌∷◌, ◌++◌, All, if◌then◌else◌, reverse}
 use Rattle.tariff_core.specs.Price.{price_at}
 use Rattle.tariff_core.specs.Rates.{Rates}
 use Rattle.tariff_core.specs.Reading.{times_read}
@@ -9,13 +9,14 @@ use Rattle.account_core.specs.Answers.{IsLegal, answer, inadmissible}
 use Rattle.account_core.specs.Asked.{Asked, Settles, call_of}
 use Rattle.account_core.specs.Available.{available, credits, taken_by_all}
 use Rattle.account_core.specs.Events.{Event}
+use Rattle.account_core.specs.Expiry.{GrantsBy, LeavesLastMoment, last_moment}
 use Rattle.account_core.specs.Known.{Deed, Ends, deed, known}
 use Rattle.account_core.specs.Standing.{IsKindly}
 use Rattle.tariff_core.specs.declared.money.TheConstants.{MAX_MONEY}
 
 -- no balance is negative: at no place of a legal history do all calls take more than the opening and the credits accepted so far
 abbrev pub NoBalanceIsNegative : Type 0
-NoBalanceIsNegative = (opening : ℕ) (history later : List Event) → opening ≤ MAX_MONEY → IsLegal opening (history ++ later)
+NoBalanceIsNegative = (opening : ℕ) (until : Option ℕ) (history later : List Event) → opening ≤ MAX_MONEY → IsLegal opening until (history ++ later)
     → taken_by_all (reverse history) ≤ opening + credits (reverse history)
 
 -- what the Returned of a call told that it paid in all
@@ -35,7 +36,7 @@ pub record IsClosed (call : ℕ) (plan : Rates) (h : List Event) : Type 0 where
 
 -- it has paid exactly the price of its times
 abbrev pub ClosedCallsPayTheTariff : Type 0
-ClosedCallsPayTheTariff = (opening : ℕ) (history : List Event) (call : ℕ) (plan : Rates) → opening ≤ MAX_MONEY → IsLegal opening history
+ClosedCallsPayTheTariff = (opening : ℕ) (until : Option ℕ) (history : List Event) (call : ℕ) (plan : Rates) → opening ≤ MAX_MONEY → IsLegal opening until history
     → IsClosed call plan (reverse history) → told call (reverse history) ≡ Some (price_at plan (known call (reverse history)).times)
 
 -- the last report of a call, whatever was answered
@@ -53,7 +54,7 @@ AreReported None times = times ≡ no_times
 AreReported (Some info) times = (before : Elapsed) × (times_read before info ≡ Some times)
 
 abbrev pub TimesAreReported : Type 0
-TimesAreReported = (opening : ℕ) (history : List Event) (call : ℕ) → opening ≤ MAX_MONEY → IsLegal opening history
+TimesAreReported = (opening : ℕ) (until : Option ℕ) (history : List Event) (call : ℕ) → opening ≤ MAX_MONEY → IsLegal opening until history
     → (known call (reverse history)).forfeited ≡ false → AreReported (last_report call (reverse history)) (known call (reverse history)).times
 
 -- a Settle changes nothing of what is available
@@ -62,10 +63,15 @@ IsSettle (Settles call number info) = Unit {0}
 IsSettle asked = ⊥
 
 abbrev pub SettlesKeepTheCredit : Type 0
-SettlesKeepTheCredit = (opening : ℕ) (history : List Event) (event : Event) → opening ≤ MAX_MONEY → IsLegal opening (history ++ event ∷ []) → IsSettle event.asked
+SettlesKeepTheCredit = (opening : ℕ) (until : Option ℕ) (history : List Event) (event : Event) → opening ≤ MAX_MONEY → IsLegal opening until (history ++ event ∷ []) → IsSettle event.asked
     → available opening (reverse (history ++ event ∷ [])) ≡ available opening (reverse history)
 
 -- the answer to an admissible operation is of its kind, whatever its call
 abbrev pub AnswersAreKindly : Type 0
-AnswersAreKindly = (opening : ℕ) (history : List Event) (call : ℕ) (asked : Asked) → opening ≤ MAX_MONEY → IsLegal opening history
-    → inadmissible (reverse history) asked ≡ None → IsKindly call (known call (reverse history)) asked (answer opening (reverse history) asked)
+AnswersAreKindly = (opening : ℕ) (until : Option ℕ) (history : List Event) (call : ℕ) (asked : Asked) → opening ≤ MAX_MONEY → IsLegal opening until history
+    → inadmissible (reverse history) asked ≡ None → IsKindly call (known call (reverse history)) asked (answer opening until (reverse history) asked)
+
+-- after the last moment no entry grants anything, until one moves it
+abbrev pub NothingIsGrantedLate : Type 0
+NothingIsGrantedLate = (opening : ℕ) (until : Option ℕ) (history later : List Event) (last : ℕ) → IsLegal opening until (history ++ later)
+    → last_moment until (reverse history) ≡ Some last → All (λ event. LeavesLastMoment event.asked event.reply) later → All (λ event. GrantsBy last event.asked event.reply) later

@@ -8,15 +8,16 @@ use Rattle.account_core.specs.declared.entry.Reply.{Reply}
 use Rattle.account_core.specs.declared.fault.AccountFault.{AccountFault}
 use Rattle.account_core.specs.declared.fault.AccountFault.TheVariants as fault
 
--- the credit that it was opened with, how many entries it may have, and those that it has, oldest first
+-- the credit that it was opened with, the last moment of that, if it has one, how many entries it may have, and those that it has, oldest first
 pub record Ledger : Type 0 where
   pub opening : ℕ
+  pub until : Option ℕ
   pub limit : ℕ
   pub history : List Event
 
 -- the reply of an account to an operation
 abbrev pub answer_of : Ledger → Asked → Reply
-answer_of ledger asked = answer ledger.opening (reverse ledger.history) asked
+answer_of ledger asked = answer ledger.opening ledger.until (reverse ledger.history) asked
 
 -- why an account refuses an operation, if it does and memory is there
 abbrev pub refusal_of : Ledger → Asked → Option AccountFault

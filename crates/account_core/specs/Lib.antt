@@ -3,6 +3,7 @@ pub mod Asked
 pub mod Available
 pub mod Checked
 pub mod Events
+pub mod Expiry
 pub mod Faults
 pub mod Kept
 pub mod Known

@@ -21,8 +21,8 @@ owed h = sum_by (λ call. owed_to (known call h)) (calls h)
 
 -- the places that an operation takes beyond those owed: its own entry, and for a Reserve those that its grant would owe anew
 abbrev pub places_needed : Bool → Bool → Asked → ℕ
-places_needed open_call awaits (Credits amount) = 1
-places_needed open_call awaits (Reserves call plan wanted least) = if open_call then (if awaits then 1 else 2) else 3
+places_needed open_call awaits (Credits amount moment) = 1
+places_needed open_call awaits (Reserves call plan wanted least at) = if open_call then (if awaits then 1 else 2) else 3
 places_needed open_call awaits (Settles call number info) = if open_call && awaits then 0 else 1
 places_needed open_call awaits (Returns call) = if open_call then 0 else 1
 
@@ -50,7 +50,7 @@ refusal limit h asked = refusal_for limit (length h) (owed h) (known (call_of as
 
 -- a Return of an open call, or its first Settle since its last grant: the places for it are kept
 abbrev pub IsClosing : List Event → Asked → Type 0
-IsClosing h (Credits amount) = ⊥
-IsClosing h (Reserves call plan wanted least) = ⊥
+IsClosing h (Credits amount moment) = ⊥
+IsClosing h (Reserves call plan wanted least at) = ⊥
 IsClosing h (Settles call number info) = (is_open (known call h) ≡ true) × ((known call h).awaits ≡ true)
 IsClosing h (Returns call) = is_open (known call h) ≡ true

@@ -35,7 +35,7 @@ pub record IsSoundPast (opening : ℕ) (h : List Event) : Type 0 where
   pub capped : opening + credits h ≤ MAX_MONEY
 
 abbrev pub LegalPastsAreSound : Type 0
-LegalPastsAreSound = (opening : ℕ) (h : List Event) → opening ≤ MAX_MONEY → IsLegalPast opening h → IsSoundPast opening h
+LegalPastsAreSound = (opening : ℕ) (until : Option ℕ) (h : List Event) → opening ≤ MAX_MONEY → IsLegalPast opening until h → IsSoundPast opening h
 
 -- a grant goes no further than a day
 abbrev pub HasRoom : Known → Deed → Type 0
@@ -48,9 +48,9 @@ pub record IsFitting (credit : ℕ) (call : Known) (deed : Deed) : Type 0 where
   pub covered : taken_of (known_after call deed) ≤ credit + taken_of call
 
 -- the answers to admissible operations do so
-abbrev pub AnswersFit : ℕ → List Event → Type 0
-AnswersFit opening h = (asked : Asked) → inadmissible h asked ≡ None
-    → IsFitting (available opening h) (known (call_of asked) h) (deed_of asked (verdict opening h asked))
+abbrev pub AnswersFit : ℕ → Option ℕ → List Event → Type 0
+AnswersFit opening until h = (asked : Asked) → inadmissible h asked ≡ None
+    → IsFitting (available opening h) (known (call_of asked) h) (deed_of asked (verdict opening until h asked))
 
 abbrev pub SoundPastsAnswer : Type 0
-SoundPastsAnswer = (opening : ℕ) (h : List Event) → IsSoundPast opening h → AnswersFit opening h
+SoundPastsAnswer = (opening : ℕ) (until : Option ℕ) (h : List Event) → IsSoundPast opening h → AnswersFit opening until h

@@ -18,8 +18,8 @@ pub record IsGrant (known : Known) (wanted least units : ℕ) : Type 0 where
 
 -- a reply is of its operation's kind. A grant is made, or not, at will; a report is settled exactly where it is lawful
 abbrev pub IsReplyTo : Known → Asked → Reply → Type 0
-IsReplyTo known (Reserves call plan wanted least) (reply.Granted units last available) = IsGrant known wanted least units
-IsReplyTo known (Reserves call plan wanted least) (reply.Denied available) = Unit {0}
+IsReplyTo known (Reserves call plan wanted least at) (reply.Granted units last available) = IsGrant known wanted least units
+IsReplyTo known (Reserves call plan wanted least at) (reply.Denied available) = Unit {0}
 IsReplyTo known (Settles call number info) (reply.Settled paid available) = IsSome (accepted_times known info)
 IsReplyTo known (Settles call number info) (reply.Forfeit paid available) = accepted_times known info ≡ None
 IsReplyTo known (Returns call) (reply.Returned paid available) = Unit {0}

@@ -26,17 +26,19 @@ use tariff_core::MAX_MONEY;
 /// An account: a history of entries, each the one right answer of a sequential account in its place.
 ///
 /// Beside its entries it keeps what they come to: the standing of each call, the funds, the credit
-/// that is left, and the places that are owed for closing the open calls. It keeps room in memory
-/// for those places, so that a Return of an open call, and its first Settle since its last grant,
-/// always succeed.
+/// that is left, the last moment, and the places that are owed for closing the open calls. It keeps
+/// room in memory for those places, so that a Return of an open call, and its first Settle since its
+/// last grant, always succeed.
 #[derive(Drop)]
 pub struct Account {
     entries: Vec<Entry>,
     calls: BTreeMap<u64, Standing>,
     opening: u64,
+    until: Option<u64>,
     limit: u32,
     funds: u64,
     available: u64,
+    last_moment: Option<u64>,
     owed: usize,
 }
 
@@ -49,25 +51,27 @@ impl Model for Account {
 
     ghost Value = { Ledger };
 
-    ghost view = { λ a. record { opening = a.opening; limit = a.limit; history = map event_of a.entries.items } };
+    ghost view = { λ a. record { opening = a.opening; until = a.until; limit = a.limit; history = map event_of a.entries.items } };
 
-    ghost invariant = { λ a. IsKept a.opening a.limit (reverse (map event_of a.entries.items)) a.calls a.funds a.available a.owed (vec_capacity a.entries) };
+    ghost invariant = { λ a. IsKept a.opening a.until a.limit (reverse (map event_of a.entries.items)) a.calls a.funds a.available a.last_moment a.owed (vec_capacity a.entries) };
 }
 
 impl Account {
-    /// An account with an opening credit of 0 to `MAX_MONEY`, an empty history, and the number of
-    /// entries that this may grow to. It takes no memory yet.
-    pub fn new(alloc: Global, opening: u64, limit: u32) -> Account
+    /// An account with an opening credit of 0 to `MAX_MONEY`, a last moment, if it has one, an empty
+    /// history, and the number of entries that this may grow to. It takes no memory yet.
+    pub fn new(alloc: Global, opening: u64, until: Option<u64>, limit: u32) -> Account
         requires { opening ≤ MAX_MONEY }
-        ensures { result ≡ record { opening = opening; limit = limit; history = [] } }
+        ensures { result ≡ record { opening = opening; until = until; limit = limit; history = [] } }
     {
         Account {
             entries: Vec::new(alloc),
             calls: BTreeMap::new(alloc),
             opening,
+            until,
             limit,
             funds: opening,
             available: opening,
+            last_moment: until,
             owed: 0,
         }
     }
@@ -110,7 +114,7 @@ impl Account {
     /// The entries, oldest first. They are a legal history.
     pub fn history(&self) -> &[Entry]
         ensures value { map event_of result.now ≡ self.now.history }
-        ensures legal { IsLegal self.now.opening self.now.history }
+        ensures legal { IsLegal self.now.opening self.now.until self.now.history }
         ensures small { self.now.opening ≤ MAX_MONEY }
     {
         self.entries.as_slice()
@@ -152,13 +156,13 @@ impl Account {
     {
         self.history_is_sound();
         let standing = self.standing(op.call());
-        reply(op, &standing, self.funds, self.available)
+        reply(op, &standing, self.funds, self.available, self.last_moment)
     }
 
     /// What the type keeps.
     fn history_is_sound(&self)
         ensures sound { IsSoundPast self.now.opening (reverse self.now.history) }
-        ensures fitting { AnswersFit self.now.opening (reverse self.now.history) }
+        ensures fitting { AnswersFit self.now.opening self.now.until (reverse self.now.history) }
     {
         let _ = &self.opening;
         legal_pasts_are_sound();

@@ -10,15 +10,20 @@ use tariff_core::MAX_MONEY;
 
 impl Account {
     /// Whether a list of entries, oldest first, is a legal history of an opening credit of 0 to
-    /// `MAX_MONEY`: each operation was admissible in its place, and its reply is the answer of an
-    /// account there. The seats and the length of the list aren't judged. The only error is want of
-    /// memory, which is taken for each call that is new.
-    pub fn check(alloc: Global, opening: u64, entries: &[Entry]) -> Result<bool, AllocError>
+    /// `MAX_MONEY` and a last moment, if there is one: each operation was admissible in its place,
+    /// and its reply is the answer of an account there. The seats and the length of the list aren't
+    /// judged. The only error is want of memory, which is taken for each call that is new.
+    pub fn check(
+        alloc: Global,
+        opening: u64,
+        until: Option<u64>,
+        entries: &[Entry],
+    ) -> Result<bool, AllocError>
         requires { opening ≤ MAX_MONEY }
-        ensures legal { result ≡ Ok true → IsLegal opening (map event_of entries.now) }
-        ensures illegal { result ≡ Ok false → IsLegal opening (map event_of entries.now) → ⊥ }
+        ensures legal { result ≡ Ok true → IsLegal opening until (map event_of entries.now) }
+        ensures illegal { result ≡ Ok false → IsLegal opening until (map event_of entries.now) → ⊥ }
     {
-        let mut check = HistoryCheck::new(alloc, opening);
+        let mut check = HistoryCheck::new(alloc, opening, until);
         for entry in entries {
             check.hear(*entry)?;
         }

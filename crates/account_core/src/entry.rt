@@ -4,16 +4,20 @@ ghost use Rattle.std.specs.Prelude.{◌≡◌};
 ghost use Rattle.account_core.specs.Answers.{shown_by};
 ghost use Rattle.account_core.specs.Asked.{call_of};
 ghost use Rattle.account_core.specs.Available.{credited};
+ghost use Rattle.account_core.specs.Expiry.{last_moment_after};
 
 use tariff_core::{DAY, Plan, TimeInfo};
 
-/// An operation on an account. Times are in units of 100 ms, amounts in units of money.
+/// An operation on an account. Times and moments are in units of 100 ms, amounts in units of money.
 #[derive(Clone, Copy, Debug, PartialEq, Eq)]
 pub enum Op {
-    /// Adds money to the account.
+    /// Adds money to the account, and may give it another last moment: after that nothing new is
+    /// granted.
     Credit {
         /// How much, 1 to `MAX_MONEY`.
         amount: u64,
+        /// The account's last moment from then on, or none where it stays as it was.
+        until: Option<u64>,
     },
     /// Holds money for the next time of a call.
     Reserve {
@@ -25,6 +29,8 @@ pub enum Op {
         wanted: u32,
         /// The least time that is of use, 0 to DAY.
         least: u32,
+        /// The moment of asking.
+        at: u64,
     },
     /// Tells what an open call has used, as its charging report states it.
     Settle {
@@ -79,7 +85,8 @@ pub enum Reply {
         /// The credit that is left beside what is held.
         available: u64,
     },
-    /// Less time than is of use is covered, or the call has a forfeit. What it holds is unchanged.
+    /// Less time than is of use is covered, or the call has a forfeit, or the account's last moment
+    /// is over. What the call holds is unchanged.
     Denied {
         /// The credit, as it was.
         available: u64,
@@ -144,8 +151,18 @@ impl Entry {
         ensures { result ≡ credited (asked_of self.now.op) self.now.reply }
     {
         match (self.op, self.reply) {
-            (Op::Credit { amount }, Reply::Credited { .. }) => amount,
+            (Op::Credit { amount, .. }, Reply::Credited { .. }) => amount,
             _ => 0,
+        }
+    }
+
+    /// The account's last moment after the entry, if it has one, by that before it.
+    pub fn last_moment(&self, before: Option<u64>) -> Option<u64>
+        ensures { result ≡ last_moment_after before (asked_of self.now.op) self.now.reply }
+    {
+        match (self.op, self.reply) {
+            (Op::Credit { until, .. }, Reply::Credited { .. }) => until.or(before),
+            _ => before,
         }
     }
 }

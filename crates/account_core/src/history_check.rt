@@ -1,6 +1,6 @@
 //! Whether a history that is told entry by entry is legal.
 
-ghost use Rattle.std.specs.Prelude.{◌≡◌, ◌≤◌, ◌∷◌, [], ℕ, List, OnErr, OnOk};
+ghost use Rattle.std.specs.Prelude.{◌≡◌, ◌≤◌, ◌∷◌, [], ℕ, List, Option, OnErr, OnOk};
 ghost use Rattle.std.specs.Bool.{Decides};
 ghost use Rattle.account_core.specs.Answers.{IsLegalPast};
 ghost use Rattle.account_core.specs.Asked.{call_of};
@@ -21,27 +21,27 @@ pub struct HistoryCheck {
 }
 
 impl HistoryCheck {
-    /// The check of the empty history of an account with an opening credit of 0 to `MAX_MONEY`. It
-    /// takes no memory yet.
-    pub fn new(alloc: Global, opening: u64) -> HistoryCheck
+    /// The check of the empty history of an account with an opening credit of 0 to `MAX_MONEY` and
+    /// a last moment, if it has one. It takes no memory yet.
+    pub fn new(alloc: Global, opening: u64, until: Option<u64>) -> HistoryCheck
         requires { opening ≤ MAX_MONEY }
-        ensures { IsCheckOf opening [] result }
+        ensures { IsCheckOf opening until [] result }
     {
         HistoryCheck {
-            tally: Some(Tally::new(alloc, opening)),
+            tally: Some(Tally::new(alloc, opening, until)),
         }
     }
 
     /// Takes one entry more, from any seat. The only error is want of memory, which is taken for a
     /// call that is new; the check is then still that of the entries before.
     pub fn hear(&mut self, entry: Entry) -> Result<(), AllocError>
-        requires { (opening : ℕ) × (h : List Event) × IsCheckOf opening h self.old }
-        ensures heard { OnOk result ((opening : ℕ) (h : List Event) →
-            IsCheckOf opening h self.old → IsCheckOf opening (event_of entry ∷ h) self.new) }
-        ensures kept { OnErr result ((opening : ℕ) (h : List Event) →
-            IsCheckOf opening h self.old → IsCheckOf opening h self.new) }
-        ensures fresh { OnErr result ((opening : ℕ) (h : List Event) →
-            IsCheckOf opening h self.old → known (call_of (asked_of entry.op)) h ≡ nothing_known) }
+        requires { (opening : ℕ) × (until : Option ℕ) × (h : List Event) × IsCheckOf opening until h self.old }
+        ensures heard { OnOk result ((opening : ℕ) (until : Option ℕ) (h : List Event) →
+            IsCheckOf opening until h self.old → IsCheckOf opening until (event_of entry ∷ h) self.new) }
+        ensures kept { OnErr result ((opening : ℕ) (until : Option ℕ) (h : List Event) →
+            IsCheckOf opening until h self.old → IsCheckOf opening until h self.new) }
+        ensures fresh { OnErr result ((opening : ℕ) (until : Option ℕ) (h : List Event) →
+            IsCheckOf opening until h self.old → known (call_of (asked_of entry.op)) h ≡ nothing_known) }
     {
         if let Some(tally) = &mut self.tally {
             if !tally.hear(entry)? {
@@ -53,8 +53,8 @@ impl HistoryCheck {
 
     /// Whether the entries so far are a legal history.
     pub fn is_legal(&self) -> bool
-        ensures { (opening : ℕ) (h : List Event) → IsCheckOf opening h self.now →
-            Decides result (IsLegalPast opening h) }
+        ensures { (opening : ℕ) (until : Option ℕ) (h : List Event) → IsCheckOf opening until h self.now →
+            Decides result (IsLegalPast opening until h) }
     {
         self.tally.is_some()
     }

@@ -4,6 +4,7 @@ ghost use Rattle.std.specs.Prelude.{◌≡◌, ◌+◌, ◌≤◌, true};
 ghost use Rattle.account_core.specs.Answers.{inadmissible_for};
 ghost use Rattle.account_core.specs.Asked.{is_in_range};
 ghost use Rattle.account_core.specs.Events.{asked_of};
+ghost use Rattle.account_core.specs.Expiry.{is_past};
 ghost use Rattle.account_core.specs.Kept.{known_of};
 ghost use Rattle.account_core.specs.Known.{taken_of};
 ghost use Rattle.account_core.specs.Places.{refusal_for};
@@ -54,31 +55,48 @@ fn is_in_range(op: &Op) -> bool
     ensures { result ≡ is_in_range (asked_of op.now) }
 {
     match *op {
-        Op::Credit { amount } => 1 <= amount && amount <= MAX_MONEY,
+        Op::Credit { amount, .. } => 1 <= amount && amount <= MAX_MONEY,
         Op::Reserve { wanted, least, .. } => 1 <= wanted && wanted <= DAY && least <= DAY,
         Op::Settle { .. } | Op::Return { .. } => true,
     }
 }
 
 /// The reply to an operation that isn't refused, where the funds are the opening and the accepted
-/// credits, and so much of them is available.
-pub(crate) fn reply(op: Op, standing: &Standing, funds: u64, available: u64) -> Reply
+/// credits, so much of them is available, and the account has this last moment, if any.
+pub(crate) fn reply(
+    op: Op,
+    standing: &Standing,
+    funds: u64,
+    available: u64,
+    last_moment: Option<u64>,
+) -> Reply
     requires sound { IsSound (known_of standing.now) }
     requires money { available + taken_of (known_of standing.now) ≤ MAX_MONEY }
     requires capped { funds ≤ MAX_MONEY }
     requires ranged { is_in_range (asked_of op) ≡ true }
-    ensures { result ≡ reply_for available funds (known_of standing.now) (asked_of op) }
+    ensures { result ≡ reply_for available funds last_moment (known_of standing.now) (asked_of op) }
 {
     match op {
-        Op::Credit { amount } => credit(amount, funds, available),
+        Op::Credit { amount, .. } => credit(amount, funds, available),
         Op::Reserve {
             plan,
             wanted,
             least,
+            at,
             ..
-        } => standing.reserve(plan, wanted, least, available),
+        } => standing.reserve(plan, wanted, least, is_past(last_moment, at), available),
         Op::Settle { info, .. } => standing.settle(info, available),
         Op::Return { .. } => standing.give_back(available),
+    }
+}
+
+/// Whether a moment is past the last one, if there is one.
+fn is_past(last_moment: Option<u64>, at: u64) -> bool
+    ensures { result ≡ is_past last_moment at }
+{
+    match last_moment {
+        Some(last) => at > last,
+        None => false,
     }
 }
 

@@ -1,7 +1,7 @@
 //! Laws of legal histories, each the contract of a function that does nothing: what the sequential
 //! account comes to, in words that know nothing of how it answers.
 
-ghost use Rattle.account_core.specs.Laws.{AnswersAreKindly, ClosedCallsPayTheTariff, NoBalanceIsNegative, SettlesKeepTheCredit, TimesAreReported};
+ghost use Rattle.account_core.specs.Laws.{AnswersAreKindly, ClosedCallsPayTheTariff, NoBalanceIsNegative, NothingIsGrantedLate, SettlesKeepTheCredit, TimesAreReported};
 ghost use Rattle.account_core.specs.Sound.{LegalPastsAreSound, SoundPastsAnswer};
 ghost use Rattle.account_core.specs.TariffLaws.{TariffLaws};
 
@@ -29,6 +29,12 @@ pub fn settles_keep_the_credit()
 {
     tariff_laws();
 }
+
+/// After an account's last moment no entry of a legal history grants anything, until a Credit moves
+/// that moment.
+pub fn nothing_is_granted_late()
+    ensures { NothingIsGrantedLate }
+{}
 
 /// The answer to an admissible operation is of its kind: a grant is of some units, at least the
 /// least and at most those wanted, within a day with the times of its call; and a report is settled

@@ -27,7 +27,7 @@ pub use fault::AccountFault;
 pub use history_check::HistoryCheck;
 pub use laws::{
     answers_are_kindly, closed_calls_pay_the_tariff, no_balance_is_negative,
-    settles_keep_the_credit,
+    nothing_is_granted_late, settles_keep_the_credit,
 };
 pub use limits::{MAX_LIMIT, MIN_LIMIT};
 pub use list_account::ListAccount;

@@ -4,6 +4,7 @@ ghost use Rattle.std.specs.Prelude.{◌≡◌, ◌+◌, ◌≤◌, ◌++◌, ◌
 ghost use Rattle.account_core.specs.Answers.{IsLegal};
 ghost use Rattle.account_core.specs.Available.{available, credits};
 ghost use Rattle.account_core.specs.Events.{asked_of, event_of};
+ghost use Rattle.account_core.specs.Expiry.{last_moment};
 ghost use Rattle.account_core.specs.Kept.{known_of};
 ghost use Rattle.account_core.specs.Known.{known, paid_if_granted};
 ghost use Rattle.account_core.specs.Ledger.{IsRefusal, answer_of, event_by, refusal_of};
@@ -13,7 +14,7 @@ ghost use Rattle.account_core.specs.Sound.{AnswersFit, IsSoundPast};
 use crate::judging::{judge, reply};
 use crate::laws::legal_pasts_are_sound;
 use crate::standing::Standing;
-use crate::walks::{funds_in, owed_in, standing_in, taken_in};
+use crate::walks::{funds_in, last_moment_in, owed_in, standing_in, taken_in};
 use crate::{AccountFault, Entry, Op, Reply};
 use std::alloc::Global;
 use std::marker::Model;
@@ -25,6 +26,7 @@ use tariff_core::MAX_MONEY;
 pub struct ListAccount {
     entries: Vec<Entry>,
     opening: u64,
+    until: Option<u64>,
     limit: u32,
 }
 
@@ -36,21 +38,22 @@ impl Model for ListAccount {
 
     ghost Value = { Ledger };
 
-    ghost view = { λ a. record { opening = a.opening; limit = a.limit; history = map event_of a.entries.items } };
+    ghost view = { λ a. record { opening = a.opening; until = a.until; limit = a.limit; history = map event_of a.entries.items } };
 
-    ghost invariant = { λ a. IsListed a.opening a.limit (reverse (map event_of a.entries.items)) };
+    ghost invariant = { λ a. IsListed a.opening a.until a.limit (reverse (map event_of a.entries.items)) };
 }
 
 impl ListAccount {
-    /// An account with an opening credit of 0 to `MAX_MONEY`, an empty history, and the number of
-    /// entries that this may grow to. It takes no memory yet.
-    pub fn new(alloc: Global, opening: u64, limit: u32) -> ListAccount
+    /// An account with an opening credit of 0 to `MAX_MONEY`, a last moment, if it has one, an empty
+    /// history, and the number of entries that this may grow to. It takes no memory yet.
+    pub fn new(alloc: Global, opening: u64, until: Option<u64>, limit: u32) -> ListAccount
         requires { opening ≤ MAX_MONEY }
-        ensures { result ≡ record { opening = opening; limit = limit; history = [] } }
+        ensures { result ≡ record { opening = opening; until = until; limit = limit; history = [] } }
     {
         ListAccount {
             entries: Vec::new(alloc),
             opening,
+            until,
             limit,
         }
     }
@@ -116,7 +119,13 @@ impl ListAccount {
     {
         self.history_is_sound();
         let standing = self.standing(op.call());
-        reply(op, &standing, self.funds(), self.available())
+        reply(
+            op,
+            &standing,
+            self.funds(),
+            self.available(),
+            self.last_moment(),
+        )
     }
 
     /// What the history says of a call.
@@ -133,6 +142,13 @@ impl ListAccount {
         funds_in(self.entries.as_slice(), self.opening)
     }
 
+    /// The last moment, if there is one.
+    fn last_moment(&self) -> Option<u64>
+        ensures { result ≡ last_moment self.now.until (reverse self.now.history) }
+    {
+        last_moment_in(self.entries.as_slice(), self.until)
+    }
+
     /// The places that are owed.
     fn owed(&self) -> usize
         ensures { result ≡ owed (reverse self.now.history) }
@@ -144,7 +160,7 @@ impl ListAccount {
     /// What the type keeps.
     fn history_is_sound(&self)
         ensures sound { IsSoundPast self.now.opening (reverse self.now.history) }
-        ensures fitting { AnswersFit self.now.opening (reverse self.now.history) }
+        ensures fitting { AnswersFit self.now.opening self.now.until (reverse self.now.history) }
     {
         let _ = &self.opening;
         legal_pasts_are_sound();

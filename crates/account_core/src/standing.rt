@@ -93,19 +93,20 @@ impl Standing {
         }
     }
 
-    /// The reply to a Reserve, with this much credit available.
+    /// The reply to a Reserve, which may come late, after the account's last moment, with this much
+    /// credit available.
     #[tactic(auto, unfolding(crate::specs::Answers::units_offered))]
-    pub fn reserve(&self, plan: Plan, wanted: u32, least: u32, available: u64) -> Reply
+    pub fn reserve(&self, plan: Plan, wanted: u32, least: u32, late: bool, available: u64) -> Reply
         requires sound { IsSound (known_of self.now) }
         requires money { available + taken_of (known_of self.now) ≤ MAX_MONEY }
-        ensures { result ≡ reserve_reply available (known_of self.now) (rates_of plan) wanted least
+        ensures { result ≡ reserve_reply available (known_of self.now) (rates_of plan) wanted least late
             (units_offered available (known_of self.now) (rates_of plan) wanted) }
     {
         afforded_is_greatest();
         let plan = self.plan_in_force(plan);
         let money = available + self.taken();
         let units = afford(&plan, self.times, wanted, money);
-        if units < least || units == 0 || self.forfeited {
+        if units < least || units == 0 || self.forfeited || late {
             return Reply::Denied { available };
         }
         let held = ceiling(&plan, self.times, units);

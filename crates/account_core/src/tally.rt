@@ -1,6 +1,6 @@
 //! What a legal history comes to, while its entries are judged one after another.
 
-ghost use Rattle.std.specs.Prelude.{◌≡◌, ◌≤◌, ◌∷◌, [], ℕ, List, None, true, false, IfNone, IfOk, IfSome, OnErr};
+ghost use Rattle.std.specs.Prelude.{◌≡◌, ◌≤◌, ◌∷◌, [], ℕ, List, Option, None, true, false, IfNone, IfOk, IfSome, OnErr};
 ghost use Rattle.std.specs.BTreeMap.{IsUnchanged, get};
 ghost use Rattle.std.specs.Ordering.{nat_cmp};
 ghost use Rattle.account_core.specs.Answers.{IsAnswered};
@@ -19,28 +19,33 @@ use std::collections::BTreeMap;
 use tariff_core::MAX_MONEY;
 
 /// What a legal history comes to: the standing of each call, the opening with the accepted credits,
-/// and the credit that is left. The history itself isn't kept: each clause speaks of every history
+/// the credit that is left, and the last moment, if there is one. The history itself isn't kept: each clause speaks of every history
 /// that comes to this.
 #[derive(Drop)]
 pub(crate) struct Tally {
     pub opening: u64,
+    pub until: Option<u64>,
     pub calls: BTreeMap<u64, Standing>,
     pub funds: u64,
     pub available: u64,
+    pub last_moment: Option<u64>,
 }
 
 impl Tally {
     /// That of the empty history.
-    pub fn new(alloc: Global, opening: u64) -> Tally
+    pub fn new(alloc: Global, opening: u64, until: Option<u64>) -> Tally
         requires { opening ≤ MAX_MONEY }
         ensures tallied { IsTallied [] result }
         ensures opening { result.opening ≡ opening }
+        ensures until { result.until ≡ until }
     {
         Tally {
             opening,
+            until,
             calls: BTreeMap::new(alloc),
             funds: opening,
             available: opening,
+            last_moment: until,
         }
     }
 
@@ -51,51 +56,61 @@ impl Tally {
         ensures legal { IfOk result (λ legal. legal ≡ true → (h : List Event) →
             IsTallied h self.old → IsTallied (event_of entry ∷ h) self.new) }
         ensures illegal { IfOk result (λ legal. legal ≡ false → (h : List Event) →
-            IsTallied h self.old → IsAnswered self.old.opening h (event_of entry) → ⊥) }
+            IsTallied h self.old → IsAnswered self.old.opening self.old.until h (event_of entry) → ⊥) }
         ensures opening { self.new.opening ≡ self.old.opening }
+        ensures until { self.new.until ≡ self.old.until }
         ensures kept { OnErr result ((h : List Event) →
             IsTallied h self.old → IsTallied h self.new) }
         ensures fresh { OnErr result ((h : List Event) → IsTallied h self.old →
             known (call_of (asked_of entry.op)) h ≡ nothing_known) }
     {
         legal_pasts_are_sound();
-        if !renew_standing(&mut self.calls, entry, self.funds, self.available)? {
+        if !renew_standing(
+            &mut self.calls,
+            entry,
+            self.funds,
+            self.available,
+            self.last_moment,
+        )? {
             return Ok(false);
         }
         self.funds += entry.credited();
         self.available = entry.reply.available();
+        self.last_moment = entry.last_moment(self.last_moment);
         Ok(true)
     }
 }
 
 /// Keeps what is known of a call after an entry of it, where the entry is legal after a history
-/// with these funds, of which so much is available; tells whether it is.
+/// with these funds, of which so much is available, and this last moment; tells whether it is.
 fn renew_standing(
     calls: &mut BTreeMap<u64, Standing>,
     entry: Entry,
     funds: u64,
     available: u64,
+    last_moment: Option<u64>,
 ) -> Result<bool, AllocError>
-    requires { (opening : ℕ) × (h : List Event) ×
-        IsTallied h (tally_of opening calls.old funds available) }
-    ensures legal { IfOk result (λ legal. legal ≡ true → (opening : ℕ) (h : List Event) →
-        IsTallied h (tally_of opening calls.old funds available) →
-        IsAnswered opening h (event_of entry) × TellsEach calls.new (event_of entry ∷ h)) }
-    ensures illegal { IfOk result (λ legal. legal ≡ false → (opening : ℕ) (h : List Event) →
-        IsTallied h (tally_of opening calls.old funds available) →
-        IsAnswered opening h (event_of entry) → ⊥) }
+    requires { (opening : ℕ) × (until : Option ℕ) × (h : List Event) ×
+        IsTallied h (tally_of opening until calls.old funds available last_moment) }
+    ensures legal { IfOk result (λ legal. legal ≡ true → (opening : ℕ) (until : Option ℕ) (h : List Event) →
+        IsTallied h (tally_of opening until calls.old funds available last_moment) →
+        IsAnswered opening until h (event_of entry) × TellsEach calls.new (event_of entry ∷ h)) }
+    ensures illegal { IfOk result (λ legal. legal ≡ false → (opening : ℕ) (until : Option ℕ) (h : List Event) →
+        IsTallied h (tally_of opening until calls.old funds available last_moment) →
+        IsAnswered opening until h (event_of entry) → ⊥) }
     ensures kept { OnErr result (IsUnchanged calls.old calls.new) }
     ensures fresh { OnErr result (get nat_cmp calls.old (call_of (asked_of entry.op)) ≡ None) }
 {
     let call = entry.op.call();
     let Some(standing) = calls.get_mut(&call) else {
-        let Some(after) = after_legal(entry, &Standing::UNKNOWN, funds, available) else {
+        let Some(after) = after_legal(entry, &Standing::UNKNOWN, funds, available, last_moment)
+        else {
             return Ok(false);
         };
         calls.insert(call, after)?;
         return Ok(true);
     };
-    let Some(after) = after_legal(entry, standing, funds, available) else {
+    let Some(after) = after_legal(entry, standing, funds, available, last_moment) else {
         return Ok(false);
     };
     *standing = after;
@@ -103,23 +118,29 @@ fn renew_standing(
 }
 
 /// What is known of a call after an entry of it, where the entry is legal after a history with
-/// these funds, of which so much is available.
-fn after_legal(entry: Entry, standing: &Standing, funds: u64, available: u64) -> Option<Standing>
-    requires { (opening : ℕ) × (h : List Event) ×
-        IsToldOf opening h (event_of entry) (known_of standing.now) funds available }
-    ensures legal { IfSome result (λ after. (opening : ℕ) (h : List Event) →
-        IsToldOf opening h (event_of entry) (known_of standing.now) funds available →
-        IsAnswered opening h (event_of entry)
+/// these funds, of which so much is available, and this last moment.
+fn after_legal(
+    entry: Entry,
+    standing: &Standing,
+    funds: u64,
+    available: u64,
+    last_moment: Option<u64>,
+) -> Option<Standing>
+    requires { (opening : ℕ) × (until : Option ℕ) × (h : List Event) ×
+        IsToldOf opening until h (event_of entry) (known_of standing.now) funds available last_moment }
+    ensures legal { IfSome result (λ after. (opening : ℕ) (until : Option ℕ) (h : List Event) →
+        IsToldOf opening until h (event_of entry) (known_of standing.now) funds available last_moment →
+        IsAnswered opening until h (event_of entry)
         × (known_of after ≡ known (call_of (asked_of entry.op)) (event_of entry ∷ h))) }
-    ensures illegal { IfNone result ((opening : ℕ) (h : List Event) →
-        IsToldOf opening h (event_of entry) (known_of standing.now) funds available →
-        IsAnswered opening h (event_of entry) → ⊥) }
+    ensures illegal { IfNone result ((opening : ℕ) (until : Option ℕ) (h : List Event) →
+        IsToldOf opening until h (event_of entry) (known_of standing.now) funds available last_moment →
+        IsAnswered opening until h (event_of entry) → ⊥) }
 {
     legal_pasts_are_sound();
     if inadmissible(&entry.op, standing).is_some() {
         return None;
     }
-    if reply(entry.op, standing, funds, available) != entry.reply {
+    if reply(entry.op, standing, funds, available, last_moment) != entry.reply {
         return None;
     }
     Some(standing.after(entry.op, entry.reply))

@@ -1,9 +1,10 @@
 //! Walks through a history, as its definitions are read.
 
-ghost use Rattle.std.specs.Prelude.{◌≡◌, ◌+◌, ◌≤◌, map, reverse};
+ghost use Rattle.std.specs.Prelude.{◌≡◌, ◌+◌, ◌≤◌, ℕ, Option, map, reverse};
 ghost use Rattle.account_core.specs.Answers.{IsLegal};
 ghost use Rattle.account_core.specs.Available.{begins_call, credits, taken_by_all};
 ghost use Rattle.account_core.specs.Events.{event_of};
+ghost use Rattle.account_core.specs.Expiry.{last_moment};
 ghost use Rattle.account_core.specs.Kept.{known_of};
 ghost use Rattle.account_core.specs.Known.{known};
 ghost use Rattle.account_core.specs.Listed.{HasOpening};
@@ -32,7 +33,7 @@ pub(crate) fn standing_in(history: &[Entry], call: u64) -> Standing
 /// The opening and the credits that a legal history accepted.
 pub(crate) fn funds_in(history: &[Entry], opening: u64) -> u64
     requires small { opening ≤ MAX_MONEY }
-    requires legal { IsLegal opening (map event_of history.now) }
+    requires legal { (until : Option ℕ) × IsLegal opening until (map event_of history.now) }
     ensures { result ≡ opening + credits (reverse (map event_of history.now)) }
 {
     legal_pasts_are_sound();
@@ -41,6 +42,17 @@ pub(crate) fn funds_in(history: &[Entry], opening: u64) -> u64
         funds += entry.credited();
     }
     funds
+}
+
+/// The last moment after a history, if there is one, by that of its opening.
+pub(crate) fn last_moment_in(history: &[Entry], until: Option<u64>) -> Option<u64>
+    ensures { result ≡ last_moment until (reverse (map event_of history.now)) }
+{
+    let mut last = until;
+    for entry in history {
+        last = entry.last_moment(last);
+    }
+    last
 }
 
 /// What all calls of a legal history take.

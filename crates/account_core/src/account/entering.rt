@@ -46,6 +46,7 @@ impl Account {
         self.entries.push_reserved(entry);
         self.funds += entry.credited();
         self.available = entry.reply.available();
+        self.last_moment = entry.last_moment(self.last_moment);
         Ok(())
     }
 

@@ -12,6 +12,13 @@ impl Account {
         self.opening
     }
 
+    /// The last moment that it was opened with, if it has one.
+    pub fn until(&self) -> Option<u64>
+        ensures { result ≡ self.now.until }
+    {
+        self.until
+    }
+
     /// How many entries its history may grow to.
     pub fn limit(&self) -> u32
         ensures { result ≡ self.now.limit }
