@@ -91,9 +91,10 @@ class Call:
 
 @dataclasses.dataclass
 class Account:
-    """An account, its entries as (seat, operation, reply), and its calls by number."""
+    """An account, its last moment now, its entries as (seat, operation, reply), and its calls by number."""
 
     opening: int
+    until: "int | None" = None
     limit: int = 1_000_000
     credits: int = 0
     entries: list = dataclasses.field(default_factory=list)
@@ -134,18 +135,20 @@ class Account:
         self.entries.append((seat, op, reply))
         return reply
 
-    def credit(self, amount):
+    def credit(self, amount, until):
         if self.opening + self.credits + amount > MAX_MONEY:
             return ("over",)
         self.credits += amount
+        self.until = self.until if until is None else until
         return ("credited",)
 
-    def reserve(self, number, plan, wanted, least):
+    def reserve(self, number, plan, wanted, least, at):
         call = self.calls.get(number)
         known = call or Call(plan)
         money = self.available() + (call.taken() if call else 0)
         units = afford(known.plan, known.times, wanted, money)
-        if units < least or units == 0 or known.has_forfeit:
+        is_late = self.until is not None and at > self.until
+        if units < least or units == 0 or known.has_forfeit or is_late:
             return ("denied",)
         known.granted = known.times.total() + units
         known.top = ceiling(known.plan, known.times, units)

@@ -74,7 +74,7 @@ def do_price(given, text):
 
 
 def do_replay(given, text):
-    account = Account(number(given, "--opening", most=MAX_MONEY), number(given, "--limit", 1_000_000, 1_000_000, 3))
+    account = Account(number(given, "--opening", most=MAX_MONEY), limit=number(given, "--limit", 1_000_000, 1_000_000, 3))
     lines = []
     for seat, op in read_ops(whole(text)):
         reply = account.apply(seat, op)
@@ -94,8 +94,8 @@ def told(reply):
 def do_audit(text):
     """Whether each account's entries are those of an account: their operations are taken, and answered so."""
     lines, status = [], 0
-    for number, (opening, entries) in sorted(read_book(whole(text)).items()):
-        account = Account(opening, NO_LIMIT)
+    for number, (opening, until, entries) in sorted(read_book(whole(text)).items()):
+        account = Account(opening, until, NO_LIMIT)
         legal = all(account.apply(seat, op) == reply for seat, op, reply in entries)
         status = status if legal else 3
         lines.append(f"account {number} {'yes' if legal else 'no'}\n")

@@ -3,7 +3,7 @@ import random
 
 from .account import DAY, MAX_MONEY
 from .command import command
-from .tables import BOOK, OPS, TARIFF
+from .tables import BOOK, OPS, SCRIPT, SETUP, TARIFF
 
 # Fields that are wrong in most places, and right at an end of a range in some.
 FIELDS = (
@@ -72,10 +72,10 @@ def operations(it):
         what = it.choice(["credit", "reserve", "reserve", "settle", "settle", "return"])
         time = it.choice([0, 100, 300, 600, 601, it.randrange(1300), DAY])
         if what == "credit":
-            x = "", it.choice([0, 1, 600, it.randrange(3000), MAX_MONEY])
+            x = "", it.choice([0, 1, 600, it.randrange(3000), MAX_MONEY]), *[it.choice(["", "", 0, 5, 10])][: more == 2]
         elif what == "reserve":
             *rates, free = it.choice(plans)
-            x = call, *rates, it.choice([0, 1, 600, it.randrange(700), DAY]), it.choice([0, 1, 50, DAY]), *[free][:more]
+            x = call, *rates, it.choice([0, 1, 600, it.randrange(700), DAY]), it.choice([0, 1, 50, DAY]), *[free, it.choice([0, 4, 5, 6, 11])][:more]
         elif what == "settle" and it.random() < 0.5:
             x = call, it.randrange(9), "n", time
         elif what == "settle":
@@ -106,8 +106,9 @@ def runs(it, few=False):
             words += [f"--{name}", str(given[name])]
     words += ["--book"] if given["workers"] > 1 and it.random() < 0.8 or it.random() < 0.4 else []
     first, starts = tariff(it)
-    second, accounts, subscribers = setup(it)
-    third = script(it, given, starts, accounts, subscribers)
+    base = max(0, it.choice([0, 1, 3]) * DAY + it.choice(starts) - it.choice([0, 5, 10, 100, 305]))
+    second, accounts, subscribers = setup(it, base, wanted)
+    third = script(it, given, base, accounts, subscribers)
     return words, first + b"%%\n" + second + b"%%\n" + third
 
 
@@ -123,21 +124,27 @@ def tariff(it):
     return table(rows), starts
 
 
-def setup(it):
-    rows, accounts, subscribers = [("kind", "key", "value")], [], []
+def until(it, base, wanted):
+    """The last moment of an account: mostly none, or one among the moments of the run."""
+    return it.choice(["", "", "", 0, base, base + it.randrange(1 + wanted), base + it.randrange(1 + 3 * wanted), 10**12])
+
+
+def setup(it, base, wanted):
+    header = it.choice(SETUP)
+    rows, accounts, subscribers = [header], [], []
     for number in it.sample([1, 2, 7, 8, 4294967295], it.randrange(1, 4)):
         opening = it.choice([0, 300, 1500, it.randrange(5000), it.randrange(50_000), MAX_MONEY - it.randrange(900)])
-        rows.append(("account", number, opening))
+        rows.append(("account", number, opening, until(it, base, wanted))[: len(header)])
         accounts.append(number)
     for number in it.sample(NUMBERS, it.randrange(1, 5)):
-        rows.append(("subscriber", number, it.choice(accounts)))
+        rows.append(("subscriber", number, it.choice(accounts), "")[: len(header)])
         subscribers.append(number)
     return table(rows), accounts, subscribers
 
 
-def script(it, given, starts, accounts, subscribers):
+def script(it, given, base, accounts, subscribers):
     """Calls that begin about the start of a band, each with what it meets at moments that matter to its timers."""
-    base = max(0, it.choice([0, 1, 3]) * DAY + it.choice(starts) - it.choice([0, 5, 10, 100, 305]))
+    header = it.choice(SCRIPT)
     delay, tccd, tssf, wanted = (given[it] for it in ("delay", "tccd", "tssf", "wanted"))
     rows, moment, calls = [], base, it.sample([*range(1, 12), 2**64 - 1], it.randrange(1, 9))
     for call in calls:
@@ -154,20 +161,22 @@ def script(it, given, starts, accounts, subscribers):
             rows.append((at, call, word, it.choice([1, 2]) if word == "disconnect" else "", ""))
     for _ in range(it.choice([0, 0, 1, 3])):
         at = it.choice(rows)[0] + it.choice([0, 0, delay, it.randrange(1 + wanted)])
-        rows.append((at, "", "recharge", it.choice(accounts), it.choice([0, 1, 600, it.randrange(3000), MAX_MONEY])))
+        rows.append((at, "", "recharge", it.choice(accounts), it.choice([0, 1, 600, it.randrange(3000), MAX_MONEY]), until(it, base, wanted)))
     # a start stays before what its call meets: sorting keeps the order of one moment
     rows = [row for _, row in sorted(enumerate(rows), key=lambda row: (row[1][0], row[0]))]
-    return table([("moment", "call", "what", "x", "y"), *rows])
+    return table([header, *([*row, ""][: len(header)] for row in rows)])
 
 
 def books(it):
     """The book of a run, in which a part was altered, or which was told otherwise or by the older header."""
     words, text = runs(it, few=True)
     status, book, _, _ = command(words if "--book" in words else [*words, "--book"], text)
-    rows = [line.split(",") for line in book.split("\n")[:-1]] if status == 0 else [list(BOOK[1])]
-    if it.random() < 0.3:
-        # without x6, which is in front of the reply and its three columns
-        rows = [row[:-5] + row[-4:] for row in rows]
+    rows = [line.split(",") for line in book.split("\n")[:-1]] if status == 0 else [list(BOOK[2])]
+    less = it.choice([0, 0, 0, 0, 1, 2])
+    if less:
+        # without x7, or x6 and x7, which are in front of the reply and its three columns; there x2 is of a reserve or a settle alone
+        rows = [row[: -4 - less] + row[-4:] for row in rows]
+        rows = [[*row[:5], "", *row[6:]] if row[2] in ("opening", "credit") and it.random() < 0.95 else row for row in rows]
     for _ in range(it.choice([0, 1, 1, 1, 2])):
         at = it.randrange(1, len(rows)) if len(rows) > 1 else 0
         what = it.randrange(8)

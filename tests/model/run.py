@@ -6,7 +6,7 @@ from .service import is_stray, talk
 from .switch import Refused, Switch
 from .tables import Fault, route
 
-HEADER = "account,seat,op,call,x1,x2,x3,x4,x5,x6,reply,y1,y2,y3"
+HEADER = "account,seat,op,call,x1,x2,x3,x4,x5,x6,x7,reply,y1,y2,y3"
 
 
 @dataclasses.dataclass
@@ -25,17 +25,17 @@ def shown(it):
 
 
 def op_fields(op):
-    """The fields op to x6 of a row of a book."""
+    """The fields op to x7 of a row of a book."""
     kind = op[0]
     if kind == "credit":
-        x = ["", op[1]]
+        x = ["", *op[1:]]
     elif kind == "reserve":
-        x = [op[1], op[2].fee, op[2].before, op[2].after, op[3], op[4], op[2].free]
+        x = [op[1], op[2].fee, op[2].before, op[2].after, op[3], op[4], op[2].free, op[5]]
     elif kind == "settle":
         x = [op[1], op[2], *op[3]]
     else:
         x = [op[1]]
-    return ",".join([kind, *map(shown, x + [None] * (7 - len(x)))])
+    return ",".join([kind, *map(shown, x + [None] * (8 - len(x)))])
 
 
 def reply_fields(reply):
@@ -51,8 +51,8 @@ class Run:
 
     def __init__(self, tariff, setup, options, book=None):
         accounts, self.subscribers = setup
-        self.tariff, self.options = tariff, options
-        self.accounts = {it: Account(accounts[it]) for it in sorted(accounts)}
+        self.tariff, self.options, self.openings = tariff, options, accounts
+        self.accounts = {it: Account(*accounts[it]) for it in sorted(accounts)}
         self.switches, self.talks, self.deliveries, self.number = {}, {}, [], 0
         # whether workers met at an account in one round, so that the order of their operations is open
         self.is_contended, self.met = False, {}
@@ -60,7 +60,7 @@ class Run:
         for line in book.splitlines()[1:] if book else []:
             account, seat, *fields = line.split(",")
             if fields and fields[0] != "opening" and account.isdigit() and int(account) in self.orders:
-                self.orders[int(account)].append((seat, ",".join(fields[:8])))
+                self.orders[int(account)].append((seat, ",".join(fields[:9])))
 
     def play(self, script):
         rows = list(script)
@@ -146,7 +146,7 @@ class Run:
         """What a worker asks, (account, operation) after the other, as it goes through its posts."""
         for number, call, message in queue:
             if call is None:
-                yield message[1], ("credit", message[2])
+                yield message[1], ("credit", *message[2:])
                 answers[number] = []
             else:
                 answers[number] = yield from self.handle(now, number, call, message)
@@ -164,7 +164,7 @@ class Run:
             dialogue, account, state = self.talks[call]
             if is_stray(state, message):
                 return []
-            given = number, message
+            given = number, now, message
         turn = send(dialogue, given)
         while turn and turn[0] == "ask":
             turn = send(dialogue, (yield account, turn[1]))
@@ -185,7 +185,7 @@ class Run:
     def book(self):
         rows = [HEADER]
         for number, account in self.accounts.items():
-            rows.append(f"{number},,opening,,{account.opening}" + "," * 9)
+            rows.append(f"{number},,opening,,{account.opening},{shown(self.openings[number][1])}" + "," * 9)
             rows += [f"{number},{seat},{op_fields(op)},{reply_fields(reply)}" for seat, op, reply in account.entries]
         return "".join(f"{it}\n" for it in rows)
 

@@ -5,10 +5,13 @@ from .account import DAY, MAX_MONEY, Plan, Times, lawful
 
 MAX_RATE = 10**9
 LAST_MOMENT = 10**12
-# The headers that a table may have, the older one first.
-OPS = [["seat", "op", "call", "x1", "x2", "x3", "x4", "x5", *more] for more in ([], ["x6"])]
+HORIZON = 2 * 10**12
+# The headers that a table may have, the oldest first.
+OPS = [["seat", "op", "call", "x1", "x2", "x3", "x4", "x5", *more] for more in ([], ["x6"], ["x6", "x7"])]
 BOOK = [["account", *ops, "reply", "y1", "y2", "y3"] for ops in OPS]
 TARIFF = [["prefix", "from", "fee", "rate", *more] for more in ([], ["free"])]
+SETUP = [["kind", "key", "value", *more] for more in ([], ["until"])]
+SCRIPT = [["moment", "call", "what", "x", "y", *more] for more in ([], ["z"])]
 
 
 class Fault(Exception):
@@ -94,22 +97,32 @@ def read_reports(text, plan):
     return read
 
 
+def last_moment(x):
+    """The last moment of an opening or a credit, whether it is a number, and the fields behind: x2 beside x7, and nothing before."""
+    if len(x) < 7:
+        return None, True, x[1:]
+    until = decimal(x[1], HORIZON)
+    return until, until is not None or x[1] == b"", x[2:]
+
+
 def operation(op, call, x):
     """Whether the words of an operation are known, its numbers, the fields that must be empty, and what is asked.
 
-    x is x1 to x5, or to x6, where a reserve has its free units.
+    x is x1 to x5, or to x6, where a reserve has its free units, or to x7, where it has its moment.
     """
     word = op.decode("latin-1")
     if word == "credit":
         amount = decimal(x[0], MAX_MONEY)
-        return True, [amount], [call, *x[1:]], ("credit", amount)
+        until, is_right, behind = last_moment(x)
+        return True, [amount, 0 if is_right else None], [call, *behind], ("credit", amount, until)
     number = decimal(call, 2**64 - 1)
     if word == "reserve":
         second = None if x[2] == b"" else decimal(x[2], MAX_RATE)
         rates = decimal(x[0], MAX_RATE), decimal(x[1], MAX_RATE), second
         times, free = (decimal(x[3], DAY), decimal(x[4], DAY)), decimal(x[5], DAY) if len(x) > 5 else 0
-        numbers = [number, *rates[:2], 0 if x[2] == b"" else second, *times, free]
-        return True, numbers, [], ("reserve", number, Plan(*rates, free), *times)
+        at = decimal(x[6], HORIZON) if len(x) > 6 else 0
+        numbers = [number, *rates[:2], 0 if x[2] == b"" else second, *times, free, at]
+        return True, numbers, [], ("reserve", number, Plan(*rates, free), *times, at)
     if word == "settle" and x[1] in (b"n", b"s"):
         mail, time = decimal(x[0], 2**64 - 1), decimal(x[2], DAY)
         if x[1] == b"n":
@@ -144,7 +157,7 @@ def answer(reply, y):
 
 
 def read_book(text):
-    """The opening of each account, and its entries as (seat, operation, reply)."""
+    """The opening of each account, its last moment, and its entries as (seat, operation, reply)."""
     books = {}
     for _, fields, fail in rows_of("book", text, BOOK, 1_000_000):
         account, seat, op, call, *x = fields[:-4]
@@ -152,15 +165,16 @@ def read_book(text):
         number = decimal(account, 2**32 - 1)
         if op == b"opening":
             opening = decimal(x[0], MAX_MONEY)
-            fail(("Number", None in (number, opening)), ("Empty", any([seat, call, *x[1:], reply, *y])))
+            until, is_right, behind = last_moment(x)
+            fail(("Number", None in (number, opening) or not is_right), ("Empty", any([seat, call, *behind, reply, *y])))
             fail(("Repeated", number in books))
-            books[number] = opening, []
+            books[number] = opening, until, []
             continue
         asked, answered = operation(op, call, x), answer(reply, y)
         numbers = [number, decimal(seat, 15), *asked[1], *answered[1]]
         fail(("What", not asked[0] or not answered[0]), ("Number", None in numbers), ("Empty", any([*asked[2], *answered[2]])))
         fail(("Unknown", number not in books))
-        books[number][1].append((numbers[1], asked[3], answered[3]))
+        books[number][2].append((numbers[1], asked[3], answered[3]))
     return books
 
 
@@ -198,17 +212,18 @@ def route(tariff, called, now):
 
 
 def read_setup(text):
-    """The opening of each account, and the account of each subscriber."""
+    """The opening of each account with its last moment, and the account of each subscriber."""
     accounts, subscribers = {}, {}
-    for _, (kind, key, value), fail in rows_of("setup", text, [["kind", "key", "value"]], 10_000):
+    for _, (kind, key, value, *until), fail in rows_of("setup", text, SETUP, 10_000):
         fail(("TooManyRows", kind == b"account" and len(accounts) == 1000), ("What", kind not in (b"account", b"subscriber")))
         if kind == b"account":
             number, opening = decimal(key, 2**32 - 1), decimal(value, MAX_MONEY)
-            fail(("Number", number is None or opening is None), ("Repeated", number in accounts))
-            accounts[number] = opening
+            last = decimal(until[0], LAST_MOMENT) if any(until) else None
+            fail(("Number", number is None or opening is None or any(until) and last is None), ("Repeated", number in accounts))
+            accounts[number] = opening, last
         else:
             number, account = digits(key), decimal(value, 2**32 - 1)
-            fail(("Number", number is None or account is None))
+            fail(("Number", number is None or account is None), ("Empty", any(until)))
             fail(("Repeated", number in subscribers), ("Unknown", account not in accounts))
             subscribers[number] = account
     return accounts, subscribers
@@ -218,30 +233,32 @@ WORDS = ("start", "answer", "busy", "noanswer", "routefail", "abandon", "disconn
 
 
 def read_script(text, accounts):
-    """What happens: (moment, call, word, x, y) of each row."""
+    """What happens: (moment, call, word, x, y) of each row, and z of a recharge."""
     read, started, last = [], set(), 0
-    for _, (moment, call, what, x, y), fail in rows_of("script", text, [["moment", "call", "what", "x", "y"]], 1_000_000):
+    for _, (moment, call, what, x, y, *z), fail in rows_of("script", text, SCRIPT, 1_000_000):
         word = what.decode("latin-1")
         fail(("What", word not in WORDS))
-        numbers, empty = [decimal(moment, LAST_MOMENT)], []
+        numbers, empty, until = [decimal(moment, LAST_MOMENT)], [], None
         numbers += [] if word == "recharge" else [decimal(call, 2**64 - 1)]
         empty += [call] if word == "recharge" else []
         if word == "start":
             numbers += [digits(x), digits(y)]
         elif word == "recharge":
-            numbers += [decimal(x, 2**32 - 1), decimal(y, MAX_MONEY)]
+            until = decimal(z[0], LAST_MOMENT) if any(z) else None
+            numbers += [decimal(x, 2**32 - 1), decimal(y, MAX_MONEY), None if any(z) and until is None else 0]
         elif word == "disconnect":
             numbers.append(decimal(x, 2, 1))
             empty.append(y)
         else:
             empty += [x, y]
+        empty += z if word != "recharge" else []
         fail(("Number", None in numbers), ("Empty", any(empty)))
         fail(("Order", numbers[0] < last), ("Repeated", word == "start" and numbers[1] in started))
         fail(("Unknown", word != "start" and numbers[1] not in (accounts if word == "recharge" else started)))
         last = numbers[0]
         if word == "start":
             started.add(numbers[1])
-        read.append((last, None, word, *numbers[1:]) if word == "recharge" else (last, numbers[1], word, *numbers[2:]))
+        read.append((last, None, word, *numbers[1:3], until) if word == "recharge" else (last, numbers[1], word, *numbers[2:]))
     return read
 
 

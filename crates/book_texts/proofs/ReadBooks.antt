@@ -1,5 +1,5 @@
 -- The rows that are printed of books are read back.
-use Rattle.std.proofs.Common.{◌≡◌, ℕ, ◌+◌, ◌<◌, ◌≤◌, ◌^◌, Bool, true, false, List, [], ◌∷◌, ◌++◌, length, map, Some, None, Ok, refl, ap, ◌∙◌, append_assoc, append-nil, add-zero, arith}
+use Rattle.std.proofs.Common.{◌≡◌, ℕ, ◌+◌, ◌<◌, ◌≤◌, ◌^◌, Bool, true, false, List, [], ◌∷◌, ◌++◌, length, map, Option, Some, None, Ok, refl, ap, ◌∙◌, append_assoc, append-nil, add-zero, arith}
 use Rattle.std.specs.BTreeMap.{insert_entry, is_at}
 use Rattle.std.specs.Fmt.{decimal}
 use Rattle.std.specs.List.{All, AllByRecursion, flat_map}
@@ -7,16 +7,17 @@ use Rattle.std.specs.List.Sorted.{IsStrictlySortedBy}
 use Rattle.std.specs.Map.{lookup, set_value}
 use Rattle.std.specs.Ordering.{nat_cmp}
 use Rattle.std.specs.Str.{bytes_eq}
-use Rattle.std.specs.Prelude.{codes}
+use Rattle.std.specs.Prelude.{codes, IfSome}
 use Rattle.std.specs.declared.cmp.Ordering.TheVariants as order
 use Rattle.std.proofs.lemmas.Bool.Decides.{nat_tests}
+use Rattle.std.proofs.lemmas.Fmt.{decimal_nonempty}
 use Rattle.std.proofs.lemmas.List.Elements.{All-head, All-tail}
 use Rattle.account_core.specs.Answers.{IsLegal}
 use Rattle.account_core.specs.Asked.{Asked, Credits, Reserves, Returns, Settles}
 use Rattle.account_core.specs.Events.{Event}
-use Rattle.entry_rows.specs.Column.{money_of, number_of, seat_of}
-use Rattle.entry_rows.specs.Columns.{Answer, answer_of, operation_at, operation_of}
-use Rattle.entry_rows.specs.Fits.{FitsEvent, IsMoney}
+use Rattle.entry_rows.specs.Column.{is_empty, moment_of, money_of, number_of, optional_moment_of, seat_of}
+use Rattle.entry_rows.specs.Columns.{Answer, answer_of, number_or_empty, operation_at, operation_of}
+use Rattle.entry_rows.specs.Fits.{FitsEvent, IsMoment, IsMoney}
 use Rattle.entry_rows.specs.Laws.{OperationsAreRead, RepliesAreRead}
 use Rattle.entry_rows.specs.declared.version.Version.TheVariants as version
 use Rattle.shared_account.specs.Closed.{Closed}
@@ -79,6 +80,9 @@ none_before [] = tt
 none_before (book ∷ books) = (tt, none_before books)
 
 -- ---- rows
+
+not_empty : (number : ℕ) → number < 2 ^ 64 → is_empty (decimal number) ≡ false
+not_empty number small = let some : 0 < length (decimal number) = decimal_nonempty number small in grind (arith, nat_tests)
 
 not_opening : (asked : Asked) → bytes_eq (operation_of asked).op (codes "opening") ≡ false
 not_opening (Credits amount until) = refl
