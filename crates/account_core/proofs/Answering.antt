@@ -1,9 +1,10 @@
 -- The replies that an account gives by what it keeps are the answers of its history.
-use Rattle.std.proofs.Common.{◌≡◌, ℕ, ◌+◌, ◌≤◌, None, List, sym, ◌∙◌, arith, subst}
+use Rattle.std.proofs.Common.{◌≡◌, ℕ, ◌+◌, ◌≤◌, Option, None, List, sym, ◌∙◌, arith, subst}
 use Rattle.account_core.specs.Answers.{answer, inadmissible}
 use Rattle.account_core.specs.Asked.{Asked, call_of}
 use Rattle.account_core.specs.Available.{available, credits}
 use Rattle.account_core.specs.Events.{Event}
+use Rattle.account_core.specs.Expiry.{last_moment}
 use Rattle.account_core.specs.Known.{Known, known, taken_of}
 use Rattle.account_core.specs.Replies.{reply_for}
 use Rattle.account_core.specs.Sound.{AnswersFit, IsSound, IsSoundPast}
@@ -23,12 +24,14 @@ module _ (opening : ℕ) (h : List Event) (sound : IsSoundPast opening h) where
         let P : Known → Type 0 = λ k. credit + taken_of k ≤ 1000000000000000 in
         subst P (sym call_is) (omega (arith, credit_is, money_within opening h (call_of asked) sound))
 
--- what an account replies by its totals is the answer of its history
-pub reply_is_answer : (opening : ℕ) (h : List Event) → IsSoundPast opening h → AnswersFit opening h → (asked : Asked) (call : Known) → call ≡ known (call_of asked) h
-    → (credit funds : ℕ) → credit ≡ available opening h → funds ≡ opening + credits h → inadmissible h asked ≡ None
-    → (told : Reply) → told ≡ reply_for credit funds call asked → told ≡ answer opening h asked
-reply_is_answer opening h sound fitting asked call call_is credit funds credit_is funds_are is told told_is =
-    let C : ℕ → Type 0 = λ n. told ≡ reply_for n funds call asked in
-    let F : ℕ → Type 0 = λ n. told ≡ reply_for (available opening h) n call asked in
-    let K : Known → Type 0 = λ k. told ≡ reply_for (available opening h) (opening + credits h) k asked in
-    subst K call_is (subst F funds_are (subst C credit_is told_is)) ∙ sym (answer_for opening h sound fitting asked is)
+-- what an account replies by its totals and its last moment is the answer of its history
+pub reply_is_answer : (opening : ℕ) (until : Option ℕ) (h : List Event) → IsSoundPast opening h → AnswersFit opening until h
+    → (asked : Asked) (call : Known) → call ≡ known (call_of asked) h
+    → (credit funds : ℕ) (last : Option ℕ) → credit ≡ available opening h → funds ≡ opening + credits h → last ≡ last_moment until h → inadmissible h asked ≡ None
+    → (told : Reply) → told ≡ reply_for credit funds last call asked → told ≡ answer opening until h asked
+reply_is_answer opening until h sound fitting asked call call_is credit funds last credit_is funds_are last_is is told told_is =
+    let C : ℕ → Type 0 = λ n. told ≡ reply_for n funds last call asked in
+    let F : ℕ → Type 0 = λ n. told ≡ reply_for (available opening h) n last call asked in
+    let L : Option ℕ → Type 0 = λ n. told ≡ reply_for (available opening h) (opening + credits h) n call asked in
+    let K : Known → Type 0 = λ k. told ≡ reply_for (available opening h) (opening + credits h) (last_moment until h) k asked in
+    subst K call_is (subst L last_is (subst F funds_are (subst C credit_is told_is))) ∙ sym (answer_for opening until h sound fitting asked is)

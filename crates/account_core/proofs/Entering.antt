@@ -16,6 +16,7 @@ use Rattle.account_core.specs.Answers.{IsAnswered, answer, inadmissible, misplac
 use Rattle.account_core.specs.Asked.{Asked, Credits, IsCredit, IsOfCall, Reserves, Returns, Settles, call_of, is_in_range}
 use Rattle.account_core.specs.Available.{available, credited, credits, taken_by_all}
 use Rattle.account_core.specs.Events.{Event, asked_of, event_of}
+use Rattle.account_core.specs.Expiry.{last_moment_after}
 use Rattle.account_core.specs.Kept.{IsKept, TellsEach, known_of, unknown}
 use Rattle.account_core.specs.Known.{Deed, Ends, Known, Rests, deed_of, is_open, known, known_after, paid_of}
 use Rattle.account_core.specs.Ledger.{Ledger, answer_of, refusal_of}
@@ -34,11 +35,11 @@ use Rattle.account_core.proofs.SoundPasts.{answered_credit, answered_deed}
 use Rattle.account_core.proofs.Verdicts.{credited_capped}
 
 -- what an account keeps, in the words of its callers
-pub kept_of : (a : Inside) (ledger : Ledger) → record { opening = a.opening; limit = a.limit; history = map event_of a.entries.items } ≡ ledger
-    → IsKept a.opening a.limit (reverse (map event_of a.entries.items)) a.calls a.funds a.available a.owed (vec_capacity a.entries)
-    → IsKept ledger.opening ledger.limit (reverse ledger.history) a.calls a.funds a.available a.owed (vec_capacity a.entries)
+pub kept_of : (a : Inside) (ledger : Ledger) → record { opening = a.opening; until = a.until; limit = a.limit; history = map event_of a.entries.items } ≡ ledger
+    → IsKept a.opening a.until a.limit (reverse (map event_of a.entries.items)) a.calls a.funds a.available a.last_moment a.owed (vec_capacity a.entries)
+    → IsKept ledger.opening ledger.until ledger.limit (reverse ledger.history) a.calls a.funds a.available a.last_moment a.owed (vec_capacity a.entries)
 kept_of a ledger view_is kept =
-    let P : Ledger → Type 0 = λ l. IsKept l.opening l.limit (reverse l.history) a.calls a.funds a.available a.owed (vec_capacity a.entries) in
+    let P : Ledger → Type 0 = λ l. IsKept l.opening l.until l.limit (reverse l.history) a.calls a.funds a.available a.last_moment a.owed (vec_capacity a.entries) in
     subst P view_is kept
 
 -- the history with an entry at its end
@@ -72,8 +73,8 @@ gate_by true first second x y is = x is
 gate_by false first second x y is = y is
 
 gate_misplaced : (call : Known) (asked : Asked) → misplaced call asked ≡ Some fault.GateClosed → ⊥
-gate_misplaced call (Credits amount) is = cc
-gate_misplaced call (Reserves number plan wanted least) is = gate_by call.returned (Some fault.CallUsed) None (λ e. cc) (λ e. cc) is
+gate_misplaced call (Credits amount moment) is = cc
+gate_misplaced call (Reserves number plan wanted least at) is = gate_by call.returned (Some fault.CallUsed) None (λ e. cc) (λ e. cc) is
 gate_misplaced call (Settles number mail info) is = gate_by (is_open call) None (Some fault.NotOpen) (λ e. cc) (λ e. cc) is
 gate_misplaced call (Returns number) is = gate_by (is_open call) None (Some fault.NotOpen) (λ e. cc) (λ e. cc) is
 
@@ -91,18 +92,18 @@ never_gated limit h asked is =
 
 -- ---- places
 
-owes_grant : (plan : Option Rates) (returned awaits : Bool) (call : ℕ) (rates : Rates) (wanted least : ℕ)
-    → 1 + places_owed (not returned) true ≤ places_owed (is_some plan && not returned) awaits + places_needed (is_some plan && not returned) awaits (Reserves call rates wanted least)
-owes_grant None true awaits call rates wanted least = omega arith
-owes_grant None false awaits call rates wanted least = omega arith
-owes_grant (Some plan) true awaits call rates wanted least = omega arith
-owes_grant (Some plan) false true call rates wanted least = omega arith
-owes_grant (Some plan) false false call rates wanted least = omega arith
+owes_grant : (plan : Option Rates) (returned awaits : Bool) (call : ℕ) (rates : Rates) (wanted least at : ℕ)
+    → 1 + places_owed (not returned) true ≤ places_owed (is_some plan && not returned) awaits + places_needed (is_some plan && not returned) awaits (Reserves call rates wanted least at)
+owes_grant None true awaits call rates wanted least at = omega arith
+owes_grant None false awaits call rates wanted least at = omega arith
+owes_grant (Some plan) true awaits call rates wanted least at = omega arith
+owes_grant (Some plan) false true call rates wanted least at = omega arith
+owes_grant (Some plan) false false call rates wanted least at = omega arith
 
-owes_denied : (open_yet awaits : Bool) (call : ℕ) (rates : Rates) (wanted least : ℕ) → 1 ≤ places_needed open_yet awaits (Reserves call rates wanted least)
-owes_denied true true call rates wanted least = omega arith
-owes_denied true false call rates wanted least = omega arith
-owes_denied false awaits call rates wanted least = omega arith
+owes_denied : (open_yet awaits : Bool) (call : ℕ) (rates : Rates) (wanted least at : ℕ) → 1 ≤ places_needed open_yet awaits (Reserves call rates wanted least at)
+owes_denied true true call rates wanted least at = omega arith
+owes_denied true false call rates wanted least at = omega arith
+owes_denied false awaits call rates wanted least at = omega arith
 
 owes_report : (open_yet awaits : Bool) → 1 + places_owed open_yet false ≤ places_owed open_yet awaits + (if open_yet && awaits then 0 else 1)
 owes_report true true = omega arith
@@ -116,12 +117,12 @@ owes_end (Some plan) true awaits = omega arith
 owes_end (Some plan) false true = omega arith
 owes_end (Some plan) false false = omega arith
 
-owes_reserve : (denied : Bool) (known : Known) (units : ℕ) (last : Bool) (call : ℕ) (plan : Rates) (wanted least : ℕ)
-    → 1 + owed_to (known_after known (deed_of (Reserves call plan wanted least) (if denied then reply.Denied 0 else reply.Granted units last 0)))
-    ≤ owed_to known + needed_by known (Reserves call plan wanted least)
+owes_reserve : (denied : Bool) (known : Known) (units : ℕ) (last : Bool) (call : ℕ) (plan : Rates) (wanted least at : ℕ)
+    → 1 + owed_to (known_after known (deed_of (Reserves call plan wanted least at) (if denied then reply.Denied 0 else reply.Granted units last 0)))
+    ≤ owed_to known + needed_by known (Reserves call plan wanted least at)
 unfolding owed_to
-owes_reserve true known units last call plan wanted least = omega (arith, owes_denied (is_open known) known.awaits call plan wanted least)
-owes_reserve false known units last call plan wanted least = owes_grant known.plan known.returned known.awaits call plan wanted least
+owes_reserve true known units last call plan wanted least at = omega (arith, owes_denied (is_open known) known.awaits call plan wanted least at)
+owes_reserve false known units last call plan wanted least at = owes_grant known.plan known.returned known.awaits call plan wanted least at
 
 owes_settle : (times : Option Elapsed) (known : Known) (call number : ℕ) (info : TimeInfo)
     → 1 + owed_to (known_after known (deed_of (Settles call number info) (settle_verdict known times))) ≤ owed_to known + needed_by known (Settles call number info)
@@ -134,13 +135,13 @@ unfolding owed_to
 owes_return known call paid = owes_end known.plan known.returned known.awaits
 
 -- an answer's entry and what is owed after it take the places that were owed and needed
-pub owes : (opening : ℕ) (h : List Event) (asked : Asked)
-    → 1 + owed_to (known_after (known (call_of asked) h) (deed_of asked (verdict opening h asked))) ≤ owed_to (known (call_of asked) h) + needed h asked
-owes opening h (Credits amount) = omega arith
-owes opening h (Reserves call plan wanted least) =
-    owes_reserve _ (known call h) (units_offered (available opening h) (known call h) plan wanted) _ call plan wanted least
-owes opening h (Settles call number info) = owes_settle (accepted_times (known call h) info) (known call h) call number info
-owes opening h (Returns call) = owes_return (known call h) call (paid_of (known call h))
+pub owes : (opening : ℕ) (until : Option ℕ) (h : List Event) (asked : Asked)
+    → 1 + owed_to (known_after (known (call_of asked) h) (deed_of asked (verdict opening until h asked))) ≤ owed_to (known (call_of asked) h) + needed h asked
+owes opening until h (Credits amount moment) = omega arith
+owes opening until h (Reserves call plan wanted least at) =
+    owes_reserve _ (known call h) (units_offered (available opening h) (known call h) plan wanted) _ call plan wanted least at
+owes opening until h (Settles call number info) = owes_settle (accepted_times (known call h) info) (known call h) call number info
+owes opening until h (Returns call) = owes_return (known call h) call (paid_of (known call h))
 
 nothing_owed : (call : Known) → call.plan ≡ None → owed_to call ≡ 0
 unfolding owed_to
@@ -156,10 +157,10 @@ unfolding owed
 owed_at_most h call = at_most_all owed_to nothing_owed h call
 
 -- what is owed after an answered entry
-pub owed_after : (opening : ℕ) (h : List Event) (event : Event) → IsAnswered opening h event → 1 + owed (event ∷ h) ≤ owed h + needed h event.asked
-owed_after opening h event answered =
+pub owed_after : (opening : ℕ) (until : Option ℕ) (h : List Event) (event : Event) → IsAnswered opening until h event → 1 + owed (event ∷ h) ≤ owed h + needed h event.asked
+owed_after opening until h event answered =
     let P : Deed → Type 0 = λ d. 1 + owed_to (known_after (known (its_call event) h) d) ≤ owed_to (known (its_call event) h) + needed h event.asked in
-    let call_owes = subst P (sym (answered_deed opening h event answered)) (owes opening h event.asked) in
+    let call_owes = subst P (sym (answered_deed opening until h event answered)) (owes opening until h event.asked) in
     omega (arith, owed_moves h event, call_owes)
 
 -- ---- the map
@@ -193,26 +194,29 @@ tells_resting m h event rests tells call = tells call ∙ sym (rests_by _ h even
 
 -- ---- the whole
 
-pub of_call : (call : ℕ) (asked : Asked) → IsOfCall call asked → (call_of asked ≡ call) × ((told : Reply) → credited asked told ≡ 0)
-of_call call (Credits amount) is = absurd is
-of_call call (Reserves other plan wanted least) is = (is, λ told. refl)
-of_call call (Settles other number info) is = (is, λ told. refl)
-of_call call (Returns other) is = (is, λ told. refl)
+-- an operation of a call credits nothing, and leaves the last moment
+pub of_call : (call : ℕ) (asked : Asked) → IsOfCall call asked
+    → (call_of asked ≡ call) × (((told : Reply) → credited asked told ≡ 0) × ((last : Option ℕ) (told : Reply) → last_moment_after last asked told ≡ last))
+of_call call (Credits amount moment) is = absurd is
+of_call call (Reserves other plan wanted least at) is = (is, (λ told. refl, λ last told. refl))
+of_call call (Settles other number info) is = (is, (λ told. refl, λ last told. refl))
+of_call call (Returns other) is = (is, (λ told. refl, λ last told. refl))
 
--- the map and the totals are those of the longer history, and there is room
-pub record IsEntered (h : List Event) (event : Event) (m : BTreeMap ℕ Standing) (funds funds' places places' capacity : ℕ) : Type 0 where
+-- the map, the totals and the last moment are those of the longer history, and there is room
+pub record IsEntered (h : List Event) (event : Event) (m : BTreeMap ℕ Standing) (funds funds' : ℕ) (last last' : Option ℕ) (places places' capacity : ℕ) : Type 0 where
   pub tells : TellsEach m (event ∷ h)
   pub funds_are : funds' ≡ funds + credited event.asked event.reply
+  pub last_is : last' ≡ last_moment_after last event.asked event.reply
   pub places_are : places' ≡ owed (event ∷ h)
   pub room : length h + (places + needed h event.asked) ≤ capacity
 
-pub entered : (opening limit : ℕ) (h : List Event) (m m' : BTreeMap ℕ Standing) (funds funds' credit places places' capacity capacity' : ℕ) (event : Event)
-    → IsKept opening limit h m funds credit places capacity → refusal limit h event.asked ≡ None → event.reply ≡ answer opening h event.asked
-    → IsEntered h event m' funds funds' places places' capacity' → IsKept opening limit (event ∷ h) m' funds' (shown_by event.reply) places' capacity'
-entered opening limit h m m' funds funds' credit places places' capacity capacity' event kept open_yet is entry =
+pub entered : (opening : ℕ) (until : Option ℕ) (limit : ℕ) (h : List Event) (m m' : BTreeMap ℕ Standing) (funds funds' credit : ℕ) (last last' : Option ℕ) (places places' capacity capacity' : ℕ) (event : Event)
+    → IsKept opening until limit h m funds credit last places capacity → refusal limit h event.asked ≡ None → event.reply ≡ answer opening until h event.asked
+    → IsEntered h event m' funds funds' last last' places places' capacity' → IsKept opening until limit (event ∷ h) m' funds' (shown_by event.reply) last' places' capacity'
+entered opening until limit h m m' funds funds' credit last last' places places' capacity capacity' event kept open_yet is entry =
     let (admissible, within) = admitted limit h event.asked open_yet in
-    let answered : IsAnswered opening h event = record { admissible = admissible; answered = is } in
-    let owes_more = owed_after opening h event answered in
+    let answered : IsAnswered opening until h event = record { admissible = admissible; answered = is } in
+    let owes_more = owed_after opening until h event answered in
     let longer : length (event ∷ h) ≡ length h + 1 = omega arith in
     record {
       small = kept.small;
@@ -221,44 +225,45 @@ entered opening limit h m m' funds funds' credit places places' capacity capacit
       room = omega (arith, entry.room, owes_more, entry.places_are, kept.places_are, longer);
       tells = entry.tells;
       funds_are = omega (arith, entry.funds_are, kept.funds_are);
-      credit_is = answer_shows opening h event is;
+      credit_is = answer_shows opening until h event is;
+      last_is = entry.last_is ∙ ap (λ l. last_moment_after l event.asked event.reply) kept.last_is;
       places_are = entry.places_are;
     }
 
 -- the same of an account's fields
-module _ (a : Inside) (ledger : Ledger) (view_is : record { opening = a.opening; limit = a.limit; history = map event_of a.entries.items } ≡ ledger)
-    (kept : IsKept a.opening a.limit (reverse (map event_of a.entries.items)) a.calls a.funds a.available a.owed (vec_capacity a.entries)) where
+module _ (a : Inside) (ledger : Ledger) (view_is : record { opening = a.opening; until = a.until; limit = a.limit; history = map event_of a.entries.items } ≡ ledger)
+    (kept : IsKept a.opening a.until a.limit (reverse (map event_of a.entries.items)) a.calls a.funds a.available a.last_moment a.owed (vec_capacity a.entries)) where
   pub length_past : length (reverse ledger.history) ≡ length a.entries.items
   length_past =
       ap (λ l. length (reverse l.history)) (sym view_is) ∙ (length-reverse (map event_of a.entries.items) ∙ length-map a.entries.items event_of)
 
-  pub entered_inside : (entry : Entry) (items : List Entry) (m : BTreeMap ℕ Standing) (funds credit places capacity : ℕ)
+  pub entered_inside : (entry : Entry) (items : List Entry) (m : BTreeMap ℕ Standing) (funds credit : ℕ) (last : Option ℕ) (places capacity : ℕ)
       → refusal_of ledger (asked_of entry.op) ≡ None → entry.reply ≡ answer_of ledger (asked_of entry.op) → items ≡ a.entries.items ++ entry ∷ []
-      → credit ≡ shown_by entry.reply → IsEntered (reverse ledger.history) (event_of entry) m a.funds funds a.owed places capacity
-      → IsKept a.opening a.limit (reverse (map event_of items)) m funds credit places capacity
-  entered_inside entry items m funds credit places capacity open_yet is items_are shows entry_is =
+      → credit ≡ shown_by entry.reply → IsEntered (reverse ledger.history) (event_of entry) m a.funds funds a.last_moment last a.owed places capacity
+      → IsKept a.opening a.until a.limit (reverse (map event_of items)) m funds credit last places capacity
+  entered_inside entry items m funds credit last places capacity open_yet is items_are shows entry_is =
       let R : Ledger → Type 0 = λ l. refusal_of l (asked_of entry.op) ≡ None in
       let A : Ledger → Type 0 = λ l. entry.reply ≡ answer_of l (asked_of entry.op) in
-      let E : Ledger → Type 0 = λ l. IsEntered (reverse l.history) (event_of entry) m a.funds funds a.owed places capacity in
-      let K : List Event → Type 0 = λ h. IsKept a.opening a.limit h m funds (shown_by entry.reply) places capacity in
-      let C : ℕ → Type 0 = λ n. IsKept a.opening a.limit (reverse (map event_of items)) m funds n places capacity in
+      let E : Ledger → Type 0 = λ l. IsEntered (reverse l.history) (event_of entry) m a.funds funds a.last_moment last a.owed places capacity in
+      let K : List Event → Type 0 = λ h. IsKept a.opening a.until a.limit h m funds (shown_by entry.reply) last places capacity in
+      let C : ℕ → Type 0 = λ n. IsKept a.opening a.until a.limit (reverse (map event_of items)) m funds n last places capacity in
       let longer : event_of entry ∷ reverse (map event_of a.entries.items) ≡ reverse (map event_of items) =
       sym (ap (λ es. reverse (map event_of es)) items_are ∙ past_pushed a.entries.items entry) in
-      let whole = entered a.opening a.limit (reverse (map event_of a.entries.items)) a.calls m a.funds funds a.available a.owed places (vec_capacity a.entries) capacity (event_of entry)
+      let whole = entered a.opening a.until a.limit (reverse (map event_of a.entries.items)) a.calls m a.funds funds a.available a.last_moment last a.owed places (vec_capacity a.entries) capacity (event_of entry)
       kept (subst R (sym view_is) open_yet) (subst A (sym view_is) is) (subst E (sym view_is) entry_is) in
       subst C (sym shows) (subst K longer whole)
 
 -- ---- a Credit
 
 pub credit_rests : (asked : Asked) (told : Reply) → IsCredit asked → deed_of asked told ≡ Rests
-credit_rests (Credits amount) told is = refl
-credit_rests (Reserves call plan wanted least) told is = absurd is
+credit_rests (Credits amount moment) told is = refl
+credit_rests (Reserves call plan wanted least at) told is = absurd is
 credit_rests (Settles call number info) told is = absurd is
 credit_rests (Returns call) told is = absurd is
 
 pub credit_needs : (h : List Event) (asked : Asked) → IsCredit asked → needed h asked ≡ 1
-credit_needs h (Credits amount) is = refl
-credit_needs h (Reserves call plan wanted least) is = absurd is
+credit_needs h (Credits amount moment) is = refl
+credit_needs h (Reserves call plan wanted least at) is = absurd is
 credit_needs h (Settles call number info) is = absurd is
 credit_needs h (Returns call) is = absurd is
 
@@ -267,58 +272,61 @@ owed_resting h event rests =
     let same : owed_to (known_after (known (its_call event) h) (its_deed event)) ≡ owed_to (known (its_call event) h) = ap (λ d. owed_to (known_after (known (its_call event) h) d)) rests in
     omega (arith, owed_moves h event, same)
 
-pub credit_entered : (h : List Event) (event : Event) (m : BTreeMap ℕ Standing) (funds funds' places capacity : ℕ) → IsCredit event.asked → TellsEach m h
-    → funds' ≡ funds + credited event.asked event.reply → places ≡ owed h → length h + (places + 1) ≤ capacity → IsEntered h event m funds funds' places places capacity
-credit_entered h event m funds funds' places capacity is tells funds_are places_are room =
+pub credit_entered : (h : List Event) (event : Event) (m : BTreeMap ℕ Standing) (funds funds' : ℕ) (last last' : Option ℕ) (places capacity : ℕ) → IsCredit event.asked → TellsEach m h
+    → funds' ≡ funds + credited event.asked event.reply → last' ≡ last_moment_after last event.asked event.reply → places ≡ owed h
+    → length h + (places + 1) ≤ capacity → IsEntered h event m funds funds' last last' places places capacity
+credit_entered h event m funds funds' last last' places capacity is tells funds_are last_is places_are room =
     let rests = credit_rests event.asked event.reply is in
     record {
       tells = tells_resting m h event rests tells;
       funds_are = funds_are;
+      last_is = last_is;
       places_are = places_are ∙ sym (owed_resting h event rests);
       room = omega (arith, room, credit_needs h event.asked is);
     }
 
 -- the funds stay within the largest money
-pub funds_fit : (opening : ℕ) (h : List Event) (event : Event) → IsSoundPast opening h → IsAnswered opening h event
+pub funds_fit : (opening : ℕ) (until : Option ℕ) (h : List Event) (event : Event) → IsSoundPast opening h → IsAnswered opening until h event
     → opening + credits h + credited event.asked event.reply ≤ 1000000000000000
-funds_fit opening h event sound answered = omega (arith, answered_credit opening h event answered, credited_capped opening h event.asked sound.capped)
+funds_fit opening until h event sound answered = omega (arith, answered_credit opening until h event answered, credited_capped opening until h event.asked sound.capped)
 
 -- ---- an operation of a call
 
-module _ (opening limit : ℕ) (h : List Event) (call : ℕ) (event : Event) (here : IsOfCall call event.asked) (before : Known) (before_is : before ≡ known call h)
-    (open_yet : refusal limit h event.asked ≡ None) (is : event.reply ≡ answer opening h event.asked) where
+module _ (opening : ℕ) (until : Option ℕ) (limit : ℕ) (h : List Event) (call : ℕ) (event : Event) (here : IsOfCall call event.asked) (before : Known) (before_is : before ≡ known call h)
+    (open_yet : refusal limit h event.asked ≡ None) (is : event.reply ≡ answer opening until h event.asked) where
   pub before_its : before ≡ known (its_call event) h
   before_its = before_is ∙ ap (λ c. known c h) (sym (of_call call event.asked here).0)
 
-  answered_here : IsAnswered opening h event
+  answered_here : IsAnswered opening until h event
   answered_here = record { admissible = (admitted limit h event.asked open_yet).0; answered = is }
 
   pub needs_known : needed_by before event.asked ≡ needed h event.asked
   needs_known = ap (λ k. needed_by k event.asked) before_its
 
-  pub room_known : AnswersFit opening h → HasRoom before (its_deed event)
+  pub room_known : AnswersFit opening until h → HasRoom before (its_deed event)
   room_known fitting =
       let P : Deed → Type 0 = λ d. HasRoom (known (its_call event) h) d in
       let K : Known → Type 0 = λ k. HasRoom k (its_deed event) in
-      subst K (sym before_its) (subst P (sym (answered_deed opening h event answered_here)) (fitting event.asked (admitted limit h event.asked open_yet).0).room)
+      subst K (sym before_its) (subst P (sym (answered_deed opening until h event answered_here)) (fitting event.asked (admitted limit h event.asked open_yet).0).room)
 
   pub some_place : (places : ℕ) → places ≡ owed h → 1 ≤ places + needed_by before event.asked
-  some_place places places_are = omega (arith, places_are, needs_known, owed_after opening h event answered_here)
+  some_place places places_are = omega (arith, places_are, needs_known, owed_after opening until h event answered_here)
 
   pub owed_enough : (places : ℕ) → places ≡ owed h → owed_to before ≤ places
   owed_enough places places_are = omega (arith, places_are, ap owed_to before_its, owed_at_most h (its_call event))
 
-  pub call_entered : (old new : BTreeMap ℕ Standing) (standing : Standing) (funds places places' capacity owed_before owed_now : ℕ)
+  pub call_entered : (old new : BTreeMap ℕ Standing) (standing : Standing) (funds : ℕ) (last : Option ℕ) (places places' capacity owed_before owed_now : ℕ)
       → TellsEach old h → Updates nat_cmp old new call (Some standing) → known_of standing ≡ known_after before (its_deed event) → places ≡ owed h
       → owed_before ≡ owed_to before → owed_now ≡ owed_to (known_of standing) → places' ≡ places + owed_now - owed_before
-      → length h + (places + needed_by before event.asked) ≤ capacity → IsEntered h event new funds funds places places' capacity
-  call_entered old new standing funds places places' capacity owed_before owed_now tells updates standing_is places_are before_owed now_owed places'_are room =
-      let (same, rests) = of_call call event.asked here in
+      → length h + (places + needed_by before event.asked) ≤ capacity → IsEntered h event new funds funds last last places places' capacity
+  call_entered old new standing funds last places places' capacity owed_before owed_now tells updates standing_is places_are before_owed now_owed places'_are room =
+      let (same, (rests, stays)) = of_call call event.asked here in
       let U : ℕ → Type 0 = λ c. Updates nat_cmp old new c (Some standing) in
       let renewed : known_of standing ≡ known_after (known (its_call event) h) (its_deed event) = standing_is ∙ ap (λ k. known_after k (its_deed event)) before_its in
       record {
         tells = tells_renewed old new h event standing (subst U (sym same) updates) tells renewed;
         funds_are = omega (arith, rests event.reply);
+        last_is = sym (stays last event.reply);
         places_are = omega (arith, places'_are, places_are, before_owed, now_owed, ap owed_to before_its, ap owed_to renewed, owed_moves h event, owed_at_most h (its_call event));
         room = omega (arith, room, needs_known);
       }
@@ -333,10 +341,10 @@ pub nothing_taken_yet : (opening : ℕ) → available opening [] ≡ opening
 unfolding available taken_by_all
 nothing_taken_yet opening = omega arith
 
-pub kept_new : (opening limit : ℕ) (entries : Vec Entry Global) (m : BTreeMap ℕ Standing) → opening ≤ 1000000000000000 → entries.items ≡ [] → IsEmpty m
-    → IsKept opening limit (reverse (map event_of entries.items)) m opening opening 0 (vec_capacity entries)
-kept_new opening limit entries m small none empty =
-    let K : List Entry → Type 0 = λ es. IsKept opening limit (reverse (map event_of es)) m opening opening 0 (vec_capacity entries) in
+pub kept_new : (opening : ℕ) (until : Option ℕ) (limit : ℕ) (entries : Vec Entry Global) (m : BTreeMap ℕ Standing) → opening ≤ 1000000000000000 → entries.items ≡ [] → IsEmpty m
+    → IsKept opening until limit (reverse (map event_of entries.items)) m opening opening until 0 (vec_capacity entries)
+kept_new opening until limit entries m small none empty =
+    let K : List Entry → Type 0 = λ es. IsKept opening until limit (reverse (map event_of es)) m opening opening until 0 (vec_capacity entries) in
     subst K (sym none) (record {
       small = small;
       legal = tt;
@@ -345,5 +353,6 @@ kept_new opening limit entries m small none empty =
       tells = λ call. rw empty refl;
       funds_are = omega arith;
       credit_is = sym (nothing_taken_yet opening);
+      last_is = refl;
       places_are = sym nothing_owed_yet;
     })

@@ -9,6 +9,7 @@ use Rattle.account_core.specs.Answers.{accepted_times, answer, inadmissible, set
 use Rattle.account_core.specs.Asked.{Asked, Credits, Reserves, Returns, Settles, call_of}
 use Rattle.account_core.specs.Available.{available, credited, credits, taken_by_all}
 use Rattle.account_core.specs.Events.{Event}
+use Rattle.account_core.specs.Expiry.{is_past, last_moment}
 use Rattle.account_core.specs.Known.{Deed, Ends, Forfeits, Grants, Known, Reports, Rests, deed, deed_of, is_open, known, known_after, paid_of, plan_in_force, price_under, taken_of}
 use Rattle.account_core.specs.Replies.{credit_reply, reply_for, reserve_reply, return_reply, settle_reply}
 use Rattle.account_core.specs.Sound.{AnswersFit, HasRoom, IsFitting, IsSoundPast}
@@ -28,11 +29,11 @@ room_allowed credit call Forfeits is = tt
 room_allowed credit call (Ends paid) end = tt
 room_allowed credit call Rests rests = tt
 
-pub answers_fit : (laws : TariffLaws) (opening : ℕ) (h : List Event) → IsSoundPast opening h → AnswersFit opening h
-answers_fit laws opening h sound asked is =
+pub answers_fit : (laws : TariffLaws) (opening : ℕ) (until : Option ℕ) (h : List Event) → IsSoundPast opening h → AnswersFit opening until h
+answers_fit laws opening until h sound asked is =
     let call : Known = known (call_of asked) h in
-    let done : Deed = deed_of asked (verdict opening h asked) in
-    let allowed : IsAllowed (available opening h) call done = verdict_allowed laws opening h asked (sound.each (call_of asked)) is in
+    let done : Deed = deed_of asked (verdict opening until h asked) in
+    let allowed : IsAllowed (available opening h) call done = verdict_allowed laws opening until h asked (sound.each (call_of asked)) is in
     record {
       room = room_allowed (available opening h) call done allowed;
       covered = takes_within laws (available opening h) call done (sound.each (call_of asked)) allowed;
@@ -71,47 +72,47 @@ money_within opening h c sound =
 an_entry : Asked → Reply → Event
 an_entry asked told = record { seat = 0; asked = asked; reply = told }
 
-module _ (opening : ℕ) (h : List Event) (sound : IsSoundPast opening h) where
-  credit_by : (fits : Bool) (amount : ℕ)
-      → showing (available opening (record { seat = 0; asked = Credits amount; reply = if fits then reply.Credited 0 else reply.CreditOver 0 } ∷ h)) (if fits then reply.Credited 0 else reply.CreditOver 0)
+module _ (opening : ℕ) (until : Option ℕ) (h : List Event) (sound : IsSoundPast opening h) where
+  credit_by : (fits : Bool) (amount : ℕ) (moment : Option ℕ)
+      → showing (available opening (record { seat = 0; asked = Credits amount moment; reply = if fits then reply.Credited 0 else reply.CreditOver 0 } ∷ h)) (if fits then reply.Credited 0 else reply.CreditOver 0)
       ≡ (if fits then reply.Credited (available opening h + amount) else reply.CreditOver (available opening h))
-  credit_by true amount =
-      let e : Event = record { seat = 0; asked = Credits amount; reply = reply.Credited 0 } in
+  credit_by true amount moment =
+      let e : Event = record { seat = 0; asked = Credits amount moment; reply = reply.Credited 0 } in
       let moves = available_moves opening h e sound (omega arith) in
       let is : available opening (e ∷ h) ≡ available opening h + amount = omega (arith, moves) in ap reply.Credited is
-  credit_by false amount =
-      let e : Event = record { seat = 0; asked = Credits amount; reply = reply.CreditOver 0 } in
+  credit_by false amount moment =
+      let e : Event = record { seat = 0; asked = Credits amount moment; reply = reply.CreditOver 0 } in
       let moves = available_moves opening h e sound (omega arith) in
       let is : available opening (e ∷ h) ≡ available opening h = omega (arith, moves) in ap reply.CreditOver is
 
-  pub credit_answer : (amount : ℕ) → answer opening h (Credits amount) ≡ credit_reply (available opening h) (opening + credits h) amount
+  pub credit_answer : (amount : ℕ) (moment : Option ℕ) → answer opening until h (Credits amount moment) ≡ credit_reply (available opening h) (opening + credits h) amount
   unfolding answer
-  credit_answer amount = credit_by (nat_le (opening + credits h + amount) 1000000000000000) amount
+  credit_answer amount moment = credit_by (nat_le (opening + credits h + amount) 1000000000000000) amount moment
 
-  reserve_by : (denied : Bool) (c : ℕ) (plan : Rates) (wanted least units : ℕ) (last : Bool) → (known c h).returned ≡ false
-      → taken_of (known_after (known c h) (deed_of (Reserves c plan wanted least) (if denied then reply.Denied 0 else reply.Granted units last 0))) ≤ available opening h + taken_of (known c h)
-      → showing (available opening (record { seat = 0; asked = Reserves c plan wanted least; reply = if denied then reply.Denied 0 else reply.Granted units last 0 } ∷ h))
+  reserve_by : (denied : Bool) (c : ℕ) (plan : Rates) (wanted least at units : ℕ) (last : Bool) → (known c h).returned ≡ false
+      → taken_of (known_after (known c h) (deed_of (Reserves c plan wanted least at) (if denied then reply.Denied 0 else reply.Granted units last 0))) ≤ available opening h + taken_of (known c h)
+      → showing (available opening (record { seat = 0; asked = Reserves c plan wanted least at; reply = if denied then reply.Denied 0 else reply.Granted units last 0 } ∷ h))
       (if denied then reply.Denied 0 else reply.Granted units last 0)
       ≡ (if denied then reply.Denied (available opening h)
       else reply.Granted units last (available opening h + taken_of (known c h) - ceiling_of (plan_in_force (known c h) plan) (known c h).times units))
-  reserve_by true c plan wanted least units last here within =
-      let e : Event = record { seat = 0; asked = Reserves c plan wanted least; reply = reply.Denied 0 } in
+  reserve_by true c plan wanted least at units last here within =
+      let e : Event = record { seat = 0; asked = Reserves c plan wanted least at; reply = reply.Denied 0 } in
       let moves = available_moves opening h e sound within in
       let is : available opening (e ∷ h) ≡ available opening h = omega (arith, moves) in ap reply.Denied is
-  reserve_by false c plan wanted least units last here within =
-      let e : Event = record { seat = 0; asked = Reserves c plan wanted least; reply = reply.Granted units last 0 } in
+  reserve_by false c plan wanted least at units last here within =
+      let e : Event = record { seat = 0; asked = Reserves c plan wanted least at; reply = reply.Granted units last 0 } in
       let moves = available_moves opening h e sound within in
       let held = taken_granted (known c h) plan units here in
       let is : available opening (e ∷ h) ≡ available opening h + taken_of (known c h) - ceiling_of (plan_in_force (known c h) plan) (known c h).times units = omega (arith, moves, held) in
       ap (reply.Granted units last) is
 
-  pub reserve_answer : (c : ℕ) (plan : Rates) (wanted least : ℕ) → (known c h).returned ≡ false
-      → IsFitting (available opening h) (known c h) (deed_of (Reserves c plan wanted least) (verdict opening h (Reserves c plan wanted least)))
-      → answer opening h (Reserves c plan wanted least)
-      ≡ reserve_reply (available opening h) (known c h) plan wanted least (units_offered (available opening h) (known c h) plan wanted)
+  pub reserve_answer : (c : ℕ) (plan : Rates) (wanted least at : ℕ) → (known c h).returned ≡ false
+      → IsFitting (available opening h) (known c h) (deed_of (Reserves c plan wanted least at) (verdict opening until h (Reserves c plan wanted least at)))
+      → answer opening until h (Reserves c plan wanted least at)
+      ≡ reserve_reply (available opening h) (known c h) plan wanted least (is_past (last_moment until h) at) (units_offered (available opening h) (known c h) plan wanted)
   unfolding answer
-  reserve_answer c plan wanted least here fitting =
-      reserve_by _ c plan wanted least (units_offered (available opening h) (known c h) plan wanted) _ here fitting.covered
+  reserve_answer c plan wanted least at here fitting =
+      reserve_by _ c plan wanted least at (units_offered (available opening h) (known c h) plan wanted) _ here fitting.covered
 
   settle_by : (times : Option Elapsed) (c number : ℕ) (info : TimeInfo) → is_open (known c h) ≡ true
       → taken_of (known_after (known c h) (deed_of (Settles c number info) (settle_verdict (known c h) times))) ≤ available opening h + taken_of (known c h)
@@ -129,14 +130,14 @@ module _ (opening : ℕ) (h : List Event) (sound : IsSoundPast opening h) where
       ap (reply.Settled (price_under (known c h).plan times)) is
 
   pub settle_answer : (c number : ℕ) (info : TimeInfo) → is_open (known c h) ≡ true
-      → IsFitting (available opening h) (known c h) (deed_of (Settles c number info) (verdict opening h (Settles c number info)))
-      → answer opening h (Settles c number info) ≡ settle_reply (available opening h) (known c h) (accepted_times (known c h) info)
+      → IsFitting (available opening h) (known c h) (deed_of (Settles c number info) (verdict opening until h (Settles c number info)))
+      → answer opening until h (Settles c number info) ≡ settle_reply (available opening h) (known c h) (accepted_times (known c h) info)
   unfolding answer
   settle_answer c number info open_yet fitting = settle_by (accepted_times (known c h) info) c number info open_yet fitting.covered
 
   pub return_answer : (c : ℕ) → is_open (known c h) ≡ true
-      → IsFitting (available opening h) (known c h) (deed_of (Returns c) (verdict opening h (Returns c)))
-      → answer opening h (Returns c) ≡ return_reply (available opening h) (known c h)
+      → IsFitting (available opening h) (known c h) (deed_of (Returns c) (verdict opening until h (Returns c)))
+      → answer opening until h (Returns c) ≡ return_reply (available opening h) (known c h)
   unfolding answer
   return_answer c open_yet fitting =
       let e : Event = record { seat = 0; asked = Returns c; reply = reply.Returned (paid_of (known c h)) 0 } in
@@ -146,11 +147,11 @@ module _ (opening : ℕ) (h : List Event) (sound : IsSoundPast opening h) where
       ap (reply.Returned (paid_of (known c h))) is
 
   -- the answer to an admissible operation
-  pub answer_for : AnswersFit opening h → (asked : Asked) → inadmissible h asked ≡ None
-      → answer opening h asked ≡ reply_for (available opening h) (opening + credits h) (known (call_of asked) h) asked
-  answer_for fitting (Credits amount) is = credit_answer amount
-  answer_for fitting (Reserves c plan wanted least) is =
-      reserve_answer c plan wanted least (none_if (known c h).returned fault.CallUsed (in_place h (Reserves c plan wanted least) is).1) (fitting (Reserves c plan wanted least) is)
+  pub answer_for : AnswersFit opening until h → (asked : Asked) → inadmissible h asked ≡ None
+      → answer opening until h asked ≡ reply_for (available opening h) (opening + credits h) (last_moment until h) (known (call_of asked) h) asked
+  answer_for fitting (Credits amount moment) is = credit_answer amount moment
+  answer_for fitting (Reserves c plan wanted least at) is =
+      reserve_answer c plan wanted least at (none_if (known c h).returned fault.CallUsed (in_place h (Reserves c plan wanted least at) is).1) (fitting (Reserves c plan wanted least at) is)
   answer_for fitting (Settles c number info) is =
       settle_answer c number info (none_else (is_open (known c h)) fault.NotOpen (in_place h (Settles c number info) is).1) (fitting (Settles c number info) is)
   answer_for fitting (Returns c) is = return_answer c (none_else (is_open (known c h)) fault.NotOpen (in_place h (Returns c) is).1) (fitting (Returns c) is)
@@ -170,18 +171,18 @@ shown_by_showing (reply.Returned paid available) credit = refl
 available_showing : (opening : ℕ) (h : List Event) (seat credit : ℕ) (asked : Asked) (told : Reply)
     → available opening (record { seat = seat; asked = asked; reply = showing credit told } ∷ h) ≡ available opening (record { seat = 0; asked = asked; reply = told } ∷ h)
 unfolding available taken_by_all deed
-available_showing opening h seat credit (Credits amount) (reply.Credited available) = refl
-available_showing opening h seat credit (Reserves call plan wanted least) (reply.Granted units last available) = refl
+available_showing opening h seat credit (Credits amount moment) (reply.Credited available) = refl
+available_showing opening h seat credit (Reserves call plan wanted least at) (reply.Granted units last available) = refl
 available_showing opening h seat credit (Settles call number info) (reply.Settled paid available) = refl
 available_showing opening h seat credit (Settles call number info) (reply.Forfeit paid available) = refl
 available_showing opening h seat credit (Returns call) (reply.Returned paid available) = refl
 available_showing opening h seat credit asked told = refl
 
 -- an answer shows what is available after it
-pub answer_shows : (opening : ℕ) (h : List Event) (event : Event) → event.reply ≡ answer opening h event.asked → shown_by event.reply ≡ available opening (event ∷ h)
+pub answer_shows : (opening : ℕ) (until : Option ℕ) (h : List Event) (event : Event) → event.reply ≡ answer opening until h event.asked → shown_by event.reply ≡ available opening (event ∷ h)
 unfolding answer
-answer_shows opening h event is =
-    let told : Reply = verdict opening h event.asked in
+answer_shows opening until h event is =
+    let told : Reply = verdict opening until h event.asked in
     let credit : ℕ = available opening (record { seat = 0; asked = event.asked; reply = told } ∷ h) in
     let P : Reply → Type 0 = λ r. shown_by r ≡ available opening (record { seat = event.seat; asked = event.asked; reply = r } ∷ h) in
     subst P (sym is) (shown_by_showing told credit ∙ sym (available_showing opening h event.seat credit event.asked told))

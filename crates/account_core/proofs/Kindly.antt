@@ -10,6 +10,7 @@ use Rattle.account_core.specs.Answers.{IsLegal, accepted_times, answer, inadmiss
 use Rattle.account_core.specs.Asked.{Asked, Credits, IsOfCall, Reserves, Returns, Settles}
 use Rattle.account_core.specs.Available.{available}
 use Rattle.account_core.specs.Events.{Event}
+use Rattle.account_core.specs.Expiry.{is_past, last_moment}
 use Rattle.account_core.specs.Known.{Known, deed, known, known_after, plan_in_force, taken_of}
 use Rattle.account_core.specs.Laws.{AnswersAreKindly}
 use Rattle.account_core.specs.Ledger.{Ledger, answer_of, event_by, refusal_of}
@@ -26,10 +27,10 @@ use Rattle.account_core.proofs.Verdicts.{in_place}
 
 -- ---- by operation
 
-undenied : (a b c : Bool) → (a || b || c) ≡ false → (a ≡ false) × (b ≡ false)
-undenied true b c is = cc
-undenied false true c is = cc
-undenied false false c is = (refl, refl)
+undenied : (a b c d : Bool) → (a || b || c || d) ≡ false → (a ≡ false) × (b ≡ false)
+undenied true b c d is = cc
+undenied false true c d is = cc
+undenied false false c d is = (refl, refl)
 
 some_units : (n : ℕ) → (n == 0) ≡ false → 1 ≤ n
 some_units n is = grind (arith, nat_tests)
@@ -37,12 +38,12 @@ some_units n is = grind (arith, nat_tests)
 not_less : (n m : ℕ) → nat_lt n m ≡ false → m ≤ n
 not_less n m is = grind (arith, nat_tests)
 
-reserve_kindly : (denied : Bool) (call : Known) (c : ℕ) (plan : Rates) (wanted least units credit : ℕ) (last : Bool)
-    → (nat_lt units least || (units == 0) || call.forfeited) ≡ denied → units ≤ wanted → call.times.before + call.times.after + units ≤ 864000
-    → IsReplyTo call (Reserves c plan wanted least) (showing credit (if denied then reply.Denied 0 else reply.Granted units last 0))
-reserve_kindly true call c plan wanted least units credit last is within day = tt
-reserve_kindly false call c plan wanted least units credit last is within day =
-    let (enough, some) = undenied (nat_lt units least) (units == 0) call.forfeited is in
+reserve_kindly : (denied : Bool) (call : Known) (c : ℕ) (plan : Rates) (wanted least at units credit : ℕ) (last late : Bool)
+    → (nat_lt units least || (units == 0) || call.forfeited || late) ≡ denied → units ≤ wanted → call.times.before + call.times.after + units ≤ 864000
+    → IsReplyTo call (Reserves c plan wanted least at) (showing credit (if denied then reply.Denied 0 else reply.Granted units last 0))
+reserve_kindly true call c plan wanted least at units credit last late is within day = tt
+reserve_kindly false call c plan wanted least at units credit last late is within day =
+    let (enough, some) = undenied (nat_lt units least) (units == 0) call.forfeited late is in
     record { some = some_units units some; enough = not_less units least enough; within = within; day = day }
 
 settle_kindly : (times : Option Elapsed) (call : Known) (c number : ℕ) (info : TimeInfo) (credit : ℕ) → accepted_times call info ≡ times
@@ -56,32 +57,32 @@ unfolding units_offered
 offered_within laws call plan credit wanted sound =
     let (standing, day) = stands laws call plan sound in laws.within (plan_in_force call plan) call.times wanted (credit + taken_of call) day
 
-kindly_here : TariffLaws → (opening : ℕ) (h : List Event) (c : ℕ) (asked : Asked) → IsSound (known c h) → IsOfCall c asked
-    → IsReplyTo (known c h) asked (answer opening h asked)
+kindly_here : TariffLaws → (opening : ℕ) (until : Option ℕ) (h : List Event) (c : ℕ) (asked : Asked) → IsSound (known c h) → IsOfCall c asked
+    → IsReplyTo (known c h) asked (answer opening until h asked)
 unfolding answer
-kindly_here laws opening h c (Credits amount) sound here = absurd here
-kindly_here laws opening h c (Reserves other plan wanted least) sound here =
-    let P : ℕ → Type 0 = λ n. IsSound (known n h) → IsReplyTo (known n h) (Reserves other plan wanted least) (answer opening h (Reserves other plan wanted least)) in
+kindly_here laws opening until h c (Credits amount moment) sound here = absurd here
+kindly_here laws opening until h c (Reserves other plan wanted least at) sound here =
+    let P : ℕ → Type 0 = λ n. IsSound (known n h) → IsReplyTo (known n h) (Reserves other plan wanted least at) (answer opening until h (Reserves other plan wanted least at)) in
     subst P here (λ s. let (within, day) = offered_within laws (known other h) plan (available opening h) wanted s in
-    reserve_kindly _ (known other h) other plan wanted least (units_offered (available opening h) (known other h) plan wanted) _ _ refl within day) sound
-kindly_here laws opening h c (Settles other number info) sound here =
-    let P : ℕ → Type 0 = λ n. IsReplyTo (known n h) (Settles other number info) (answer opening h (Settles other number info)) in
+    reserve_kindly _ (known other h) other plan wanted least at (units_offered (available opening h) (known other h) plan wanted) _ _ (is_past (last_moment until h) at) refl within day) sound
+kindly_here laws opening until h c (Settles other number info) sound here =
+    let P : ℕ → Type 0 = λ n. IsReplyTo (known n h) (Settles other number info) (answer opening until h (Settles other number info)) in
     subst P here (settle_kindly (accepted_times (known other h) info) (known other h) other number info _ refl)
-kindly_here laws opening h c (Returns other) sound here = tt
+kindly_here laws opening until h c (Returns other) sound here = tt
 
 call_here : (c : ℕ) (asked : Asked) → IsOfCall c asked → (h : List Event) → inadmissible h asked ≡ None → misplaced (known c h) asked ≡ None
-call_here c (Credits amount) here h is = absurd here
-call_here c (Reserves other plan wanted least) here h is =
-    let P : ℕ → Type 0 = λ n. misplaced (known n h) (Reserves other plan wanted least) ≡ None in subst P here (in_place h (Reserves other plan wanted least) is).1
+call_here c (Credits amount moment) here h is = absurd here
+call_here c (Reserves other plan wanted least at) here h is =
+    let P : ℕ → Type 0 = λ n. misplaced (known n h) (Reserves other plan wanted least at) ≡ None in subst P here (in_place h (Reserves other plan wanted least at) is).1
 call_here c (Settles other number info) here h is =
     let P : ℕ → Type 0 = λ n. misplaced (known n h) (Settles other number info) ≡ None in subst P here (in_place h (Settles other number info) is).1
 call_here c (Returns other) here h is =
     let P : ℕ → Type 0 = λ n. misplaced (known n h) (Returns other) ≡ None in subst P here (in_place h (Returns other) is).1
 
 pub kindly : TariffLaws → AnswersAreKindly
-kindly laws opening history call asked small legal is here = (
+kindly laws opening until history call asked small legal is here = (
   call_here call asked here (reverse history) is,
-  kindly_here laws opening (reverse history) call asked ((legal_is_sound laws opening (reverse history) small legal).each call) here,
+  kindly_here laws opening until (reverse history) call asked ((legal_is_sound laws opening until (reverse history) small legal).each call) here,
 )
 
 -- ---- the entry of any seat does the same
@@ -99,7 +100,7 @@ entry_moves history later seat call asked told is =
 
 -- what an account answers moves each call of its history
 pub account_moves : AnswersAreKindly → (before later : Ledger) (seat call : ℕ) (asked : Asked) (result : Result Reply AccountFault)
-    → before.opening ≤ 1000000000000000 → IsLegal before.opening before.history
+    → before.opening ≤ 1000000000000000 → IsLegal before.opening before.until before.history
     → IfOk result (λ told. told ≡ answer_of before asked)
     → IfOk result (λ told. later ≡ record before { history = before.history ++ event_by seat asked told ∷ [] })
     → OnOk result (refusal_of before asked ≡ None) → OnErr result (later ≡ before)
@@ -110,5 +111,5 @@ account_moves kind before later seat call asked (Ok told) small legal answered e
     let P : Reply → Type 0 = λ r. IsKindly call (known call (reverse before.history)) asked r in (
       ap Some (entry_moves before.history later.history seat call asked told (ap (λ l. l.history) entered)),
       subst P (sym answered)
-          (kind before.opening before.history call asked small legal (admitted before.limit (reverse before.history) asked open_yet).0),
+          (kind before.opening before.until before.history call asked small legal (admitted before.limit (reverse before.history) asked open_yet).0),
     )

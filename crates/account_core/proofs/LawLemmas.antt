@@ -22,15 +22,15 @@ use Rattle.account_core.proofs.SoundPasts.{answered_deed, entry_allowed, legal_i
 use Rattle.account_core.proofs.Soundness.{IsAllowed, accepted, open_parts, taken_open}
 
 -- what came first in a legal history is legal
-pub prefix_legal : (opening : ℕ) (later h : List Event) → IsLegalPast opening (later ++ h) → IsLegalPast opening h
-prefix_legal opening [] h legal = legal
-prefix_legal opening (event ∷ later) h legal = prefix_legal opening later h legal.0
+pub prefix_legal : (opening : ℕ) (until : Option ℕ) (later h : List Event) → IsLegalPast opening until (later ++ h) → IsLegalPast opening until h
+prefix_legal opening until [] h legal = legal
+prefix_legal opening until (event ∷ later) h legal = prefix_legal opening until later h legal.0
 
 pub no_negative : TariffLaws → NoBalanceIsNegative
-no_negative laws opening history later small legal =
-    let P : List Event → Type 0 = λ h. IsLegalPast opening h in
+no_negative laws opening until history later small legal =
+    let P : List Event → Type 0 = λ h. IsLegalPast opening until h in
     let past = subst P (reverse-append history later) legal in
-    (legal_is_sound laws opening (reverse history) small (prefix_legal opening (reverse later) (reverse history) past)).covered
+    (legal_is_sound laws opening until (reverse history) small (prefix_legal opening until (reverse later) (reverse history) past)).covered
 
 -- ---- closed calls
 
@@ -53,30 +53,30 @@ told_by credit call before (Ends paid) end known_told ended = ap Some end.paid_i
 told_by credit call before Rests rests known_told ended = known_told ended
 
 module _ (laws : TariffLaws) where
-  allowed_at : (opening : ℕ) (h : List Event) (event : Event) → opening ≤ 1000000000000000 → IsLegalPast opening (event ∷ h)
+  allowed_at : (opening : ℕ) (until : Option ℕ) (h : List Event) (event : Event) → opening ≤ 1000000000000000 → IsLegalPast opening until (event ∷ h)
       → IsAllowed (available opening h) (known (its_call event) h) (its_deed event)
-  allowed_at opening h event small legal =
-      entry_allowed laws opening h event ((legal_is_sound laws opening h small legal.0).each (its_call event)) legal.1
+  allowed_at opening until h event small legal =
+      entry_allowed laws opening until h event ((legal_is_sound laws opening until h small legal.0).each (its_call event)) legal.1
 
-  told_more : (here : Bool) (opening : ℕ) (h : List Event) (event : Event) (call : ℕ) → (its_call event == call) ≡ here → opening ≤ 1000000000000000
-      → IsLegalPast opening (event ∷ h) → ((c : ℕ) → (known c h).returned ≡ true → told c h ≡ Some (paid_of (known c h)))
+  told_more : (here : Bool) (opening : ℕ) (until : Option ℕ) (h : List Event) (event : Event) (call : ℕ) → (its_call event == call) ≡ here → opening ≤ 1000000000000000
+      → IsLegalPast opening until (event ∷ h) → ((c : ℕ) → (known c h).returned ≡ true → told c h ≡ Some (paid_of (known c h)))
       → (known call (event ∷ h)).returned ≡ true → told call (event ∷ h) ≡ Some (paid_of (known call (event ∷ h)))
-  told_more true opening h event call is small legal before =
+  told_more true opening until h event call is small legal before =
       let P : ℕ → Type 0 = λ c. (known c (event ∷ h)).returned ≡ true → told c (event ∷ h) ≡ Some (paid_of (known c (event ∷ h))) in
       subst P (eqb-true (its_call event) call is)
       (rw (known_here h event, told_here h event)
-      (told_by (available opening h) (known (its_call event) h) (told (its_call event) h) (its_deed event) (allowed_at opening h event small legal) (before (its_call event))))
-  told_more false opening h event call is small legal before = rw (known_apart h event call is, told_apart h event call is) (before call)
+      (told_by (available opening h) (known (its_call event) h) (told (its_call event) h) (its_deed event) (allowed_at opening until h event small legal) (before (its_call event))))
+  told_more false opening until h event call is small legal before = rw (known_apart h event call is, told_apart h event call is) (before call)
 
-  told_paid : (opening : ℕ) (h : List Event) → opening ≤ 1000000000000000 → IsLegalPast opening h
+  told_paid : (opening : ℕ) (until : Option ℕ) (h : List Event) → opening ≤ 1000000000000000 → IsLegalPast opening until h
       → (call : ℕ) → (known call h).returned ≡ true → told call h ≡ Some (paid_of (known call h))
-  told_paid opening [] small legal call ended = cc
-  told_paid opening (event ∷ h) small legal call ended =
-      told_more (its_call event == call) opening h event call refl small legal (told_paid opening h small legal.0) ended
+  told_paid opening until [] small legal call ended = cc
+  told_paid opening until (event ∷ h) small legal call ended =
+      told_more (its_call event == call) opening until h event call refl small legal (told_paid opening until h small legal.0) ended
 
   pub closed_pay : ClosedCallsPayTheTariff
-  closed_pay opening history call plan small legal closed =
-      told_paid opening (reverse history) small legal call closed.returned
+  closed_pay opening until history call plan small legal closed =
+      told_paid opening until (reverse history) small legal call closed.returned
       ∙ ap Some (rw (closed.lawful, closed.granted) refl)
 
 -- ---- the last report
@@ -91,23 +91,23 @@ settle_reported : (call : Known) (c number : ℕ) (info : TimeInfo) (times : Opt
 settle_reported call c number info None is lawful = cc
 settle_reported call c number info (Some times) is lawful = (call.times, read_unwrapped call.times info times (accepted call info times is).read)
 
-reserve_times : (call : Known) (c : ℕ) (plan : Rates) (wanted least : ℕ) (told : Reply)
-    → ((known_after call (deed_of (Reserves c plan wanted least) told)).times ≡ call.times) × ((known_after call (deed_of (Reserves c plan wanted least) told)).forfeited ≡ call.forfeited)
-reserve_times call c plan wanted least (reply.Granted units last available) = (refl, refl)
-reserve_times call c plan wanted least told = (refl, refl)
+reserve_times : (call : Known) (c : ℕ) (plan : Rates) (wanted least at : ℕ) (told : Reply)
+    → ((known_after call (deed_of (Reserves c plan wanted least at) told)).times ≡ call.times) × ((known_after call (deed_of (Reserves c plan wanted least at) told)).forfeited ≡ call.forfeited)
+reserve_times call c plan wanted least at (reply.Granted units last available) = (refl, refl)
+reserve_times call c plan wanted least at told = (refl, refl)
 
 -- what an answered entry does to the times of its call is what its report states
-reported_by : (opening : ℕ) (h : List Event) (asked : Asked) (before : Option TimeInfo)
+reported_by : (opening : ℕ) (until : Option ℕ) (h : List Event) (asked : Asked) (before : Option TimeInfo)
     → ((known (call_of asked) h).forfeited ≡ false → AreReported before (known (call_of asked) h).times)
-    → (known_after (known (call_of asked) h) (deed_of asked (verdict opening h asked))).forfeited ≡ false
-    → AreReported (report_after before asked) (known_after (known (call_of asked) h) (deed_of asked (verdict opening h asked))).times
-reported_by opening h (Credits amount) before known_told lawful = known_told lawful
-reported_by opening h (Reserves c plan wanted least) before known_told lawful =
-    let (times, forfeited) = reserve_times (known c h) c plan wanted least (verdict opening h (Reserves c plan wanted least)) in
+    → (known_after (known (call_of asked) h) (deed_of asked (verdict opening until h asked))).forfeited ≡ false
+    → AreReported (report_after before asked) (known_after (known (call_of asked) h) (deed_of asked (verdict opening until h asked))).times
+reported_by opening until h (Credits amount moment) before known_told lawful = known_told lawful
+reported_by opening until h (Reserves c plan wanted least at) before known_told lawful =
+    let (times, forfeited) = reserve_times (known c h) c plan wanted least at (verdict opening until h (Reserves c plan wanted least at)) in
     rw times (known_told (sym forfeited ∙ lawful))
-reported_by opening h (Settles c number info) before known_told lawful =
+reported_by opening until h (Settles c number info) before known_told lawful =
     settle_reported (known c h) c number info (accepted_times (known c h) info) refl lawful
-reported_by opening h (Returns c) before known_told lawful = known_told lawful
+reported_by opening until h (Returns c) before known_told lawful = known_told lawful
 
 report_here : (h : List Event) (event : Event) → last_report (its_call event) (event ∷ h) ≡ report_after (last_report (its_call event) h) event.asked
 report_here h event = rw (eq-eqb (its_call event) (its_call event) refl) refl
@@ -118,31 +118,31 @@ report_apart h event call apart = rw apart refl
 IsReported : ℕ → List Event → Type 0
 IsReported call h = (known call h).forfeited ≡ false → AreReported (last_report call h) (known call h).times
 
-reported_more : (here : Bool) (opening : ℕ) (h : List Event) (event : Event) (call : ℕ) → (its_call event == call) ≡ here → IsAnswered opening h event
+reported_more : (here : Bool) (opening : ℕ) (until : Option ℕ) (h : List Event) (event : Event) (call : ℕ) → (its_call event == call) ≡ here → IsAnswered opening until h event
     → ((c : ℕ) → IsReported c h) → IsReported call (event ∷ h)
 unfolding IsReported
-reported_more true opening h event call is answered before =
+reported_more true opening until h event call is answered before =
     let P : ℕ → Type 0 = λ c. (known c (event ∷ h)).forfeited ≡ false → AreReported (last_report c (event ∷ h)) (known c (event ∷ h)).times in
     subst P (eqb-true (its_call event) call is)
-    (rw (known_here h event, report_here h event, answered_deed opening h event answered)
-    (reported_by opening h event.asked (last_report (its_call event) h) (before (its_call event))))
-reported_more false opening h event call is answered before = rw (known_apart h event call is, report_apart h event call is) (before call)
+    (rw (known_here h event, report_here h event, answered_deed opening until h event answered)
+    (reported_by opening until h event.asked (last_report (its_call event) h) (before (its_call event))))
+reported_more false opening until h event call is answered before = rw (known_apart h event call is, report_apart h event call is) (before call)
 
-reported : (opening : ℕ) (h : List Event) → IsLegalPast opening h → (call : ℕ) → IsReported call h
+reported : (opening : ℕ) (until : Option ℕ) (h : List Event) → IsLegalPast opening until h → (call : ℕ) → IsReported call h
 unfolding IsReported
-reported opening [] legal call lawful = refl
-reported opening (event ∷ h) legal call lawful = reported_more (its_call event == call) opening h event call refl legal.1 (reported opening h legal.0) lawful
+reported opening until [] legal call lawful = refl
+reported opening until (event ∷ h) legal call lawful = reported_more (its_call event == call) opening until h event call refl legal.1 (reported opening until h legal.0) lawful
 
 pub times_reported : TimesAreReported
 unfolding IsReported
-times_reported opening history call small legal lawful = reported opening (reverse history) legal call lawful
+times_reported opening until history call small legal lawful = reported opening until (reverse history) legal call lawful
 
 -- ---- a Settle
 
 settle_takes : (credit : ℕ) (call : Known) (asked : Asked) (told : Reply) → IsSettle asked → IsAllowed credit call (deed_of asked told)
     → taken_of (known_after call (deed_of asked told)) ≡ taken_of call
-settle_takes credit call (Credits amount) told is allowed = absurd is
-settle_takes credit call (Reserves c plan wanted least) told is allowed = absurd is
+settle_takes credit call (Credits amount moment) told is allowed = absurd is
+settle_takes credit call (Reserves c plan wanted least at) told is allowed = absurd is
 settle_takes credit call (Settles c number info) (reply.Settled paid available) is report =
     taken_open (known_after call (Reports info)) report.open_yet ∙ sym (taken_open call report.open_yet)
 settle_takes credit call (Settles c number info) (reply.Forfeit paid available) is here =
@@ -151,22 +151,22 @@ settle_takes credit call (Settles c number info) told is allowed = refl
 settle_takes credit call (Returns c) told is allowed = absurd is
 
 settle_credits : (asked : Asked) (told : Reply) → IsSettle asked → credited asked told ≡ 0
-settle_credits (Credits amount) told is = absurd is
-settle_credits (Reserves c plan wanted least) told is = absurd is
+settle_credits (Credits amount moment) told is = absurd is
+settle_credits (Reserves c plan wanted least at) told is = absurd is
 settle_credits (Settles c number info) told is = refl
 settle_credits (Returns c) told is = absurd is
 
-settle_keeps_past : TariffLaws → (opening : ℕ) (h : List Event) (event : Event) → opening ≤ 1000000000000000 → IsLegalPast opening (event ∷ h) → IsSettle event.asked
+settle_keeps_past : TariffLaws → (opening : ℕ) (until : Option ℕ) (h : List Event) (event : Event) → opening ≤ 1000000000000000 → IsLegalPast opening until (event ∷ h) → IsSettle event.asked
     → available opening (event ∷ h) ≡ available opening h
-settle_keeps_past laws opening h event small legal is =
-    let sound = legal_is_sound laws opening h small legal.0 in
-    let same = settle_takes (available opening h) (known (its_call event) h) event.asked event.reply is (allowed_at laws opening h event small legal) in
+settle_keeps_past laws opening until h event small legal is =
+    let sound = legal_is_sound laws opening until h small legal.0 in
+    let same = settle_takes (available opening h) (known (its_call event) h) event.asked event.reply is (allowed_at laws opening until h event small legal) in
     let moves = available_moves opening h event sound (omega (arith, same)) in
     omega (arith, moves, same, settle_credits event.asked event.reply is)
 
 pub settle_keeps : TariffLaws → SettlesKeepTheCredit
-settle_keeps laws opening history event small legal is =
-    let P : List Event → Type 0 = λ h. IsLegalPast opening h in
+settle_keeps laws opening until history event small legal is =
+    let P : List Event → Type 0 = λ h. IsLegalPast opening until h in
     let Q : List Event → Type 0 = λ h. available opening h ≡ available opening (reverse history) in
     let longer = reverse-append history (event ∷ []) in
-    subst Q (sym longer) (settle_keeps_past laws opening (reverse history) event small (subst P longer legal) is)
+    subst Q (sym longer) (settle_keeps_past laws opening until (reverse history) event small (subst P longer legal) is)

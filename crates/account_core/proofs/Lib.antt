@@ -1,5 +1,6 @@
 pub mod Answering
 pub mod Entering
+pub mod Expiring
 pub mod Fitting
 pub mod Kindly
 pub mod LawLemmas

@@ -106,8 +106,8 @@ found_told q (Some standing) call is = ap (sum_of q) is
 
 -- ---- an account's
 
-pub listed_sums : (a : Inside) (ledger : Ledger) → record { opening = a.opening; limit = a.limit; history = map event_of a.entries.items } ≡ ledger
-    → IsKept a.opening a.limit (reverse (map event_of a.entries.items)) a.calls a.funds a.available a.owed (vec_capacity a.entries)
+pub listed_sums : (a : Inside) (ledger : Ledger) → record { opening = a.opening; until = a.until; limit = a.limit; history = map event_of a.entries.items } ≡ ledger
+    → IsKept a.opening a.until a.limit (reverse (map event_of a.entries.items)) a.calls a.funds a.available a.last_moment a.owed (vec_capacity a.entries)
     → IsOrdered nat_cmp a.calls → (sums : List CallSum) → sums ≡ sums_told a.calls.entries → AreSums (reverse ledger.history) sums
 listed_sums a ledger view_is kept ordered sums is =
     let P : List CallSum → Type 0 = AreSums (reverse ledger.history) in

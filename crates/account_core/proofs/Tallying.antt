@@ -3,9 +3,10 @@ use Rattle.std.proofs.Common.{◌≡◌, ℕ, ◌+◌, ◌≤◌, Option, Some, 
 use Rattle.std.specs.Prelude.{false, true, is_some, unwrap_or}
 use Rattle.std.specs.BTreeMap.{BTreeMap, IsEmpty, Updates, get}
 use Rattle.std.specs.Ordering.{nat_cmp}
-use Rattle.account_core.specs.Answers.{IsAnswered, IsLegalPast, answer, inadmissible, inadmissible_for, shown_by}
+use Rattle.account_core.specs.Answers.{IsAnswered, answer, inadmissible, inadmissible_for, shown_by}
 use Rattle.account_core.specs.Available.{credited}
 use Rattle.account_core.specs.Events.{Event}
+use Rattle.account_core.specs.Expiry.{last_moment_after}
 use Rattle.account_core.specs.Kept.{TellsEach, known_of, unknown}
 use Rattle.account_core.specs.Known.{Known, known, known_after, taken_of}
 use Rattle.account_core.specs.Replies.{reply_for}
@@ -21,14 +22,15 @@ use Rattle.account_core.proofs.Fitting.{answer_shows}
 use Rattle.account_core.proofs.Moves.{its_call, its_deed, known_here}
 use Rattle.account_core.proofs.Walking.{room_walk}
 
-pub tallied_new : (opening : ℕ) (m : BTreeMap ℕ Standing) → opening ≤ 1000000000000000 → IsEmpty m
-    → IsTallied [] (tally_of opening m opening opening)
-tallied_new opening m small empty = record {
+pub tallied_new : (opening : ℕ) (until : Option ℕ) (m : BTreeMap ℕ Standing) → opening ≤ 1000000000000000 → IsEmpty m
+    → IsTallied [] (tally_of opening until m opening opening until)
+tallied_new opening until m small empty = record {
   small = small;
   legal = tt;
   tells = λ call. rw empty refl;
   funds_are = omega arith;
   credit_is = sym (nothing_taken_yet opening);
+  last_is = refl;
 }
 
 -- ---- an entry, by what is known of its call
@@ -41,58 +43,60 @@ pub not_some : {A : Type 0} (found : Option A) → found ≡ None → is_some fo
 not_some None none some = cc
 not_some (Some a) none some = cc
 
-module _ (opening : ℕ) (h : List Event) (event : Event) (call : Known) (funds credit : ℕ) (told : IsToldOf opening h event call funds credit) where
+module _ (opening : ℕ) (until : Option ℕ) (h : List Event) (event : Event) (call : Known) (funds credit : ℕ) (last : Option ℕ)
+    (told : IsToldOf opening until h event call funds credit last) where
   pub told_money : LegalPastsAreSound → credit + taken_of call ≤ 1000000000000000
-  told_money sounds = money_kept opening h (sounds opening h told.small told.legal) event.asked call told.call_is credit told.credit_is
+  told_money sounds = money_kept opening h (sounds opening until h told.small told.legal) event.asked call told.call_is credit told.credit_is
 
   admissible_is : inadmissible_for call event.asked ≡ inadmissible h event.asked
   admissible_is = ap (λ k. inadmissible_for k event.asked) told.call_is
 
   -- of an admissible entry, the reply by what is kept is the answer
   told_answer : LegalPastsAreSound → SoundPastsAnswer → inadmissible h event.asked ≡ None
-      → (reply : Reply) → reply ≡ reply_for credit funds call event.asked → reply ≡ answer opening h event.asked
+      → (reply : Reply) → reply ≡ reply_for credit funds last call event.asked → reply ≡ answer opening until h event.asked
   told_answer sounds fits admissible reply reply_is =
-      let sound = sounds opening h told.small told.legal in
-      reply_is_answer opening h sound (fits opening h sound) event.asked call told.call_is credit funds told.credit_is told.funds_are admissible reply reply_is
+      let sound = sounds opening until h told.small told.legal in
+      reply_is_answer opening until h sound (fits opening until h sound) event.asked call told.call_is credit funds last told.credit_is told.funds_are told.last_is admissible reply reply_is
 
   pub told_legal : LegalPastsAreSound → SoundPastsAnswer → (fault : Option AccountFault) → fault ≡ inadmissible_for call event.asked → is_some fault ≡ false
-      → (reply : Reply) → reply ≡ reply_for credit funds call event.asked → reply ≡ event.reply → IsAnswered opening h event
+      → (reply : Reply) → reply ≡ reply_for credit funds last call event.asked → reply ≡ event.reply → IsAnswered opening until h event
   told_legal sounds fits fault fault_is none reply reply_is same =
       let admissible : inadmissible h event.asked ≡ None = sym admissible_is ∙ (sym fault_is ∙ none_by fault none) in
       record { admissible = admissible; answered = sym same ∙ told_answer sounds fits admissible reply reply_is }
 
   -- a legal entry is admissible by what is kept, and its reply is the one by what is kept
-  pub admissible_told : IsAnswered opening h event → inadmissible_for call event.asked ≡ None
+  pub admissible_told : IsAnswered opening until h event → inadmissible_for call event.asked ≡ None
   admissible_told answered = admissible_is ∙ answered.admissible
 
-  pub reply_told : LegalPastsAreSound → SoundPastsAnswer → IsAnswered opening h event
-      → (reply : Reply) → reply ≡ reply_for credit funds call event.asked → reply ≡ event.reply
+  pub reply_told : LegalPastsAreSound → SoundPastsAnswer → IsAnswered opening until h event
+      → (reply : Reply) → reply ≡ reply_for credit funds last call event.asked → reply ≡ event.reply
   reply_told sounds fits answered reply reply_is = told_answer sounds fits answered.admissible reply reply_is ∙ sym answered.answered
 
-  pub told_room : LegalPastsAreSound → SoundPastsAnswer → IsAnswered opening h event → HasRoom call (its_deed event)
-  told_room sounds fits answered = room_walk sounds fits opening h told.small told.legal event answered call (its_call event) told.call_is refl
+  pub told_room : LegalPastsAreSound → SoundPastsAnswer → IsAnswered opening until h event → HasRoom call (its_deed event)
+  told_room sounds fits answered = room_walk sounds fits opening until h told.small told.legal event answered call (its_call event) told.call_is refl
 
   pub told_after : known_after call (its_deed event) ≡ known (its_call event) (event ∷ h)
   told_after = ap (λ k. known_after k (its_deed event)) told.call_is ∙ sym (known_here h event)
 
 -- ---- an entry, by the standings of all calls
 
-module _ (opening : ℕ) (h : List Event) (m : BTreeMap ℕ Standing) (funds credit : ℕ) (event : Event)
-    (tallied : IsTallied h (tally_of opening m funds credit)) where
-  told_by : (standing : Standing) → unwrap_or (get nat_cmp m (its_call event)) unknown ≡ standing → IsToldOf opening h event (known_of standing) funds credit
+module _ (opening : ℕ) (until : Option ℕ) (h : List Event) (m : BTreeMap ℕ Standing) (funds credit : ℕ) (last : Option ℕ) (event : Event)
+    (tallied : IsTallied h (tally_of opening until m funds credit last)) where
+  told_by : (standing : Standing) → unwrap_or (get nat_cmp m (its_call event)) unknown ≡ standing → IsToldOf opening until h event (known_of standing) funds credit last
   told_by standing is = record {
     small = tallied.small;
     legal = tallied.legal;
     call_is = sym (ap known_of is) ∙ tallied.tells (its_call event);
     funds_are = tallied.funds_are;
     credit_is = tallied.credit_is;
+    last_is = tallied.last_is;
   }
 
-  pub told_found : (call : ℕ) (standing : Standing) → call ≡ its_call event → Some standing ≡ get nat_cmp m call → IsToldOf opening h event (known_of standing) funds credit
+  pub told_found : (call : ℕ) (standing : Standing) → call ≡ its_call event → Some standing ≡ get nat_cmp m call → IsToldOf opening until h event (known_of standing) funds credit last
   told_found call standing here found =
       told_by standing (ap (λ c. unwrap_or (get nat_cmp m c) unknown) (sym here) ∙ ap (λ o. unwrap_or o unknown) (sym found))
 
-  pub told_new : (call : ℕ) → call ≡ its_call event → get nat_cmp m call ≡ None → IsToldOf opening h event (known_of unknown) funds credit
+  pub told_new : (call : ℕ) → call ≡ its_call event → get nat_cmp m call ≡ None → IsToldOf opening until h event (known_of unknown) funds credit last
   told_new call here none = told_by unknown (ap (λ c. unwrap_or (get nat_cmp m c) unknown) (sym here) ∙ ap (λ o. unwrap_or o unknown) none)
 
   pub tells_after : (n : BTreeMap ℕ Standing) (call : ℕ) (after : Standing) → call ≡ its_call event → Updates nat_cmp m n call (Some after)
@@ -103,16 +107,18 @@ module _ (opening : ℕ) (h : List Event) (m : BTreeMap ℕ Standing) (funds cre
 
 -- ---- an entry that was answered
 
-module _ (h : List Event) (tally : Tally) (event : Event) (tallied : IsTallied h tally) (answered : IsAnswered tally.opening h event) where
+module _ (h : List Event) (tally : Tally) (event : Event) (tallied : IsTallied h tally) (answered : IsAnswered tally.opening tally.until h event) where
   pub funds_more : LegalPastsAreSound → tally.funds + credited event.asked event.reply ≤ 1000000000000000
-  funds_more sounds = omega (arith, tallied.funds_are, (sounds tally.opening (event ∷ h) tallied.small (tallied.legal, answered)).capped)
+  funds_more sounds = omega (arith, tallied.funds_are, (sounds tally.opening tally.until (event ∷ h) tallied.small (tallied.legal, answered)).capped)
 
-  pub tallied_more : (m : BTreeMap ℕ Standing) (added credit : ℕ) → TellsEach m (event ∷ h) → added ≡ credited event.asked event.reply → credit ≡ shown_by event.reply
-      → IsTallied (event ∷ h) (tally_of tally.opening m (tally.funds + added) credit)
-  tallied_more m added credit tells added_is shows = record {
+  pub tallied_more : (m : BTreeMap ℕ Standing) (added credit : ℕ) (last : Option ℕ) → TellsEach m (event ∷ h) → added ≡ credited event.asked event.reply
+      → credit ≡ shown_by event.reply → last ≡ last_moment_after tally.last_moment event.asked event.reply
+      → IsTallied (event ∷ h) (tally_of tally.opening tally.until m (tally.funds + added) credit last)
+  tallied_more m added credit last tells added_is shows last_is = record {
     small = tallied.small;
     legal = (tallied.legal, answered);
     tells = tells;
     funds_are = omega (arith, tallied.funds_are, added_is);
-    credit_is = shows ∙ answer_shows tally.opening h event answered.answered;
+    credit_is = shows ∙ answer_shows tally.opening tally.until h event answered.answered;
+    last_is = last_is ∙ ap (λ l. last_moment_after l event.asked event.reply) tallied.last_is;
   }

@@ -9,6 +9,7 @@ use Rattle.account_core.specs.Answers.{accepted_times, inadmissible, misplaced, 
 use Rattle.account_core.specs.Asked.{Asked, Credits, Reserves, Returns, Settles, call_of, is_in_range}
 use Rattle.account_core.specs.Available.{available, credited, credits}
 use Rattle.account_core.specs.Events.{Event}
+use Rattle.account_core.specs.Expiry.{is_past, last_moment}
 use Rattle.account_core.specs.Known.{Known, deed_of, is_open, known, plan_in_force, taken_of}
 use Rattle.account_core.specs.Sound.{IsSound}
 use Rattle.account_core.specs.declared.entry.Reply.{Reply}
@@ -21,15 +22,15 @@ use Rattle.account_core.specs.TariffLaws.{TariffLaws}
 -- ---- what a reply shows changes nothing else
 
 pub deed_showing : (asked : Asked) (told : Reply) (credit : ℕ) → deed_of asked (showing credit told) ≡ deed_of asked told
-deed_showing (Credits amount) told credit = refl
-deed_showing (Reserves call plan wanted least) (reply.Granted units last available) credit = refl
+deed_showing (Credits amount moment) told credit = refl
+deed_showing (Reserves call plan wanted least at) (reply.Granted units last available) credit = refl
 deed_showing (Settles call number info) (reply.Settled paid available) credit = refl
 deed_showing (Settles call number info) (reply.Forfeit paid available) credit = refl
 deed_showing (Returns call) (reply.Returned paid available) credit = refl
 deed_showing asked told credit = refl
 
 pub credited_showing : (asked : Asked) (told : Reply) (credit : ℕ) → credited asked (showing credit told) ≡ credited asked told
-credited_showing (Credits amount) (reply.Credited available) credit = refl
+credited_showing (Credits amount moment) (reply.Credited available) credit = refl
 credited_showing asked told credit = refl
 
 -- ---- what is admissible
@@ -51,11 +52,10 @@ none_else false why is = cc
 
 -- ---- by operation
 
-any_false : (a b c : Bool) → (a || b || c) ≡ false → (b ≡ false) × (c ≡ false)
-any_false true b c is = cc
-any_false false true c is = cc
-any_false false false true is = cc
-any_false false false false is = (refl, refl)
+any_false : (a b c d : Bool) → (a || b || c || d) ≡ false → b ≡ false
+any_false true b c d is = cc
+any_false false true c d is = cc
+any_false false false c d is = refl
 
 some_units : (n : ℕ) → (n == 0) ≡ false → 1 ≤ n
 some_units n is = grind (arith, nat_tests)
@@ -63,21 +63,21 @@ some_units n is = grind (arith, nat_tests)
 pub credits_by : ℕ → ℕ → Bool → ℕ
 credits_by opening amount fits = if fits then amount else 0
 
-credited_if : (fits : Bool) (amount : ℕ) → credited (Credits amount) (if fits then reply.Credited 0 else reply.CreditOver 0) ≡ (if fits then amount else 0)
-credited_if true amount = refl
-credited_if false amount = refl
+credited_if : (fits : Bool) (amount : ℕ) (moment : Option ℕ) → credited (Credits amount moment) (if fits then reply.Credited 0 else reply.CreditOver 0) ≡ (if fits then amount else 0)
+credited_if true amount moment = refl
+credited_if false amount moment = refl
 
 fits_capped : (funds amount : ℕ) → funds ≤ 1000000000000000 → funds + (if nat_le (funds + amount) 1000000000000000 then amount else 0) ≤ 1000000000000000
 fits_capped funds amount capped = grind (arith, nat_tests)
 
 -- the credits stay within the largest money
-pub credited_capped : (opening : ℕ) (h : List Event) (asked : Asked) → opening + credits h ≤ 1000000000000000
-    → opening + credits h + credited asked (verdict opening h asked) ≤ 1000000000000000
-credited_capped opening h (Credits amount) capped =
-    rw (credited_if (nat_le (opening + credits h + amount) 1000000000000000) amount) (fits_capped (opening + credits h) amount capped)
-credited_capped opening h (Reserves call plan wanted least) capped = omega (arith, capped)
-credited_capped opening h (Settles call number info) capped = omega (arith, capped)
-credited_capped opening h (Returns call) capped = omega (arith, capped)
+pub credited_capped : (opening : ℕ) (until : Option ℕ) (h : List Event) (asked : Asked) → opening + credits h ≤ 1000000000000000
+    → opening + credits h + credited asked (verdict opening until h asked) ≤ 1000000000000000
+credited_capped opening until h (Credits amount moment) capped =
+    rw (credited_if (nat_le (opening + credits h + amount) 1000000000000000) amount moment) (fits_capped (opening + credits h) amount capped)
+credited_capped opening until h (Reserves call plan wanted least at) capped = omega (arith, capped)
+credited_capped opening until h (Settles call number info) capped = omega (arith, capped)
+credited_capped opening until h (Returns call) capped = omega (arith, capped)
 
 module _ (laws : TariffLaws) where
   grant_allowed : (credit : ℕ) (call : Known) (plan : Rates) (wanted units : ℕ) → IsSound call → call.returned ≡ false
@@ -93,13 +93,13 @@ module _ (laws : TariffLaws) where
         covered = laws.covered (plan_in_force call plan) call.times wanted money more;
       }) some
 
-  reserve_allowed : (denied : Bool) (credit : ℕ) (call : Known) (number : ℕ) (plan : Rates) (wanted least : ℕ) → IsSound call → call.returned ≡ false
-      → (nat_lt (units_offered credit call plan wanted) least || (units_offered credit call plan wanted == 0) || call.forfeited) ≡ denied
-      → IsAllowed credit call (deed_of (Reserves number plan wanted least)
+  reserve_allowed : (denied : Bool) (credit : ℕ) (call : Known) (number : ℕ) (plan : Rates) (wanted least at : ℕ) (late : Bool) → IsSound call → call.returned ≡ false
+      → (nat_lt (units_offered credit call plan wanted) least || (units_offered credit call plan wanted == 0) || call.forfeited || late) ≡ denied
+      → IsAllowed credit call (deed_of (Reserves number plan wanted least at)
       (if denied then reply.Denied 0 else reply.Granted (units_offered credit call plan wanted) (nat_lt (units_offered credit call plan wanted) wanted) 0))
-  reserve_allowed true credit call number plan wanted least sound here is = tt
-  reserve_allowed false credit call number plan wanted least sound here is =
-      let (some, lawful) = any_false (nat_lt (units_offered credit call plan wanted) least) (units_offered credit call plan wanted == 0) call.forfeited is in
+  reserve_allowed true credit call number plan wanted least at late sound here is = tt
+  reserve_allowed false credit call number plan wanted least at late sound here is =
+      let some = any_false (nat_lt (units_offered credit call plan wanted) least) (units_offered credit call plan wanted == 0) call.forfeited late is in
       grant_allowed credit call plan wanted (units_offered credit call plan wanted) sound here refl (some_units (units_offered credit call plan wanted) some)
 
   settle_allowed : (credit : ℕ) (call : Known) (c number : ℕ) (info : TimeInfo) (times : Option Elapsed) → is_open call ≡ true → accepted_times call info ≡ times
@@ -108,14 +108,14 @@ module _ (laws : TariffLaws) where
   settle_allowed credit call c number info (Some times) is read = record { open_yet = is; times = times; accepted = read }
 
   -- an admissible operation's answer does what is allowed
-  pub verdict_allowed : (opening : ℕ) (h : List Event) (asked : Asked) → IsSound (known (call_of asked) h) → inadmissible h asked ≡ None
-      → IsAllowed (available opening h) (known (call_of asked) h) (deed_of asked (verdict opening h asked))
-  verdict_allowed opening h (Credits amount) sound is = tt
-  verdict_allowed opening h (Reserves call plan wanted least) sound is =
-      reserve_allowed _ (available opening h) (known call h) call plan wanted least sound
-      (none_if (known call h).returned fault.CallUsed (in_place h (Reserves call plan wanted least) is).1) refl
-  verdict_allowed opening h (Settles call number info) sound is =
+  pub verdict_allowed : (opening : ℕ) (until : Option ℕ) (h : List Event) (asked : Asked) → IsSound (known (call_of asked) h) → inadmissible h asked ≡ None
+      → IsAllowed (available opening h) (known (call_of asked) h) (deed_of asked (verdict opening until h asked))
+  verdict_allowed opening until h (Credits amount moment) sound is = tt
+  verdict_allowed opening until h (Reserves call plan wanted least at) sound is =
+      reserve_allowed _ (available opening h) (known call h) call plan wanted least at (is_past (last_moment until h) at) sound
+      (none_if (known call h).returned fault.CallUsed (in_place h (Reserves call plan wanted least at) is).1) refl
+  verdict_allowed opening until h (Settles call number info) sound is =
       settle_allowed (available opening h) (known call h) call number info (accepted_times (known call h) info)
       (none_else (is_open (known call h)) fault.NotOpen (in_place h (Settles call number info) is).1) refl
-  verdict_allowed opening h (Returns call) sound is =
+  verdict_allowed opening until h (Returns call) sound is =
       record { open_yet = none_else (is_open (known call h)) fault.NotOpen (in_place h (Returns call) is).1; paid_is = refl }

@@ -1,5 +1,5 @@
 -- Walks through a legal history.
-use Rattle.std.proofs.Common.{◌≡◌, ℕ, ◌+◌, ◌≤◌, ◌<◌, Bool, true, false, List, [], ◌∷◌, ◌++◌, drop, get_or, length, take, sym, ap, ◌∙◌, arith, subst, add-one}
+use Rattle.std.proofs.Common.{◌≡◌, ℕ, ◌+◌, ◌≤◌, ◌<◌, Bool, true, false, Option, List, [], ◌∷◌, ◌++◌, drop, get_or, length, take, sym, ap, ◌∙◌, arith, subst, add-one}
 use Rattle.std.specs.Prelude.{◌==◌, if◌then◌else◌, map, reverse, sum_by}
 use Rattle.std.proofs.Math.Seq.{take-length, take-suc}
 use Rattle.std.proofs.lemmas.Bool.Decides.{nat_tests}
@@ -35,34 +35,34 @@ past_parts xs i =
     ap (λ ys. reverse (map event_of ys)) (sym (take-append-drop i xs))
     ∙ (ap reverse (map-append event_of (take i xs) (drop i xs)) ∙ reverse-append (map event_of (take i xs)) (map event_of (drop i xs)))
 
-pub legal_to : (opening : ℕ) (xs : List Entry) (i : ℕ) → IsLegalPast opening (reverse (map event_of xs)) → IsLegalPast opening (past_to xs i)
-legal_to opening xs i legal =
-    let P : List Event → Type 0 = λ h. IsLegalPast opening h in
-    prefix_legal opening (reverse (map event_of (drop i xs))) (past_to xs i) (subst P (past_parts xs i) legal)
+pub legal_to : (opening : ℕ) (until : Option ℕ) (xs : List Entry) (i : ℕ) → IsLegalPast opening until (reverse (map event_of xs)) → IsLegalPast opening until (past_to xs i)
+legal_to opening until xs i legal =
+    let P : List Event → Type 0 = λ h. IsLegalPast opening until h in
+    prefix_legal opening until (reverse (map event_of (drop i xs))) (past_to xs i) (subst P (past_parts xs i) legal)
 
 pub opening_to : (xs : List Entry) (i : ℕ) → HasOpening (map event_of xs) → HasOpening (map event_of (take i xs))
-opening_to xs i has = record { opening = has.opening; small = has.small; legal = legal_to has.opening xs i has.legal }
+opening_to xs i has = record { opening = has.opening; until = has.until; small = has.small; legal = legal_to has.opening has.until xs i has.legal }
 
 -- the entry at a place was answered there
-pub answered_at : (opening : ℕ) (xs : List Entry) (i : ℕ) (e : Entry) → i < length xs → e ≡ get_or xs i e → IsLegalPast opening (reverse (map event_of xs))
-    → IsAnswered opening (past_to xs i) (event_of e)
-answered_at opening xs i e within is legal =
-    let P : List Event → Type 0 = λ h. IsLegalPast opening h in
-    (subst P (past_more xs i e within is) (legal_to opening xs (i + 1) legal)).1
+pub answered_at : (opening : ℕ) (until : Option ℕ) (xs : List Entry) (i : ℕ) (e : Entry) → i < length xs → e ≡ get_or xs i e → IsLegalPast opening until (reverse (map event_of xs))
+    → IsAnswered opening until (past_to xs i) (event_of e)
+answered_at opening until xs i e within is legal =
+    let P : List Event → Type 0 = λ h. IsLegalPast opening until h in
+    (subst P (past_more xs i e within is) (legal_to opening until xs (i + 1) legal)).1
 
 -- ---- what is known
 
-pub sound_walk : LegalPastsAreSound → (opening : ℕ) (h : List Event) → opening ≤ 1000000000000000 → IsLegalPast opening h
+pub sound_walk : LegalPastsAreSound → (opening : ℕ) (until : Option ℕ) (h : List Event) → opening ≤ 1000000000000000 → IsLegalPast opening until h
     → (call : Known) (c : ℕ) → call ≡ known c h → IsSound call
-sound_walk sounds opening h small legal call c is = let P : Known → Type 0 = λ k. IsSound k in subst P (sym is) ((sounds opening h small legal).each c)
+sound_walk sounds opening until h small legal call c is = let P : Known → Type 0 = λ k. IsSound k in subst P (sym is) ((sounds opening until h small legal).each c)
 
-pub room_walk : LegalPastsAreSound → SoundPastsAnswer → (opening : ℕ) (h : List Event) → opening ≤ 1000000000000000 → IsLegalPast opening h
-    → (event : Event) → IsAnswered opening h event → (call : Known) (c : ℕ) → call ≡ known c h → its_call event ≡ c → HasRoom call (its_deed event)
-room_walk sounds fits opening h small legal event answered call c is here =
-    let fitting = fits opening h (sounds opening h small legal) event.asked answered.admissible in
+pub room_walk : LegalPastsAreSound → SoundPastsAnswer → (opening : ℕ) (until : Option ℕ) (h : List Event) → opening ≤ 1000000000000000 → IsLegalPast opening until h
+    → (event : Event) → IsAnswered opening until h event → (call : Known) (c : ℕ) → call ≡ known c h → its_call event ≡ c → HasRoom call (its_deed event)
+room_walk sounds fits opening until h small legal event answered call c is here =
+    let fitting = fits opening until h (sounds opening until h small legal) event.asked answered.admissible in
     let D : Deed → Type 0 = λ d. HasRoom (known (its_call event) h) d in
     let K : Known → Type 0 = λ k. HasRoom k (its_deed event) in
-    subst K (ap (λ n. known n h) here ∙ sym is) (subst D (sym (answered_deed opening h event answered)) fitting.room)
+    subst K (ap (λ n. known n h) here ∙ sym is) (subst D (sym (answered_deed opening until h event answered)) fitting.room)
 
 pub known_walk : (h : List Event) (event : Event) (call later : Known) (c : ℕ) → call ≡ known c h → its_call event ≡ c → later ≡ known_after call (its_deed event)
     → later ≡ known c (event ∷ h)
@@ -117,9 +117,9 @@ pub credits_more : (xs : List Entry) (i : ℕ) (e : Entry) → i < length xs →
     → credits (past_to xs (i + 1)) ≡ credits (past_to xs i) + credited (asked_of e.op) e.reply
 credits_more xs i e within is = ap credits (past_more xs i e within is)
 
-pub funds_within : LegalPastsAreSound → (opening : ℕ) (xs : List Entry) (i : ℕ) → opening ≤ 1000000000000000 → IsLegalPast opening (reverse (map event_of xs))
+pub funds_within : LegalPastsAreSound → (opening : ℕ) (until : Option ℕ) (xs : List Entry) (i : ℕ) → opening ≤ 1000000000000000 → IsLegalPast opening until (reverse (map event_of xs))
     → opening + credits (past_to xs i) ≤ 1000000000000000
-funds_within sounds opening xs i small legal = (sounds opening (past_to xs i) small (legal_to opening xs i legal)).capped
+funds_within sounds opening until xs i small legal = (sounds opening until (past_to xs i) small (legal_to opening until xs i legal)).capped
 
 -- ---- the whole sums
 
@@ -130,7 +130,7 @@ pub taken_whole : LegalPastsAreSound → (xs : List Entry) → HasOpening (map e
     → sum_by (λ call. taken_of (known call (reverse (map event_of xs)))) (calls (reverse (map event_of xs))) ≤ 1000000000000000
 unfolding taken_by_all
 taken_whole sounds xs has =
-    let sound = sounds has.opening (reverse (map event_of xs)) has.small has.legal in
+    let sound = sounds has.opening has.until (reverse (map event_of xs)) has.small has.legal in
     omega (arith, sound.covered, sound.capped)
 
 pub owed_whole : (xs : List Entry) → owed (reverse (map event_of xs)) ≤ 4294967295

@@ -51,9 +51,15 @@ impl Model for Account {
 
     ghost Value = { Ledger };
 
-    ghost view = { λ a. record { opening = a.opening; until = a.until; limit = a.limit; history = map event_of a.entries.items } };
+    ghost view = { λ a. record {
+      opening = a.opening;
+      until = a.until;
+      limit = a.limit;
+      history = map event_of a.entries.items;
+    } };
 
-    ghost invariant = { λ a. IsKept a.opening a.until a.limit (reverse (map event_of a.entries.items)) a.calls a.funds a.available a.last_moment a.owed (vec_capacity a.entries) };
+    ghost invariant = { λ a. IsKept a.opening a.until a.limit (reverse (map event_of a.entries.items))
+        a.calls a.funds a.available a.last_moment a.owed (vec_capacity a.entries) };
 }
 
 impl Account {

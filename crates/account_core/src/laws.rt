@@ -1,7 +1,8 @@
 //! Laws of legal histories, each the contract of a function that does nothing: what the sequential
 //! account comes to, in words that know nothing of how it answers.
 
-ghost use Rattle.account_core.specs.Laws.{AnswersAreKindly, ClosedCallsPayTheTariff, NoBalanceIsNegative, NothingIsGrantedLate, SettlesKeepTheCredit, TimesAreReported};
+ghost use Rattle.account_core.specs.Laws.{AnswersAreKindly, ClosedCallsPayTheTariff, NoBalanceIsNegative};
+ghost use Rattle.account_core.specs.Laws.{NothingIsGrantedLate, SettlesKeepTheCredit, TimesAreReported};
 ghost use Rattle.account_core.specs.Sound.{LegalPastsAreSound, SoundPastsAnswer};
 ghost use Rattle.account_core.specs.TariffLaws.{TariffLaws};
 

@@ -38,7 +38,12 @@ impl Model for ListAccount {
 
     ghost Value = { Ledger };
 
-    ghost view = { λ a. record { opening = a.opening; until = a.until; limit = a.limit; history = map event_of a.entries.items } };
+    ghost view = { λ a. record {
+      opening = a.opening;
+      until = a.until;
+      limit = a.limit;
+      history = map event_of a.entries.items;
+    } };
 
     ghost invariant = { λ a. IsListed a.opening a.until a.limit (reverse (map event_of a.entries.items)) };
 }

@@ -127,13 +127,16 @@ fn after_legal(
     last_moment: Option<u64>,
 ) -> Option<Standing>
     requires { (opening : ℕ) × (until : Option ℕ) × (h : List Event) ×
-        IsToldOf opening until h (event_of entry) (known_of standing.now) funds available last_moment }
+        IsToldOf opening until h (event_of entry) (known_of standing.now)
+        funds available last_moment }
     ensures legal { IfSome result (λ after. (opening : ℕ) (until : Option ℕ) (h : List Event) →
-        IsToldOf opening until h (event_of entry) (known_of standing.now) funds available last_moment →
+        IsToldOf opening until h (event_of entry) (known_of standing.now)
+        funds available last_moment →
         IsAnswered opening until h (event_of entry)
         × (known_of after ≡ known (call_of (asked_of entry.op)) (event_of entry ∷ h))) }
     ensures illegal { IfNone result ((opening : ℕ) (until : Option ℕ) (h : List Event) →
-        IsToldOf opening until h (event_of entry) (known_of standing.now) funds available last_moment →
+        IsToldOf opening until h (event_of entry) (known_of standing.now)
+        funds available last_moment →
         IsAnswered opening until h (event_of entry) → ⊥) }
 {
     legal_pasts_are_sound();

@@ -11,7 +11,7 @@ overflow_add-funds c =
       c.loop-entry.invariant,
       c.credited-funds.ensures,
       credits_more xs i c.entry-item.result c.loop-entry-test.true c.entry-item.is,
-      funds_within c.legal_pasts_are_sound.ensures.sound c.args.opening xs (i + 1) c.requires.small c.requires.legal,
+      funds_within c.legal_pasts_are_sound.ensures.sound c.args.opening c.requires.legal.0 xs (i + 1) c.requires.small c.requires.legal.1,
     )
 
 pub loop-entry-preserved : goal.loop-entry-preserved

@@ -10,12 +10,12 @@ pub after-standing-requires : goal.after-standing-requires
 after-standing-requires c =
     let xs = c.args.history.now in
     let i = c.loop-entry.entry-index in
-    let legal = legal_to c.requires.opening xs i c.requires.legal in
-    let answered = answered_at c.requires.opening xs i c.entry-item.result c.loop-entry-test.true c.entry-item.is c.requires.legal in
+    let legal = legal_to c.requires.opening c.requires.until xs i c.requires.legal in
+    let answered = answered_at c.requires.opening c.requires.until xs i c.entry-item.result c.loop-entry-test.true c.entry-item.is c.requires.legal in
     record {
-      sound = sound_walk c.legal_pasts_are_sound.ensures.sound c.requires.opening (past_to xs i) c.requires.small legal
+      sound = sound_walk c.legal_pasts_are_sound.ensures.sound c.requires.opening c.requires.until (past_to xs i) c.requires.small legal
           (known_of c.loop-entry.standing) c.args.call c.loop-entry.invariant;
-      room = room_walk c.legal_pasts_are_sound.ensures.sound c.legal_pasts_are_sound.ensures.fitting c.requires.opening (past_to xs i) c.requires.small legal
+      room = room_walk c.legal_pasts_are_sound.ensures.sound c.legal_pasts_are_sound.ensures.fitting c.requires.opening c.requires.until (past_to xs i) c.requires.small legal
           (event_of c.entry-item.result) answered (known_of c.loop-entry.standing) c.args.call c.loop-entry.invariant (sym c.call.ensures ∙ c.if-call.true);
     }
 

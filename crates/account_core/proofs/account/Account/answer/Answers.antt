@@ -25,5 +25,6 @@ returns c =
     let kept = kept_of c.self.inside c.args.self.now c.self.view_is c.self.invariant in
     let past = reverse c.args.self.now.history in
     let known_is = c.standing-standing.ensures ∙ ap (λ call. known call past) c.call.ensures in
-    reply_is_answer c.args.self.now.opening past c.history_is_sound.ensures.sound c.history_is_sound.ensures.fitting (asked_of c.args.op)
-    (known_of c.standing-standing.result) known_is c.self.inside.available c.self.inside.funds kept.credit_is kept.funds_are c.requires c.reply.result c.reply.ensures
+    reply_is_answer c.args.self.now.opening c.args.self.now.until past c.history_is_sound.ensures.sound c.history_is_sound.ensures.fitting (asked_of c.args.op)
+    (known_of c.standing-standing.result) known_is c.self.inside.available c.self.inside.funds c.self.inside.last_moment kept.credit_is kept.funds_are
+    kept.last_is c.requires c.reply.result c.reply.ensures
