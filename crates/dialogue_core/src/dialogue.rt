@@ -58,12 +58,7 @@ impl Dialogue {
 
     /// Takes a message of the gsmSSF, the `number`-th of its mails, at a moment: where more time is
     /// asked for after a report, it is asked for at the report's moment.
-    pub fn take(
-        &mut self,
-        number: u64,
-        at: u64,
-        message: SsfMsg,
-    ) -> Result<Turn, DialogueFault>
+    pub fn take(&mut self, number: u64, at: u64, message: SsfMsg) -> Result<Turn, DialogueFault>
         ensures ok { IfOk result (λ turn.
             told (phase_of self.old) number at message ≡ Ok (says_of turn, phase_of self.new)) }
         ensures fault { IfErr result (λ fault.
@@ -102,12 +97,7 @@ impl Dialogue {
 }
 
 /// The table's rows for a message.
-fn told(
-    state: State,
-    number: u64,
-    at: u64,
-    message: SsfMsg,
-) -> Result<(Turn, State), DialogueFault>
+fn told(state: State, number: u64, at: u64, message: SsfMsg) -> Result<(Turn, State), DialogueFault>
     ensures { Follows result (told (phase_at state) number at message) }
 {
     match state {

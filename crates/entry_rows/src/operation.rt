@@ -48,11 +48,7 @@ fn read_credit(row: &ByteRecord, at: usize, version: Version) -> Result<Op, RowK
 
 /// The last moment of an opening or of a credit whose columns begin at `at`, 0 to `HORIZON`: in x2
 /// of version 3, where it may be left out, and none before; else `Number`.
-pub fn read_until(
-    row: &ByteRecord,
-    at: usize,
-    version: Version,
-) -> Result<Option<u64>, RowKind>
+pub fn read_until(row: &ByteRecord, at: usize, version: Version) -> Result<Option<u64>, RowKind>
     requires table { at ≤ 16 }
     requires fields { at + 3 < length (fields_of row.now) }
     ensures value { result ≡ until_of version (field_in (fields_of row.now) (at + 3)) }
@@ -200,15 +196,11 @@ pub fn is_op_blank(row: &ByteRecord, at: usize, version: Version, word: OpWord) 
         OpWord::Credit => is_money_blank(row, at, version),
         OpWord::Reserve => true,
         OpWord::SettleNoSwitch => {
-            is_blank(row, at + X4)
-                && is_blank(row, at + X5)
-                && are_added_blank(row, at, version)
+            is_blank(row, at + X4) && is_blank(row, at + X5) && are_added_blank(row, at, version)
         }
         OpWord::SettleSwitch => is_blank(row, at + X5) && are_added_blank(row, at, version),
         OpWord::Return => {
-            is_blank(row, at + X1)
-                && is_blank(row, at + X2)
-                && are_last_blank(row, at, version)
+            is_blank(row, at + X1) && is_blank(row, at + X2) && are_last_blank(row, at, version)
         }
     }
 }
@@ -220,9 +212,7 @@ pub fn is_money_blank(row: &ByteRecord, at: usize, version: Version) -> bool
     requires fields { HasOperation version (fields_of row.now) at }
     ensures { result ≡ is_money_blank (operation_at version (fields_of row.now) at) }
 {
-    is_blank(row, at + CALL)
-        && has_no_until(row, at, version)
-        && are_last_blank(row, at, version)
+    is_blank(row, at + CALL) && has_no_until(row, at, version) && are_last_blank(row, at, version)
 }
 
 /// Whether x2 is empty, but in version 3.
