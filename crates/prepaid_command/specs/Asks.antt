@@ -35,12 +35,12 @@ asking_in seat_text columns =
 abbrev pub ask_in : Version → List (List ℕ) → Result Asking RowKind
 ask_in version fields = asking_in (field_in fields 0) (operation_at version fields 1)
 
--- `seat,op,call,x1,x2,x3,x4,x5`, and the same with `x6`
-abbrev pub older_header : List (List ℕ)
-older_header = codes "seat" ∷ codes "op" ∷ codes "call" ∷ codes "x1" ∷ codes "x2" ∷ codes "x3" ∷ codes "x4" ∷ codes "x5" ∷ []
+-- `seat,op,call,x1,x2,x3,x4,x5`, the same with `x6`, and with `x7` too
+abbrev pub first_header : List (List ℕ)
+first_header = codes "seat" ∷ codes "op" ∷ codes "call" ∷ codes "x1" ∷ codes "x2" ∷ codes "x3" ∷ codes "x4" ∷ codes "x5" ∷ []
 
 abbrev pub asks_headers : List (List (List ℕ))
-asks_headers = older_header ∷ (older_header ++ codes "x6" ∷ []) ∷ []
+asks_headers = first_header ∷ (first_header ++ codes "x6" ∷ []) ∷ (first_header ++ codes "x6" ∷ codes "x7" ∷ []) ∷ []
 
 -- 10,000 rows at most; each row asks something
 abbrev pub asks_form : TableForm (List Asking) RowKind RowFault

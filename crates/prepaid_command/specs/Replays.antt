@@ -20,22 +20,22 @@ abbrev pub history_by : Option AccountFault → Event → List Event → List Ev
 history_by (Some why) event h = h
 history_by None event h = event ∷ h
 
-abbrev pub line_of_ask : ℕ → ℕ → List Event → Asking → List ℕ
-line_of_ask opening limit h ask = line_by (refusal limit h ask.asked) (answer opening h ask.asked)
+abbrev pub line_of_ask : ℕ → Option ℕ → ℕ → List Event → Asking → List ℕ
+line_of_ask opening until limit h ask = line_by (refusal limit h ask.asked) (answer opening until h ask.asked)
 
-abbrev pub history_after : ℕ → ℕ → List Event → Asking → List Event
-history_after opening limit h ask =
-    history_by (refusal limit h ask.asked) (record { seat = ask.seat; asked = ask.asked; reply = answer opening h ask.asked }) h
+abbrev pub history_after : ℕ → Option ℕ → ℕ → List Event → Asking → List Event
+history_after opening until limit h ask =
+    history_by (refusal limit h ask.asked) (record { seat = ask.seat; asked = ask.asked; reply = answer opening until h ask.asked }) h
 
 -- the lines of what is asked, from a history on
-unfoldable pub replay_lines : ℕ → ℕ → List Event → List Asking → List ℕ
-replay_lines opening limit h [] = []
-replay_lines opening limit h (ask ∷ asks) = line_of_ask opening limit h ask ++ replay_lines opening limit (history_after opening limit h ask) asks
+unfoldable pub replay_lines : ℕ → Option ℕ → ℕ → List Event → List Asking → List ℕ
+replay_lines opening until limit h [] = []
+replay_lines opening until limit h (ask ∷ asks) = line_of_ask opening until limit h ask ++ replay_lines opening until limit (history_after opening until limit h ask) asks
 
 -- the same, where there are no faults before the lines
-abbrev pub lines_of : ℕ → ℕ → List Event → Result (List Asking) RowFault → Result (List ℕ) RowFault
-lines_of opening limit h asks = after asks (λ asked. Ok (replay_lines opening limit h asked))
+abbrev pub lines_of : ℕ → Option ℕ → ℕ → List Event → Result (List Asking) RowFault → Result (List ℕ) RowFault
+lines_of opening until limit h asks = after asks (λ asked. Ok (replay_lines opening until limit h asked))
 
--- the lines of a table
+-- the lines of a table, to an account without a last moment
 abbrev pub replayed : ℕ → ℕ → List (List (List ℕ)) → Result (List ℕ) RowFault
-replayed opening limit rows = lines_of opening limit [] (asks_of rows)
+replayed opening limit rows = lines_of opening None limit [] (asks_of rows)

@@ -18,7 +18,7 @@ use table_core::{Table, TableFault};
 use tariff_core::MAX_MONEY;
 
 /// One line a row: the account's reply, or the fault that refused the operation. The account opens
-/// with this credit, and its history may have as many entries as `limit`.
+/// with this credit and no last moment, and its history may have as many entries as `limit`.
 pub fn replay<I: Read + Drop>(
     alloc: Global,
     opening: u64,
@@ -32,9 +32,10 @@ pub fn replay<I: Read + Drop>(
     let headers: &[&[&str]] = &[
         &["seat", "op", "call", "x1", "x2", "x3", "x4", "x5"],
         &["seat", "op", "call", "x1", "x2", "x3", "x4", "x5", "x6"],
+        &["seat", "op", "call", "x1", "x2", "x3", "x4", "x5", "x6", "x7"],
     ];
     let mut table = Table::open(alloc, reader, headers, MAX_ROWS)?;
-    let mut account = Account::new(alloc, opening, limit);
+    let mut account = Account::new(alloc, opening, None, limit);
     let mut text = String::new(alloc);
     while table.next_row()? {
         let ask = match read_ask(table.row(), Version::at(table.header())) {

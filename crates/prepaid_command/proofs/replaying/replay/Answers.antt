@@ -1,4 +1,4 @@
-use Rattle.std.proofs.Common.{[], ◌∷◌, ◌++◌, ap, refl, string_bytes, sym}
+use Rattle.std.proofs.Common.{[], ◌∷◌, ◌++◌, None, ap, refl, string_bytes, sym}
 use Rattle.account_core.specs.Events.{asked_of}
 use Rattle.table_core.specs.Rows.{rows_of}
 use Rattle.table_core.proofs.Known.{map_known}
@@ -13,14 +13,14 @@ pub returns-in_err-table : goal.returns-in_err-table
 returns-in_err-table g c =
     told (g.I.Read.remaining c.args.reader) _ c.from_residual.result c.in_err-table.field-0.0 _ (λ text. replayed c.args.opening c.args.limit (rows_of text)) c.from_residual.ensures.1
     (not_opened asks_form g.I.Read.remaining _ c.in_err-table.field-0.0 c.in_err-table.ensures.opens)
-    (λ text. refuses asks_form (λ row why. refl) (lines_of c.args.opening c.args.limit []) (λ why. refl) c.in_err-table.field-0.0 (asks_of (rows_of text)))
+    (λ text. refuses asks_form (λ row why. refl) (lines_of c.args.opening None c.args.limit []) (λ why. refl) c.in_err-table.field-0.0 (asks_of (rows_of text)))
 
 pub loop-text-init : goal.loop-text-init
 loop-text-init g c = (
   [],
   opened asks_form g.I.Read.remaining _ c.in_ok-table.table c.in_ok-table.ensures.first c.in_ok-table.ensures.opens,
   rw c.new-text.ensures.bytes
-      (none_replayed c.args.opening c.args.limit c.new-account.result (rw c.new-account.ensures refl) (rw c.new-account.ensures refl) (rw c.new-account.ensures refl)),
+      (none_replayed c.args.opening None c.args.limit c.new-account.result (rw c.new-account.ensures refl) (rw c.new-account.ensures refl) (rw c.new-account.ensures refl) (rw c.new-account.ensures refl)),
 )
 
 pub returns-in_err-next_row : goal.returns-in_err-next_row
@@ -28,7 +28,7 @@ returns-in_err-next_row g c =
     let (asks, read, replay) = c.loop-text.invariant in
     told (g.I.Read.remaining c.args.reader) _ c.from_residual-in_err-next_row.result c.in_err-next_row.field-0.0 _ (λ text. replayed c.args.opening c.args.limit (rows_of text)) c.from_residual-in_err-next_row.ensures.1
     (stopped asks_form g.I.Read.remaining _ c.loop-text.table c.next_row.new.self asks read c.in_err-next_row.field-0.0 c.in_err-next_row.ensures.steps)
-    (λ text. refuses asks_form (λ row why. refl) (lines_of c.args.opening c.args.limit []) (λ why. refl) c.in_err-next_row.field-0.0 (asks_of (rows_of text)))
+    (λ text. refuses asks_form (λ row why. refl) (lines_of c.args.opening None c.args.limit []) (λ why. refl) c.in_err-next_row.field-0.0 (asks_of (rows_of text)))
 
 pub read_ask-requires : goal.read_ask-requires
 read_ask-requires g c =
@@ -46,7 +46,7 @@ returns-in-Err g c =
     rw c.fault.ensures (map_known (g.I.Read.remaining c.args.reader) _ _
     (refused asks_form g.I.Read.remaining _ c.loop-text.table c.next_row.new.self asks read c.in-Err.kind
     next (rw c.if-branch.true at c.in_ok-next_row.ensures.steps) (rw why refl))
-    (λ text is. ap (lines_of c.args.opening c.args.limit []) is))
+    (λ text is. ap (lines_of c.args.opening None c.args.limit []) is))
 
 pub loop-text-preserved : goal.loop-text-preserved
 loop-text-preserved g c =
@@ -58,7 +58,7 @@ loop-text-preserved g c =
       taken asks_form g.I.Read.remaining _ c.loop-text.table c.next_row.new.self asks read (asks ++ asking_of ask ∷ [])
           next (rw c.if-branch.true at c.in_ok-next_row.ensures.steps) (rw asked refl),
       rw c.in_ok-write_answer.ensures.line
-          (one_replayed c.args.opening c.args.limit (string_bytes c.loop-text.text) c.loop-text.account c.apply.new.self asks (asking_of ask) c.apply.result replay
+          (one_replayed c.args.opening None c.args.limit (string_bytes c.loop-text.text) c.loop-text.account c.apply.new.self asks (asking_of ask) c.apply.result replay
           (step c.loop-text.account c.apply.new.self ask.seat (asked_of ask.op) c.apply.result
           c.apply.ensures.answered c.apply.ensures.entered c.apply.ensures.admitted c.apply.ensures.kept c.apply.ensures.refused c.in_ok-write_answer.ensures.told)),
     )

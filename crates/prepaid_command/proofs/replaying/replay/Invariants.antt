@@ -1,4 +1,4 @@
-use Rattle.std.proofs.Common.{List, string_bytes}
+use Rattle.std.proofs.Common.{List, None, string_bytes}
 use Rattle.table_core.specs.Reading.{room_of}
 use Rattle.table_core.proofs.TableLemmas.{IsRead}
 use Rattle.prepaid_command.specs.Asks.{Asking, asks_form}
@@ -9,7 +9,7 @@ use Rattle.prepaid_command.proofs.replaying.replay.Given as goal
 abbrev pub invariant-loop-text : goal.invariant-loop-text
 invariant-loop-text g l =
     (asks : List Asking) × IsRead asks_form g.I.Read.remaining (g.I.Read.remaining l.fn.reader) l.table asks
-    × IsReplayed l.fn.opening l.fn.limit (string_bytes l.text) l.account asks
+    × IsReplayed l.fn.opening None l.fn.limit (string_bytes l.text) l.account asks
 
 -- a row past the last one that a table may have is refused
 abbrev pub decreases-loop-text : goal.decreases-loop-text
