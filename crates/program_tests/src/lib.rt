@@ -9,6 +9,7 @@ mod broken;
 #[cfg(test)]
 mod devices;
 #[cfg(test)]
+mod last_moments;
 mod lengths;
 #[cfg(test)]
 mod looking;

@@ -13,7 +13,16 @@ const ACCOUNT: &str = "account,7,1500\nsubscriber,491700001,7\n";
 const CALL: &str = "0,1,start,491700001,4930\n100,1,answer,,\n400,1,disconnect,1,\n";
 
 /// The book of that call.
-const BOOK: &str = "\
+pub(crate) const BOOK: &str = "\
+account,seat,op,call,x1,x2,x3,x4,x5,x6,x7,reply,y1,y2,y3
+7,,opening,,1500,,,,,,,,,,
+7,1,reserve,1,50,1000,,600,50,0,0,granted,600,more,450
+7,1,settle,1,2,n,300,,,,,settled,550,,450
+7,1,return,1,,,,,,,,returned,550,,950
+";
+
+/// The same book, as it was printed before reserves had moments.
+const SECOND_BOOK: &str = "\
 account,seat,op,call,x1,x2,x3,x4,x5,x6,reply,y1,y2,y3
 7,,opening,,1500,,,,,,,,,
 7,1,reserve,1,50,1000,,600,50,0,granted,600,more,450
@@ -22,7 +31,7 @@ account,seat,op,call,x1,x2,x3,x4,x5,x6,reply,y1,y2,y3
 ";
 
 /// The same book, as it was printed before plans had free units.
-const OLDER_BOOK: &str = "\
+const FIRST_BOOK: &str = "\
 account,seat,op,call,x1,x2,x3,x4,x5,reply,y1,y2,y3
 7,,opening,,1500,,,,,,,,
 7,1,reserve,1,50,1000,,600,50,granted,600,more,450
@@ -37,11 +46,11 @@ call 1 account 7 paid 50 returned
 ";
 
 const FREE_BOOK: &str = "\
-account,seat,op,call,x1,x2,x3,x4,x5,x6,reply,y1,y2,y3
-7,,opening,,1500,,,,,,,,,
-7,1,reserve,1,50,1000,,600,50,300,granted,600,more,950
-7,1,settle,1,2,n,300,,,,settled,50,,950
-7,1,return,1,,,,,,,returned,50,,1450
+account,seat,op,call,x1,x2,x3,x4,x5,x6,x7,reply,y1,y2,y3
+7,,opening,,1500,,,,,,,,,,
+7,1,reserve,1,50,1000,,600,50,300,0,granted,600,more,950
+7,1,settle,1,2,n,300,,,,,settled,50,,950
+7,1,return,1,,,,,,,,returned,50,,1450
 ";
 
 /// That book under the older header, where nothing is free.
@@ -120,7 +129,7 @@ const PLAYED: [(&str, &str, &str, &str, &str); 7] = [
         "",
         "",
         "",
-        "account,seat,op,call,x1,x2,x3,x4,x5,x6,reply,y1,y2,y3\n",
+        "account,seat,op,call,x1,x2,x3,x4,x5,x6,x7,reply,y1,y2,y3\n",
     ),
 ];
 
@@ -210,23 +219,15 @@ pub(crate) fn input_of(
     setup: &str,
     script: &str,
 ) -> Result<String, AllocError> {
-    input_under(alloc, "prefix,from,fee,rate", tariff, setup, script)
+    format!(in alloc;
+        "prefix,from,fee,rate\n{tariff}%%\nkind,key,value\n{setup}%%\nmoment,call,what,x,y\n{script}"
+    )
 }
 
 /// An input whose tariff has free units.
 fn free_input_of(alloc: Global, tariff: &str) -> Result<String, AllocError> {
-    input_under(alloc, "prefix,from,fee,rate,free", tariff, ACCOUNT, CALL)
-}
-
-fn input_under(
-    alloc: Global,
-    header: &str,
-    tariff: &str,
-    setup: &str,
-    script: &str,
-) -> Result<String, AllocError> {
     format!(in alloc;
-        "{header}\n{tariff}%%\nkind,key,value\n{setup}%%\nmoment,call,what,x,y\n{script}"
+        "prefix,from,fee,rate,free\n{tariff}%%\nkind,key,value\n{ACCOUNT}%%\nmoment,call,what,x,y\n{CALL}"
     )
 }
 
@@ -263,8 +264,8 @@ fn plays_free_units(rt: HostRuntime) -> Result<(), Fail> {
 }
 
 #[test]
-fn audits_books_with_and_without_x6(rt: HostRuntime) -> Result<(), Fail> {
-    for book in [OLDER_BOOK, BOOK, FREE_BOOK] {
+fn audits_books_of_each_version(rt: HostRuntime) -> Result<(), Fail> {
+    for book in [FIRST_BOOK, SECOND_BOOK, BOOK, FREE_BOOK] {
         expect(&rt, "audit", book, (0, "account 7 yes\n", ""))?;
     }
     let paid = (3, "account 7 no\n", "");

@@ -1,0 +1,178 @@
+//! Credit with a last moment: in setups, scripts, operations and books.
+
+use crate::program::{expect, expect_fault};
+use std::alloc::{AllocError, Global};
+use std::test::Fail;
+
+/// A call that is answered at 100 and never ended; its second reserve comes at 700.
+const CALL: &str = "0,1,start,491700001,4930,\n100,1,answer,,,\n";
+
+/// The last moment of account 7, more rows of the script, and what is written.
+const PLAYED: [(&str, &str, &str); 5] = [
+    (
+        "",
+        "",
+        "account 7 opening 1500 available 0 entries 5\ncall 1 account 7 paid 1500 returned\n",
+    ),
+    (
+        "700",
+        "",
+        "account 7 opening 1500 available 0 entries 5\ncall 1 account 7 paid 1500 returned\n",
+    ),
+    (
+        "699",
+        "",
+        "account 7 opening 1500 available 450 entries 4\ncall 1 account 7 paid 1050 returned\n",
+    ),
+    (
+        "699",
+        "650,,recharge,7,1,2000\n",
+        "account 7 opening 1500 available 1 entries 6\ncall 1 account 7 paid 1500 returned\n",
+    ),
+    (
+        "699",
+        "650,,recharge,7,1,\n",
+        "account 7 opening 1500 available 451 entries 5\ncall 1 account 7 paid 1050 returned\n",
+    ),
+];
+
+/// The book of the call whose account has the last moment 699.
+const BOOK: &str = "\
+account,seat,op,call,x1,x2,x3,x4,x5,x6,x7,reply,y1,y2,y3
+7,,opening,,1500,699,,,,,,,,,
+7,1,reserve,1,50,1000,,600,50,0,0,granted,600,more,450
+7,1,settle,1,2,n,600,,,,,settled,1050,,450
+7,1,reserve,1,50,1000,,600,50,0,700,denied,,,450
+7,1,return,1,,,,,,,,returned,1050,,450
+";
+
+/// Rows of the setup and of the script, and the first fault.
+const REFUSED: [(&str, &str, &str); 10] = [
+    ("account,7,1500\n", "", "setup row 2: Csv"),
+    ("account,7,1500,x\n", "", "setup row 2: Number"),
+    ("account,7,1500,1000000000001\n", "", "setup row 2: Number"),
+    (
+        "account,7,1500,9\nsubscriber,491700001,8,9\n",
+        "",
+        "setup row 3: Empty",
+    ),
+    ("account,7,1500,\n", "0,,recharge,7,1\n", "script row 2: Csv"),
+    (
+        "account,7,1500,\n",
+        "0,,recharge,7,1,1000000000001\n",
+        "script row 2: Number",
+    ),
+    (
+        "account,7,1500,\n",
+        "0,1,recharge,7,1,x\n",
+        "script row 2: Number",
+    ),
+    (
+        "account,7,1500,\n",
+        "0,1,start,491700001,4930,1\n",
+        "script row 2: Empty",
+    ),
+    (
+        "account,7,1500,\n",
+        "0,1,answer,,,1\n",
+        "script row 2: Empty",
+    ),
+    (
+        "account,7,1500,\n",
+        "0,1,disconnect,1,,1\n",
+        "script row 2: Empty",
+    ),
+];
+
+/// Words, operations with moments, and what they are answered.
+const ANSWERED: [(&str, &str, &str); 2] = [
+    (
+        "replay --opening 1499",
+        "0,credit,,1,1000,,,,,\n0,reserve,1,50,1000,400,600,50,0,1000\n\
+         0,reserve,2,50,1000,400,600,50,0,1001\n0,settle,1,0,n,300,,,,\n\
+         0,credit,,1,2000,,,,,\n0,reserve,2,50,1000,400,600,50,0,1001\n0,return,1,,,,,,,\n",
+        "credited available 1500\ngranted 600 more available 450\ndenied available 450\n\
+         settled paid 550 available 450\ncredited available 451\n\
+         granted 240 last available 1\nreturned paid 550 available 501\n",
+    ),
+    (
+        "replay --opening 1000000000000000",
+        "0,credit,,1,5,,,,,\n0,reserve,1,50,1000,400,600,50,0,6\n",
+        "over available 1000000000000000\ngranted 600 more available 999999999998950\n",
+    ),
+];
+
+/// Operations that are refused, and the fault.
+const REFUSED_OPERATIONS: [(&str, &str); 7] = [
+    ("0,reserve,1,50,1000,400,600,50,0,\n", "ops row 2: Number"),
+    (
+        "0,reserve,1,50,1000,400,600,50,0,2000000000001\n",
+        "ops row 2: Number",
+    ),
+    ("0,credit,,1,2000000000001,,,,,\n", "ops row 2: Number"),
+    ("0,credit,,1,,,,,,0\n", "ops row 2: Empty"),
+    ("0,return,1,,5,,,,,\n", "ops row 2: Empty"),
+    ("0,settle,1,0,n,1,,,,0\n", "ops row 2: Empty"),
+    ("0,settle,1,0,s,1,1,,,0\n", "ops row 2: Empty"),
+];
+
+/// Rows of a book that are refused, and the fault.
+const REFUSED_BOOKS: [(&str, &str); 5] = [
+    ("7,,opening,,1500,,,,,,,,,\n", "book row 2: Csv"),
+    ("7,,opening,,1500,x,,,,,,,,,\n", "book row 2: Number"),
+    (
+        "7,,opening,,1500,2000000000001,,,,,,,,,\n",
+        "book row 2: Number",
+    ),
+    ("7,,opening,,1500,,,,,,0,,,,\n", "book row 2: Empty"),
+    (
+        "7,1,reserve,1,50,1000,,600,50,0,,granted,600,more,450\n",
+        "book row 2: Number",
+    ),
+];
+
+/// An input whose accounts and recharges may have last moments.
+fn input_of(alloc: Global, setup: &str, script: &str) -> Result<String, AllocError> {
+    let band = "prefix,from,fee,rate\n49,00:00,50,1000\n";
+    format!(in alloc;
+        "{band}%%\nkind,key,value,until\n{setup}%%\nmoment,call,what,x,y,z\n{script}"
+    )
+}
+
+#[test]
+fn plays_last_moments(rt: HostRuntime) -> Result<(), Fail> {
+    for (until, rows, output) in PLAYED {
+        let setup = format!(in rt.alloc(); "account,7,1500,{until}\nsubscriber,491700001,7,\n")?;
+        let script = format!(in rt.alloc(); "{CALL}{rows}")?;
+        let input = input_of(rt.alloc(), setup.as_str(), script.as_str())?;
+        expect(&rt, "run", input.as_str(), (0, output, ""))?;
+    }
+    let setup = "account,7,1500,699\nsubscriber,491700001,7,\n";
+    let input = input_of(rt.alloc(), setup, CALL)?;
+    expect(&rt, "run --book", input.as_str(), (0, BOOK, ""))?;
+    for (setup, script, fault) in REFUSED {
+        let input = input_of(rt.alloc(), setup, script)?;
+        expect_fault(&rt, "run --workers 0", input.as_str(), fault)?;
+    }
+    Ok(())
+}
+
+#[test]
+fn judges_moments(rt: HostRuntime) -> Result<(), Fail> {
+    let header = "seat,op,call,x1,x2,x3,x4,x5,x6,x7";
+    for (words, rows, output) in ANSWERED {
+        let table = format!(in rt.alloc(); "{header}\n{rows}")?;
+        expect(&rt, words, table.as_str(), (0, output, ""))?;
+    }
+    for (rows, fault) in REFUSED_OPERATIONS {
+        let table = format!(in rt.alloc(); "{header}\n{rows}")?;
+        expect_fault(&rt, "replay --opening 9", table.as_str(), fault)?;
+    }
+    expect(&rt, "audit", BOOK, (0, "account 7 yes\n", ""))?;
+    let columns = "account,seat,op,call,x1,x2,x3,x4,x5,x6,x7,reply,y1,y2,y3";
+    for (rows, fault) in REFUSED_BOOKS {
+        let book = format!(in rt.alloc(); "{columns}\n{rows}")?;
+        expect_fault(&rt, "audit", book.as_str(), fault)?;
+    }
+    Ok(())
+}
