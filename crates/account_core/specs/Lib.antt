@@ -5,6 +5,7 @@ pub mod Checked
 pub mod Events
 pub mod Faults
 pub mod Kept
+pub mod KeptPlans
 pub mod Known
 pub mod Laws
 pub mod Ledger
