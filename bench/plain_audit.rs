@@ -1,10 +1,13 @@
 //! `audit` without proofs, as a baseline: fields are split at commas, and an entry is judged as it
-//! is read.
+//! is read. It reads both versions of books: with a column x6, and without it.
 use std::collections::{BTreeMap, HashMap};
 use std::io::{Read, Write};
 
 const DAY: u64 = 864_000;
 const MAX_MONEY: u64 = 1_000_000_000_000_000;
+
+/// Where the free units of a reserve stand. The reply stands behind them.
+const X6: usize = 9;
 
 #[derive(Clone, Copy, Default)]
 struct Times {
@@ -18,6 +21,7 @@ struct Call {
     fee: u64,
     first: u64,
     second: Option<u64>,
+    free: u64,
     times: Times,
     granted: u64,
     top: u64,
@@ -30,7 +34,9 @@ impl Call {
         if before + after == 0 {
             return 0;
         }
-        self.fee + (before * self.first + after * self.second.unwrap_or(0)).div_ceil(600)
+        let first = before.saturating_sub(self.free) * self.first;
+        let second = after.saturating_sub(self.free.saturating_sub(before)) * self.second.unwrap_or(0);
+        self.fee + (first + second).div_ceil(600)
     }
 
     fn is_lawful(&self, new: Times, granted: u64) -> bool {
@@ -108,6 +114,7 @@ impl Account {
                     fee: number(4),
                     first: number(5),
                     second,
+                    free: if row[X6].is_empty() { 0 } else { number(X6) },
                     times: Times::default(),
                     granted: 0,
                     top: 0,
@@ -161,8 +168,8 @@ impl Account {
         }
         let said = self.answer(row);
         let number = |text: &str| text.parse::<u64>().ok();
-        let told = said.is_some_and(|(word, paid, last)| row[9] == word && number(row[10]) == paid && row[11] == last);
-        self.legal = told && number(row[12]) == Some(self.available);
+        let told = said.is_some_and(|(word, paid, last)| row[10] == word && number(row[11]) == paid && row[12] == last);
+        self.legal = told && number(row[13]) == Some(self.available);
     }
 }
 
@@ -170,10 +177,12 @@ fn main() {
     let mut input = String::new();
     std::io::stdin().read_to_string(&mut input).unwrap();
     let mut accounts: BTreeMap<u32, Account> = BTreeMap::new();
-    for line in input.lines().skip(1) {
-        let mut row = [""; 13];
+    let mut lines = input.lines();
+    let has_x6 = lines.next().is_some_and(|header| header.contains(",x6,"));
+    for line in lines {
+        let mut row = [""; 14];
         for (place, field) in line.split(',').enumerate() {
-            row[place] = field;
+            row[if place < X6 || has_x6 { place } else { place + 1 }] = field;
         }
         let number: u32 = row[0].parse().unwrap();
         if row[2] == "opening" {

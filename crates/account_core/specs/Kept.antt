@@ -3,12 +3,12 @@ use Rattle.std.specs.Prelude.{◌≡◌, ◌+◌, ◌≤◌, ℕ, Option, None, 
 use Rattle.std.specs.Option.{option_map}
 use Rattle.std.specs.BTreeMap.{BTreeMap, get}
 use Rattle.std.specs.Ordering.{nat_cmp}
-use Rattle.tariff_core.specs.RatesOf.{rates_of}
 use Rattle.tariff_core.specs.Times.{no_times}
 use Rattle.account_core.specs.Answers.{IsLegalPast}
 use Rattle.account_core.specs.Available.{available, credits}
 use Rattle.account_core.specs.Events.{Event}
 use Rattle.account_core.specs.Expiry.{last_moment}
+use Rattle.account_core.specs.KeptPlans.{rates_kept}
 use Rattle.account_core.specs.Known.{Known, known}
 use Rattle.account_core.specs.Places.{owed}
 use Rattle.account_core.specs.declared.standing.Standing.{Standing}
@@ -17,7 +17,7 @@ use Rattle.tariff_core.specs.declared.money.TheConstants.{MAX_MONEY}
 -- what a standing says of its call
 abbrev pub known_of : Standing → Known
 known_of standing = record {
-  plan = option_map rates_of standing.plan;
+  plan = option_map rates_kept standing.plan;
   times = standing.times;
   granted = standing.granted;
   top = standing.top;

@@ -6,6 +6,7 @@ pub mod Events
 pub mod Expiry
 pub mod Faults
 pub mod Kept
+pub mod KeptPlans
 pub mod Known
 pub mod Laws
 pub mod Ledger

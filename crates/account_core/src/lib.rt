@@ -10,6 +10,7 @@ mod entry;
 mod fault;
 mod history_check;
 mod judging;
+mod kept_plan;
 mod laws;
 mod limits;
 mod list_account;

@@ -10,6 +10,7 @@ ghost use Rattle.account_core.specs.Replies.{reserve_reply, return_reply, settle
 ghost use Rattle.account_core.specs.Sound.{HasRoom, IsSound};
 ghost use Rattle.tariff_core.specs.RatesOf.{rates_of};
 
+use crate::kept_plan::KeptPlan;
 use crate::{Op, Reply};
 use tariff_core::{
     DAY, MAX_MONEY, Plan, TimeInfo, Times, afford, afforded_is_greatest, ceiling,
@@ -20,7 +21,7 @@ use tariff_core::{
 #[derive(Clone, Copy, Debug)]
 pub(crate) struct Standing {
     /// The plan of its first grant.
-    pub plan: Option<Plan>,
+    pub plan: Option<KeptPlan>,
     /// What its last accepted report states.
     pub times: Times,
     /// The time granted in all, cumulative as the reports are.
@@ -84,7 +85,7 @@ impl Standing {
         if self.forfeited {
             return None;
         }
-        let plan = self.plan?;
+        let plan = self.plan?.plan();
         let times = read_times(self.times, info)?;
         if lawful(&plan, self.times, times, self.granted) {
             Some(times)
@@ -216,7 +217,7 @@ impl Standing {
     {
         let plan = self.plan_in_force(plan);
         Standing {
-            plan: Some(plan),
+            plan: Some(KeptPlan::of(plan)),
             granted: self.times.total() + units,
             top: ceiling(&plan, self.times, units),
             awaits: true,
@@ -243,15 +244,18 @@ impl Standing {
     fn plan_in_force(&self, plan: Plan) -> Plan
         ensures { rates_of result ≡ plan_in_force (known_of self.now) (rates_of plan) }
     {
-        self.plan.unwrap_or(plan)
+        match self.plan {
+            Some(kept) => kept.plan(),
+            None => plan,
+        }
     }
 
     /// The price of times under the call's plan.
     fn price_of(&self, times: Times) -> u64
         ensures { result ≡ price_under (known_of self.now).plan times }
     {
-        match &self.plan {
-            Some(plan) => price(plan, times.before(), times.after()),
+        match self.plan {
+            Some(kept) => price(&kept.plan(), times.before(), times.after()),
             None => 0,
         }
     }

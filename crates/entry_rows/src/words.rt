@@ -8,7 +8,7 @@ ghost use Rattle.entry_rows.specs.Words.{granted_word_in, op_word_in, reply_word
 
 use crate::places::{X2, Y2};
 use csv::ByteRecord;
-use table_core::{RowKind, is_word};
+use table_core::{RowKind, field};
 
 /// The word of an operation, with the word of its report for a settle.
 #[derive(Clone, Copy)]
@@ -52,13 +52,14 @@ pub fn read_op_word(row: &ByteRecord, at: usize) -> Result<OpWord, RowKind>
     requires fields { at + 6 < length (fields_of row.now) }
     ensures { result ≡ op_word_in (first_operation_at (fields_of row.now) at) }
 {
-    if is_word(row, at, "credit") {
+    let word = field(row, at);
+    if word == "credit".as_bytes() {
         Ok(OpWord::Credit)
-    } else if is_word(row, at, "reserve") {
+    } else if word == "reserve".as_bytes() {
         Ok(OpWord::Reserve)
-    } else if is_word(row, at, "settle") {
+    } else if word == "settle".as_bytes() {
         read_report_word(row, at + X2)
-    } else if is_word(row, at, "return") {
+    } else if word == "return".as_bytes() {
         Ok(OpWord::Return)
     } else {
         Err(RowKind::What)
@@ -69,9 +70,10 @@ fn read_report_word(row: &ByteRecord, place: usize) -> Result<OpWord, RowKind>
     requires { place < length (fields_of row.now) }
     ensures { result ≡ report_word_in (field_in (fields_of row.now) place) }
 {
-    if is_word(row, place, "n") {
+    let word = field(row, place);
+    if word == "n".as_bytes() {
         Ok(OpWord::SettleNoSwitch)
-    } else if is_word(row, place, "s") {
+    } else if word == "s".as_bytes() {
         Ok(OpWord::SettleSwitch)
     } else {
         Err(RowKind::What)
@@ -84,19 +86,20 @@ pub fn read_reply_word(row: &ByteRecord, at: usize) -> Result<ReplyWord, RowKind
     requires fields { at + 3 < length (fields_of row.now) }
     ensures { result ≡ reply_word_in (answer_at (fields_of row.now) at) }
 {
-    if is_word(row, at, "granted") {
+    let word = field(row, at);
+    if word == "granted".as_bytes() {
         read_granted_word(row, at + Y2)
-    } else if is_word(row, at, "settled") {
+    } else if word == "settled".as_bytes() {
         Ok(ReplyWord::Settled)
-    } else if is_word(row, at, "returned") {
+    } else if word == "returned".as_bytes() {
         Ok(ReplyWord::Returned)
-    } else if is_word(row, at, "credited") {
+    } else if word == "credited".as_bytes() {
         Ok(ReplyWord::Credited)
-    } else if is_word(row, at, "over") {
+    } else if word == "over".as_bytes() {
         Ok(ReplyWord::CreditOver)
-    } else if is_word(row, at, "denied") {
+    } else if word == "denied".as_bytes() {
         Ok(ReplyWord::Denied)
-    } else if is_word(row, at, "forfeit") {
+    } else if word == "forfeit".as_bytes() {
         Ok(ReplyWord::Forfeit)
     } else {
         Err(RowKind::What)
@@ -107,9 +110,10 @@ fn read_granted_word(row: &ByteRecord, place: usize) -> Result<ReplyWord, RowKin
     requires { place < length (fields_of row.now) }
     ensures { result ≡ granted_word_in (field_in (fields_of row.now) place) }
 {
-    if is_word(row, place, "more") {
+    let word = field(row, place);
+    if word == "more".as_bytes() {
         Ok(ReplyWord::GrantedMore)
-    } else if is_word(row, place, "last") {
+    } else if word == "last".as_bytes() {
         Ok(ReplyWord::GrantedLast)
     } else {
         Err(RowKind::What)

@@ -8,6 +8,10 @@ use Rattle.std.specs.Str.Parse.{digits_value}
 abbrev pub is_decimal : List ℕ → Bool
 is_decimal text = nat_le 1 (length text) && nat_le (length text) 20 && list_all is_ascii_digit text
 
+-- the number that a decimal writes
+unfoldable pub digits_of : List ℕ → Option ℕ
+digits_of text = if is_decimal text then Some (digits_value 10 text) else None
+
 -- the number that a decimal writes, where it is at most `most`
 unfoldable pub decimal_of : ℕ → List ℕ → Option ℕ
 decimal_of most text = if is_decimal text && nat_le (digits_value 10 text) most then Some (digits_value 10 text) else None

@@ -14,8 +14,12 @@ pub fn afford(plan: &Plan, old: Times, wanted: u32, money: u64) -> u32
     ensures wanted { result ≤ wanted }
     ensures room { old.before + old.after + result ≤ 864000 }
 {
+    let most = wanted.min(DAY - old.total());
+    if ceiling(plan, old, most) <= money {
+        return most;
+    }
     let mut covered = 0;
-    let mut beyond = wanted.min(DAY - old.total()) + 1;
+    let mut beyond = most + 1;
     while covered + 1 < beyond {
         let middle = covered + (beyond - covered) / 2;
         if ceiling(plan, old, middle) <= money {

@@ -1,0 +1,7 @@
+-- What the plan of a standing says.
+use Rattle.tariff_core.specs.Rates.{Rates}
+use Rattle.account_core.specs.declared.kept_plan.KeptPlan.{KeptPlan}
+
+-- the fee, the rates and the free units of a plan that is kept
+abbrev pub rates_kept : KeptPlan → Rates
+rates_kept plan = record { fee = plan.fee; before = plan.before; after = plan.after; free = plan.free }
