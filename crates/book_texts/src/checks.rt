@@ -68,11 +68,13 @@ fn take_row(
         → Comes refused (row_at version books (fields_of row.now)) checks.new.entries) }
 {
     match read_row(row, version) {
-        Ok(BookRow::Opening {
-            account,
-            opening,
-            until,
-        }) => open(alloc, checks, account, opening, until),
+        Ok(
+            BookRow::Opening {
+                account,
+                opening,
+                until,
+            },
+        ) => open(alloc, checks, account, opening, until),
         Ok(BookRow::Entry { account, entry }) => enter(checks, account, entry),
         Err(kind) => Ok(Some(kind)),
     }

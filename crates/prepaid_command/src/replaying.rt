@@ -32,7 +32,9 @@ pub fn replay<I: Read + Drop>(
     let headers: &[&[&str]] = &[
         &["seat", "op", "call", "x1", "x2", "x3", "x4", "x5"],
         &["seat", "op", "call", "x1", "x2", "x3", "x4", "x5", "x6"],
-        &["seat", "op", "call", "x1", "x2", "x3", "x4", "x5", "x6", "x7"],
+        &[
+            "seat", "op", "call", "x1", "x2", "x3", "x4", "x5", "x6", "x7",
+        ],
     ];
     let mut table = Table::open(alloc, reader, headers, MAX_ROWS)?;
     let mut account = Account::new(alloc, opening, None, limit);

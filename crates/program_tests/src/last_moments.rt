@@ -56,7 +56,11 @@ const REFUSED: [(&str, &str, &str); 10] = [
         "",
         "setup row 3: Empty",
     ),
-    ("account,7,1500,\n", "0,,recharge,7,1\n", "script row 2: Csv"),
+    (
+        "account,7,1500,\n",
+        "0,,recharge,7,1\n",
+        "script row 2: Csv",
+    ),
     (
         "account,7,1500,\n",
         "0,,recharge,7,1,1000000000001\n",
@@ -134,9 +138,7 @@ const REFUSED_BOOKS: [(&str, &str); 5] = [
 /// An input whose accounts and recharges may have last moments.
 fn input_of(alloc: Global, setup: &str, script: &str) -> Result<String, AllocError> {
     let band = "prefix,from,fee,rate\n49,00:00,50,1000\n";
-    format!(in alloc;
-        "{band}%%\nkind,key,value,until\n{setup}%%\nmoment,call,what,x,y,z\n{script}"
-    )
+    format!(in alloc; "{band}%%\nkind,key,value,until\n{setup}%%\nmoment,call,what,x,y,z\n{script}")
 }
 
 #[test]

@@ -87,11 +87,7 @@ fn read_disconnect(row: &ByteRecord) -> Result<Happening, RowKind>
 fn when_blank(blank: bool, what: Happening) -> Result<Happening, RowKind>
     ensures { result_map_both happens_of (λ kind. kind) result ≡ when_blank blank (happens_of what) }
 {
-    if blank {
-        Ok(what)
-    } else {
-        Err(RowKind::Empty)
-    }
+    if blank { Ok(what) } else { Err(RowKind::Empty) }
 }
 
 fn disconnect(leg: u64) -> Result<BcsmEvent, RowKind>

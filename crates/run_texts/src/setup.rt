@@ -36,7 +36,10 @@ pub fn read_setup<I: Read + Drop>(alloc: Global, reader: I) -> Result<Directory,
         (λ text. Gives setup_in result (setup_of (rows_of text))) }
     ensures within { IfOk result IsWithin }
 {
-    let headers: &[&[&str]] = &[&["kind", "key", "value"], &["kind", "key", "value", "until"]];
+    let headers: &[&[&str]] = &[
+        &["kind", "key", "value"],
+        &["kind", "key", "value", "until"],
+    ];
     let mut table = Table::open(alloc, reader, headers, MAX_ROWS)?;
     let mut directory = Directory::new(alloc);
     while table.next_row()? {

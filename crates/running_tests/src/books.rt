@@ -14,7 +14,7 @@ use tariff_core::{MAX_MONEY, Plan, PlanRange, TimeInfo};
 /// What is printed of no account.
 const NO_ACCOUNT: (&str, &str) = (
     "",
-    "account,seat,op,call,x1,x2,x3,x4,x5,x6,reply,y1,y2,y3\n",
+    "account,seat,op,call,x1,x2,x3,x4,x5,x6,x7,reply,y1,y2,y3\n",
 );
 
 /// The lines and the table of one account with a call.
@@ -24,11 +24,11 @@ account 7 opening 1500 available 950 entries 3
 call 1 account 7 paid 550 returned
 ",
     "\
-account,seat,op,call,x1,x2,x3,x4,x5,x6,reply,y1,y2,y3
-7,,opening,,1500,,,,,,,,,
-7,1,reserve,1,50,1000,,600,50,0,granted,600,more,450
-7,1,settle,1,2,n,300,,,,settled,550,,450
-7,1,return,1,,,,,,,returned,550,,950
+account,seat,op,call,x1,x2,x3,x4,x5,x6,x7,reply,y1,y2,y3
+7,,opening,,1500,,,,,,,,,,
+7,1,reserve,1,50,1000,,600,50,0,0,granted,600,more,450
+7,1,settle,1,2,n,300,,,,,settled,550,,450
+7,1,return,1,,,,,,,,returned,550,,950
 ",
 );
 
@@ -47,26 +47,26 @@ call 2 account 3 paid 450 returned
 call 7 account 12 paid 1020 returned
 ",
     "\
-account,seat,op,call,x1,x2,x3,x4,x5,x6,reply,y1,y2,y3
-1,,opening,,1500,,,,,,,,,
-1,1,reserve,1,50,1000,400,600,50,0,granted,600,more,450
-1,0,reserve,2,50,1000,400,600,50,0,granted,240,last,0
-3,,opening,,1500,,,,,,,,,
-3,0,credit,,600,,,,,,credited,,,2100
-3,0,reserve,2,50,1000,400,600,50,0,granted,600,more,1050
-3,1,settle,2,4,s,600,,,,settled,450,,1050
-3,0,return,2,,,,,,,returned,450,,1650
-9,,opening,,1500,,,,,,,,,
-9,0,reserve,1,50,1000,400,600,50,0,granted,600,more,450
-9,0,settle,1,0,n,700,,,,forfeit,1050,,450
-9,0,reserve,1,50,1000,400,600,50,0,denied,,,450
-9,0,return,1,,,,,,,returned,1050,,450
-12,,opening,,1600,,,,,,,,,
-12,1,reserve,7,50,1000,400,900,50,0,granted,900,more,50
-12,1,settle,7,2,s,200,502,,,settled,1020,,50
-12,1,return,7,,,,,,,returned,1020,,580
-13,,opening,,1000000000000000,,,,,,,,,
-13,0,credit,,1,,,,,,over,,,1000000000000000
+account,seat,op,call,x1,x2,x3,x4,x5,x6,x7,reply,y1,y2,y3
+1,,opening,,1500,,,,,,,,,,
+1,1,reserve,1,50,1000,400,600,50,0,0,granted,600,more,450
+1,0,reserve,2,50,1000,400,600,50,0,0,granted,240,last,0
+3,,opening,,1500,,,,,,,,,,
+3,0,credit,,600,,,,,,,credited,,,2100
+3,0,reserve,2,50,1000,400,600,50,0,0,granted,600,more,1050
+3,1,settle,2,4,s,600,,,,,settled,450,,1050
+3,0,return,2,,,,,,,,returned,450,,1650
+9,,opening,,1500,,,,,,,,,,
+9,0,reserve,1,50,1000,400,600,50,0,0,granted,600,more,450
+9,0,settle,1,0,n,700,,,,,forfeit,1050,,450
+9,0,reserve,1,50,1000,400,600,50,0,0,denied,,,450
+9,0,return,1,,,,,,,,returned,1050,,450
+12,,opening,,1600,,,,,,,,,,
+12,1,reserve,7,50,1000,400,900,50,0,0,granted,900,more,50
+12,1,settle,7,2,s,200,502,,,,settled,1020,,50
+12,1,return,7,,,,,,,,returned,1020,,580
+13,,opening,,1000000000000000,,,,,,,,,,
+13,0,credit,,1,,,,,,,over,,,1000000000000000
 ",
 );
 
@@ -77,6 +77,7 @@ fn reserve(call: u64, after: Option<u64>, wanted: u32) -> Result<Op, PlanRange> 
         plan,
         wanted,
         least: 50,
+        at: 0,
     })
 }
 
@@ -96,7 +97,7 @@ fn two_seats<R: Abort>(
     ensures first { IfOk result (λ made. made.1.account ≡ number) }
     ensures second { IfOk result (λ made. made.2.account ≡ number) }
 {
-    let (account, mut seats) = SharedAccount::new(rt, alloc, number, opening, 100, 2)?;
+    let (account, mut seats) = SharedAccount::new(rt, alloc, number, opening, None, 100, 2)?;
     let second = seats.pop().expect(rt, "two seats");
     let first = seats.pop().expect(rt, "two seats");
     Ok((account, first, second))
@@ -186,7 +187,13 @@ fn prints_the_calls_of_accounts(rt: HostRuntime) -> Result<(), Fail> {
         interval: None,
     };
     let settled = [
-        (0, Op::Credit { amount: 600 }),
+        (
+            0,
+            Op::Credit {
+                amount: 600,
+                until: None,
+            },
+        ),
         (0, reserve(2, Some(400), 600)?),
         (1, settle(2, 4, switched_early)),
         (0, Op::Return { call: 2 }),
@@ -206,7 +213,13 @@ fn prints_the_calls_of_accounts(rt: HostRuntime) -> Result<(), Fail> {
         (1, settle(7, 2, switched)),
         (1, Op::Return { call: 7 }),
     ];
-    let full = [(0, Op::Credit { amount: 1 })];
+    let full = [(
+        0,
+        Op::Credit {
+            amount: 1,
+            until: None,
+        },
+    )];
     let one = [(7, 1500, alone.as_slice())];
     let several = [
         (1, 1500, shared.as_slice()),

@@ -47,7 +47,11 @@ pub(crate) fn report(active: bool, t: u32) -> SsfMsg {
 }
 
 pub(crate) fn recharge(account: u32, amount: u64) -> Body {
-    Body::Recharge { account, amount }
+    Body::Recharge {
+        account,
+        amount,
+        until: None,
+    }
 }
 
 /// The operations by which the service begins a call: 600 units are granted.

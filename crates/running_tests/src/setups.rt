@@ -6,13 +6,21 @@ use dialogue_core::ServiceConfig;
 use run_texts::read_setup;
 use std::alloc::Global;
 use std::test::Fail;
-use tariff_core::Tariff;
-use workers_core::{Directory, RunSetup, SetupFault};
+use tariff_core::{LAST_MOMENT, Tariff};
+use workers_core::{Directory, OpeningCredit, RunSetup, SetupFault};
 
 /// One band for called numbers that begin with 49.
 pub(crate) const BAND: &[u8] = b"prefix,from,fee,rate\n49,00:00,50,1000\n";
 
-/// A setup over a tariff, with one service.
+/// An opening credit that doesn't expire.
+pub(crate) fn lasting(amount: u64) -> OpeningCredit {
+    OpeningCredit {
+        amount,
+        until: None,
+    }
+}
+
+/// A setup over a tariff, with one service. No account's credit expires.
 pub(crate) fn set_up(
     alloc: Global,
     tariff: &[u8],
@@ -22,14 +30,25 @@ pub(crate) fn set_up(
 ) -> Result<Result<RunSetup, SetupFault>, Fail> {
     let tariff = Tariff::read(alloc, tariff)?;
     let service = ServiceConfig::new(600, 50, 50)?;
-    Ok(RunSetup::new(alloc, accounts, subscribers, tariff, service, limit))
+    let mut opened = Vec::new(alloc);
+    for (number, amount) in accounts {
+        opened.push((*number, lasting(*amount)))?;
+    }
+    Ok(RunSetup::new(
+        alloc,
+        opened.as_slice(),
+        subscribers,
+        tariff,
+        service,
+        limit,
+    ))
 }
 
 /// A directory of these accounts, without subscribers.
 pub(crate) fn list(alloc: Global, accounts: &[(u32, u64)]) -> Result<Directory, Fail> {
     let mut directory = Directory::new(alloc);
-    for (number, opening) in accounts {
-        directory.account(*number, *opening)?;
+    for (number, amount) in accounts {
+        directory.account(*number, lasting(*amount))?;
     }
     Ok(directory)
 }
@@ -97,7 +116,7 @@ fn what_was_given_is_found(rt: HostRuntime) -> Result<(), Fail> {
         assert!(rt; place < setup.account_count());
         assert_eq!(rt;
             (setup.number(place), setup.opening(place)),
-            (number, opening)
+            (number, lasting(opening))
         );
     }
     assert_eq!(rt; setup.place_of(8), None);
@@ -118,13 +137,17 @@ fn a_directory_judges_one_after_another(rt: HostRuntime) -> Result<(), Fail> {
     let one = Number::new("491700001")?;
     let most = 1_000_000_000_000_000;
     let mut directory = list(rt.alloc(), &[(9, 300), (2, 100)])?;
+    let past = Some(LAST_MOMENT + 1);
     let accounts = [
-        (7, most + 1, Err(SetupFault::OutOfRange)),
-        (2, most + 1, Err(SetupFault::OutOfRange)),
-        (2, 100, Err(SetupFault::Repeated)),
-        (7, most, Ok(())),
+        (7, most + 1, None, Err(SetupFault::OutOfRange)),
+        (2, most + 1, None, Err(SetupFault::OutOfRange)),
+        (7, 100, past, Err(SetupFault::OutOfRange)),
+        (2, 100, past, Err(SetupFault::OutOfRange)),
+        (2, 100, None, Err(SetupFault::Repeated)),
+        (7, most, Some(LAST_MOMENT), Ok(())),
     ];
-    for (number, opening, made) in accounts {
+    for (number, amount, until, made) in accounts {
+        let opening = OpeningCredit { amount, until };
         assert_eq!(rt; directory.account(number, opening), made, "at {number}");
     }
     let subscribers = [
@@ -144,17 +167,18 @@ fn a_directory_judges_one_after_another(rt: HostRuntime) -> Result<(), Fail> {
 
 #[test]
 fn a_run_is_set_up_with_what_was_read(rt: HostRuntime) -> Result<(), Fail> {
-    let text = b"kind,key,value\naccount,9,300\nsubscriber,491700001,9\naccount,2,100\n".as_slice();
+    let text =
+        b"kind,key,value,until\naccount,9,300,1000\nsubscriber,491700001,9,\naccount,2,100,\n".as_slice();
     let directory = read_setup(rt.alloc(), text)?;
     let tariff = Tariff::read(rt.alloc(), BAND)?;
     let service = ServiceConfig::new(600, 50, 50)?;
     let setup = RunSetup::of(rt.alloc(), directory, tariff, service, MIN_LIMIT)?;
     assert_eq!(rt; setup.account_count(), 2);
-    for (place, number, opening) in [(0, 2, 100), (1, 9, 300)] {
+    for (place, number, amount, until) in [(0, 2, 100, None), (1, 9, 300, Some(1000))] {
         assert!(rt; place < setup.account_count());
         assert_eq!(rt;
             (setup.number(place), setup.opening(place)),
-            (number, opening)
+            (number, OpeningCredit { amount, until })
         );
     }
     assert_eq!(rt; setup.account_of(Number::new("491700001")?), Some(9));

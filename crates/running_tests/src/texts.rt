@@ -108,8 +108,8 @@ const WORDS: [(&str, BcsmEvent); 7] = [
 
 #[test]
 fn reads_each_word(rt: HostRuntime) -> Result<(), Fail> {
-    let script: &[u8] = b"moment,call,what,x,y\n0,18446744073709551615,start,0,123456789012345\n\
-0,,recharge,4294967295,1000000000000000\n0,,recharge,007,0\n";
+    let script: &[u8] = b"moment,call,what,x,y,z\n0,18446744073709551615,start,0,123456789012345,\n\
+0,,recharge,4294967295,1000000000000000,1000000000000\n0,,recharge,007,0,\n";
     let directory = list(rt.alloc(), &[(7, 0), (u32::MAX, 0)])?;
     let rows = read_script(rt.alloc(), &directory, script)?;
     let start = Happening::Start {
@@ -120,10 +120,12 @@ fn reads_each_word(rt: HostRuntime) -> Result<(), Fail> {
     let most = Happening::Recharge {
         account: u32::MAX,
         amount: 1_000_000_000_000_000,
+        until: Some(1_000_000_000_000),
     };
     let least = Happening::Recharge {
         account: 7,
         amount: 0,
+        until: None,
     };
     let want = [row(0, start), row(0, most), row(0, least)];
     assert_eq!(rt; rows.as_slice(), want.as_slice());

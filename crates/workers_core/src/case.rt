@@ -28,7 +28,11 @@ pub(crate) enum Case {
         until: Option<u64>,
     },
     /// A dialogue that begins, or has taken a message, and its next turn.
-    Talk { call: u64, talk: Talk, turn: Turn },
+    Talk {
+        call: u64,
+        talk: Talk,
+        turn: Turn,
+    },
 }
 
 /// Judges a post by the setup and the dialogues. Nothing is changed yet.
