@@ -11,6 +11,7 @@ use Rattle.account_core.specs.Answers.{accepted_times, answer, settle_verdict, s
 use Rattle.account_core.specs.Asked.{Asked, Credits, Reserves, Returns, Settles}
 use Rattle.account_core.specs.Available.{available, credits}
 use Rattle.account_core.specs.Events.{Event}
+use Rattle.account_core.specs.Expiry.{is_past, last_moment}
 use Rattle.account_core.specs.Known.{Known, known, plan_in_force, taken_of}
 use Rattle.account_core.specs.declared.entry.Reply.TheVariants as reply
 use Rattle.shared_account.specs.Kinds.{IsReplyTo}
@@ -33,17 +34,18 @@ offered_within credit call plan wanted =
     covered_within (plan_in_force call plan) call.times (credit + taken_of call) most in
     omega (arith, within)
 
-fits_credit : (within : Bool) (credit amount : ℕ) → IsReplyTo (Credits amount) (showing credit (if within then reply.Credited 0 else reply.CreditOver 0))
-fits_credit true credit amount = tt
-fits_credit false credit amount = tt
+fits_credit : (within : Bool) (credit amount : ℕ) (moment : Option ℕ) → IsReplyTo (Credits amount moment) (showing credit (if within then reply.Credited 0 else reply.CreditOver 0))
+fits_credit true credit amount moment = tt
+fits_credit false credit amount moment = tt
 
-fits_reserve : (short nothing forfeited : Bool) (credit call : ℕ) (plan : Rates) (units wanted least : ℕ) (last : Bool) → nat_lt units least ≡ short
+fits_reserve : (short nothing forfeited late : Bool) (credit call : ℕ) (plan : Rates) (units wanted least at : ℕ) (last : Bool) → nat_lt units least ≡ short
     → (units == 0) ≡ nothing → units ≤ wanted
-    → IsReplyTo (Reserves call plan wanted least) (showing credit (if short || nothing || forfeited then reply.Denied 0 else reply.Granted units last 0))
-fits_reserve true nothing forfeited credit call plan units wanted least last short_is nothing_is within = tt
-fits_reserve false true forfeited credit call plan units wanted least last short_is nothing_is within = tt
-fits_reserve false false true credit call plan units wanted least last short_is nothing_is within = tt
-fits_reserve false false false credit call plan units wanted least last short_is nothing_is within =
+    → IsReplyTo (Reserves call plan wanted least at) (showing credit (if short || nothing || forfeited || late then reply.Denied 0 else reply.Granted units last 0))
+fits_reserve true nothing forfeited late credit call plan units wanted least at last short_is nothing_is within = tt
+fits_reserve false true forfeited late credit call plan units wanted least at last short_is nothing_is within = tt
+fits_reserve false false true late credit call plan units wanted least at last short_is nothing_is within = tt
+fits_reserve false false false true credit call plan units wanted least at last short_is nothing_is within = tt
+fits_reserve false false false false credit call plan units wanted least at last short_is nothing_is within =
     let some : 1 ≤ units = grind (arith, nat_tests) in
     let enough : least ≤ units = grind (arith, nat_tests) in
     (some, enough, within)
@@ -53,15 +55,15 @@ fits_settle : (times : Option Elapsed) (known : Known) (credit call number : ℕ
 fits_settle (Some times) known credit call number info = tt
 fits_settle None known credit call number info = tt
 
-fits_showing : (opening credit : ℕ) (h : List Event) (asked : Asked) → IsReplyTo asked (showing credit (verdict opening h asked))
-fits_showing opening credit h (Credits amount) = fits_credit (nat_le (opening + credits h + amount) 1000000000000000) credit amount
-fits_showing opening credit h (Reserves call plan wanted least) =
+fits_showing : (opening : ℕ) (until : Option ℕ) (credit : ℕ) (h : List Event) (asked : Asked) → IsReplyTo asked (showing credit (verdict opening until h asked))
+fits_showing opening until credit h (Credits amount moment) = fits_credit (nat_le (opening + credits h + amount) 1000000000000000) credit amount moment
+fits_showing opening until credit h (Reserves call plan wanted least at) =
     let units = units_offered (available opening h) (known call h) plan wanted in
-    fits_reserve (nat_lt units least) (units == 0) (known call h).forfeited credit call plan units wanted least (nat_lt units wanted) refl refl
+    fits_reserve (nat_lt units least) (units == 0) (known call h).forfeited (is_past (last_moment until h) at) credit call plan units wanted least at (nat_lt units wanted) refl refl
     (offered_within (available opening h) (known call h) plan wanted)
-fits_showing opening credit h (Settles call number info) = fits_settle (accepted_times (known call h) info) (known call h) credit call number info
-fits_showing opening credit h (Returns call) = tt
+fits_showing opening until credit h (Settles call number info) = fits_settle (accepted_times (known call h) info) (known call h) credit call number info
+fits_showing opening until credit h (Returns call) = tt
 
-pub answer_fits : (opening : ℕ) (h : List Event) (asked : Asked) → IsReplyTo asked (answer opening h asked)
+pub answer_fits : (opening : ℕ) (until : Option ℕ) (h : List Event) (asked : Asked) → IsReplyTo asked (answer opening until h asked)
 unfolding answer
-answer_fits opening h asked = fits_showing opening _ h asked
+answer_fits opening until h asked = fits_showing opening until _ h asked

@@ -1,5 +1,5 @@
 -- Histories that begin others.
-use Rattle.std.proofs.Common.{◌≡◌, ◌≢◌, ◌≤◌, ◌+◌, ℕ, Bool, true, false, List, [], ◌∷◌, ◌++◌, length, append-nil, append_assoc, length-append, refl, sym, ap, ◌∙◌, arith, subst, eq-eqb, ne_eqb}
+use Rattle.std.proofs.Common.{◌≡◌, ◌≢◌, ◌≤◌, ◌+◌, ℕ, Bool, true, false, List, [], ◌∷◌, ◌++◌, length, append-nil, append_assoc, length-append, refl, sym, ap, ◌∙◌, arith, subst, eq-eqb, ne_eqb, Option}
 use Rattle.std.specs.Prelude.{◌==◌, if◌then◌else◌, reverse}
 use Rattle.std.proofs.lemmas.List.{reverse-append}
 use Rattle.account_core.specs.Answers.{IsLegal, IsLegalPast}
@@ -39,15 +39,15 @@ both_begin (event ∷ first) (other ∷ second) more further same within =
 pub shorter_begins : (first second third : List Event) → IsPrefix first third → IsPrefix second third → length first ≤ length second → IsPrefix first second
 shorter_begins first second third begins too within = both_begin first second begins.rest too.rest (sym begins.is ∙ too.is) within
 
-legal_past : (opening : ℕ) (later history : List Event) → IsLegalPast opening (later ++ history) → IsLegalPast opening history
-legal_past opening [] history legal = legal
-legal_past opening (event ∷ later) history legal = legal_past opening later history legal.0
+legal_past : (opening : ℕ) (until : Option ℕ) (later history : List Event) → IsLegalPast opening until (later ++ history) → IsLegalPast opening until history
+legal_past opening until [] history legal = legal
+legal_past opening until (event ∷ later) history legal = legal_past opening until later history legal.0
 
 -- what begins a legal history is legal
-pub legal_begins : (opening : ℕ) (earlier later : List Event) → IsPrefix earlier later → IsLegal opening later → IsLegal opening earlier
-legal_begins opening earlier later begins legal =
-    let L : List Event → Type 0 = IsLegalPast opening in
-    legal_past opening (reverse begins.rest) (reverse earlier) (subst L (ap reverse begins.is ∙ reverse-append earlier begins.rest) legal)
+pub legal_begins : (opening : ℕ) (until : Option ℕ) (earlier later : List Event) → IsPrefix earlier later → IsLegal opening until later → IsLegal opening until earlier
+legal_begins opening until earlier later begins legal =
+    let L : List Event → Type 0 = IsLegalPast opening until in
+    legal_past opening until (reverse begins.rest) (reverse earlier) (subst L (ap reverse begins.is ∙ reverse-append earlier begins.rest) legal)
 
 -- ---- own entries
 

@@ -53,7 +53,7 @@ module _ (before here : View) (seat : Place) (account : Ledger) (asked : Asked) 
   gone after place (Err why) seen mine unseen kept = subst (λ (x : View × Place). HasGone before x.0 x.1) (λ i. (sym unseen i, sym kept i)) unentered
 
 pub sits : (me : Sitter) (before after : View) (seat : Place) (account : Ledger) (entries : List Entry) → me ≡ (at_stage after Idles, []) → HasGone before after seat
-    → account ≡ after.seen → map event_of entries ≡ account.history → IsLegal account.opening account.history → IsSitting me seat (length entries)
+    → account ≡ after.seen → map event_of entries ≡ account.history → IsLegal account.opening account.until account.history → IsSitting me seat (length entries)
 sits me before after seat account entries rests gone held listed legal =
     subst (λ (m : Sitter). IsSitting m seat (length entries)) (sym rests) (record {
       idle = refl;
@@ -61,7 +61,7 @@ sits me before after seat account entries rests gone held listed legal =
       number = gone.number;
       count = sym (length-map entries event_of) ∙ (ap length listed ∙ ap (λ (a : Ledger). length a.history) held);
       own = gone.own;
-      legal = subst (λ (a : Ledger). IsLegal a.opening a.history) held legal;
+      legal = subst (λ (a : Ledger). IsLegal a.opening a.until a.history) held legal;
     })
 
 -- the same of what it has seen alone, once it rests

@@ -28,6 +28,7 @@ pub numbered_so : (now : Affairs) (served out : ℕ) (holder : Option ℕ) (v : 
     → IsNumbered (record { account = now.account; made = now.made; served = served; out = out; holder = holder }) (record v { stage = stage; heard = heard })
 numbered_so now served out holder v stage heard numbered = record {
   opening = numbered.opening;
+  until = numbered.until;
   limit = numbered.limit;
   number = numbered.number;
   first = numbered.first;

@@ -59,15 +59,15 @@ return_takes true false = omega arith
 return_takes false awaits = omega arith
 
 takes_a_place : (call : Known) (asked : Asked) → 1 ≤ places_owed (is_open call) call.awaits + needed_by call asked
-takes_a_place call (Credits amount) = omega arith
-takes_a_place call (Reserves number plan wanted least) = omega (arith, reserve_takes (is_open call) call.awaits)
+takes_a_place call (Credits amount moment) = omega arith
+takes_a_place call (Reserves number plan wanted least at) = omega (arith, reserve_takes (is_open call) call.awaits)
 takes_a_place call (Settles number mail info) = settle_takes (is_open call) call.awaits
 takes_a_place call (Returns number) = return_takes (is_open call) call.awaits
 
 module _ (account : Ledger) (event : Event) (admitted : refusal_of account event.asked ≡ None) where
-  pub legal_with : IsLegal account.opening account.history → event.reply ≡ answer_of account event.asked → IsLegal account.opening (with_entry account event).history
+  pub legal_with : IsLegal account.opening account.until account.history → event.reply ≡ answer_of account event.asked → IsLegal account.opening account.until (with_entry account event).history
   legal_with legal answered =
-      subst (IsLegalPast account.opening) (sym (reverse-append account.history (event ∷ [])))
+      subst (IsLegalPast account.opening account.until) (sym (reverse-append account.history (event ∷ [])))
       (legal, record { admissible = admissible_of account.limit (reverse account.history) event.asked admitted; answered = answered })
 
   pub short_with : EachIsOwedItsShare → length account.history + 1 ≤ account.limit

@@ -1,5 +1,5 @@
 -- Two seats meet.
-use Rattle.std.proofs.Common.{◌≡◌, ◌≤◌, ℕ, List, [], ◌∷◌, ◌++◌, length, set, refl, sym, ◌∙◌, arith, subst, inl, inr}
+use Rattle.std.proofs.Common.{◌≡◌, ◌≤◌, ℕ, List, [], ◌∷◌, ◌++◌, length, set, refl, sym, ◌∙◌, arith, subst, inl, inr, Option}
 use mathlib.Core.Logic.{dite}
 use mathlib.Core.Option.{none, some}
 use native.Mathlib.Decide.{dec_le}
@@ -62,7 +62,7 @@ module _ (start : Start) where
       let mid = revises start s id v (hearing v note) kept there refl (λ _. refl) (record {
         seen = knew.seen;
         heard = (kept.each other note before).seen;
-        seated = λ seat. let n = knew.seated seat in record { opening = n.opening; limit = n.limit; number = n.number; first = n.first; own = n.own };
+        seated = λ seat. let n = knew.seated seat in record { opening = n.opening; until = n.until; limit = n.limit; number = n.number; first = n.first; own = n.own };
         ticket = knew.ticket;
         turn = λ t has. let turn = knew.turn t has in record { served = turn.served; holder = turn.holder; seen = turn.seen };
       }) in
@@ -77,10 +77,12 @@ module _ (start : Start) where
   -- ---- what was heard is compared with what was seen
 
   seen_legal : (s : Table) (id : ℕ) (v : View) (kept : Kept start s) → get_elem? s.views id ≡ some v → v.stage ≡ Idles → (history : List Event)
-      → IsPrefix history kept.now.account.history → IsLegal v.seen.opening history
+      → IsPrefix history kept.now.account.history → IsLegal v.seen.opening v.seen.until history
   seen_legal s id v kept there idle history begins =
       let seated = (kept.each id v there).seated (subst IsSeat (sym idle) tt) in
-      subst (λ (n : ℕ). IsLegal n history) (sym seated.opening) (legal_begins kept.now.account.opening history kept.now.account.history begins kept.past.legal)
+      subst (λ (n : ℕ). IsLegal n v.seen.until history) (sym seated.opening)
+      (subst (λ (n : Option ℕ). IsLegal kept.now.account.opening n history) (sym seated.until)
+      (legal_begins kept.now.account.opening kept.now.account.until history kept.now.account.history begins kept.past.legal))
 
   met_longer : (s : Table) (id : ℕ) (v : View) (kept : Kept start s) → get_elem? s.views id ≡ some v → v.stage ≡ Idles → length v.seen.history ≤ length v.heard.history
       → let w : View = seeing v (record v.seen { history = v.heard.history }) in
@@ -97,6 +99,7 @@ module _ (start : Start) where
           stage = refl;
           number = refl;
           opening = refl;
+          until = refl;
           limit = refl;
           one = inl refl;
           legal = seen_legal s id v kept there idle v.heard.history knew.heard;
@@ -107,7 +110,7 @@ module _ (start : Start) where
         revises start s id v w kept there refl (λ _. refl) (record {
           seen = knew.heard;
           heard = knew.heard;
-          seated = λ _. record { opening = seated.opening; limit = seated.limit; number = seated.number; first = seated.first; own = same ∙ seated.own };
+          seated = λ _. record { opening = seated.opening; until = seated.until; limit = seated.limit; number = seated.number; first = seated.first; own = same ∙ seated.own };
           ticket = knew.ticket;
           turn = λ t has. let never : Idles ≡ Serves t = sym idle ∙ has in absurd (cc never);
         }),
@@ -130,6 +133,7 @@ module _ (start : Start) where
         stage = refl;
         number = refl;
         opening = refl;
+        until = refl;
         limit = refl;
         one = inr refl;
         legal = seen_legal s id m.0 kept there idle seen knew.seen;

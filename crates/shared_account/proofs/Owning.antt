@@ -25,9 +25,9 @@ filter_reverse p (x ∷ xs) =
 -- ---- the entries of a call
 
 rests_apart : (h : List Event) (event : Event) (call : ℕ) (asked : Asked) → event.asked ≡ asked → is_of call asked ≡ false → known call (event ∷ h) ≡ known call h
-rests_apart h event call (Credits amount) same apart =
+rests_apart h event call (Credits amount moment) same apart =
     known_resting h event call (ap (λ a. deed_of a event.reply) same)
-rests_apart h event call (Reserves other plan wanted least) same apart = known_apart h event call (ap (λ a. call_of a == call) same ∙ apart)
+rests_apart h event call (Reserves other plan wanted least at) same apart = known_apart h event call (ap (λ a. call_of a == call) same ∙ apart)
 rests_apart h event call (Settles other number info) same apart = known_apart h event call (ap (λ a. call_of a == call) same ∙ apart)
 rests_apart h event call (Returns other) same apart = known_apart h event call (ap (λ a. call_of a == call) same ∙ apart)
 
@@ -48,8 +48,8 @@ known_alike call history mine same =
 -- what closes a call by one history closes it by another with the same entries of the call
 pub closing_alike : (history mine : List Event) (asked : Asked) → IsClosing (reverse history) asked
     → of_call (call_of asked) history ≡ of_call (call_of asked) mine → IsClosing (reverse mine) asked
-closing_alike history mine (Credits amount) closing same = closing
-closing_alike history mine (Reserves call plan wanted least) closing same = closing
+closing_alike history mine (Credits amount moment) closing same = closing
+closing_alike history mine (Reserves call plan wanted least at) closing same = closing
 closing_alike history mine (Settles call number info) closing same =
     let alike = known_alike call history mine same in
     (ap is_open (sym alike) ∙ closing.0, ap (λ k. k.awaits) (sym alike) ∙ closing.1)

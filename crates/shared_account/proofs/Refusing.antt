@@ -16,7 +16,7 @@ use Rattle.shared_account.proofs.Answering.{answer_fits}
 pub fits_of : (account : Ledger) (asked : Asked) (told : Reply) → told ≡ answer_of account asked → IsReplyTo asked told
 fits_of account asked told is =
     let R : Reply → Type 0 = IsReplyTo asked in
-    subst R (sym is) (answer_fits account.opening (reverse account.history) asked)
+    subst R (sym is) (answer_fits account.opening account.until (reverse account.history) asked)
 
 -- ---- out of range
 
@@ -31,8 +31,8 @@ first_or None second x y is = y is
 first_or (Some why) second x y is = x is
 
 misplaced_ranged : (call : Known) (asked : Asked) → misplaced call asked ≡ Some fault.OutOfRange → ⊥
-misplaced_ranged call (Credits amount) is = cc
-misplaced_ranged call (Reserves number plan wanted least) is = either call.returned (Some fault.CallUsed) None (λ e. cc) (λ e. cc) is
+misplaced_ranged call (Credits amount moment) is = cc
+misplaced_ranged call (Reserves number plan wanted least at) is = either call.returned (Some fault.CallUsed) None (λ e. cc) (λ e. cc) is
 misplaced_ranged call (Settles number mail info) is = either (is_open call) None (Some fault.NotOpen) (λ e. cc) (λ e. cc) is
 misplaced_ranged call (Returns number) is = either (is_open call) None (Some fault.NotOpen) (λ e. cc) (λ e. cc) is
 
@@ -77,8 +77,8 @@ pub returning_of : (account : Ledger) (mine : List Event) (asked : Asked) (told 
     → (IsClosing (reverse account.history) asked → IsClosing (reverse mine) asked → IsOk told) → IsReturn asked → IsClosing (reverse mine) asked
     → IfErr told (λ why. why ≡ fault.NotOpen)
 returning_of account mine asked (Ok answered) refused closing return own = tt
-returning_of account mine (Credits amount) (Err why) refused closing return own = absurd return
-returning_of account mine (Reserves call plan wanted least) (Err why) refused closing return own = absurd return
+returning_of account mine (Credits amount moment) (Err why) refused closing return own = absurd return
+returning_of account mine (Reserves call plan wanted least at) (Err why) refused closing return own = absurd return
 returning_of account mine (Settles call number info) (Err why) refused closing return own = absurd return
 returning_of account mine (Returns call) (Err why) refused closing return own =
     return_closed (is_open (known call (reverse account.history))) account call why refl (λ is. fails why (closing is own)) refused

@@ -1,5 +1,5 @@
 -- A seat keeps the room for what its own entries owe.
-use Rattle.std.proofs.Common.{◌≡◌, ℕ, ◌+◌, ◌-◌, ◌≤◌, Bool, true, false, Some, List, [], ◌∷◌, ◌++◌, length, refl, sym, ap, ◌∙◌, arith, subst}
+use Rattle.std.proofs.Common.{◌≡◌, ℕ, ◌+◌, ◌-◌, ◌≤◌, Bool, true, false, Some, List, [], ◌∷◌, ◌++◌, length, refl, sym, ap, ◌∙◌, arith, subst, Option}
 use Rattle.std.specs.Prelude.{◌==◌, ◌&&◌, if◌then◌else◌, not, map, reverse, unwrap_or}
 use Rattle.std.specs.Vec.{vec_capacity}
 use Rattle.std.specs.BTreeMap.{BTreeMap, IsEmpty, Updates, get, is_at}
@@ -41,18 +41,18 @@ owed_to_is : (call : Known) → owed_to call ≡ owed_at (places_of call)
 unfolding owed_to
 owed_to_is call = refl
 
-owes_grant : (granted returned awaits : Bool) (call : ℕ) (plan : Rates) (wanted least : ℕ)
-    → 1 + places_owed (not returned) true ≤ places_owed (granted && not returned) awaits + places_needed (granted && not returned) awaits (Reserves call plan wanted least)
-owes_grant false true awaits call plan wanted least = omega arith
-owes_grant false false awaits call plan wanted least = omega arith
-owes_grant true true awaits call plan wanted least = omega arith
-owes_grant true false true call plan wanted least = omega arith
-owes_grant true false false call plan wanted least = omega arith
+owes_grant : (granted returned awaits : Bool) (call : ℕ) (plan : Rates) (wanted least at : ℕ)
+    → 1 + places_owed (not returned) true ≤ places_owed (granted && not returned) awaits + places_needed (granted && not returned) awaits (Reserves call plan wanted least at)
+owes_grant false true awaits call plan wanted least at = omega arith
+owes_grant false false awaits call plan wanted least at = omega arith
+owes_grant true true awaits call plan wanted least at = omega arith
+owes_grant true false true call plan wanted least at = omega arith
+owes_grant true false false call plan wanted least at = omega arith
 
-owes_denied : (open_yet awaits : Bool) (call : ℕ) (plan : Rates) (wanted least : ℕ) → 1 ≤ places_needed open_yet awaits (Reserves call plan wanted least)
-owes_denied true true call plan wanted least = omega arith
-owes_denied true false call plan wanted least = omega arith
-owes_denied false awaits call plan wanted least = omega arith
+owes_denied : (open_yet awaits : Bool) (call : ℕ) (plan : Rates) (wanted least at : ℕ) → 1 ≤ places_needed open_yet awaits (Reserves call plan wanted least at)
+owes_denied true true call plan wanted least at = omega arith
+owes_denied true false call plan wanted least at = omega arith
+owes_denied false awaits call plan wanted least at = omega arith
 
 owes_report : (open_yet awaits : Bool) → 1 + places_owed open_yet false ≤ places_owed open_yet awaits + (if open_yet && awaits then 0 else 1)
 owes_report true true = omega arith
@@ -69,22 +69,22 @@ owes_end true false false = omega arith
 -- an entry and what is owed after it take the places that were owed and needed
 owes : (places : Places) (asked : Asked) (told : Reply) → IsReplyTo asked told
     → 1 + owed_at (places_after places (deed_of asked told)) ≤ owed_at places + needed_at places asked
-owes places (Credits amount) (reply.Credited available) fits = omega arith
-owes places (Credits amount) (reply.CreditOver available) fits = omega arith
-owes places (Credits amount) (reply.Granted units last available) fits = absurd fits
-owes places (Credits amount) (reply.Denied available) fits = absurd fits
-owes places (Credits amount) (reply.Settled paid available) fits = absurd fits
-owes places (Credits amount) (reply.Forfeit paid available) fits = absurd fits
-owes places (Credits amount) (reply.Returned paid available) fits = absurd fits
-owes places (Reserves call plan wanted least) (reply.Credited available) fits = absurd fits
-owes places (Reserves call plan wanted least) (reply.CreditOver available) fits = absurd fits
-owes places (Reserves call plan wanted least) (reply.Granted units last available) fits =
-    owes_grant places.granted places.returned places.awaits call plan wanted least
-owes places (Reserves call plan wanted least) (reply.Denied available) fits =
-    omega (arith, owes_denied (places.granted && not places.returned) places.awaits call plan wanted least)
-owes places (Reserves call plan wanted least) (reply.Settled paid available) fits = absurd fits
-owes places (Reserves call plan wanted least) (reply.Forfeit paid available) fits = absurd fits
-owes places (Reserves call plan wanted least) (reply.Returned paid available) fits = absurd fits
+owes places (Credits amount moment) (reply.Credited available) fits = omega arith
+owes places (Credits amount moment) (reply.CreditOver available) fits = omega arith
+owes places (Credits amount moment) (reply.Granted units last available) fits = absurd fits
+owes places (Credits amount moment) (reply.Denied available) fits = absurd fits
+owes places (Credits amount moment) (reply.Settled paid available) fits = absurd fits
+owes places (Credits amount moment) (reply.Forfeit paid available) fits = absurd fits
+owes places (Credits amount moment) (reply.Returned paid available) fits = absurd fits
+owes places (Reserves call plan wanted least at) (reply.Credited available) fits = absurd fits
+owes places (Reserves call plan wanted least at) (reply.CreditOver available) fits = absurd fits
+owes places (Reserves call plan wanted least at) (reply.Granted units last available) fits =
+    owes_grant places.granted places.returned places.awaits call plan wanted least at
+owes places (Reserves call plan wanted least at) (reply.Denied available) fits =
+    omega (arith, owes_denied (places.granted && not places.returned) places.awaits call plan wanted least at)
+owes places (Reserves call plan wanted least at) (reply.Settled paid available) fits = absurd fits
+owes places (Reserves call plan wanted least at) (reply.Forfeit paid available) fits = absurd fits
+owes places (Reserves call plan wanted least at) (reply.Returned paid available) fits = absurd fits
 owes places (Settles call number info) (reply.Credited available) fits = absurd fits
 owes places (Settles call number info) (reply.CreditOver available) fits = absurd fits
 owes places (Settles call number info) (reply.Granted units last available) fits = absurd fits
@@ -101,14 +101,14 @@ owes places (Returns call) (reply.Forfeit paid available) fits = absurd fits
 owes places (Returns call) (reply.Returned paid available) fits = owes_end places.granted places.returned places.awaits
 
 pub of_call : (call : ℕ) (asked : Asked) → IsOfCall call asked → call_of asked ≡ call
-of_call call (Credits amount) is = absurd is
-of_call call (Reserves other plan wanted least) is = is
+of_call call (Credits amount moment) is = absurd is
+of_call call (Reserves other plan wanted least at) is = is
 of_call call (Settles other number info) is = is
 of_call call (Returns other) is = is
 
 credit_rests : (asked : Asked) (told : Reply) → IsCredit asked → deed_of asked told ≡ Rests
-credit_rests (Credits amount) told is = refl
-credit_rests (Reserves call plan wanted least) told is = absurd is
+credit_rests (Credits amount moment) told is = refl
+credit_rests (Reserves call plan wanted least at) told is = absurd is
 credit_rests (Settles call number info) told is = absurd is
 credit_rests (Returns call) told is = absurd is
 
@@ -213,13 +213,13 @@ credit_roomy moves old entry kept places capacity capacity' roomy credit room =
 
 -- what an account answered to an operation of a call
 pub is_entry : (s : Inside) (place : Place) → record { account = s.account; number = s.number; mine = map event_of s.mine.items } ≡ place
-    → (opening : ℕ) (past : List Event) (seat call : ℕ) (asked : Asked) (told : Reply) (before after : Places) → IsOfCall call asked → told ≡ answer opening past asked
+    → (opening : ℕ) (until : Option ℕ) (past : List Event) (seat call : ℕ) (asked : Asked) (told : Reply) (before after : Places) → IsOfCall call asked → told ≡ answer opening until past asked
     → before ≡ places_of (known call (reverse place.mine)) → after ≡ places_after before (deed_of asked told)
     → IsEntry (reverse (map event_of s.mine.items)) (record { seat = seat; asked = asked; reply = told }) before after
-is_entry s place view_is opening past seat call asked told before after here told_is before_is after_is =
+is_entry s place view_is opening until past seat call asked told before after here told_is before_is after_is =
     let R : Reply → Type 0 = IsReplyTo asked in
     record {
-      fits = subst R (sym told_is) (answer_fits opening past asked);
+      fits = subst R (sym told_is) (answer_fits opening until past asked);
       before_is = before_is ∙ (ap (λ h. places_of (known call h)) (past_seen s place view_is)
           ∙ ap (λ q. places_of (known q (reverse (map event_of s.mine.items)))) (sym (of_call call asked here)));
       after_is = after_is;

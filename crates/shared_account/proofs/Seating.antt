@@ -23,20 +23,20 @@ module _ (start : Start) where
   -- ---- the opening
 
   pub starts : start.limit < 2 ^ 32
-      → Kept start (opening (0 ∷ 0 ∷ 0 ∷ []) (Some (record { opening = start.opening; limit = start.limit; history = [] }) ∷ []) (first_view start.opening start.limit))
+      → Kept start (opening (0 ∷ 0 ∷ 0 ∷ []) (Some (record { opening = start.opening; until = start.until; limit = start.limit; history = [] }) ∷ []) (first_view start.opening start.until start.limit))
   starts bounded =
-      let account : Ledger = record { opening = start.opening; limit = start.limit; history = [] } in
+      let account : Ledger = record { opening = start.opening; until = start.until; limit = start.limit; history = [] } in
       let now : Affairs = record { account = account; made = 1; served = 0; out = 0; holder = None } in
-      let first : View = first_view start.opening start.limit in
+      let first : View = first_view start.opening start.until start.limit in
       record {
         now = now;
         words = record { wide = refl; ticket = refl; serving = refl; count = refl };
-        past = record { opening = refl; limit = refl; bounded = bounded; legal = tt; short = omega arith; few = omega arith; unmade = λ n made. refl };
+        past = record { opening = refl; until = refl; limit = refl; bounded = bounded; legal = tt; short = omega arith; few = omega arith; unmade = λ n made. refl };
         totals = record { seats = refl; tickets = refl };
         each = views_grow (Knows now) [] first (λ at. record {
           seen = begins_any [];
           heard = begins_any [];
-          seated = λ _. record { opening = refl; limit = refl; number = omega arith; first = λ _. refl; own = refl };
+          seated = λ _. record { opening = refl; until = refl; limit = refl; number = omega arith; first = λ _. refl; own = refl };
           ticket = λ t has. absurd (cc has);
           turn = λ t has. absurd (cc has);
         }) (λ at v here. absurd (some-ne-none v (sym here)));
@@ -73,6 +73,7 @@ module _ (start : Start) where
         words = record { wide = kept.words.wide; ticket = kept.words.ticket; serving = kept.words.serving; count = kept.words.count };
         past = record {
           opening = kept.past.opening;
+          until = kept.past.until;
           limit = kept.past.limit;
           bounded = kept.past.bounded;
           legal = kept.past.legal;
@@ -89,6 +90,7 @@ module _ (start : Start) where
           heard = begins_any now.account.history;
           seated = λ _. record {
             opening = seated.opening;
+            until = seated.until;
             limit = seated.limit;
             number = omega (arith, made);
             first = λ zero_made. omega (arith, zero_made, made, seated.number);
@@ -100,13 +102,14 @@ module _ (start : Start) where
             (views_stay (Knows after) s.views id w (record {
               seen = knew.seen;
               heard = knew.heard;
-              seated = λ _. record { opening = seated.opening; limit = seated.limit; number = omega (arith, seated.number); first = λ _. ap (λ n. n + 1) made; own = seated.own };
+              seated = λ _. record { opening = seated.opening; until = seated.until; limit = seated.limit; number = omega (arith, seated.number); first = λ _. ap (λ n. n + 1) made; own = seated.own };
               ticket = λ t has. let out = knew.ticket t has in record { drawn = out.drawn; unserved = out.unserved };
               turn = λ t has. let old = knew.turn t has in record { served = old.served; holder = old.holder; seen = old.seen };
             })
             (λ at u other here. let know = kept.each at u here in knows_again now after at u know know.seen know.heard
             (λ second n. record {
               opening = n.opening;
+              until = n.until;
               limit = n.limit;
               number = omega (arith, n.number);
               first = λ zero_too. absurd ((kept.apart id at v u (λ i. other (sym i)) there here).numbers seat second (is_first ∙ sym zero_too));

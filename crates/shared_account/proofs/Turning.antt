@@ -116,7 +116,7 @@ module _ (start : Start) where
         each = views_stay (Knows after) s.views id w (record {
           seen = begins_itself now.account.history;
           heard = knew.heard;
-          seated = λ _. record { opening = refl; limit = refl; number = seated.number; first = seated.first; own = refl };
+          seated = λ _. record { opening = refl; until = refl; limit = refl; number = seated.number; first = seated.first; own = refl };
           ticket = λ t' is. let same : t ≡ t' = cc is in subst (IsOut after) same (record { drawn = out.drawn; unserved = out.unserved });
           turn = λ t' is. let same : t ≡ t' = cc is in record { served = sym same ∙ served; holder = refl; seen = refl };
         })
@@ -149,6 +149,7 @@ module _ (start : Start) where
       let later : IsLater m.0 (record m.0 { stage = Serves t; seen = now.account }) = record {
         number = refl;
         opening = sym seated.opening;
+        until = sym seated.until;
         limit = sym seated.limit;
         legal = kept.past.legal;
         begins = knew.seen;
@@ -195,9 +196,10 @@ module _ (start : Start) where
           words = words_count now s.words account kept.words (omega (arith, sum, old_length)) (omega (arith, short, same_limit, kept.past.bounded));
           past = record {
             opening = ap (λ (a : Ledger). a.opening) turn.seen ∙ kept.past.opening;
+            until = ap (λ (a : Ledger). a.until) turn.seen ∙ kept.past.until;
             limit = ap (λ (a : Ledger). a.limit) turn.seen ∙ kept.past.limit;
             bounded = omega (arith, same_limit, kept.past.bounded);
-            legal = legal_with m.0.seen event admitted (subst (λ (a : Ledger). Rattle.account_core.specs.Answers.IsLegal a.opening a.history) was kept.past.legal) answered;
+            legal = legal_with m.0.seen event admitted (subst (λ (a : Ledger). Rattle.account_core.specs.Answers.IsLegal a.opening a.until a.history) was kept.past.legal) answered;
             short = short;
             few = kept.past.few;
             unmade = λ n made. sym (others_own n (λ e. omega (arith, e, its, seated.number, made))) ∙ kept.past.unmade n made;
@@ -209,7 +211,7 @@ module _ (start : Start) where
           each = views_stay (Knows after) s.views id w (record {
             seen = begins_itself account.history;
             heard = begins_further m.0.heard.history now.account.history account.history knew.heard longer;
-            seated = λ _. record { opening = refl; limit = refl; number = seated.number; first = seated.first; own = refl };
+            seated = λ _. record { opening = refl; until = refl; limit = refl; number = seated.number; first = seated.first; own = refl };
             ticket = λ t' has. let out = knew.ticket t' has in record { drawn = out.drawn; unserved = out.unserved };
             turn = λ t' has. let old = knew.turn t' has in record { served = old.served; holder = old.holder; seen = refl };
           })
@@ -218,6 +220,7 @@ module _ (start : Start) where
               (begins_further u.heard.history now.account.history account.history know.heard longer)
               (λ second n. record {
                 opening = n.opening ∙ ap (λ (a : Ledger). a.opening) was;
+                until = n.until ∙ ap (λ (a : Ledger). a.until) was;
                 limit = n.limit ∙ ap (λ (a : Ledger). a.limit) was;
                 number = n.number;
                 first = n.first;

@@ -6,10 +6,10 @@ use Rattle.account_core.specs.declared.entry.Reply.TheVariants as reply
 
 -- a reply of a kind that the operation has. A grant is of some units, at least the least and at most those wanted
 abbrev pub IsReplyTo : Asked → Reply → Type 0
-IsReplyTo (Credits amount) (reply.Credited available) = Unit {0}
-IsReplyTo (Credits amount) (reply.CreditOver available) = Unit {0}
-IsReplyTo (Reserves call plan wanted least) (reply.Granted units last available) = (1 ≤ units) × (least ≤ units) × (units ≤ wanted)
-IsReplyTo (Reserves call plan wanted least) (reply.Denied available) = Unit {0}
+IsReplyTo (Credits amount moment) (reply.Credited available) = Unit {0}
+IsReplyTo (Credits amount moment) (reply.CreditOver available) = Unit {0}
+IsReplyTo (Reserves call plan wanted least at) (reply.Granted units last available) = (1 ≤ units) × (least ≤ units) × (units ≤ wanted)
+IsReplyTo (Reserves call plan wanted least at) (reply.Denied available) = Unit {0}
 IsReplyTo (Settles call number info) (reply.Settled paid available) = Unit {0}
 IsReplyTo (Settles call number info) (reply.Forfeit paid available) = Unit {0}
 IsReplyTo (Returns call) (reply.Returned paid available) = Unit {0}

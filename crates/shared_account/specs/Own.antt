@@ -9,8 +9,8 @@ own seat history = filter (λ event. event.seat == seat) history
 
 -- whether an operation is of this call
 abbrev pub is_of : ℕ → Asked → Bool
-is_of call (Credits amount) = false
-is_of call (Reserves other plan wanted least) = other == call
+is_of call (Credits amount moment) = false
+is_of call (Reserves other plan wanted least at) = other == call
 is_of call (Settles other number info) = other == call
 is_of call (Returns other) = other == call
 

@@ -25,8 +25,9 @@ with_entry account event = record account { history = account.history ++ event �
 pub record IsLater (before after : View) : Type 0 where
   pub number : after.number ≡ before.number
   pub opening : after.seen.opening ≡ before.seen.opening
+  pub until : after.seen.until ≡ before.seen.until
   pub limit : after.seen.limit ≡ before.seen.limit
-  pub legal : IsLegal after.seen.opening after.seen.history
+  pub legal : IsLegal after.seen.opening after.seen.until after.seen.history
   pub begins : IsPrefix before.seen.history after.seen.history
   pub own : own before.number after.seen.history ≡ own before.number before.seen.history
 
@@ -58,9 +59,10 @@ pub record HasMet (seen heard : List Event) (before after : View) : Type 0 where
   pub stage : after.stage ≡ before.stage
   pub number : after.number ≡ before.number
   pub opening : after.seen.opening ≡ before.seen.opening
+  pub until : after.seen.until ≡ before.seen.until
   pub limit : after.seen.limit ≡ before.seen.limit
   pub one : (after.seen.history ≡ heard) ⊎ (after.seen.history ≡ seen)
-  pub legal : IsLegal after.seen.opening after.seen.history
+  pub legal : IsLegal after.seen.opening after.seen.until after.seen.history
   pub begins_seen : IsPrefix seen after.seen.history
   pub begins_heard : IsPrefix heard after.seen.history
   pub own : own before.number after.seen.history ≡ own before.number before.seen.history

@@ -19,7 +19,7 @@ pub record Sight : Type 0 where
 
 -- an account before any entry
 abbrev pub unused : Terms → Ledger
-unused terms = record { opening = terms.opening; limit = terms.limit; history = [] }
+unused terms = record { opening = terms.opening; until = terms.until; limit = terms.limit; history = [] }
 
 -- the first seats of an account: numbered from 0, without entries, with empty views
 abbrev pub fresh_sights : TableId → Terms → ℕ → List Sight
@@ -32,4 +32,5 @@ fresh_sights table terms (suc seats) =
 pub record IsSameAccount (before after : Sight) : Type 0 where
   pub table : after.table ≡ before.table
   pub opening : after.view.opening ≡ before.view.opening
+  pub until : after.view.until ≡ before.view.until
   pub limit : after.view.limit ≡ before.view.limit

@@ -14,7 +14,7 @@ pub record IsSitting (chair : Sitter) (seat : Place) (seen : ℕ) : Type 0 where
   pub number : chair.0.number ≡ seat.number
   pub count : seen ≡ length chair.0.seen.history
   pub own : own seat.number chair.0.seen.history ≡ seat.mine
-  pub legal : IsLegal chair.0.seen.opening chair.0.seen.history
+  pub legal : IsLegal chair.0.seen.opening chair.0.seen.until chair.0.seen.history
 
 -- a board has three words and a slot, and there is a seat at least
 pub record IsBoard (table : TableId) (seats : ℕ) : Type 0 where

@@ -31,9 +31,10 @@ pub record AreWords (now : Affairs) (words : List ℕ) : Type 0 where
 -- the account was opened as was asked, its history is legal and within its limit, and a number that no seat has yet has no entry
 pub record IsPast (start : Start) (account : Ledger) (made : ℕ) : Type 0 where
   pub opening : account.opening ≡ start.opening
+  pub until : account.until ≡ start.until
   pub limit : account.limit ≡ start.limit
   pub bounded : account.limit < 2 ^ 32
-  pub legal : IsLegal account.opening account.history
+  pub legal : IsLegal account.opening account.until account.history
   pub short : length account.history ≤ account.limit
   pub few : made ≤ 16
   pub unmade : (number : ℕ) → made ≤ number → own number account.history ≡ []
@@ -46,6 +47,7 @@ pub record AreTotals (now : Affairs) (views : List View) : Type 0 where
 -- a seat has seen all entries of its own
 pub record IsNumbered (now : Affairs) (view : View) : Type 0 where
   pub opening : view.seen.opening ≡ now.account.opening
+  pub until : view.seen.until ≡ now.account.until
   pub limit : view.seen.limit ≡ now.account.limit
   pub number : view.number < now.made
   pub first : view.number ≡ 0 → view.made ≡ now.made

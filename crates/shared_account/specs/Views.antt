@@ -50,15 +50,15 @@ seeing view seen = record view { seen = seen }
 
 -- an account before any entry, and none
 abbrev pub unopened : Ledger
-unopened = record { opening = 0; limit = 0; history = [] }
+unopened = record { opening = 0; until = None; limit = 0; history = [] }
 
 -- the view of the first seat, before any entry
-abbrev pub first_view : ℕ → ℕ → View
-first_view opening limit = record {
+abbrev pub first_view : ℕ → Option ℕ → ℕ → View
+first_view opening until limit = record {
   stage = Idles;
   number = 0;
   made = 1;
-  seen = record { opening = opening; limit = limit; history = [] };
+  seen = record { opening = opening; until = until; limit = limit; history = [] };
   heard = unopened;
 }
 

@@ -17,10 +17,12 @@ pub(crate) const COUNT: usize = 2;
 /// The slot of the account.
 pub(crate) const SLOT: usize = 0;
 
-/// What an account is opened with: the credit, and how many entries it may have.
+/// What an account is opened with: the credit, its last moment, if it has one, and how many entries
+/// it may have.
 #[derive(Clone, Copy)]
 pub(crate) struct Start {
     pub opening: u64,
+    pub until: Option<u64>,
     pub limit: u32,
 }
 
@@ -58,7 +60,7 @@ impl TableRule<Option<Account>, View, Start> for Turns {
 
     ghost holds = { Kept };
 
-    ghost first = { λ start. first_view start.opening start.limit };
+    ghost first = { λ start. first_view start.opening start.until start.limit };
 }
 
 /// The words, and the slot, of a turn account.

@@ -30,6 +30,7 @@ impl Model for Book {
     ghost view = { λ b. record {
       account = b.number;
       opening = b.account.opening;
+      until = b.account.until;
       limit = b.limit;
       history = b.account.history;
       own = map (λ list. map event_of list.items) b.own.items;
@@ -42,6 +43,7 @@ impl Book {
         ensures { result ≡ record {
           account = number;
           opening = account.opening;
+          until = account.until;
           limit = limit;
           history = account.history;
           own = map (λ list. map event_of list.items) own.items;
@@ -69,6 +71,13 @@ impl Book {
         self.account.opening()
     }
 
+    /// The last moment that it was opened with, if it has one.
+    pub fn until(&self) -> Option<u64>
+        ensures { result ≡ self.now.until }
+    {
+        self.account.until()
+    }
+
     /// How many entries its history might have grown to.
     pub fn limit(&self) -> u32
         ensures { result ≡ self.now.limit }
@@ -79,7 +88,7 @@ impl Book {
     /// The entries, oldest first. They are a legal history.
     pub fn history(&self) -> &[Entry]
         ensures value { map event_of result.now ≡ self.now.history }
-        ensures legal { IsLegal self.now.opening self.now.history }
+        ensures legal { IsLegal self.now.opening self.now.until self.now.history }
     {
         self.account.history()
     }

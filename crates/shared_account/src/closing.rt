@@ -7,6 +7,7 @@ ghost use Rattle.shared_account.specs.Own.{IsMerged, own};
 ghost use Rattle.shared_account.specs.Seats.{are_all, are_numbered};
 ghost use Rattle.shared_account.specs.declared.fault.CloseFault.TheVariants as close;
 
+use crate::board::Start;
 use crate::sameness::same_entry;
 use crate::{Book, CloseFault, Seat};
 use account_core::{Account, Entry};
@@ -17,17 +18,17 @@ use std::alloc::{AllocError, Global};
 pub(crate) fn close_book(
     alloc: Global,
     number: u32,
-    opening: u64,
-    limit: u32,
+    start: Start,
     count: u32,
     account: Account,
     seats: Vec<Seat>,
 ) -> Result<Book, CloseFault>
     ensures account { IfOk result (λ book. book.account ≡ number) }
-    ensures opening { IfOk result (λ book. book.opening ≡ opening) }
-    ensures limit { IfOk result (λ book. book.limit ≡ limit) }
+    ensures opening { IfOk result (λ book. book.opening ≡ start.opening) }
+    ensures until { IfOk result (λ book. book.until ≡ start.until) }
+    ensures limit { IfOk result (λ book. book.limit ≡ start.limit) }
     ensures history { IfOk result (λ book. book.history ≡ account.history) }
-    ensures legal { IfOk result (λ book. IsLegal book.opening book.history) }
+    ensures legal { IfOk result (λ book. IsLegal book.opening book.until book.history) }
     ensures own { IfOk result (λ book. book.own ≡ map (λ seat. seat.mine) seats.items) }
     ensures merged { IfOk result (λ book. IsMerged book.history book.own) }
     ensures seats { (result ≡ Err close.Seats)
@@ -36,11 +37,14 @@ pub(crate) fn close_book(
     if !are_all(count, seats.as_slice()) {
         return Err(CloseFault::Seats);
     }
-    if account.opening() != opening || !are_merged(account.history(), seats.as_slice()) {
+    if account.opening() != start.opening || account.until() != start.until {
+        return Err(CloseFault::Mismatch);
+    }
+    if !are_merged(account.history(), seats.as_slice()) {
         return Err(CloseFault::Mismatch);
     }
     let own = lists_of(alloc, seats)?;
-    Ok(Book::new(number, limit, account, own))
+    Ok(Book::new(number, start.limit, account, own))
 }
 
 /// Whether these are all seats of an account, in the order of their numbers.

@@ -13,8 +13,8 @@ pub enum CloseFault {
     /// Not all of its seats are there, in the order of their numbers.
     #[error("the seats aren't all there in order")]
     Seats = 1,
-    /// A seat's list isn't the seat's entries in the history, or the opening isn't the one that was
-    /// given.
+    /// A seat's list isn't the seat's entries in the history, or the opening, or its last moment,
+    /// isn't the one that was given.
     #[error("the history isn't what the seats have entered")]
     Mismatch = 2,
     /// Memory ran out.

@@ -13,21 +13,18 @@ use std::alloc::{AllocError, Global};
 use tariff_core::MAX_MONEY;
 
 /// A board with a new account in its slot, and its first chair.
-pub(crate) fn lay_board(
-    alloc: Global,
-    opening: u64,
-    limit: u32,
-) -> Result<(Board, Chair), AccountFault>
-    requires { opening ≤ MAX_MONEY }
+pub(crate) fn lay_board(alloc: Global, start: Start) -> Result<(Board, Chair), AccountFault>
+    requires { start.opening ≤ MAX_MONEY }
     ensures words { IfOk result (λ made. made.0.shared.table_id.words ≡ 3) }
     ensures slots { IfOk result (λ made. made.0.shared.table_id.slots ≡ 1) }
     ensures table { IfOk result (λ made. made.1.table_id ≡ made.0.shared.table_id) }
-    ensures first { IfOk result (λ made. made.1.me ≡ (first_view opening limit, [])) }
+    ensures first { IfOk result (λ made. made.1.me
+        ≡ (first_view start.opening start.until start.limit, [])) }
     ensures refused { IfErr result (λ fault. fault ≡ AccountFault.OutOfMemory) }
 {
     let mut slots = Vec::with_capacity(alloc, 1)?;
-    slots.push_reserved(Some(Account::new(alloc, opening, limit)));
-    let start = Start { opening, limit };
+    let account = Account::new(alloc, start.opening, start.until, start.limit);
+    slots.push_reserved(Some(account));
     match Board::new(alloc, &[0, 0, 0], slots, &start) {
         Ok(made) => Ok(made),
         Err(Refused { slots: _ }) => Err(AccountFault::OutOfMemory),
@@ -44,12 +41,17 @@ pub(crate) fn make_seats(
 ) -> Result<Vec<TurnSeat>, AllocError>
     requires words { board.now.shared.table_id.words ≡ 3 }
     requires table { first.table_id ≡ board.now.shared.table_id }
-    requires first { first.me ≡ (first_view first.me.0.seen.opening first.me.0.seen.limit, []) }
+    requires first { first.me ≡ (
+      first_view first.me.0.seen.opening
+          first.me.0.seen.until first.me.0.seen.limit,
+      [],
+    ) }
     requires some_seats { 1 ≤ count }
     requires few_seats { count ≤ 16 }
     ensures { IfOk result (λ made. made.items ≡ fresh_sights board.now.shared.table_id record {
       number = account;
       opening = first.me.0.seen.opening;
+      until = first.me.0.seen.until;
       limit = first.me.0.seen.limit;
       seats = count;
     } count) }

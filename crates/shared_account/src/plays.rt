@@ -1,5 +1,6 @@
 //! What the steps of a turn tell, and how a chair is split and joined.
 
+ghost use Rattle.std.specs.Prelude.{None};
 ghost use Rattle.account_core.specs.Asked.{Credits};
 ghost use Rattle.account_core.specs.Events.{Event};
 ghost use Rattle.account_core.specs.declared.entry.Reply.TheVariants as reply;
@@ -33,7 +34,7 @@ pub(crate) trait Appended {
 impl Appended for Brand {
     ghost entry = { record {
       seat = 0;
-      asked = Credits 0;
+      asked = Credits 0 None;
       reply = reply.Credited 0;
     } };
 }

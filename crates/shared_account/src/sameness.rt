@@ -19,8 +19,11 @@ fn same_op(first: &Op, second: &Op) -> bool
     ensures { IsTrue result → asked_of first.now ≡ asked_of second.now }
 {
     match *first {
-        Op::Credit { amount } => match *second {
-            Op::Credit { amount: other } => amount == other,
+        Op::Credit { amount, until } => match *second {
+            Op::Credit {
+                amount: other,
+                until: other_until,
+            } => amount == other && until == other_until,
             _ => false,
         },
         Op::Reserve {
@@ -28,17 +31,20 @@ fn same_op(first: &Op, second: &Op) -> bool
             plan,
             wanted,
             least,
+            at,
         } => match *second {
             Op::Reserve {
                 call: other,
                 plan: other_plan,
                 wanted: other_wanted,
                 least: other_least,
+                at: other_at,
             } => {
                 call == other
                     && same_plan(&plan, &other_plan)
                     && wanted == other_wanted
                     && least == other_least
+                    && at == other_at
             }
             _ => false,
         },

@@ -50,14 +50,15 @@ pub trait Shared: Sync + Drop {
 
     ghost mine_of: { Self.Seat → List Event };
 
-    /// An account with this number, an opening credit of 0 to `MAX_MONEY`, an empty history and the
-    /// number of entries that this may grow to; and its seats, 1 to 16 of them, numbered from 0,
-    /// without entries. A fault is `OutOfMemory`.
+    /// An account with this number, an opening credit of 0 to `MAX_MONEY`, a last moment, if it has
+    /// one, an empty history and the number of entries that this may grow to; and its seats, 1 to 16
+    /// of them, numbered from 0, without entries. A fault is `OutOfMemory`.
     fn new<R>(
         rt: &R,
         alloc: Global,
         number: u32,
         opening: u64,
+        until: Option<u64>,
         limit: u32,
         seats: u32,
     ) -> Result<(Self, Vec<Self::Seat>), AccountFault>
@@ -67,6 +68,7 @@ pub trait Shared: Sync + Drop {
         ensures terms { IfOk result (λ made. terms made.0 ≡ record {
           number = number;
           opening = opening;
+          until = until;
           limit = limit;
           seats = seats;
         }) }
@@ -101,8 +103,9 @@ pub trait Shared: Sync + Drop {
         requires { All (λ seat. key_of seat ≡ key self) seats.items }
         ensures account { IfOk result (λ book. book.account ≡ (terms self).number) }
         ensures opening { IfOk result (λ book. book.opening ≡ (terms self).opening) }
+        ensures until { IfOk result (λ book. book.until ≡ (terms self).until) }
         ensures limit { IfOk result (λ book. book.limit ≡ (terms self).limit) }
-        ensures legal { IfOk result (λ book. IsLegal book.opening book.history) }
+        ensures legal { IfOk result (λ book. IsLegal book.opening book.until book.history) }
         ensures own { IfOk result (λ book. book.own ≡ map mine_of seats.items) }
         ensures merged { IfOk result (λ book. IsMerged book.history book.own) }
         ensures seats { (result ≡ Err close.Seats)

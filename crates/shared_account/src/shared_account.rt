@@ -12,6 +12,7 @@ ghost use Rattle.shared_account.specs.Seats.{are_all, fresh_seats};
 ghost use Rattle.shared_account.specs.declared.fault.CloseFault.TheVariants as close;
 
 use crate::asking::ask;
+use crate::board::Start;
 use crate::closing::close_book;
 use crate::{Book, CloseFault, Gate, Seat};
 use account_core::{Account, AccountFault, Op, Reply};
@@ -29,6 +30,7 @@ use tariff_core::MAX_MONEY;
 pub struct SharedAccount {
     number: u32,
     opening: u64,
+    until: Option<u64>,
     limit: u32,
     seats: u32,
     locked: Mutex<Account>,
@@ -39,12 +41,19 @@ impl Model for SharedAccount {
 
     ghost Value = { Terms };
 
-    ghost view = { λ a. record { number = a.number; opening = a.opening; limit = a.limit; seats = a.seats } };
+    ghost view = { λ a. record {
+      number = a.number;
+      opening = a.opening;
+      until = a.until;
+      limit = a.limit;
+      seats = a.seats;
+    } };
 }
 
 impl SharedAccount {
-    /// An account with this number, an opening credit of 0 to `MAX_MONEY`, an empty history and the
-    /// number of entries that this may grow to; and its seats, 1 to 16 of them, numbered from 0.
+    /// An account with this number, an opening credit of 0 to `MAX_MONEY`, a last moment, if it has
+    /// one, an empty history and the number of entries that this may grow to; and its seats, 1 to 16
+    /// of them, numbered from 0.
     ///
     /// A fault is `OutOfMemory`.
     pub fn new<R>(
@@ -52,6 +61,7 @@ impl SharedAccount {
         alloc: Global,
         number: u32,
         opening: u64,
+        until: Option<u64>,
         limit: u32,
         seats: u32,
     ) -> Result<(SharedAccount, Vec<Seat>), AccountFault>
@@ -61,6 +71,7 @@ impl SharedAccount {
         ensures terms { IfOk result (λ made. made.0 ≡ record {
           number = number;
           opening = opening;
+          until = until;
           limit = limit;
           seats = seats;
         }) }
@@ -68,10 +79,11 @@ impl SharedAccount {
         ensures refused { IfErr result (λ fault. fault ≡ AccountFault.OutOfMemory) }
     {
         let made = make_seats(alloc, number, seats)?;
-        let locked = Mutex::new(Account::new(alloc, opening, limit));
+        let locked = Mutex::new(Account::new(alloc, opening, until, limit));
         let account = SharedAccount {
             number,
             opening,
+            until,
             limit,
             seats,
             locked,
@@ -118,8 +130,9 @@ impl SharedAccount {
         requires { All (λ seat. seat.account ≡ self.number) seats.items }
         ensures account { IfOk result (λ book. book.account ≡ self.number) }
         ensures opening { IfOk result (λ book. book.opening ≡ self.opening) }
+        ensures until { IfOk result (λ book. book.until ≡ self.until) }
         ensures limit { IfOk result (λ book. book.limit ≡ self.limit) }
-        ensures legal { IfOk result (λ book. IsLegal book.opening book.history) }
+        ensures legal { IfOk result (λ book. IsLegal book.opening book.until book.history) }
         ensures own { IfOk result (λ book. book.own ≡ map (λ seat. seat.mine) seats.items) }
         ensures merged { IfOk result (λ book. IsMerged book.history book.own) }
         ensures seats { (result ≡ Err close.Seats)
@@ -128,19 +141,17 @@ impl SharedAccount {
         let SharedAccount {
             number,
             opening,
+            until,
             limit,
             seats: count,
             locked,
         } = self;
-        close_book(
-            alloc,
-            number,
+        let start = Start {
             opening,
+            until,
             limit,
-            count,
-            locked.into_inner(),
-            seats,
-        )
+        };
+        close_book(alloc, number, start, count, locked.into_inner(), seats)
     }
 }
 

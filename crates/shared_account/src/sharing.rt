@@ -36,10 +36,11 @@ impl Shared for SharedAccount {
         alloc: Global,
         number: u32,
         opening: u64,
+        until: Option<u64>,
         limit: u32,
         seats: u32,
     ) -> Result<(SharedAccount, Vec<Seat>), AccountFault> {
-        SharedAccount::new(rt, alloc, number, opening, limit, seats)
+        SharedAccount::new(rt, alloc, number, opening, until, limit, seats)
     }
 
     fn call<R: Wait, G: Gate>(
@@ -56,8 +57,9 @@ impl Shared for SharedAccount {
         requires { All (λ seat. seat.account ≡ self.number) seats.items }
         ensures account { IfOk result (λ book. book.account ≡ self.number) }
         ensures opening { IfOk result (λ book. book.opening ≡ self.opening) }
+        ensures until { IfOk result (λ book. book.until ≡ self.until) }
         ensures limit { IfOk result (λ book. book.limit ≡ self.limit) }
-        ensures legal { IfOk result (λ book. IsLegal book.opening book.history) }
+        ensures legal { IfOk result (λ book. IsLegal book.opening book.until book.history) }
         ensures own { IfOk result (λ book. book.own ≡ map (λ seat. seat.mine) seats.items) }
         ensures merged { IfOk result (λ book. IsMerged book.history book.own) }
         ensures seats { (result ≡ Err close.Seats)

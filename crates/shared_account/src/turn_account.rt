@@ -16,7 +16,7 @@ ghost use Rattle.shared_account.specs.Views.{IsServing, seeing};
 ghost use Rattle.shared_account.specs.declared.fault.CloseFault.TheVariants as close;
 
 use crate::asking::ask;
-use crate::board::{Board, Chair};
+use crate::board::{Board, Chair, Start};
 use crate::opening::{lay_board, make_seats};
 use crate::steps::{append, compare, hear};
 use crate::turn::{give_turn, take_turn};
@@ -37,6 +37,7 @@ use tariff_core::MAX_MONEY;
 pub struct TurnAccount {
     number: u32,
     opening: u64,
+    until: Option<u64>,
     limit: u32,
     seats: u32,
     board: Board,
@@ -52,16 +53,22 @@ impl Model for TurnAccount {
 
     ghost view = { λ a. record {
       table = a.board.shared.table_id;
-      terms = record { number = a.number; opening = a.opening; limit = a.limit; seats = a.seats };
+      terms = record {
+        number = a.number;
+        opening = a.opening;
+        until = a.until;
+        limit = a.limit;
+        seats = a.seats;
+      };
     } };
 
     ghost invariant = { λ a. IsBoard a.board.shared.table_id a.seats };
 }
 
 impl TurnAccount {
-    /// An account with this number, an opening credit of 0 to `MAX_MONEY`, an empty history and the
-    /// number of entries that this may grow to; and its seats, 1 to 16 of them, numbered from 0, which
-    /// have seen nothing.
+    /// An account with this number, an opening credit of 0 to `MAX_MONEY`, a last moment, if it has
+    /// one, an empty history and the number of entries that this may grow to; and its seats, 1 to 16
+    /// of them, numbered from 0, which have seen nothing.
     ///
     /// A fault is `OutOfMemory`.
     pub fn new<R>(
@@ -69,6 +76,7 @@ impl TurnAccount {
         alloc: Global,
         number: u32,
         opening: u64,
+        until: Option<u64>,
         limit: u32,
         seats: u32,
     ) -> Result<(TurnAccount, Vec<TurnSeat>), AccountFault>
@@ -78,6 +86,7 @@ impl TurnAccount {
         ensures terms { IfOk result (λ made. made.0.terms ≡ record {
           number = number;
           opening = opening;
+          until = until;
           limit = limit;
           seats = seats;
         }) }
@@ -85,11 +94,17 @@ impl TurnAccount {
             made.1.items ≡ fresh_sights made.0.table made.0.terms seats) }
         ensures refused { IfErr result (λ fault. fault ≡ AccountFault.OutOfMemory) }
     {
-        let (board, first) = lay_board(alloc, opening, limit)?;
+        let start = Start {
+            opening,
+            until,
+            limit,
+        };
+        let (board, first) = lay_board(alloc, start)?;
         let made = make_seats(alloc, &board, first, number, seats)?;
         let account = TurnAccount {
             number,
             opening,
+            until,
             limit,
             seats,
             board,
@@ -115,7 +130,7 @@ impl TurnAccount {
     ) -> Result<Reply, AccountFault>
         requires { seat.old.table ≡ self.now.table }
         ensures same { IsSameAccount seat.old seat.new }
-        ensures legal { IsLegal seat.new.view.opening seat.new.view.history }
+        ensures legal { IsLegal seat.new.view.opening seat.new.view.until seat.new.view.history }
         ensures begins { IsPrefix seat.old.view.history seat.new.view.history }
         ensures ends { IfOk result (λ reply. EndsWith seat.old.view.history
             (event_by seat.old.place.number (asked_of op) reply) seat.new.view.history) }
@@ -186,8 +201,9 @@ impl TurnAccount {
         requires { All (λ seat. seat.table ≡ self.table) seats.items }
         ensures account { IfOk result (λ book. book.account ≡ self.terms.number) }
         ensures opening { IfOk result (λ book. book.opening ≡ self.terms.opening) }
+        ensures until { IfOk result (λ book. book.until ≡ self.terms.until) }
         ensures limit { IfOk result (λ book. book.limit ≡ self.terms.limit) }
-        ensures legal { IfOk result (λ book. IsLegal book.opening book.history) }
+        ensures legal { IfOk result (λ book. IsLegal book.opening book.until book.history) }
         ensures seen { IfOk result (λ book.
             All (λ seat. IsPrefix seat.view.history book.history) seats.items) }
         ensures own { IfOk result (λ book. book.own ≡ map (λ seat. seat.place.mine) seats.items) }
@@ -198,12 +214,18 @@ impl TurnAccount {
         let TurnAccount {
             number,
             opening,
+            until,
             limit,
             seats: count,
             board,
             ..
         } = self;
-        close_board(alloc, number, opening, limit, count, board, seats)
+        let start = Start {
+            opening,
+            until,
+            limit,
+        };
+        close_board(alloc, number, start, count, board, seats)
     }
 }
 

@@ -9,7 +9,7 @@ ghost use Rattle.shared_account.specs.Sitting.{IsBoard};
 ghost use Rattle.shared_account.specs.declared.board.Stage.TheVariants.{Idles};
 ghost use Rattle.shared_account.specs.declared.fault.CloseFault.TheVariants as close;
 
-use crate::board::{Board, Chair, SERVING, SLOT, TICKET};
+use crate::board::{Board, Chair, SERVING, SLOT, Start, TICKET};
 use crate::closing::close_book;
 use crate::steps::{compare, hear};
 use crate::{Book, CloseFault, Seat, TurnSeat};
@@ -21,8 +21,7 @@ use std::alloc::{AllocError, Global};
 pub(crate) fn close_board(
     alloc: Global,
     number: u32,
-    opening: u64,
-    limit: u32,
+    start: Start,
     count: u32,
     board: Board,
     seats: Vec<TurnSeat>,
@@ -30,9 +29,10 @@ pub(crate) fn close_board(
     requires board { IsBoard board.shared.table_id count }
     requires tables { All (λ seat. seat.table ≡ board.shared.table_id) seats.items }
     ensures account { IfOk result (λ book. book.account ≡ number) }
-    ensures opening { IfOk result (λ book. book.opening ≡ opening) }
-    ensures limit { IfOk result (λ book. book.limit ≡ limit) }
-    ensures legal { IfOk result (λ book. IsLegal book.opening book.history) }
+    ensures opening { IfOk result (λ book. book.opening ≡ start.opening) }
+    ensures until { IfOk result (λ book. book.until ≡ start.until) }
+    ensures limit { IfOk result (λ book. book.limit ≡ start.limit) }
+    ensures legal { IfOk result (λ book. IsLegal book.opening book.until book.history) }
     ensures seen { IfOk result (λ book.
         All (λ seat. IsPrefix seat.view.history book.history) seats.items) }
     ensures own { IfOk result (λ book. book.own ≡ map (λ seat. seat.place.mine) seats.items) }
@@ -44,7 +44,7 @@ pub(crate) fn close_board(
         return Err(CloseFault::Seats);
     }
     let (account, places) = unseat(alloc, board, seats)?;
-    close_book(alloc, number, opening, limit, count, account, places)
+    close_book(alloc, number, start, count, account, places)
 }
 
 /// The account of a board and the places of all seats, when one of them has heard what the others

@@ -36,10 +36,11 @@ impl Shared for TurnAccount {
         alloc: Global,
         number: u32,
         opening: u64,
+        until: Option<u64>,
         limit: u32,
         seats: u32,
     ) -> Result<(TurnAccount, Vec<TurnSeat>), AccountFault> {
-        TurnAccount::new(rt, alloc, number, opening, limit, seats)
+        TurnAccount::new(rt, alloc, number, opening, until, limit, seats)
     }
 
     fn call<R: Wait, G: Gate>(
@@ -56,8 +57,9 @@ impl Shared for TurnAccount {
         requires { All (λ seat. seat.table ≡ self.table) seats.items }
         ensures account { IfOk result (λ book. book.account ≡ self.terms.number) }
         ensures opening { IfOk result (λ book. book.opening ≡ self.terms.opening) }
+        ensures until { IfOk result (λ book. book.until ≡ self.terms.until) }
         ensures limit { IfOk result (λ book. book.limit ≡ self.terms.limit) }
-        ensures legal { IfOk result (λ book. IsLegal book.opening book.history) }
+        ensures legal { IfOk result (λ book. IsLegal book.opening book.until book.history) }
         ensures seen { IfOk result (λ book.
             All (λ seat. IsPrefix seat.view.history book.history) seats.items) }
         ensures own { IfOk result (λ book. book.own ≡ map (λ seat. seat.place.mine) seats.items) }

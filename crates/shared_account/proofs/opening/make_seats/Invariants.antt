@@ -8,11 +8,11 @@ invariant-loop-number l =
     let start = l.initial.first.me.0.seen in
     record {
       table : l.first.table_id ≡ l.initial.first.table_id;
-      first : l.first.me ≡ (record (first_view start.opening start.limit) { made = l.number }, []);
+      first : l.first.me ≡ (record (first_view start.opening start.until start.limit) { made = l.number }, []);
       made : record {
         table = l.initial.first.table_id;
         place = record { account = l.account; number = 0; mine = [] };
-        view = record { opening = start.opening; limit = start.limit; history = [] };
+        view = record { opening = start.opening; until = start.until; limit = start.limit; history = [] };
       } ∷ l.made.items
-          ≡ fresh_sights l.initial.first.table_id (record { number = l.account; opening = start.opening; limit = start.limit; seats = l.count }) l.number;
+          ≡ fresh_sights l.initial.first.table_id (record { number = l.account; opening = start.opening; until = start.until; limit = start.limit; seats = l.count }) l.number;
     }

@@ -9,7 +9,7 @@ use Rattle.shared_account.proofs.seat.Seat.enter_call.Goals as goal
 
 pub push_reserved-requires : goal.push_reserved-requires
 push_reserved-requires c =
-    let entered = is_entry c.self.inside c.args.self.now c.self.view_is c.args.account.now.opening (reverse c.args.account.now.history)
+    let entered = is_entry c.self.inside c.args.self.now c.self.view_is c.args.account.now.opening c.args.account.now.until (reverse c.args.account.now.history)
     c.self.inside.number c.args.call (asked_of c.args.op) c.in_ok-reply.reply c.places-before.result c.after-after.result c.requires.of_call
     c.in_ok-reply.ensures.answered c.places-before.ensures c.after-after.ensures in
     omega (
@@ -23,7 +23,7 @@ push_reserved-requires c =
 
 pub overflow_sub-self : goal.overflow_sub-self
 overflow_sub-self c =
-    let entered = is_entry c.self.inside c.args.self.now c.self.view_is c.args.account.now.opening (reverse c.args.account.now.history)
+    let entered = is_entry c.self.inside c.args.self.now c.self.view_is c.args.account.now.opening c.args.account.now.until (reverse c.args.account.now.history)
     c.self.inside.number c.args.call (asked_of c.args.op) c.in_ok-reply.reply c.places-before.result c.after-after.result c.requires.of_call
     c.in_ok-reply.ensures.answered c.places-before.ensures c.after-after.ensures in
     omega (
@@ -43,7 +43,7 @@ invariant_of-self-2 c =
     let after = c.after-after.result in
     let places = c.self.inside.owed + c.owed.result - c.owed-2.result in
     let capacity = vec_capacity c.push_reserved.new.self in
-    let entered = is_entry c.self.inside c.args.self.now c.self.view_is c.args.account.now.opening (reverse c.args.account.now.history)
+    let entered = is_entry c.self.inside c.args.self.now c.self.view_is c.args.account.now.opening c.args.account.now.until (reverse c.args.account.now.history)
     c.self.inside.number c.args.call (asked_of c.args.op) c.in_ok-reply.reply before after c.requires.of_call
     c.in_ok-reply.ensures.answered c.places-before.ensures c.after-after.ensures in
     let same = of_call c.args.call (asked_of c.args.op) c.requires.of_call in
