@@ -99,8 +99,8 @@ says_of_call call first (got ∷ earlier) about says = (kept_got call (talked fi
 
 entry_held : (seat call : ℕ) (calls : List ℕ) (said : Says) (got : Got) → SaysOf call said → Contains calls call → All (λ c. Contains calls c) (held_of (entry_of seat said got))
 entry_held seat call calls (Asks (Credits amount until)) got says has = absurd says
-entry_held seat call calls (Asks (Reserves other plan wanted least)) (Ok reply) says has = All-cons (λ c. Contains calls c) other [] (let P : ℕ → Type 0 = λ c. Contains calls c in subst P (sym says) has) (All-nil (λ c. Contains calls c))
-entry_held seat call calls (Asks (Reserves other plan wanted least)) (Err fault) says has = All-nil (λ c. Contains calls c)
+entry_held seat call calls (Asks (Reserves other plan wanted least moment)) (Ok reply) says has = All-cons (λ c. Contains calls c) other [] (let P : ℕ → Type 0 = λ c. Contains calls c in subst P (sym says) has) (All-nil (λ c. Contains calls c))
+entry_held seat call calls (Asks (Reserves other plan wanted least moment)) (Err fault) says has = All-nil (λ c. Contains calls c)
 entry_held seat call calls (Asks (Settles other number info)) (Ok reply) says has = All-nil (λ c. Contains calls c)
 entry_held seat call calls (Asks (Settles other number info)) (Err fault) says has = All-nil (λ c. Contains calls c)
 entry_held seat call calls (Asks (Returns other)) (Ok reply) says has = All-cons (λ c. Contains calls c) other [] (let P : ℕ → Type 0 = λ c. Contains calls c in subst P (sym says) has) (All-nil (λ c. Contains calls c))
@@ -119,8 +119,8 @@ talk_held seat call calls first (got ∷ earlier) about says has =
 
 no_credit : (seat call : ℕ) (said : Says) (got : Got) → SaysOf call said → credits_of (entry_of seat said got) ≡ []
 no_credit seat call (Asks (Credits amount until)) got says = absurd says
-no_credit seat call (Asks (Reserves other plan wanted least)) (Ok reply) says = refl
-no_credit seat call (Asks (Reserves other plan wanted least)) (Err fault) says = refl
+no_credit seat call (Asks (Reserves other plan wanted least moment)) (Ok reply) says = refl
+no_credit seat call (Asks (Reserves other plan wanted least moment)) (Err fault) says = refl
 no_credit seat call (Asks (Settles other number info)) (Ok reply) says = refl
 no_credit seat call (Asks (Settles other number info)) (Err fault) says = refl
 no_credit seat call (Asks (Returns other)) (Ok reply) says = refl
@@ -138,7 +138,7 @@ talk_credits seat call first (got ∷ earlier) about says =
 
 entry_settles : (seat : ℕ) (said : Says) (got : Got) → IsPart (settles_of (entry_of seat said got)) (settled_by said)
 entry_settles seat (Asks (Credits amount until)) (Ok reply) = tt
-entry_settles seat (Asks (Reserves other plan wanted least)) (Ok reply) = tt
+entry_settles seat (Asks (Reserves other plan wanted least moment)) (Ok reply) = tt
 entry_settles seat (Asks (Settles other number info)) (Ok reply) = inl (refl, tt)
 entry_settles seat (Asks (Returns other)) (Ok reply) = tt
 entry_settles seat (Asks asked) (Err fault) = tt

@@ -1,6 +1,6 @@
 -- Accounts and subscribers that come into a directory one after another.
 use Rattle.std.proofs.Common.{◌≡◌, ◌≤◌, ◌<◌, ◌+◌, ℕ, Bool, true, false, List, [], ◌∷◌, ◌++◌, length, Option, Some, None, refl, sym, ap, ◌∙◌, arith}
-use Rattle.std.specs.Prelude.{◌==◌, All, cond, if◌then◌else◌, is_some, nat_lt, take, drop}
+use Rattle.std.specs.Prelude.{◌==◌, All, cond, if◌then◌else◌, is_some, take, drop}
 use Rattle.std.specs.Bool.{one_answer}
 use Rattle.std.specs.BTreeMap.{insert_entry, is_at}
 use Rattle.std.specs.Map.{lookup, values_of}

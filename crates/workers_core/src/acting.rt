@@ -3,7 +3,7 @@
 ghost use Rattle.std.specs.Prelude.{◌≡◌, ◌≢◌, ◌==◌, ◌∷◌, ◌<◌, [], ℕ, None, Some, true, false, length, map, if◌then◌else◌, IfOk, IfErr, IsSome, OnOk};
 ghost use Rattle.std.specs.BTreeMap.{get};
 ghost use Rattle.std.specs.Ordering.{nat_cmp};
-ghost use Rattle.account_core.specs.Asked.{Credits};
+ghost use Rattle.account_core.specs.Events.{asked_of};
 ghost use Rattle.cap_values.specs.Orders.{Release, orders_of};
 ghost use Rattle.dialogue_core.specs.Views.{phase_of, says_of};
 ghost use Rattle.workers_core.specs.Cases.{HasRoom, IsActed, IsCredited, IsWithin, with_room};
@@ -97,7 +97,7 @@ pub(crate) fn act<S: Shared, R: Wait, G: Gate>(
                 &accounts[place],
                 &mut seats[place],
                 number,
-                (amount, until),
+                Op::Credit { amount, until },
             )
         }
         Case::Talk { call, talk, turn } => {
@@ -145,25 +145,25 @@ fn rejection() -> ArrayVec<ScfOp, 4>
     ops
 }
 
-/// Adds money to an account, and moves its last moment where one is given.
+/// Puts a credit to an account.
 fn recharge<S: Shared, R: Wait, G: Gate>(
     rt: &R,
     gate: &G,
     account: &S,
     seat: &mut S::Seat,
     number: u64,
-    (amount, until): (u64, Option<u64>),
+    credit: Op,
 ) -> Result<Answer, WorkerFault>
     requires { S.key_of seat.old ≡ S.key account.now }
     ensures same_key { S.key_of seat.new ≡ S.key_of seat.old }
     ensures same_number { S.number_of seat.new ≡ S.number_of seat.old }
     ensures number { IfOk result (λ answer. answer.number ≡ number) }
     ensures credited { IfOk result (λ answer. IsCredited (S.number_of seat.old)
-        (Credits amount until) (S.mine_of seat.old) (S.mine_of seat.new) (told_of answer)) }
+        (asked_of credit) (S.mine_of seat.old) (S.mine_of seat.new) (told_of answer)) }
     ensures fault { IfErr result (λ fault. fault ≡ WorkerFault.GateClosed) }
     ensures gate { result ≡ Err WorkerFault.GateClosed → G.may_shut gate.now }
 {
-    let refused = match account.call(rt, seat, Op::Credit { amount, until }, gate) {
+    let refused = match account.call(rt, seat, credit, gate) {
         Ok(_) => None,
         Err(AccountFault::GateClosed) => return Err(WorkerFault::GateClosed),
         Err(fault) => Some(fault),

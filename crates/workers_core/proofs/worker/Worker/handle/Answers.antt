@@ -4,6 +4,7 @@ use Rattle.workers_core.specs.Handled.{told_of}
 use Rattle.workers_core.specs.Verdicts.{verdict}
 use Rattle.workers_core.specs.Workers.{holding, standings_in}
 use Rattle.workers_core.proofs.Handling.{case_within, done_by, recharged_so, rejected_so, sound_after, stray_is, stray_lists}
+use Rattle.workers_core.specs.declared.opening_credit.OpeningCredit.{OpeningCredit}
 use Rattle.workers_core.proofs.worker.Worker.handle.Goals as goal
 
 done : goal.returns-clause-handled
@@ -20,7 +21,7 @@ pub act-requires-clause-within : goal.act-requires-clause-within
 act-requires-clause-within g c κs within =
     let many : length c.args.self.now.accounts.now ≡ length c.args.self.now.setup.now.accounts =
     sym (length-map c.args.self.now.accounts.now (λ account. (g.S.Shared.terms account).number)) ∙ ap length c.requires.ready.accounts
-    ∙ length-map c.args.self.now.setup.now.accounts (λ (e : ℕ × ℕ). e.0) in
+    ∙ length-map c.args.self.now.setup.now.accounts (λ (e : ℕ × OpeningCredit). e.0) in
     rw many
     (case_within c.args.self.now.setup.now c.args.self.now.posts.items (holding g.S.Shared.mine_of c.args.self.now) c.args.post c.judge-case.result c.requires.ready.sound c.judge-case.ensures)
 
