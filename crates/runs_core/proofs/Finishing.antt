@@ -3,6 +3,7 @@ use Rattle.std.proofs.Common.{◌≡◌, ◌≢◌, ℕ, ◌+◌, List, [], ◌�
 use Rattle.std.specs.Option.{option_or}
 use mathlib.Core.Logic.{inl, inr}
 use Rattle.std.proofs.lemmas.List.{append-nil, append_assoc, map-append}
+use Rattle.workers_core.specs.declared.opening_credit.OpeningCredit.{OpeningCredit}
 use Rattle.workers_core.specs.Setups.{Setup}
 use Rattle.runs_core.specs.Sending.{AreLeftBy, ArePromised, IsLeftBy, IsPromised, MayBeShut, promises_of, sent_by}
 use Rattle.std.specs.Map.{keys_of}
@@ -126,7 +127,7 @@ left_from read key setup accounts gate number (promise ∷ promises) (one ∷ le
 )
 
 -- the numbers of accounts that were opened are those of the setup
-pub numbers_of : {S : Type 0} (terms : S → Terms) (limit workers : ℕ) (setup : List (ℕ × ℕ)) (accounts : List S) → map terms accounts ≡ terms_of limit workers setup
+pub numbers_of : {S : Type 0} (terms : S → Terms) (limit workers : ℕ) (setup : List (ℕ × OpeningCredit)) (accounts : List S) → map terms accounts ≡ terms_of limit workers setup
     → map (λ account. (terms account).number) accounts ≡ keys_of setup
 numbers_of terms limit workers [] [] same = refl
 numbers_of terms limit workers [] (account ∷ accounts) same = absurd (cc)
