@@ -1,33 +1,34 @@
 -- What is kept of a legal history is kept as legal entries are added to it.
 use Rattle.std.proofs.Common.{◌≡◌, ℕ, ◌+◌, ◌≤◌, Option, Some, None, List, [], ◌∷◌, sym, ap, ◌∙◌, refl, arith, subst}
-use Rattle.std.specs.Prelude.{false, true, is_some, unwrap_or}
-use Rattle.std.specs.BTreeMap.{BTreeMap, IsEmpty, Updates, get}
-use Rattle.std.specs.Ordering.{nat_cmp}
+use Rattle.std.specs.Prelude.{◌==◌, Bool, false, true, is_some, if◌then◌else◌}
+use Rattle.std.proofs.lemmas.Bool.{eqb-true}
 use Rattle.account_core.specs.Answers.{IsAnswered, answer, inadmissible, inadmissible_for, shown_by}
 use Rattle.account_core.specs.Available.{credited}
 use Rattle.account_core.specs.Events.{Event}
+use Rattle.account_core.specs.CallStandings.{Renews, TellsCalls, standing_of}
 use Rattle.account_core.specs.Expiry.{last_moment_after}
-use Rattle.account_core.specs.Kept.{TellsEach, known_of, unknown}
+use Rattle.account_core.specs.Kept.{known_of, unknown}
 use Rattle.account_core.specs.Known.{Known, known, known_after, taken_of}
 use Rattle.account_core.specs.Replies.{reply_for}
 use Rattle.account_core.specs.Sound.{HasRoom, LegalPastsAreSound, SoundPastsAnswer}
 use Rattle.account_core.specs.Tallied.{IsTallied, IsToldOf, tally_of}
 use Rattle.account_core.specs.declared.entry.Reply.{Reply}
 use Rattle.account_core.specs.declared.fault.AccountFault.{AccountFault}
+use Rattle.account_core.specs.declared.call_standings.CallStandings.{CallStandings}
 use Rattle.account_core.specs.declared.standing.Standing.{Standing}
 use Rattle.account_core.specs.declared.tally.Tally.{Tally}
 use Rattle.account_core.proofs.Answering.{money_kept, reply_is_answer}
-use Rattle.account_core.proofs.Entering.{nothing_taken_yet, tells_renewed}
+use Rattle.account_core.proofs.Entering.{nothing_taken_yet}
 use Rattle.account_core.proofs.Fitting.{answer_shows}
-use Rattle.account_core.proofs.Moves.{its_call, its_deed, known_here}
+use Rattle.account_core.proofs.Moves.{its_call, its_deed, known_apart, known_here}
 use Rattle.account_core.proofs.Walking.{room_walk}
 
-pub tallied_new : (opening : ℕ) (until : Option ℕ) (m : BTreeMap ℕ Standing) → opening ≤ 1000000000000000 → IsEmpty m
-    → IsTallied [] (tally_of opening until m opening opening until)
-tallied_new opening until m small empty = record {
+pub tallied_new : (opening : ℕ) (until : Option ℕ) (calls : CallStandings) → opening ≤ 1000000000000000
+    → ((call : ℕ) → standing_of calls call ≡ unknown) → IsTallied [] (tally_of opening until calls opening opening until)
+tallied_new opening until calls small none = record {
   small = small;
   legal = tt;
-  tells = λ call. rw empty refl;
+  tells = λ call. ap known_of (none call);
   funds_are = omega arith;
   credit_is = sym (nothing_taken_yet opening);
   last_is = refl;
@@ -80,30 +81,31 @@ module _ (opening : ℕ) (until : Option ℕ) (h : List Event) (event : Event) (
 
 -- ---- an entry, by the standings of all calls
 
-module _ (opening : ℕ) (until : Option ℕ) (h : List Event) (m : BTreeMap ℕ Standing) (funds credit : ℕ) (last : Option ℕ) (event : Event)
-    (tallied : IsTallied h (tally_of opening until m funds credit last)) where
-  told_by : (standing : Standing) → unwrap_or (get nat_cmp m (its_call event)) unknown ≡ standing → IsToldOf opening until h event (known_of standing) funds credit last
+module _ (opening : ℕ) (until : Option ℕ) (h : List Event) (calls : CallStandings) (funds credit : ℕ) (last : Option ℕ) (event : Event)
+    (tallied : IsTallied h (tally_of opening until calls funds credit last)) where
+  pub told_by : (standing : Standing) → standing ≡ standing_of calls (its_call event) → IsToldOf opening until h event (known_of standing) funds credit last
   told_by standing is = record {
     small = tallied.small;
     legal = tallied.legal;
-    call_is = sym (ap known_of is) ∙ tallied.tells (its_call event);
+    call_is = ap known_of is ∙ tallied.tells (its_call event);
     funds_are = tallied.funds_are;
     credit_is = tallied.credit_is;
     last_is = tallied.last_is;
   }
 
-  pub told_found : (call : ℕ) (standing : Standing) → call ≡ its_call event → Some standing ≡ get nat_cmp m call → IsToldOf opening until h event (known_of standing) funds credit last
-  told_found call standing here found =
-      told_by standing (ap (λ c. unwrap_or (get nat_cmp m c) unknown) (sym here) ∙ ap (λ o. unwrap_or o unknown) (sym found))
+  tells_at : (here : Bool) (new : CallStandings) (after : Standing) (call : ℕ) → (its_call event == call) ≡ here → Renews calls new (its_call event) after
+      → known_of after ≡ known (its_call event) (event ∷ h) → known_of (standing_of new call) ≡ known call (event ∷ h)
+  tells_at true new after call is renews after_is =
+      let P : ℕ → Type 0 = λ c. known_of after ≡ known c (event ∷ h) in
+      let now : standing_of new call ≡ after = renews call ∙ ap (λ b. if b then after else standing_of calls call) is in
+      ap known_of now ∙ subst P (eqb-true (its_call event) call is) after_is
+  tells_at false new after call is renews after_is =
+      let now : standing_of new call ≡ standing_of calls call = renews call ∙ ap (λ b. if b then after else standing_of calls call) is in
+      ap known_of now ∙ (tallied.tells call ∙ sym (known_apart h event call is))
 
-  pub told_new : (call : ℕ) → call ≡ its_call event → get nat_cmp m call ≡ None → IsToldOf opening until h event (known_of unknown) funds credit last
-  told_new call here none = told_by unknown (ap (λ c. unwrap_or (get nat_cmp m c) unknown) (sym here) ∙ ap (λ o. unwrap_or o unknown) none)
-
-  pub tells_after : (n : BTreeMap ℕ Standing) (call : ℕ) (after : Standing) → call ≡ its_call event → Updates nat_cmp m n call (Some after)
-      → known_of after ≡ known (its_call event) (event ∷ h) → TellsEach n (event ∷ h)
-  tells_after n call after here updates after_is =
-      let U : ℕ → Type 0 = λ c. Updates nat_cmp m n c (Some after) in
-      tells_renewed m n h event after (subst U here updates) tallied.tells (after_is ∙ known_here h event)
+  pub tells_after : (new : CallStandings) (after : Standing) → Renews calls new (its_call event) after
+      → known_of after ≡ known (its_call event) (event ∷ h) → TellsCalls new (event ∷ h)
+  tells_after new after renews after_is call = tells_at (its_call event == call) new after call refl renews after_is
 
 -- ---- an entry that was answered
 
@@ -111,10 +113,10 @@ module _ (h : List Event) (tally : Tally) (event : Event) (tallied : IsTallied h
   pub funds_more : LegalPastsAreSound → tally.funds + credited event.asked event.reply ≤ 1000000000000000
   funds_more sounds = omega (arith, tallied.funds_are, (sounds tally.opening tally.until (event ∷ h) tallied.small (tallied.legal, answered)).capped)
 
-  pub tallied_more : (m : BTreeMap ℕ Standing) (added credit : ℕ) (last : Option ℕ) → TellsEach m (event ∷ h) → added ≡ credited event.asked event.reply
+  pub tallied_more : (calls : CallStandings) (added credit : ℕ) (last : Option ℕ) → TellsCalls calls (event ∷ h) → added ≡ credited event.asked event.reply
       → credit ≡ shown_by event.reply → last ≡ last_moment_after tally.last_moment event.asked event.reply
-      → IsTallied (event ∷ h) (tally_of tally.opening tally.until m (tally.funds + added) credit last)
-  tallied_more m added credit last tells added_is shows last_is = record {
+      → IsTallied (event ∷ h) (tally_of tally.opening tally.until calls (tally.funds + added) credit last)
+  tallied_more calls added credit last tells added_is shows last_is = record {
     small = tallied.small;
     legal = (tallied.legal, answered);
     tells = tells;

@@ -1,6 +1,7 @@
 pub mod Answers
 pub mod Asked
 pub mod Available
+pub mod CallStandings
 pub mod Checked
 pub mod Events
 pub mod Expiry

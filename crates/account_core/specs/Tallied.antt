@@ -1,27 +1,26 @@
 -- What is kept of a legal history while its entries are judged one after another.
 use Rattle.std.specs.Prelude.{◌≡◌, ◌+◌, ◌≤◌, ℕ, Option, List}
-use Rattle.std.specs.BTreeMap.{BTreeMap}
 use Rattle.account_core.specs.Answers.{IsLegalPast}
 use Rattle.account_core.specs.Asked.{call_of}
 use Rattle.account_core.specs.Available.{available, credits}
+use Rattle.account_core.specs.CallStandings.{TellsCalls}
 use Rattle.account_core.specs.Events.{Event}
 use Rattle.account_core.specs.Expiry.{last_moment}
-use Rattle.account_core.specs.Kept.{TellsEach}
 use Rattle.account_core.specs.Known.{Known, known}
-use Rattle.account_core.specs.declared.standing.Standing.{Standing}
+use Rattle.account_core.specs.declared.call_standings.CallStandings.{CallStandings}
 use Rattle.account_core.specs.declared.tally.Tally.{Tally}
 use Rattle.tariff_core.specs.declared.money.TheConstants.{MAX_MONEY}
 
 -- a tally with these parts
-abbrev pub tally_of : ℕ → Option ℕ → BTreeMap ℕ Standing → ℕ → ℕ → Option ℕ → Tally
+abbrev pub tally_of : ℕ → Option ℕ → CallStandings → ℕ → ℕ → Option ℕ → Tally
 tally_of opening until calls funds available last =
     record { opening = opening; until = until; calls = calls; funds = funds; available = available; last_moment = last }
 
--- the history is legal from this opening, and the map, the totals and the last moment are those of the history
+-- the history is legal from this opening, and the standings, the totals and the last moment are those of the history
 pub record IsTallied (h : List Event) (tally : Tally) : Type 0 where
   pub small : tally.opening ≤ MAX_MONEY
   pub legal : IsLegalPast tally.opening tally.until h
-  pub tells : TellsEach tally.calls h
+  pub tells : TellsCalls tally.calls h
   pub funds_are : tally.funds ≡ tally.opening + credits h
   pub credit_is : tally.available ≡ available tally.opening h
   pub last_is : tally.last_moment ≡ last_moment tally.until h

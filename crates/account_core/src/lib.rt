@@ -4,6 +4,7 @@
 
 mod account;
 mod account_port;
+mod call_standings;
 mod call_sum;
 mod check;
 mod entry;

@@ -1,31 +1,30 @@
 //! What a legal history comes to, while its entries are judged one after another.
 
-ghost use Rattle.std.specs.Prelude.{◌≡◌, ◌≤◌, ◌∷◌, [], ℕ, List, Option, None, true, false, IfNone, IfOk, IfSome, OnErr};
-ghost use Rattle.std.specs.BTreeMap.{IsUnchanged, get};
-ghost use Rattle.std.specs.Ordering.{nat_cmp};
+ghost use Rattle.std.specs.Prelude.{◌≡◌, ◌≤◌, ◌∷◌, [], ℕ, List, Option, true, false, IfNone, IfOk, IfSome, OnErr};
 ghost use Rattle.account_core.specs.Answers.{IsAnswered};
 ghost use Rattle.account_core.specs.Asked.{call_of};
+ghost use Rattle.account_core.specs.CallStandings.{AreSame, TellsCalls, standing_of};
 ghost use Rattle.account_core.specs.Events.{Event, asked_of, event_of};
-ghost use Rattle.account_core.specs.Kept.{TellsEach, known_of};
+ghost use Rattle.account_core.specs.Kept.{known_of, unknown};
 ghost use Rattle.account_core.specs.Known.{known, nothing_known};
 ghost use Rattle.account_core.specs.Tallied.{IsTallied, IsToldOf, tally_of};
 
 use crate::Entry;
+use crate::call_standings::CallStandings;
 use crate::judging::{inadmissible, reply};
 use crate::laws::legal_pasts_are_sound;
 use crate::standing::Standing;
 use std::alloc::{AllocError, Global};
-use std::collections::BTreeMap;
 use tariff_core::MAX_MONEY;
 
 /// What a legal history comes to: the standing of each call, the opening with the accepted credits,
-/// the credit that is left, and the last moment, if there is one. The history itself isn't kept: each clause speaks of every history
-/// that comes to this.
+/// the credit that is left, and the last moment, if there is one. The history itself isn't kept:
+/// each clause speaks of every history that comes to this.
 #[derive(Drop)]
 pub(crate) struct Tally {
     pub opening: u64,
     pub until: Option<u64>,
-    pub calls: BTreeMap<u64, Standing>,
+    pub calls: CallStandings,
     pub funds: u64,
     pub available: u64,
     pub last_moment: Option<u64>,
@@ -42,7 +41,7 @@ impl Tally {
         Tally {
             opening,
             until,
-            calls: BTreeMap::new(alloc),
+            calls: CallStandings::new(alloc),
             funds: opening,
             available: opening,
             last_moment: until,
@@ -84,7 +83,7 @@ impl Tally {
 /// Keeps what is known of a call after an entry of it, where the entry is legal after a history
 /// with these funds, of which so much is available, and this last moment; tells whether it is.
 fn renew_standing(
-    calls: &mut BTreeMap<u64, Standing>,
+    calls: &mut CallStandings,
     entry: Entry,
     funds: u64,
     available: u64,
@@ -92,28 +91,23 @@ fn renew_standing(
 ) -> Result<bool, AllocError>
     requires { (opening : ℕ) × (until : Option ℕ) × (h : List Event) ×
         IsTallied h (tally_of opening until calls.old funds available last_moment) }
-    ensures legal { IfOk result (λ legal. legal ≡ true → (opening : ℕ) (until : Option ℕ) (h : List Event) →
-        IsTallied h (tally_of opening until calls.old funds available last_moment) →
-        IsAnswered opening until h (event_of entry) × TellsEach calls.new (event_of entry ∷ h)) }
-    ensures illegal { IfOk result (λ legal. legal ≡ false → (opening : ℕ) (until : Option ℕ) (h : List Event) →
-        IsTallied h (tally_of opening until calls.old funds available last_moment) →
-        IsAnswered opening until h (event_of entry) → ⊥) }
-    ensures kept { OnErr result (IsUnchanged calls.old calls.new) }
-    ensures fresh { OnErr result (get nat_cmp calls.old (call_of (asked_of entry.op)) ≡ None) }
+    ensures legal { IfOk result (λ legal. legal ≡ true
+        → (opening : ℕ) (until : Option ℕ) (h : List Event)
+        → IsTallied h (tally_of opening until calls.old funds available last_moment)
+        → IsAnswered opening until h (event_of entry) × TellsCalls calls.new (event_of entry ∷ h)) }
+    ensures illegal { IfOk result (λ legal. legal ≡ false
+        → (opening : ℕ) (until : Option ℕ) (h : List Event)
+        → IsTallied h (tally_of opening until calls.old funds available last_moment)
+        → IsAnswered opening until h (event_of entry) → ⊥) }
+    ensures kept { OnErr result (AreSame calls.old calls.new) }
+    ensures fresh { OnErr result (standing_of calls.old (call_of (asked_of entry.op)) ≡ unknown) }
 {
     let call = entry.op.call();
-    let Some(standing) = calls.get_mut(&call) else {
-        let Some(after) = after_legal(entry, &Standing::UNKNOWN, funds, available, last_moment)
-        else {
-            return Ok(false);
-        };
-        calls.insert(call, after)?;
-        return Ok(true);
-    };
-    let Some(after) = after_legal(entry, standing, funds, available, last_moment) else {
+    let standing = calls.standing(call);
+    let Some(after) = after_legal(entry, &standing, funds, available, last_moment) else {
         return Ok(false);
     };
-    *standing = after;
+    calls.renew(call, after)?;
     Ok(true)
 }
 

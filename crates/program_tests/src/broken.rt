@@ -25,7 +25,7 @@ moment,call,what,x,y
 ";
 
 /// Words, and an input that they take.
-const INPUTS: [(&str, &str); 3] = [
+const INPUTS: [(&str, &str); 4] = [
     (
         "price --fee 50 --before 1000 --after 400",
         "before,after\n0,0\n1,0\n600,0\n600,300\n",
@@ -36,6 +36,12 @@ const INPUTS: [(&str, &str); 3] = [
          0,return,1,,,,,\n",
     ),
     ("run", FIRST),
+    (
+        "audit",
+        "account,seat,op,call,x1,x2,x3,x4,x5,x6,reply,y1,y2,y3\n1,,opening,,1055,,,,,,,,,\n\
+         1,0,reserve,1,50,1000,400,600,50,0,granted,600,more,5\n\
+         1,0,settle,1,0,n,600,,,,settled,1050,,5\n1,0,return,1,,,,,,,returned,1050,,5\n",
+    ),
 ];
 
 /// Inputs of `run` that break off, and their first fault.
