@@ -6,6 +6,7 @@ use Rattle.runs_core.specs.Shares.{HaveHandled}
 use Rattle.runs_core.specs.Teams.{terms_of}
 use Rattle.shared_account.specs.Closed.{Closed}
 use Rattle.shared_account.specs.Own.{IsMerged}
+use Rattle.workers_core.specs.declared.opening_credit.OpeningCredit.{OpeningCredit}
 use Rattle.workers_core.specs.declared.post.Body.{Body}
 use Rattle.workers_core.specs.declared.post.Post.{Post}
 use Rattle.account_core.specs.declared.limits.TheConstants.{MAX_LIMIT}
