@@ -77,7 +77,15 @@ fn reserve(call: u64, after: Option<u64>, wanted: u32) -> Result<Op, PlanRange> 
         plan,
         wanted,
         least: 50,
+        at: 0,
     })
+}
+
+fn credit(amount: u64) -> Op {
+    Op::Credit {
+        amount,
+        until: None,
+    }
 }
 
 fn settle(call: u64, number: u64, info: TimeInfo) -> Op {
@@ -96,7 +104,7 @@ fn two_seats<R: Abort>(
     ensures first { IfOk result (λ made. made.1.account ≡ number) }
     ensures second { IfOk result (λ made. made.2.account ≡ number) }
 {
-    let (account, mut seats) = SharedAccount::new(rt, alloc, number, opening, 100, 2)?;
+    let (account, mut seats) = SharedAccount::new(rt, alloc, number, opening, None, 100, 2)?;
     let second = seats.pop().expect(rt, "two seats");
     let first = seats.pop().expect(rt, "two seats");
     Ok((account, first, second))
@@ -186,7 +194,7 @@ fn prints_the_calls_of_accounts(rt: HostRuntime) -> Result<(), Fail> {
         interval: None,
     };
     let settled = [
-        (0, Op::Credit { amount: 600 }),
+        (0, credit(600)),
         (0, reserve(2, Some(400), 600)?),
         (1, settle(2, 4, switched_early)),
         (0, Op::Return { call: 2 }),
@@ -206,7 +214,7 @@ fn prints_the_calls_of_accounts(rt: HostRuntime) -> Result<(), Fail> {
         (1, settle(7, 2, switched)),
         (1, Op::Return { call: 7 }),
     ];
-    let full = [(0, Op::Credit { amount: 1 })];
+    let full = [(0, credit(1))];
     let one = [(7, 1500, alone.as_slice())];
     let several = [
         (1, 1500, shared.as_slice()),

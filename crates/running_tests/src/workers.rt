@@ -35,7 +35,7 @@ fn account_seven<R>(rt: &R, alloc: Global) -> Result<(SharedAccount, Vec<Seat>),
     ensures seat { IfOk result (λ made. made.1.items
         ≡ record { account = 7; number = 1; mine = [] } ∷ []) }
 {
-    let (account, mut seats) = SharedAccount::new(rt, alloc, 7, 1500, 1000, 2)?;
+    let (account, mut seats) = SharedAccount::new(rt, alloc, 7, 1500, None, 1000, 2)?;
     seats.remove(0);
     Ok((account, seats))
 }
