@@ -40,13 +40,13 @@ fn word(rt: &HostRuntime) -> io::Result<Option<String>> {
 }
 
 fn by_account<R: AllocGlobal>(rt: &R) -> Course {
-    let account = Account::new(rt.alloc(), 1500, 100);
+    let account = Account::new(rt.alloc(), 1500, None, 100);
     course_at(&mut AccountPort::new(account, 0))
 }
 
 fn by_seat<R: AllocGlobal>(rt: &R) -> Result<Course, AccountFault> {
-    let (_shared, mut seats) = SharedAccount::new(rt, rt.alloc(), 7, 1500, 100, 1)?;
-    let account = Account::new(rt.alloc(), 1500, 100);
+    let (_shared, mut seats) = SharedAccount::new(rt, rt.alloc(), 7, 1500, None, 100, 1)?;
+    let account = Account::new(rt.alloc(), 1500, None, 100);
     Ok(match seats.pop() {
         Some(seat) => course_at(&mut SeatPort { account, seat }),
         None => Course::Wrong,
@@ -54,7 +54,7 @@ fn by_seat<R: AllocGlobal>(rt: &R) -> Result<Course, AccountFault> {
 }
 
 fn by_lock<R: AllocGlobal + Wait>(rt: &R) -> Result<Course, AccountFault> {
-    let (shared, mut seats) = SharedAccount::new(rt, rt.alloc(), 7, 1500, 100, 1)?;
+    let (shared, mut seats) = SharedAccount::new(rt, rt.alloc(), 7, 1500, None, 100, 1)?;
     Ok(match seats.pop() {
         Some(mut seat) => course_at(&mut SharedPort::new(&shared, &mut seat, rt, &OpenGate)),
         None => Course::Wrong,
@@ -85,6 +85,7 @@ fn course_at<P: Port>(port: &mut P) -> Course {
         plan,
         wanted: 600,
         least: 50,
+        at: 0,
     });
     match reserved {
         Ok(Reply::Granted { .. }) => {}
@@ -97,7 +98,10 @@ fn course_at<P: Port>(port: &mut P) -> Course {
         info: TimeInfo::NoSwitch { t: 600 },
     });
     let returned = port.ask(Op::Return { call: 1 });
-    let credited = port.ask(Op::Credit { amount: 600 });
+    let credited = port.ask(Op::Credit {
+        amount: 600,
+        until: None,
+    });
     let paid = 1050;
     let available = 450;
     let is_credited = matches!(

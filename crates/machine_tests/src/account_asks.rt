@@ -7,8 +7,12 @@ use tariff_core::{Plan, TimeInfo};
 pub enum Ask {
     /// An amount is credited.
     Credit(u64),
+    /// So too with another last moment.
+    CreditUntil(u64, u64),
     /// A call at two rates reserves so many units, and 50 at least.
     Reserve(u64, u32),
+    /// So too at this moment.
+    ReserveAt(u64, u32, u64),
     /// So too a call at one rate.
     ReserveAtOneRate(u64, u32),
     /// So too a call at two rates whose first 300 units are free.
@@ -56,22 +60,35 @@ const WITH_FREE: Plan = Plan {
     free: 300,
 };
 
-/// A call reserves units, and 50 at least.
+/// A call reserves units, and 50 at least, at moment 0.
 pub fn reserve(call: u64, plan: Plan, wanted: u32) -> Op {
+    reserve_at(call, plan, wanted, 0)
+}
+
+/// So too at this moment.
+fn reserve_at(call: u64, plan: Plan, wanted: u32, at: u64) -> Op {
     Op::Reserve {
         call,
         plan,
         wanted,
         least: 50,
+        at,
     }
+}
+
+/// An amount is credited, with another last moment or none.
+pub fn credit(amount: u64, until: Option<u64>) -> Op {
+    Op::Credit { amount, until }
 }
 
 /// The operation that is asked.
 pub fn op_of(ask: &Ask) -> Op {
     let number = 7;
     match *ask {
-        Ask::Credit(amount) => Op::Credit { amount },
+        Ask::Credit(amount) => credit(amount, None),
+        Ask::CreditUntil(amount, until) => credit(amount, Some(until)),
         Ask::Reserve(call, wanted) => reserve(call, TWO_RATES, wanted),
+        Ask::ReserveAt(call, wanted, at) => reserve_at(call, TWO_RATES, wanted, at),
         Ask::ReserveAtOneRate(call, wanted) => reserve(call, ONE_RATE, wanted),
         Ask::ReserveWithFree(call, wanted) => reserve(call, WITH_FREE, wanted),
         Ask::NoSwitch(call, t) => Op::Settle {

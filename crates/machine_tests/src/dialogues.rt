@@ -66,6 +66,7 @@ const RESERVE: Op = Op::Reserve {
     plan: PLAN,
     wanted: 600,
     least: 50,
+    at: 0,
 };
 
 const SETTLE: Op = Op::Settle {

@@ -180,7 +180,7 @@ fn left(account: &Account) -> Left {
 fn calls_are_paid_or_not_driven(rt: HostRuntime) {
     for &(opening, delay, script, end, account) in &CALLS {
         assert!(rt; opening <= MAX_MONEY);
-        let mut port = AccountPort::new(Account::new(rt.alloc(), opening, 1000), 0);
+        let mut port = AccountPort::new(Account::new(rt.alloc(), opening, None, 1000), 0);
         let met = driven(&rt, &mut port, delay, script);
         let found = (met, left(&port.account));
         gives(&rt, &(delay, script), &found, &(end_of(end), account));
@@ -190,7 +190,7 @@ fn calls_are_paid_or_not_driven(rt: HostRuntime) {
 #[test]
 fn a_port_refuses_or_forfeits(rt: HostRuntime) {
     for &(habit, script, end, account) in &HABITS {
-        let port = AccountPort::new(Account::new(rt.alloc(), 1500, 1000), 0);
+        let port = AccountPort::new(Account::new(rt.alloc(), 1500, None, 1000), 0);
         let mut till = Till { port, habit };
         let met = driven(&rt, &mut till, 2, script);
         let found = (met, left(&till.port.account));

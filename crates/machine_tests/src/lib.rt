@@ -5,6 +5,8 @@
 #[cfg(test)]
 mod account_asks;
 #[cfg(test)]
+mod account_rows;
+#[cfg(test)]
 mod accounts;
 #[cfg(test)]
 mod configurations;

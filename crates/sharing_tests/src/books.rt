@@ -3,7 +3,8 @@
 ghost use Rattle.std.specs.Prelude.{◌≡◌, ◌≤◌};
 
 use crate::forms::{
-    Answer, Form, close, credit, credited, granted, plan, reserve, returned, settled, two_seats,
+    Answer, Form, close, credit, credit_until, credited, granted, plan, reserve, reserve_at,
+    returned, settled, two_seats,
 };
 use account_core::{Account, AccountFault, CallSum, Fate, Op, Port, Reply};
 use shared_account::{Book, CloseFault, Gate, OpenGate, SharedAccount, SharedPort, TurnAccount};
@@ -15,7 +16,7 @@ use tariff_core::{MAX_MONEY, TimeInfo};
 
 /// Closes accounts with all seats, with seats in another order, and with a seat too few.
 fn closes_in_order<S: Form, R: Abort>(rt: &R, alloc: Global) -> Result<(), Fail> {
-    let (account, first, second) = two_seats::<S, R>(rt, alloc, 1, 1500)?;
+    let (account, first, second) = two_seats::<S, R>(rt, alloc, 1, 1500, None)?;
     let book = close(alloc, account, first, second)??;
     assert_eq!(rt;
         (book.account(), book.opening(), book.limit()),
@@ -23,11 +24,11 @@ fn closes_in_order<S: Form, R: Abort>(rt: &R, alloc: Global) -> Result<(), Fail>
     );
     assert_eq!(rt; (book.history().len(), book.own().len()), (0, 2));
 
-    let (account, first, second) = two_seats::<S, R>(rt, alloc, 1, 1500)?;
+    let (account, first, second) = two_seats::<S, R>(rt, alloc, 1, 1500, None)?;
     let exchanged = close(alloc, account, second, first)?;
     assert_eq!(rt; exchanged.err(), Some(CloseFault::Seats));
 
-    let (account, first, _second) = two_seats::<S, R>(rt, alloc, 1, 1500)?;
+    let (account, first, _second) = two_seats::<S, R>(rt, alloc, 1, 1500, None)?;
     let mut seats = Vec::new(alloc);
     seats.push(first)?;
     assert_eq!(rt; account.close(alloc, seats).err(), Some(CloseFault::Seats));
@@ -89,12 +90,13 @@ fn book_of<S: Form, R: Abort + Wait>(
     rt: &R,
     alloc: Global,
     opening: u64,
+    until: Option<u64>,
     rows: &[Row],
     made: (usize, usize),
 ) -> Result<Book, Fail>
     requires { opening ≤ MAX_MONEY }
 {
-    let (account, mut first, mut second) = two_seats::<S, R>(rt, alloc, 1, opening)?;
+    let (account, mut first, mut second) = two_seats::<S, R>(rt, alloc, 1, opening, until)?;
     for (seat, gate, op, want) in rows {
         let answer = ask_one(rt, &account, &mut first, &mut second, *seat, *op, *gate);
         assert_eq!(rt; answer, *want, "at {op:?}");
@@ -148,19 +150,34 @@ fn sums_up<S: Form, R: Abort + Wait>(rt: &R, alloc: Global) -> Result<(), Fail> 
         (1, open, credit(0), Err(AccountFault::OutOfRange)),
         (1, open, credit(1), credited(101)),
     ];
+    let expired = [
+        (0, open, reserve_at(1, x, 1000), granted(600, false, 450)),
+        (
+            1,
+            open,
+            reserve_at(2, x, 1001),
+            Ok(Reply::Denied { available: 450 }),
+        ),
+        (0, open, settle(1, 300), settled(550, 450)),
+        (1, open, credit_until(1, Some(2000)), credited(451)),
+        (1, open, reserve_at(2, x, 1001), granted(240, true, 1)),
+        (0, open, return_of(1), returned(550, 501)),
+    ];
     let held = [sum(1, 0, Fate::Holding), sum(2, 0, Fate::Holding)];
     let over = [sum(5, 950, Fate::Forfeit), sum(7, 550, Fate::Returned)];
-    let runs: [(u64, &[Row], (usize, usize), u64, &[CallSum]); 3] = [
-        (1500, &holding, (1, 1), 0, &held),
-        (1500, &ended, (4, 3), 0, &over),
-        (100, &refused, (0, 1), 101, &[]),
+    let kept = [sum(1, 550, Fate::Returned), sum(2, 0, Fate::Holding)];
+    let runs: [(u64, Option<u64>, &[Row], (usize, usize), u64, &[CallSum]); 4] = [
+        (1500, None, &holding, (1, 1), 0, &held),
+        (1500, None, &ended, (4, 3), 0, &over),
+        (100, None, &refused, (0, 1), 101, &[]),
+        (1500, Some(1000), &expired, (3, 3), 501, &kept),
     ];
-    for (opening, rows, made, available, calls) in runs {
+    for (opening, until, rows, made, available, calls) in runs {
         assert!(rt; opening <= MAX_MONEY);
-        let book = book_of::<S, R>(rt, alloc, opening, rows, made)?;
+        let book = book_of::<S, R>(rt, alloc, opening, until, rows, made)?;
         assert_eq!(rt;
-            (book.account(), book.opening(), book.limit()),
-            (1, opening, 100)
+            (book.account(), book.opening(), book.until(), book.limit()),
+            (1, opening, until, 100)
         );
         assert_eq!(rt; book.own().len(), 2);
         let summary = book.summary(alloc)?;
@@ -182,7 +199,7 @@ fn sums_up_its_calls(rt: HostRuntime) -> Result<(), Fail> {
 /// A port asks from its seat.
 fn asks_by_port<S: Form, R: Abort + Wait>(rt: &R, alloc: Global) -> Result<(), Fail> {
     let x = plan()?;
-    let (account, mut first, _second) = two_seats::<S, R>(rt, alloc, 1, 1500)?;
+    let (account, mut first, _second) = two_seats::<S, R>(rt, alloc, 1, 1500, None)?;
     let mut port = SharedPort::new(&account, &mut first, rt, &OpenGate);
     assert_eq!(rt; port.ask(reserve(1, x)), granted(600, false, 450));
     assert_eq!(rt; S::told(&first), (1, 0, 1));
@@ -192,8 +209,8 @@ fn asks_by_port<S: Form, R: Abort + Wait>(rt: &R, alloc: Global) -> Result<(), F
 /// A seat keeps what it enters into an account of its own.
 fn keeps_its_entries(rt: &impl Abort, alloc: Global) -> Result<(), Fail> {
     let x = plan()?;
-    let (_, mut seat, _) = two_seats::<SharedAccount, _>(rt, alloc, 1, 1500)?;
-    let mut account = Account::new(alloc, 1500, 100);
+    let (_, mut seat, _) = two_seats::<SharedAccount, _>(rt, alloc, 1, 1500, None)?;
+    let mut account = Account::new(alloc, 1500, None, 100);
     let rows = [
         (reserve(1, x), granted(600, false, 450)),
         (settle(1, 600), settled(1050, 450)),

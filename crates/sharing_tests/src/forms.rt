@@ -35,12 +35,13 @@ pub(crate) fn two_seats<S: Form, R: Abort>(
     alloc: Global,
     number: u32,
     opening: u64,
+    until: Option<u64>,
 ) -> Result<(S, S::Seat, S::Seat), Fail>
     requires { opening ≤ MAX_MONEY }
     ensures first { IfOk result (λ made. S.key_of made.1 ≡ S.key made.0) }
     ensures second { IfOk result (λ made. S.key_of made.2 ≡ S.key made.0) }
 {
-    let (account, mut seats) = S::new(rt, alloc, number, opening, 100, 2)?;
+    let (account, mut seats) = S::new(rt, alloc, number, opening, until, 100, 2)?;
     let second = seats.pop().expect(rt, "two seats");
     let first = seats.pop().expect(rt, "two seats");
     assert_eq!(rt; S::told(&first), (number, 0, 0));
@@ -69,17 +70,28 @@ pub(crate) fn plan() -> Result<Plan, PlanRange> {
     Plan::new(50, 1000, Some(400))
 }
 
+/// A call reserves at moment 0.
 pub(crate) fn reserve(call: u64, plan: Plan) -> Op {
+    reserve_at(call, plan, 0)
+}
+
+pub(crate) fn reserve_at(call: u64, plan: Plan, at: u64) -> Op {
     Op::Reserve {
         call,
         plan,
         wanted: 600,
         least: 50,
+        at,
     }
 }
 
+/// An amount is credited, with no other last moment.
 pub(crate) fn credit(amount: u64) -> Op {
-    Op::Credit { amount }
+    credit_until(amount, None)
+}
+
+pub(crate) fn credit_until(amount: u64, until: Option<u64>) -> Op {
+    Op::Credit { amount, until }
 }
 
 pub(crate) fn granted(units: u32, last: bool, available: u64) -> Answer {

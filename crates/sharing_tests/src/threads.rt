@@ -139,7 +139,7 @@ fn ask_one_account<S: Form, R: Abort + Threads + Wait + Sync, G: Gate + Sync>(
     ops: (Ops, Ops),
     gate: &G,
 ) -> Result<(Answers, Answers, usize), Fail> {
-    let (account, first, second) = two_seats::<S, R>(rt, alloc, 1, 1500)?;
+    let (account, first, second) = two_seats::<S, R>(rt, alloc, 1, 1500, None)?;
     let ((first, one), (second, other)) = ask_both(
         rt,
         (&account, &account),
@@ -187,8 +187,8 @@ fn holds_one_alone<S: Form, R: Abort + Threads + Wait + Sync>(
     alloc: Global,
 ) -> Result<(), Fail> {
     let x = plan()?;
-    let (account, first, _) = two_seats::<S, R>(rt, alloc, 1, 1500)?;
-    let (other_account, second, _) = two_seats::<S, R>(rt, alloc, 2, 1500)?;
+    let (account, first, _) = two_seats::<S, R>(rt, alloc, 1, 1500, None)?;
+    let (other_account, second, _) = two_seats::<S, R>(rt, alloc, 2, 1500, None)?;
     let ops = ((reserve(1, x), None), (reserve(2, x), None));
     let gate = Holds::new(0, 1, 2);
     let ((_, one), (_, other)) = ask_both(

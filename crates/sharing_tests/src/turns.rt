@@ -14,7 +14,7 @@ use std::thread::Threads;
 /// The book of an account whose two seats met, and credited once more or not.
 fn book_of_met<R: Abort + Wait>(rt: &R, alloc: Global, more: bool) -> Result<Book, Fail> {
     let x = plan()?;
-    let (account, mut first, mut second) = two_seats::<TurnAccount, R>(rt, alloc, 1, 0)?;
+    let (account, mut first, mut second) = two_seats::<TurnAccount, R>(rt, alloc, 1, 0, None)?;
     let answer = account.call(rt, &mut first, credit(600), &OpenGate);
     assert_eq!(rt; answer, credited(600));
     assert_eq!(rt; account.meet(&mut first, &mut second), 1);
@@ -31,7 +31,7 @@ fn book_of_met<R: Abort + Wait>(rt: &R, alloc: Global, more: bool) -> Result<Boo
 /// A seat hears no more of an account than the seat that it meets has seen.
 fn hears_what_was_seen<R: Abort + Wait>(rt: &R, alloc: Global) -> Result<(), Fail> {
     let x = plan()?;
-    let (account, mut seats) = TurnAccount::new(rt, alloc, 1, 0, 100, 3)?;
+    let (account, mut seats) = TurnAccount::new(rt, alloc, 1, 0, None, 100, 3)?;
     let mut third = seats.pop().expect(rt, "three seats");
     let mut second = seats.pop().expect(rt, "three seats");
     let mut first = seats.pop().expect(rt, "three seats");
@@ -123,7 +123,7 @@ fn credit_both<R: Threads + Wait + Sync, G: Gate + Sync>(
 
 #[test]
 fn wakes_who_waits_for_a_turn(rt: HostRuntime) -> Result<(), Fail> {
-    let (account, first, second) = two_seats::<TurnAccount, _>(&rt, rt.alloc(), 1, 0)?;
+    let (account, first, second) = two_seats::<TurnAccount, _>(&rt, rt.alloc(), 1, 0, None)?;
     let (first, second) = credit_both(&rt, &account, first, second, 50, &SlowGate);
     assert_eq!(rt; (first.mine().len(), second.mine().len()), (50, 50));
     let book = close(rt.alloc(), account, first, second)??;
