@@ -25,7 +25,7 @@ else
 endif
 
 # Proves everything from nothing, tries the edits that must fail, and runs the tests and the programs;
-# then closes calls while memory is refused, and compares the program with its model.
+# then refuses memory to each call that takes any, and compares the program with its model.
 test:
 	tests/edits_test.py
 	mkdir -p out

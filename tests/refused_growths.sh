@@ -1,27 +1,184 @@
 #!/usr/bin/env bash
-# A call is granted, reported and returned (crates/closing) with every growth of memory refused from
-# the first on, then from the second on, and so on. Until there is memory for its grant it is
-# refused; from then on it must be closed, also where nothing more is to be had.
+# Refuses growths of memory to each public call that takes any (crates/refused_growths) and to each
+# command of the program (crates/prepaid): the Nth alone, and all from the Nth on, for N = 1, 2, 3
+# and so on until none is refused. Prints how many growths each has. Want of memory has to end in
+# its fault, or with an answer that has its place; nothing may be changed by it, and what is asked
+# again with memory has to be answered as if nothing had been refused.
+#
+#     tests/refused_growths.sh          tries all, as many side by side as there are processors
+#     tests/refused_growths.sh NAME..   tries these calls and commands
 set -u
 cd "$(dirname "$0")/.."
-program=crates/closing/out/closing
-[ -x "$program" ] || (cd crates/closing && rt run -- shared > /dev/null) || exit 1
+calls=crates/refused_growths/out/refused_growths
+prepaid=crates/prepaid/out/prepaid
+commands='command/help command/price command/replay command/run command/run_book command/audit
+    command/audit_altered'
+
+# The words of a command and its input, what it prints, and its status.
+words_of() {
+    case $1 in
+        command/help) echo '--help' ;;
+        command/price) echo 'price --fee 50 --before 1000 --after 400' ;;
+        command/replay) echo 'replay --opening 1500' ;;
+        command/run) echo 'run' ;;
+        command/run_book) echo 'run --book' ;;
+        command/audit*) echo 'audit' ;;
+    esac
+}
+
+input_of() {
+    case $1 in
+        command/help) echo /dev/null ;;
+        command/price) echo examples/reports.csv ;;
+        command/replay) echo examples/ops.csv ;;
+        command/run*) echo examples/call.txt ;;
+        command/audit) echo "$work/book" ;;
+        command/audit_altered) echo examples/altered_book.csv ;;
+    esac
+}
+
+answer_of() {
+    case $1 in
+        command/help) "$prepaid" --help ;;
+        command/price)
+            echo 'debit 0 total 0'
+            echo 'debit 52 total 52'
+            echo 'debit 998 total 1050'
+            echo 'debit 200 total 1250'
+            echo 'total 1250'
+            ;;
+        command/replay)
+            echo 'granted 600 more available 450'
+            echo 'settled paid 550 available 450'
+            echo 'returned paid 550 available 950'
+            ;;
+        command/run)
+            echo 'account 7 opening 1500 available 950 entries 3'
+            echo 'call 1 account 7 paid 550 returned'
+            ;;
+        command/run_book)
+            ungranted_of "$1"
+            echo '7,1,reserve,1,50,1000,,600,50,0,granted,600,more,450'
+            echo '7,1,settle,1,2,n,300,,,,settled,550,,450'
+            echo '7,1,return,1,,,,,,,returned,550,,950'
+            ;;
+        command/audit) echo 'account 7 yes' ;;
+        command/audit_altered)
+            echo 'account 7 no'
+            echo 'account 8 yes'
+            ;;
+    esac
+}
+
+status_of() {
+    case $1 in
+        command/audit_altered) echo 3 ;;
+        *) echo 0 ;;
+    esac
+}
+
+# What a run prints where its account has no memory for the call's grant; nothing for the others.
+ungranted_of() {
+    case $1 in
+        command/run) echo 'account 7 opening 1500 available 1500 entries 0' ;;
+        command/run_book)
+            echo 'account,seat,op,call,x1,x2,x3,x4,x5,x6,reply,y1,y2,y3'
+            echo '7,,opening,,1500,,,,,,,,,'
+            ;;
+    esac
+}
+
+# Whether a command has ended as it may with growths refused, and, where none was, with its answer.
+is_command_right() {
+    local name=$1 refused=$2 status=$3
+    if [ "$status" -eq "$(status_of "$name")" ] && [ ! -s "$work/faults" ]; then
+        cmp -s "$work/output" "$work/answer" && return
+        [ "$refused" -gt 0 ] && [ -s "$work/ungranted" ] && cmp -s "$work/output" "$work/ungranted"
+        return
+    fi
+    [ "$refused" -gt 0 ] && [ "$status" -eq 2 ] && [ ! -s "$work/output" ] || return
+    case $name,$(cat "$work/faults") in
+        *,'prepaid: run: OutOfMemory' | command/run*,'prepaid: run: Thread') return 0 ;;
+        *) return 1 ;;
+    esac
+}
+
+# Whether a call has ended as it may: it was answered, or refused and right; and where just one
+# growth was refused, it was answered when it was made again.
+is_call_right() {
+    local form=$1 refused=$2 status=$3
+    case $status,$form in
+        0,*) return 0 ;;
+        2,* | 3,FROM) [ "$refused" -gt 0 ] ;;
+        *) return 1 ;;
+    esac
+}
+
+# Runs a call or a command with growths refused, and puts down how many were.
+try() {
+    local name=$1 form=$2 number=$3
+    local run=(timeout 20 env "REFUSE_$form=$number" "REFUSED_TO=$work/refused" "LD_PRELOAD=$shim")
+    local status refused
+    echo 0 > "$work/refused"
+    case $name in
+        command/*)
+            # shellcheck disable=SC2046
+            "${run[@]}" "$prepaid" $(words_of "$name") < "$(input_of "$name")" \
+                > "$work/output" 2> "$work/faults"
+            status=$?
+            refused=$(< "$work/refused")
+            is_command_right "$name" "$refused" "$status"
+            ;;
+        *)
+            "${run[@]}" "$calls" "$name" < /dev/null > /dev/null 2>&1
+            status=$?
+            refused=$(< "$work/refused")
+            is_call_right "$form" "$refused" "$status"
+            ;;
+    esac && return
+    echo "$name: wrong with growth $number refused ($form), $refused in all: status $status" >&2
+    return 1
+}
+
+# Tries a call or a command in both forms. The growths of threads come in any order, so it ends only
+# where none was refused three times in turn.
+try_all() {
+    local name=$1 most=0 form number idle
+    work=$(mktemp -d)
+    trap 'rm -rf "$work"' EXIT
+    answer_of command/run_book > "$work/book"
+    answer_of "$name" > "$work/answer"
+    ungranted_of "$name" > "$work/ungranted"
+    for form in ONE FROM; do
+        number=1
+        idle=0
+        while [ "$idle" -lt 3 ]; do
+            try "$name" "$form" "$number" || return 1
+            if [ "$(< "$work/refused")" -gt 0 ]; then
+                idle=0
+                [ "$number" -gt "$most" ] && most=$number
+            else
+                idle=$((idle + 1))
+            fi
+            number=$((number + 1))
+        done
+    done
+    [ "$most" -gt 0 ] || { echo "$name: no growth was refused" >&2 && return 1; }
+    echo "$name: $most growths"
+}
+
+if [ -n "${REFUSE_GROWTHS:-}" ]; then
+    shim=$REFUSE_GROWTHS
+    try_all "$1"
+    exit
+fi
+
+[ -x "$calls" ] || (cd crates/refused_growths && rt run > /dev/null) || exit 1
+[ -x "$prepaid" ] || (cd crates/prepaid && rt run -- --help > /dev/null) || exit 1
 shim=$(mktemp)
 trap 'rm -f "$shim"' EXIT
 cc -shared -fPIC -O2 -o "$shim" tests/refuse_growths.c -ldl || exit 1
-for way in account seat shared; do
-    refused=0
-    closed=0
-    while [ "$closed" -lt 8 ] && [ "$refused" -lt 100 ]; do
-        from=$((refused + closed + 1))
-        REFUSE_FROM=$from LD_PRELOAD=$shim "$program" "$way"
-        status=$?
-        case $status,$closed in
-            0,*) closed=$((closed + 1)) ;;
-            2,0) refused=$((refused + 1)) ;;
-            *) echo "$way: with growths refused from number $from on: status $status" && exit 1 ;;
-        esac
-    done
-    [ "$refused" -gt 0 ] && [ "$closed" -eq 8 ] || exit 1
-    echo "$way: the grant takes $refused growths, and closing none"
-done
+export REFUSE_GROWTHS=$shim
+# shellcheck disable=SC2046,SC2086
+[ $# -gt 0 ] || set -- $commands $("$calls")
+printf '%s\n' "$@" | xargs -P "$(nproc)" -n 1 tests/refused_growths.sh

@@ -5,7 +5,7 @@
 #[cfg(test)]
 mod books;
 #[cfg(test)]
-mod lying;
+mod heard;
 #[cfg(test)]
 mod mailboxes;
 #[cfg(test)]
@@ -19,7 +19,11 @@ mod rounds;
 #[cfg(test)]
 mod runs;
 #[cfg(test)]
+mod scripts;
+#[cfg(test)]
 mod setups;
+#[cfg(test)]
+mod shutting;
 #[cfg(test)]
 mod text_faults;
 #[cfg(test)]

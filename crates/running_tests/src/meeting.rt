@@ -42,7 +42,7 @@ impl Meeting {
 }
 
 /// Waits for a flag for at most 1,000,000,000 turns.
-fn is_soon(flag: &AtomicBool) -> bool {
+pub(crate) fn is_soon(flag: &AtomicBool) -> bool {
     for _ in 0..1_000_000_000u32 {
         if flag.load(Ordering::SeqCst) {
             return true;

@@ -3,6 +3,7 @@
 ghost use Rattle.std.specs.Prelude.{◌≡◌, ◌≤◌, ◌++◌, ◌∷◌, [], false, All, OnOk};
 ghost use Rattle.tariff_core.specs.declared.times.TheConstants.{HORIZON};
 
+use account_core::AccountFault;
 use cap_values::ScfOp;
 use runs_core::Driver;
 use std::alloc::{AllocError, Global};
@@ -16,6 +17,8 @@ pub(crate) struct Heard {
     pub stray: bool,
     /// The last operation that the call's gsmSSF is sent.
     pub last: Option<ScfOp>,
+    /// The last fault that an ask of the account got.
+    pub refused: Option<AccountFault>,
 }
 
 /// Gives one or two bodies in each round, all at moment 0, and keeps what the answers say. It takes
@@ -70,6 +73,7 @@ fn hear(heard: &mut Vec<Heard>, answers: &[Answer]) -> Result<(), AllocError> {
             heard.push(Heard {
                 stray: answer.stray,
                 last: answer.ops.last().copied(),
+                refused: answer.refused,
             })?;
         }
     }

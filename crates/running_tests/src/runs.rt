@@ -4,6 +4,7 @@ use crate::meeting::{Meeting, Of};
 use crate::messages::{begun, notified, of_call, recharge, report};
 use crate::rounds::Rounds;
 use crate::setups::set_up;
+use crate::shutting::Holding;
 use account_core::{Entry, Reply};
 use cap_values::{Event, Number};
 use runs_core::{Books, RunFault, serve, serve_over};
@@ -187,6 +188,17 @@ fn entries_past<R: Wait + Threads + Sync>(
     }
 }
 
+/// Where a worker has failed, the other one is waited for, though it is held.
+fn waits_for_all<R: Abort + Threads + Wait + Sync>(rt: &R, alloc: Global) -> Result<(), Fail> {
+    let refused = begun(2, "491700002", "4930")?;
+    let held = begun(1, "491700001", "4930")?;
+    let gate = Holding::new(2);
+    let played = play(rt, alloc, 7, &[(refused, Some(held))], 2, &gate)?;
+    assert!(rt; gate.was_told());
+    assert_eq!(rt; played.books.err(), Some(RunFault::GateClosed));
+    Ok(())
+}
+
 #[test]
 fn calls_and_accounts_meet(rt: HostRuntime) -> Result<(), Fail> {
     let of_calls = Meeting::new(Of::Calls, 1, 2);
@@ -196,5 +208,5 @@ fn calls_and_accounts_meet(rt: HostRuntime) -> Result<(), Fail> {
         entries_past(&rt, rt.alloc(), 8, &of_accounts)?,
         Some((1, 1))
     );
-    Ok(())
+    waits_for_all(&rt, rt.alloc())
 }

@@ -6,20 +6,20 @@ ghost use Rattle.workers_core.specs.Workers.{IsReady};
 
 use crate::messages::{begun, first_period, hung_up, of_call, recharge, report};
 use crate::setups::{BAND, set_up};
+use crate::shutting::{ALWAYS, Shutting};
 use account_core::AccountFault;
-use cap_values::{Cause, Number, ScfOp, SsfMsg};
-use shared_account::{Gate, OpenGate, Seat, SharedAccount};
+use cap_values::{Cause, Charge, Number, ScfOp, SsfMsg};
+use shared_account::{OpenGate, Seat, SharedAccount};
 use std::alloc::Global;
-use std::cell::Cell;
 use std::process::Abort;
 use std::sync::Wait;
 use std::test::Fail;
 use workers_core::{Body, Post, RunSetup, Worker, WorkerFault};
 
-/// Account 7, and subscriber 491700001 of it.
-fn set_up_seven(alloc: Global) -> Result<RunSetup, Fail> {
+/// Account 7, whose history has this limit, and subscriber 491700001 of it.
+fn set_up_seven(alloc: Global, limit: u32) -> Result<RunSetup, Fail> {
     let subscribers = [(Number::new("491700001")?, 7)];
-    Ok(set_up(alloc, BAND, &[(7, 1500)], &subscribers, 1000)??)
+    Ok(set_up(alloc, BAND, &[(7, 1500)], &subscribers, limit)??)
 }
 
 /// Whether account 7 is the only one.
@@ -30,12 +30,12 @@ fn has_seven(setup: &RunSetup) -> bool
 }
 
 /// Account 7 for two workers, and the seat of worker 1.
-fn account_seven<R>(rt: &R, alloc: Global) -> Result<(SharedAccount, Vec<Seat>), Fail>
+fn account_seven<R>(rt: &R, alloc: Global, limit: u32) -> Result<(SharedAccount, Vec<Seat>), Fail>
     ensures account { IfOk result (λ made. made.0.number ≡ 7) }
     ensures seat { IfOk result (λ made. made.1.items
         ≡ record { account = 7; number = 1; mine = [] } ∷ []) }
 {
-    let (account, mut seats) = SharedAccount::new(rt, alloc, 7, 1500, None, 1000, 2)?;
+    let (account, mut seats) = SharedAccount::new(rt, alloc, 7, 1500, None, limit, 2)?;
     seats.remove(0);
     Ok((account, seats))
 }
@@ -88,15 +88,17 @@ fn handle<R: Abort + Wait>(
     Ok(())
 }
 
-/// Handles posts by one worker, and gives how many seats and posts it hands back.
+/// Handles posts by one worker, over a history of this limit, and gives how many seats and posts it
+/// hands back.
 fn handle_all<R: Abort + Wait>(
     rt: &R,
     alloc: Global,
+    limit: u32,
     rows: &[Row<'_>],
 ) -> Result<(usize, usize), Fail> {
-    let setup = set_up_seven(alloc)?;
+    let setup = set_up_seven(alloc, limit)?;
     assert!(rt; has_seven(&setup));
-    let (account, seats) = account_seven(rt, alloc)?;
+    let (account, seats) = account_seven(rt, alloc, limit)?;
     let accounts = [account];
     let mut worker = Worker::new(alloc, 1, &setup, &accounts, seats)?;
     for row in rows {
@@ -134,86 +136,99 @@ fn posts_are_handled(rt: HostRuntime) -> Result<(), Fail> {
         (7, recharge(9, 5), &[], true, None, None),
         (8, recharge(7, 0), &[], false, range, credit),
     ];
-    assert_eq!(rt; handle_all(&rt, rt.alloc(), &rows)?, (1, 9));
+    assert_eq!(rt; handle_all(&rt, rt.alloc(), 1000, &rows)?, (1, 9));
+    full_histories_are_told(&rt, rt.alloc())
+}
+
+/// A call that asks for more where its account's history has no place for that is released.
+fn full_histories_are_told<R: Abort + Wait>(rt: &R, alloc: Global) -> Result<(), Fail> {
+    let period = first_period()?;
+    let begins = begun(1, "491700001", "4930")?;
+    let minute = of_call(1, report(true, 600));
+    let released = [ScfOp::ReleaseCall(Cause::temporary_failure())];
+    let more = [ScfOp::ApplyCharging(Charge::new(Some(270), None, true)?)];
+    let full = Some(AccountFault::HistoryFull);
+    let first = (0, begins, period.as_slice(), false, None, Some((1, 450)));
+    let fills: [Row<'_>; 2] = [first, (1, minute, &released, false, full, Some((3, 450)))];
+    let fits: [Row<'_>; 2] = [first, (1, minute, &more, false, None, Some((3, 0)))];
+    for (limit, rows) in [(4, fills), (5, fits)] {
+        assert_eq!(rt;
+            handle_all(rt, alloc, limit, &rows)?,
+            (1, 2),
+            "with {limit}"
+        );
+    }
     Ok(())
 }
 
-/// A gate that may be shut before messages, or inside accounts, and counts what it is told.
-#[derive(Drop)]
-struct Shut {
-    before: bool,
-    inside: bool,
-    asked: Cell<u32>,
-    told: Cell<u32>,
-}
-
-impl Gate for Shut {
-    ghost may_shut = { λ _. Unit {0} };
-
-    fn before(&self, _worker: u32, _call: u64) -> bool {
-        self.asked.set(self.asked.get().saturating_add(1));
-        !self.before
-    }
-
-    fn inside(&self, _account: u32) -> bool {
-        !self.inside
-    }
-
-    fn after(&self, _worker: u32, _call: u64) {
-        self.told.set(self.told.get().saturating_add(1));
-    }
-}
-
-/// Why a new worker gives up at a post, if it does.
+/// Why a new worker gives up at a post, or at another one after it, if it does.
 fn fault_at<R: Abort + Wait>(
     rt: &R,
     alloc: Global,
-    gate: &Shut,
-    body: Body,
+    gate: &Shutting,
+    bodies: (Body, Option<Body>),
 ) -> Result<Option<WorkerFault>, Fail> {
-    let setup = set_up_seven(alloc)?;
+    let setup = set_up_seven(alloc, 1000)?;
     assert!(rt; has_seven(&setup));
-    let (account, seats) = account_seven(rt, alloc)?;
+    let (account, seats) = account_seven(rt, alloc, 1000)?;
     let accounts = [account];
     let mut worker = Worker::new(alloc, 1, &setup, &accounts, seats)?;
-    let post = Post {
-        number: 0,
+    let post = |number, body| Post {
+        number,
         at: 0,
         body,
     };
-    Ok(worker.handle(rt, post, gate).err())
+    let (first, second) = bodies;
+    if let Err(fault) = worker.handle(rt, post(0, first), gate) {
+        return Ok(Some(fault));
+    }
+    match second {
+        Some(second) => Ok(worker.handle(rt, post(1, second), gate).err()),
+        None => Ok(None),
+    }
 }
 
 #[test]
 fn gates_are_asked_for_calls_alone(rt: HostRuntime) -> Result<(), Fail> {
     let call = begun(1, "491700001", "4930")?;
+    let reports = of_call(1, report(false, 300));
     let stray = of_call(1, SsfMsg::Ended);
     let closed = Some(WorkerFault::GateClosed);
-    let rows: [(bool, bool, Body, Option<WorkerFault>, u32, u32); 7] = [
-        (false, false, call, None, 1, 1),
-        (false, false, stray, None, 1, 1),
-        (false, false, recharge(7, 5), None, 0, 0),
-        (true, false, call, closed, 1, 0),
-        (true, false, recharge(7, 5), None, 0, 0),
-        (false, true, call, closed, 1, 0),
-        (false, true, recharge(7, 5), closed, 0, 0),
+    // What the gate lets pass before messages and inside accounts, the posts, the fault, and how
+    // many messages the gate was asked for and told of.
+    let rows: [(
+        (u32, u32),
+        Body,
+        Option<Body>,
+        Option<WorkerFault>,
+        (u32, u32),
+    ); 11] = [
+        ((ALWAYS, ALWAYS), call, Some(reports), None, (2, 2)),
+        ((ALWAYS, ALWAYS), stray, None, None, (1, 1)),
+        ((ALWAYS, ALWAYS), recharge(7, 5), None, None, (0, 0)),
+        ((0, ALWAYS), call, None, closed, (1, 0)),
+        ((0, ALWAYS), recharge(7, 5), None, None, (0, 0)),
+        ((1, ALWAYS), call, Some(reports), closed, (2, 1)),
+        ((ALWAYS, 0), call, None, closed, (1, 0)),
+        ((ALWAYS, 0), recharge(7, 5), None, closed, (0, 0)),
+        ((ALWAYS, 0), recharge(7, 0), None, closed, (0, 0)),
+        ((ALWAYS, 1), call, Some(reports), closed, (2, 1)),
+        (
+            (ALWAYS, 1),
+            recharge(7, 5),
+            Some(recharge(7, 0)),
+            closed,
+            (0, 0),
+        ),
     ];
-    for (before, inside, body, fault, asked, told) in rows {
-        let gate = Shut {
-            before,
-            inside,
-            asked: Cell::new(0),
-            told: Cell::new(0),
-        };
+    for ((before, inside), body, then, fault, counts) in rows {
+        let gate = Shutting::new(before, inside);
+        let met = fault_at(&rt, rt.alloc(), &gate, (body, then))?;
+        assert_eq!(rt; met, fault, "at {body:?} past {before} and {inside}");
         assert_eq!(rt;
-            fault_at(&rt, rt.alloc(), &gate, body)?,
-            fault,
-            "at {body:?}"
-        );
-        assert_eq!(rt;
-            (gate.asked.get(), gate.told.get()),
-            (asked, told),
-            "at {body:?}"
+            gate.counts(),
+            counts,
+            "at {body:?} past {before} and {inside}"
         );
     }
     Ok(())

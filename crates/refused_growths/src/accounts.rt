@@ -1,0 +1,97 @@
+//! An account that one alone asks: by itself, or from a seat.
+
+use crate::asks::{Account as Looks, LIMIT, OPENING, Seen, Watched, are_all, ask_all, counted};
+use crate::forms::two_seats;
+use crate::outcome::{Course, Outcome, expect};
+use account_core::{Account, AccountFault, AccountPort, Op, Port, Reply};
+use shared_account::{Seat, SharedAccount};
+use std::alloc::Global;
+
+/// The account of each call here.
+pub(crate) fn account(alloc: Global) -> Account {
+    Account::new(alloc, OPENING, None, LIMIT)
+}
+
+fn looks_of(account: &Account) -> Looks {
+    Looks {
+        entries: counted(account.history()),
+        available: account.available(),
+        paid: (account.paid(1), account.paid(2)),
+    }
+}
+
+impl Watched for AccountPort {
+    fn seen(&self) -> Seen {
+        Seen {
+            account: Some(looks_of(&self.account)),
+            mine: None,
+        }
+    }
+
+    fn is_free(&mut self) -> bool {
+        true
+    }
+}
+
+/// An account that is asked from a seat.
+#[derive(Drop)]
+pub(crate) struct SeatPort {
+    account: Account,
+    seat: Seat,
+}
+
+impl SeatPort {
+    /// A new account, and the first seat of another one.
+    pub(crate) fn open<R>(rt: &R, alloc: Global) -> Result<SeatPort, Outcome> {
+        let (_, seat, _) = two_seats::<SharedAccount, R>(rt, alloc)?;
+        Ok(SeatPort {
+            account: account(alloc),
+            seat,
+        })
+    }
+}
+
+impl Port for SeatPort {
+    fn ask(&mut self, op: Op) -> Result<Reply, AccountFault> {
+        self.seat.apply_to(&mut self.account, op)
+    }
+}
+
+impl Watched for SeatPort {
+    fn seen(&self) -> Seen {
+        Seen {
+            account: Some(looks_of(&self.account)),
+            mine: Some(counted(self.seat.mine())),
+        }
+    }
+
+    fn is_free(&mut self) -> bool {
+        true
+    }
+}
+
+/// Asks an account by itself.
+pub(crate) fn applies(alloc: Global) -> Course {
+    let mut port = AccountPort::new(account(alloc), 0);
+    let outcome = ask_all(&mut port)?;
+    expect(are_all(port.account.history(), 0))?;
+    Ok(outcome)
+}
+
+/// Asks an account from a seat.
+pub(crate) fn applies_from_seat<R>(rt: &R, alloc: Global) -> Course {
+    let mut port = SeatPort::open(rt, alloc)?;
+    let outcome = ask_all(&mut port)?;
+    expect(are_all(port.account.history(), 0) && are_all(port.seat.mine(), 0))?;
+    Ok(outcome)
+}
+
+/// Checks the history of an account, which is legal, and is so after its own opening alone.
+pub(crate) fn checks(alloc: Global) -> Course {
+    let mut port = AccountPort::new(account(alloc), 0);
+    let outcome = ask_all(&mut port)?;
+    let entries = port.account.history();
+    expect(Account::check(alloc, OPENING, None, entries)?)?;
+    expect(!Account::check(alloc, OPENING - 1, None, entries)?)?;
+    Ok(outcome)
+}

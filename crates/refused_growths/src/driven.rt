@@ -1,0 +1,82 @@
+//! A call that is driven over an account.
+
+use crate::accounts::account;
+use crate::outcome::{Course, Outcome, expect};
+use crate::service::{SERVICE, SUBSCRIBER, SWITCH};
+use account_core::AccountPort;
+use cap_values::Number;
+use simulator::{CallEnd, drive_call};
+use ssf_core::{BcsmEvent, State};
+use std::alloc::Global;
+use tariff_core::{Plan, Route, TimeInfo};
+
+const ROUTE: Route = Route {
+    plan: Plan {
+        fee: 50,
+        before: 1000,
+        after: None,
+        free: 0,
+    },
+    switch_at: None,
+};
+
+/// What is left of an account: its entries, what call 1 has paid, and the credit.
+type Left = (usize, Option<u64>, u64);
+
+/// The reports of a call, the times of the last one, and how many inputs its gsmSSF has refused.
+type Reports = (u64, Option<u32>, u64);
+
+/// A call that talks until its account has no more credit.
+const WHOLE: (Reports, Left) = ((2, Some(870), 0), (5, Some(1500), 0));
+
+/// One for whose first grant there is no memory: it is cleared, and its answer comes too late.
+const NOT_GRANTED: (Reports, Left) = ((0, None, 1), (0, None, 1500));
+
+/// One for whose second grant there is no memory.
+const GRANTED_ONCE: (Reports, Left) = ((1, Some(600), 0), (3, Some(1050), 450));
+
+/// What a call has ended with, where it has ended as it has to, without a forfeit.
+fn reports_of(end: &CallEnd) -> Option<Reports> {
+    let last = match end.last {
+        Some(TimeInfo::NoSwitch { t }) => Some(t),
+        Some(TimeInfo::Switch { .. }) => return None,
+        None => None,
+    };
+    if end.state != State::Idle || end.forfeits != 0 {
+        return None;
+    }
+    Some((end.reports, last, end.refused))
+}
+
+/// Drives a call that is answered after ten seconds.
+pub(crate) fn drives(alloc: Global) -> Course {
+    let call = (1, Number::new(SUBSCRIBER)?, Number::new("4930")?);
+    let script = [(100, BcsmEvent::Answer)];
+    let mut port = AccountPort::new(account(alloc), 0);
+    let end = drive_call(
+        alloc,
+        SWITCH,
+        &SERVICE,
+        2,
+        0,
+        call,
+        Some(ROUTE),
+        &script,
+        &mut port,
+    )?;
+    let account = &port.account;
+    let left = (
+        account.history().len(),
+        account.paid(1),
+        account.available(),
+    );
+    let Some(reports) = reports_of(&end) else {
+        return Err(Outcome::Wrong);
+    };
+    let found = (reports, left);
+    if found == WHOLE {
+        return Ok(Outcome::Answered);
+    }
+    expect(found == NOT_GRANTED || found == GRANTED_ONCE)?;
+    Ok(Outcome::Refused)
+}

@@ -1,0 +1,124 @@
+//! How a call went.
+
+use account_core::AccountFault;
+use cap_values::ValueFault;
+use runs_core::RunFault;
+use shared_account::CloseFault;
+use simulator::DriveFault;
+use std::alloc::{AllocError, AllocFailed};
+use std::io;
+use table_core::TableFault;
+use tariff_core::{TariffFault, TariffKind};
+use workers_core::{SetupFault, WorkerFault};
+
+/// How a call went. It is the program's exit status.
+#[derive(Clone, Copy, Debug, PartialEq, Eq)]
+pub(crate) enum Outcome {
+    /// It answered as with memory.
+    Answered = 0,
+    /// An answer, or what a call has left, was another than it has to be.
+    Wrong = 1,
+    /// Want of memory was told and nothing was changed; where it was made again, it answered as
+    /// with memory.
+    Refused = 2,
+    /// The same, but when it was made again it found no memory once more.
+    RefusedAgain = 3,
+}
+
+/// What a call came to: an error where it ended before its end.
+pub(crate) type Course = Result<Outcome, Outcome>;
+
+/// Goes on where something is as it has to be.
+pub(crate) fn expect(is_right: bool) -> Result<(), Outcome> {
+    if is_right {
+        Ok(())
+    } else {
+        Err(Outcome::Wrong)
+    }
+}
+
+/// Refused where either was, of two that went on.
+pub(crate) fn worse_of(one: Outcome, other: Outcome) -> Outcome {
+    if one == Outcome::Answered { other } else { one }
+}
+
+/// Want of memory, or a fault that has no place here.
+fn refused_if(is_memory: bool) -> Outcome {
+    if is_memory {
+        Outcome::Refused
+    } else {
+        Outcome::Wrong
+    }
+}
+
+impl From<AllocError> for Outcome {
+    fn from(_error: AllocError) -> Outcome {
+        Outcome::Refused
+    }
+}
+
+impl<T: Drop> From<AllocFailed<T>> for Outcome {
+    fn from(_error: AllocFailed<T>) -> Outcome {
+        Outcome::Refused
+    }
+}
+
+impl From<io::Error> for Outcome {
+    fn from(_error: io::Error) -> Outcome {
+        Outcome::Refused
+    }
+}
+
+impl From<AccountFault> for Outcome {
+    fn from(fault: AccountFault) -> Outcome {
+        refused_if(fault == AccountFault::OutOfMemory)
+    }
+}
+
+impl From<CloseFault> for Outcome {
+    fn from(fault: CloseFault) -> Outcome {
+        refused_if(fault == CloseFault::OutOfMemory)
+    }
+}
+
+impl From<TariffFault> for Outcome {
+    fn from(fault: TariffFault) -> Outcome {
+        refused_if(fault.kind == TariffKind::OutOfMemory)
+    }
+}
+
+impl From<TableFault> for Outcome {
+    fn from(fault: TableFault) -> Outcome {
+        refused_if(fault == TableFault::OutOfMemory)
+    }
+}
+
+impl From<SetupFault> for Outcome {
+    fn from(fault: SetupFault) -> Outcome {
+        refused_if(fault == SetupFault::OutOfMemory)
+    }
+}
+
+impl From<WorkerFault> for Outcome {
+    fn from(fault: WorkerFault) -> Outcome {
+        refused_if(fault == WorkerFault::OutOfMemory)
+    }
+}
+
+impl From<RunFault> for Outcome {
+    fn from(fault: RunFault) -> Outcome {
+        refused_if(fault == RunFault::OutOfMemory || fault == RunFault::Thread)
+    }
+}
+
+impl From<DriveFault> for Outcome {
+    fn from(fault: DriveFault) -> Outcome {
+        refused_if(fault == DriveFault::OutOfMemory)
+    }
+}
+
+impl From<ValueFault> for Outcome {
+    fn from(_fault: ValueFault) -> Outcome {
+        Outcome::Wrong
+    }
+}

@@ -1,0 +1,128 @@
+//! A run of one call, and the player of its script.
+
+ghost use Rattle.std.specs.Prelude.{◌≡◌, [], false, IfOk};
+
+use crate::asks::OPENING;
+use crate::forms::NUMBER;
+use crate::outcome::{Course, Outcome, expect};
+use crate::service::{SWITCH, answered, begun, hung_up, last_report, of_call, ops_for};
+use crate::workers::{lasting, set_up};
+use account_core::{Entry, Reply};
+use cap_values::SsfMsg;
+use run_texts::read_script;
+use runs_core::{Books, Driver, serve};
+use script_player::ScriptPlayer;
+use shared_account::OpenGate;
+use std::alloc::Global;
+use std::sync::Wait;
+use std::thread::Threads;
+use workers_core::{Answer, Body, Directory};
+
+/// A call that is answered after ten seconds, and ends after forty.
+const SCRIPT: &[u8] = b"moment,call,what,x,y
+0,1,start,491700001,4930
+100,1,answer,,
+400,1,disconnect,1,
+";
+
+/// The replies to that call.
+const REPLIES: [Reply; 3] = [
+    Reply::Granted {
+        units: 600,
+        last: false,
+        available: 450,
+    },
+    Reply::Settled {
+        paid: 550,
+        available: 450,
+    },
+    Reply::Returned {
+        paid: 550,
+        available: 950,
+    },
+];
+
+/// The player of the script.
+fn player(alloc: Global) -> Result<ScriptPlayer, Outcome>
+    ensures given { IfOk result (λ player. player.given ≡ []) }
+    ensures running { IfOk result (λ player. player.ended ≡ false) }
+{
+    let mut directory = Directory::new(alloc);
+    directory.account(NUMBER, lasting(OPENING))?;
+    let rows = read_script(alloc, &directory, SCRIPT)?;
+    Ok(ScriptPlayer::new(alloc, rows, SWITCH, 2)?)
+}
+
+/// Serves the script by two workers.
+pub(crate) fn serves<R: Wait + Threads + Sync>(rt: &R, alloc: Global) -> Course {
+    let setup = set_up(alloc)?;
+    let mut player = player(alloc)?;
+    let Books { books, handled } = serve(rt, alloc, &setup, &mut player, 2, &OpenGate)?;
+    let mut posts = 0usize;
+    for one in &handled {
+        posts = posts.saturating_add(one.len());
+    }
+    expect(posts == player.given().len())?;
+    match books.as_slice() {
+        [book] => outcome_of(book.history()),
+        _ => Err(Outcome::Wrong),
+    }
+}
+
+/// The call has its entries, or, where there was no memory for its grant, none.
+fn outcome_of(entries: &[Entry]) -> Course {
+    if entries.is_empty() {
+        return Ok(Outcome::Refused);
+    }
+    expect(entries.len() == REPLIES.len())?;
+    for (entry, reply) in entries.iter().zip(&REPLIES) {
+        expect(entry.reply == *reply)?;
+    }
+    Ok(Outcome::Answered)
+}
+
+/// What the service answers to the items from this place on.
+fn answers_to(alloc: Global, given: &[(u64, Body)], first: usize) -> Result<Vec<Answer>, Outcome> {
+    let mut answers = Vec::new(alloc);
+    for place in first..given.len() {
+        let (_, body) = given[place];
+        answers.push(Answer {
+            number: place as u64,
+            ops: ops_for(&body)?,
+            stray: false,
+            refused: None,
+        })?;
+    }
+    Ok(answers)
+}
+
+/// Plays rounds to the end of the script.
+fn play(alloc: Global, player: &mut ScriptPlayer) -> Result<(), Outcome> {
+    let mut answers = Vec::new(alloc);
+    for _ in 0..20 {
+        let first = player.given().len();
+        if !player.round(answers.as_slice())? {
+            return Ok(());
+        }
+        answers = answers_to(alloc, player.given(), first)?;
+    }
+    Err(Outcome::Wrong)
+}
+
+/// Plays the script without a run. What is given is what the call's gsmSSF sends, and the beginning
+/// of it where there was no memory for more.
+pub(crate) fn plays(alloc: Global) -> Course {
+    let items = [
+        (0, begun()?),
+        (100, answered()),
+        (400, last_report()),
+        (400, hung_up()),
+        (402, of_call(SsfMsg::Ended)),
+    ];
+    let mut player = player(alloc)?;
+    let played = play(alloc, &mut player);
+    expect(items.starts_with(player.given()))?;
+    played?;
+    expect(player.ended() && player.given().len() == items.len())?;
+    Ok(Outcome::Answered)
+}

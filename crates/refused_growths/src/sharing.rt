@@ -1,0 +1,118 @@
+//! An account that is shared, under its lock or by turns.
+
+ghost use Rattle.std.specs.Prelude.{◌≡◌, IfOk};
+ghost use Rattle.std.specs.Coded.{Coded-set};
+
+use crate::asks::{OPENING, Seen, Watched, are_all, ask_all, counted};
+use crate::forms::{Form, NUMBER, close, two_seats};
+use crate::outcome::{Course, Outcome, expect};
+use account_core::{AccountFault, CallSum, Fate, Op, Port, Reply};
+use shared_account::{Book, OpenGate};
+use std::alloc::Global;
+use std::sync::Wait;
+
+/// A shared account with its two seats. It is asked from the first one.
+#[derive(Drop)]
+pub(crate) struct Desk<'a, S: Form, R: Wait> {
+    rt: &'a R,
+    account: S,
+    first: S::Seat,
+    second: S::Seat,
+    ghost has_first: { S.key_of first ≡ S.key account } by { Coded-set S.key_code (S.key_of first) (S.key account) },
+    ghost has_second: { S.key_of second ≡ S.key account } by { Coded-set S.key_code (S.key_of second) (S.key account) },
+}
+
+impl<'a, S: Form, R: Wait> Desk<'a, S, R> {
+    /// A new account.
+    pub(crate) fn open(rt: &'a R, alloc: Global) -> Result<Desk<'a, S, R>, Outcome> {
+        let (account, first, second) = two_seats::<S, R>(rt, alloc)?;
+        Ok(Desk {
+            rt,
+            account,
+            first,
+            second,
+        })
+    }
+
+    /// The account's book.
+    fn close(self, alloc: Global) -> Result<Book, Outcome> {
+        let Desk {
+            account,
+            first,
+            second,
+            ..
+        } = self;
+        close(alloc, account, first, second)
+    }
+}
+
+impl<S: Form, R: Wait> Port for Desk<'_, S, R> {
+    fn ask(&mut self, op: Op) -> Result<Reply, AccountFault> {
+        self.account.call(self.rt, &mut self.first, op, &OpenGate)
+    }
+}
+
+impl<S: Form, R: Wait> Watched for Desk<'_, S, R> {
+    fn seen(&self) -> Seen {
+        Seen {
+            account: None,
+            mine: Some(counted(S::mine(&self.first))),
+        }
+    }
+
+    /// The other seat is told that a call isn't open, which takes no memory.
+    fn is_free(&mut self) -> bool {
+        let op = Op::Return { call: u64::MAX };
+        let answer = self.account.call(self.rt, &mut self.second, op, &OpenGate);
+        answer == Err(AccountFault::NotOpen)
+    }
+}
+
+/// Opens an account.
+pub(crate) fn opens<S: Form, R>(rt: &R, alloc: Global) -> Course {
+    let (_, first, second) = two_seats::<S, R>(rt, alloc)?;
+    expect(S::mine(&first).is_empty() && S::mine(&second).is_empty())?;
+    Ok(Outcome::Answered)
+}
+
+/// The book of an account that was asked all.
+fn book_of<S: Form, R: Wait>(rt: &R, alloc: Global) -> Result<(Book, Outcome), Outcome> {
+    let mut desk = Desk::<S, R>::open(rt, alloc)?;
+    let outcome = ask_all(&mut desk)?;
+    Ok((desk.close(alloc)?, outcome))
+}
+
+/// Asks an account from a seat, and closes it. The book has what was answered, and nothing else.
+pub(crate) fn asks<S: Form, R: Wait>(rt: &R, alloc: Global) -> Course {
+    let (book, outcome) = book_of::<S, R>(rt, alloc)?;
+    expect(book.account() == NUMBER && book.opening() == OPENING)?;
+    expect(are_all(book.history(), 0))?;
+    match book.own() {
+        [first, second] => expect(are_all(first.as_slice(), 0) && second.is_empty())?,
+        _ => return Err(Outcome::Wrong),
+    }
+    Ok(outcome)
+}
+
+/// Closes an account that nobody has asked.
+pub(crate) fn closes<S: Form, R>(rt: &R, alloc: Global) -> Course {
+    let (account, first, second) = two_seats::<S, R>(rt, alloc)?;
+    let book = close(alloc, account, first, second)?;
+    expect(book.history().is_empty() && book.own().len() == 2)?;
+    Ok(Outcome::Answered)
+}
+
+/// Sums up a book.
+pub(crate) fn sums_up<S: Form, R: Wait>(rt: &R, alloc: Global) -> Course {
+    let (book, outcome) = book_of::<S, R>(rt, alloc)?;
+    let summary = book.summary(alloc)?;
+    let sum = |call| CallSum {
+        call,
+        paid: 1050,
+        fate: Fate::Returned,
+    };
+    expect(summary.account == NUMBER && summary.opening == OPENING)?;
+    expect(summary.available == 3 && summary.entries == book.history().len())?;
+    expect(summary.calls.as_slice() == [sum(1), sum(2)].as_slice())?;
+    Ok(outcome)
+}
