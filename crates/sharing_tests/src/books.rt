@@ -147,6 +147,10 @@ fn sums_up<S: Form, R: Abort + Wait>(rt: &R, alloc: Global) -> Result<(), Fail> 
     ];
     let refused = [
         (0, shut, credit(5), Err(AccountFault::GateClosed)),
+        (0, shut, credit(0), Err(AccountFault::GateClosed)),
+        (0, shut, settle(1, 600), Err(AccountFault::GateClosed)),
+        (0, shut, return_of(1), Err(AccountFault::GateClosed)),
+        (1, open, return_of(1), Err(AccountFault::NotOpen)),
         (1, open, credit(0), Err(AccountFault::OutOfRange)),
         (1, open, credit(1), credited(101)),
     ];
