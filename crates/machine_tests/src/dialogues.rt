@@ -61,13 +61,16 @@ const ROUTE: Route = Route {
     switch_at: Some(600),
 };
 
-const RESERVE: Op = Op::Reserve {
-    call: 1,
-    plan: PLAN,
-    wanted: 600,
-    least: 50,
-    at: 0,
-};
+/// More time is asked for at a moment.
+fn reserve(at: u64) -> Op {
+    Op::Reserve {
+        call: 1,
+        plan: PLAN,
+        wanted: 600,
+        least: 50,
+        at,
+    }
+}
 
 const SETTLE: Op = Op::Settle {
     call: 1,
@@ -311,10 +314,15 @@ fn report(active: bool) -> SsfMsg {
     }
 }
 
-/// Whether a turn is the one that is wanted.
-fn is_wanted(rt: &impl Abort, turn: &Result<Turn, DialogueFault>, want: &Want) -> bool {
+/// Whether a turn is the one that is wanted, where the last report was of this moment.
+fn is_wanted(
+    rt: &impl Abort,
+    turn: &Result<Turn, DialogueFault>,
+    want: &Want,
+    reported: u64,
+) -> bool {
     match (turn, want) {
-        (Ok(Turn::Ask(asked)), Want::Reserve) => *asked == RESERVE,
+        (Ok(Turn::Ask(asked)), Want::Reserve) => *asked == reserve(reported),
         (Ok(Turn::Ask(asked)), Want::Settle) => *asked == SETTLE,
         (Ok(Turn::Ask(asked)), Want::Return) => *asked == Op::Return { call: 1 },
         (Ok(Turn::Send(sent)), Want::Nothing) => sent.is_empty(),
@@ -339,23 +347,28 @@ fn is_wanted(rt: &impl Abort, turn: &Result<Turn, DialogueFault>, want: &Want) -
     }
 }
 
-/// Hands a dialogue one input after the other, and looks at each turn.
+/// Hands a dialogue one input after the other, each at a later moment, and looks at each turn.
 fn plays(rt: &impl Abort, name: &str, rows: &[(Input, Want)]) {
     let (mut dialogue, first) = Dialogue::begin(1, 0, Some(ROUTE), &CONFIG);
-    gives(rt, &name, &first, &Turn::Ask(RESERVE));
+    gives(rt, &name, &first, &Turn::Ask(reserve(0)));
+    let mut reported = 0;
     for (row, (input, want)) in rows.iter().enumerate() {
         let before = dialogue;
+        let at = 100 * (row as u64 + 1);
         let turn = match *input {
-            Input::Initial => dialogue.take(7, initial(rt)),
-            Input::Report(active) => dialogue.take(7, report(active)),
-            Input::Event(event, leg, mode) => {
-                dialogue.take(7, SsfMsg::EventReport { event, leg, mode })
+            Input::Initial => dialogue.take(7, at, initial(rt)),
+            Input::Report(active) => {
+                reported = at;
+                dialogue.take(7, at, report(active))
             }
-            Input::Ended => dialogue.take(7, SsfMsg::Ended),
+            Input::Event(event, leg, mode) => {
+                dialogue.take(7, at, SsfMsg::EventReport { event, leg, mode })
+            }
+            Input::Ended => dialogue.take(7, at, SsfMsg::Ended),
             Input::Answer(reply) => dialogue.answer(reply),
             Input::Refusal => dialogue.refused(AccountFault::OutOfMemory),
         };
-        let wanted = is_wanted(rt, &turn, want);
+        let wanted = is_wanted(rt, &turn, want, reported);
         let kept = turn.is_ok() || dialogue == before;
         gives(rt, &(name, row, &turn), &(wanted, kept), &(true, true));
     }
@@ -371,7 +384,7 @@ fn dialogues_play_every_row(rt: HostRuntime) {
     }
     let (_, turn) = Dialogue::begin(1, 0, None, &CONFIG);
     assert!(rt;
-        is_wanted(&rt, &Ok(turn), &Want::Release(UNALLOCATED_NUMBER)),
+        is_wanted(&rt, &Ok(turn), &Want::Release(UNALLOCATED_NUMBER), 0),
         "with no route"
     );
 }

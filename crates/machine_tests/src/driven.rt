@@ -60,35 +60,69 @@ const BACKWARDS: Script = &[(100, BcsmEvent::Answer), (50, BcsmEvent::Busy)];
 
 const UNASKED: Left = (0, None, 1500);
 
-/// The opening credit, the delay and the script of a call, how it ends, and what is left.
-const CALLS: [(u64, u32, Script, End, Left); 8] = [
+/// The opening credit with its last moment, the delay and the script of a call, how it ends, and what
+/// is left.
+const CALLS: [((u64, Option<u64>), u32, Script, End, Left); 10] = [
     (
-        1500,
+        (1500, None),
         2,
         ANSWER,
         Ok((2, Some(870), 0, 0)),
         (5, Some(1500), 0),
     ),
     (
-        1050,
+        (1050, None),
         2,
         ANSWER,
         Ok((1, Some(600), 0, 0)),
         (4, Some(1050), 0),
     ),
-    (1500, 2, BUSY, Ok((0, None, 0, 0)), (2, Some(0), 1500)),
+    (
+        (1500, None),
+        2,
+        BUSY,
+        Ok((0, None, 0, 0)),
+        (2, Some(0), 1500),
+    ),
     // A further period comes too late.
     (
-        1500,
+        (1500, None),
         50,
         ANSWER,
         Ok((1, Some(600), 0, 1)),
         (4, Some(1050), 450),
     ),
-    (1500, 0, ANSWER, Err(DriveFault::Delay), UNASKED),
-    (1500, 51, ANSWER, Err(DriveFault::Delay), UNASKED),
-    (1500, 2, BACKWARDS, Err(DriveFault::Backwards), UNASKED),
-    (1500, 0, BACKWARDS, Err(DriveFault::Backwards), UNASKED),
+    ((1500, None), 0, ANSWER, Err(DriveFault::Delay), UNASKED),
+    ((1500, None), 51, ANSWER, Err(DriveFault::Delay), UNASKED),
+    (
+        (1500, None),
+        2,
+        BACKWARDS,
+        Err(DriveFault::Backwards),
+        UNASKED,
+    ),
+    (
+        (1500, None),
+        0,
+        BACKWARDS,
+        Err(DriveFault::Backwards),
+        UNASKED,
+    ),
+    // The second period is asked for at 700.
+    (
+        (1500, Some(700)),
+        2,
+        ANSWER,
+        Ok((2, Some(870), 0, 0)),
+        (5, Some(1500), 0),
+    ),
+    (
+        (1500, Some(699)),
+        2,
+        ANSWER,
+        Ok((1, Some(600), 0, 0)),
+        (4, Some(1050), 450),
+    ),
 ];
 
 /// The same of a port with a habit, to an account with 1500, with a delay of 2.
@@ -178,12 +212,17 @@ fn left(account: &Account) -> Left {
 
 #[test]
 fn calls_are_paid_or_not_driven(rt: HostRuntime) {
-    for &(opening, delay, script, end, account) in &CALLS {
+    for &((opening, until), delay, script, end, account) in &CALLS {
         assert!(rt; opening <= MAX_MONEY);
-        let mut port = AccountPort::new(Account::new(rt.alloc(), opening, None, 1000), 0);
+        let mut port = AccountPort::new(Account::new(rt.alloc(), opening, until, 1000), 0);
         let met = driven(&rt, &mut port, delay, script);
         let found = (met, left(&port.account));
-        gives(&rt, &(delay, script), &found, &(end_of(end), account));
+        gives(
+            &rt,
+            &(until, delay, script),
+            &found,
+            &(end_of(end), account),
+        );
     }
 }
 
