@@ -58,9 +58,9 @@ answer_of() {
             ;;
         command/run_book)
             ungranted_of "$1"
-            echo '7,1,reserve,1,50,1000,,600,50,0,granted,600,more,450'
-            echo '7,1,settle,1,2,n,300,,,,settled,550,,450'
-            echo '7,1,return,1,,,,,,,returned,550,,950'
+            echo '7,1,reserve,1,50,1000,,600,50,0,0,granted,600,more,450'
+            echo '7,1,settle,1,2,n,300,,,,,settled,550,,450'
+            echo '7,1,return,1,,,,,,,,returned,550,,950'
             ;;
         command/audit) echo 'account 7 yes' ;;
         command/audit_altered)
@@ -82,8 +82,8 @@ ungranted_of() {
     case $1 in
         command/run) echo 'account 7 opening 1500 available 1500 entries 0' ;;
         command/run_book)
-            echo 'account,seat,op,call,x1,x2,x3,x4,x5,x6,reply,y1,y2,y3'
-            echo '7,,opening,,1500,,,,,,,,,'
+            echo 'account,seat,op,call,x1,x2,x3,x4,x5,x6,x7,reply,y1,y2,y3'
+            echo '7,,opening,,1500,,,,,,,,,,'
             ;;
     esac
 }
