@@ -81,6 +81,7 @@ pub talked_by : (numbers : List ℕ) (call place seat : ℕ) (first : Says × Ph
     → IsTalked numbers call place first (record { lists = lists; talks = talks }) (record { lists = grew; talks = now }) told
 talked_by numbers call place seat first phase lists grew talks now before after orders refused told is number grows stands ordered stray why = record {
   gots = is.gots;
+  asked = is.asked;
   last = is.last;
   phase = phase;
   talk = is.talks;

@@ -146,6 +146,7 @@ talked_past : (numbers : List ℕ) (call place : ℕ) (first : Says × Phase) (s
     → IsTalked numbers call place first (record { lists = lists; talks = between }) new t → IsTalked numbers call place first (record { lists = lists; talks = talks }) new t
 talked_past numbers call place first standing lists talks between new t same is = record {
   gots = is.gots;
+  asked = is.asked;
   last = is.last;
   phase = is.phase;
   talk = is.talk;

@@ -1,4 +1,5 @@
 pub mod Abouts
+pub mod AtRest
 pub mod Closes
 pub mod Doings
 pub mod Handling

@@ -12,7 +12,7 @@ use Rattle.tariff_core.specs.Bands.{Band}
 use Rattle.tariff_core.specs.Routes.{HasNoRoute, IsRoute}
 use Rattle.tariff_core.specs.declared.route.Route.{Route}
 use Rattle.workers_core.specs.Setups.{Setup}
-use Rattle.workers_core.specs.Talks.{Got, entries_of, entry_of, is_ask, last_fault, sent_by, talked}
+use Rattle.workers_core.specs.Talks.{AllAsk, Got, entries_of, entry_of, is_ask, last_fault, sent_by, talked}
 use Rattle.workers_core.specs.Verdicts.{Standing, Verdict, Strays, Rejects, Recharges, Begins, GoesOn, verdict}
 use Rattle.workers_core.specs.declared.answer.Answer.{Answer}
 use Rattle.workers_core.specs.declared.post.Post.{Post}
@@ -64,6 +64,7 @@ pub record IsRecharged (numbers : List ℕ) (place amount : ℕ) (until : Option
 -- the dialogue of a call talks with the account at a place, from what it says first until no ask is left
 pub record IsTalked (numbers : List ℕ) (call place : ℕ) (first : Says × Phase) (old new : Holding) (told : Told) : Type 0 where
   pub gots : List Got
+  pub asked : AllAsk first gots
   pub last : Says
   pub phase : Phase
   pub talk : talked first gots ≡ (last, phase)

@@ -1,6 +1,7 @@
 pub mod Cases
 pub mod Ends
 pub mod Handled
+pub mod Laws
 pub mod Logs
 pub mod Openings
 pub mod Served

@@ -50,6 +50,11 @@ is_ask (Asks asked) = true
 is_ask (Sends orders) = false
 is_ask Finished = false
 
+-- each of these came to an ask that was pending
+abbrev pub AllAsk : Says × Phase → List Got → Type 0
+AllAsk first [] = Unit {0}
+AllAsk first (got ∷ earlier) = (is_ask (talked first earlier).0 ≡ true) × AllAsk first earlier
+
 -- the operations that are sent
 abbrev pub sent_by : Says → List Order
 sent_by (Asks asked) = []
@@ -60,6 +65,7 @@ sent_by Finished = []
 -- the account refused an ask last, if it did
 pub record IsTalk (seat : ℕ) (first : Says × Phase) (before after : List Event) (phase : Phase) (orders : List Order) (refused : Option AccountFault) : Type 0 where
   pub gots : List Got
+  pub asked : AllAsk first gots
   pub last : Says
   pub talks : talked first gots ≡ (last, phase)
   pub rests : is_ask last ≡ false
