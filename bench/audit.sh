@@ -1,6 +1,6 @@
 #!/usr/bin/env bash
-# The time of `audit` over a book of 16 MiB, beside a plain program that does the same without
-# proofs: both in one run, in turn, the least of 20 runs of each. The book has the calls of 1,000
+# The processor time of `audit` over a book of 16 MiB, beside a plain program that does the same
+# without proofs: both in one run, in turn, the least of 20 runs of each. The book has the calls of 1,000
 # accounts by turns: each reserves for a call, settles it and returns the rest.
 set -eu
 cd "$(dirname "$0")/.."
@@ -37,15 +37,20 @@ BEGIN {
     }
 }' > "$work/book.csv"
 
-once() { # COMMAND.. : the wall time of a run in microseconds
-    local start end
-    start=$(date +%s%N)
-    "$@" < "$work/book.csv" > "$work/out"
-    end=$(date +%s%N)
-    echo $(( (end - start) / 1000 ))
+once() { # COMMAND.. : the processor time of a run in milliseconds
+    local TIMEFORMAT='%U %S' spent
+    spent=$({ time "$@" < "$work/book.csv" > "$work/out"; } 2>&1)
+    awk '{ printf "%d", 1000 * ($1 + $2) }' <<< "$spent"
 }
 
-proved=999999999 plain=999999999
+peak() { # COMMAND.. : the most memory of a run in KiB
+    python3 -c '
+import resource, subprocess, sys
+subprocess.run(sys.argv[2:], stdin=open(sys.argv[1]), stdout=subprocess.DEVNULL, check=True)
+print(resource.getrusage(resource.RUSAGE_CHILDREN).ru_maxrss)' "$work/book.csv" "$@"
+}
+
+proved=999999 plain=999999
 for _ in $(seq 20); do
     time=$(once bin/prepaid audit)
     (( time < proved )) && proved=$time
@@ -55,4 +60,5 @@ for _ in $(seq 20); do
     cmp "$work/out" "$work/proved.out"
 done
 ! grep -q no "$work/out"
-echo "audit of $(wc -l < "$work/book.csv") rows: proved $proved us, plain $plain us"
+echo "audit of $(wc -l < "$work/book.csv") rows: proved $proved ms of processor time, plain $plain ms"
+echo "memory: proved $(peak bin/prepaid audit) KiB, plain $(peak "$work/plain") KiB"
