@@ -10,6 +10,7 @@ mod broken;
 mod devices;
 #[cfg(test)]
 mod last_moments;
+#[cfg(test)]
 mod lengths;
 #[cfg(test)]
 mod looking;
