@@ -40,6 +40,7 @@ edits:
 
 install: bin/prepaid
 	install -D -m 755 bin/prepaid $(DESTDIR)$(PREFIX)/bin/prepaid
+	install -D -m 644 man/prepaid.1 $(DESTDIR)$(PREFIX)/share/man/man1/prepaid.1
 
 # Times price and audit beside plain programs, a run by its length, and shared accounts beside plain ones.
 bench: bin/prepaid
