@@ -25,13 +25,14 @@ else
 endif
 
 # Proves everything from nothing, tries the edits that must fail, and runs the tests and the programs;
-# then holds the words of the man page and the completions against the formats, refuses memory to each
-# call that takes any, and compares the program with its model.
+# then holds the words of the man page and the completions against the formats, compares runs in parts
+# with whole ones, refuses memory to each call that takes any, and compares the program with its model.
 test:
 	tests/edits_test.py
 	mkdir -p out
 	set -o pipefail; rt ci | tee out/gate.txt
 	tests/words_test.py --program crates/prepaid/out/prepaid
+	tests/divide_test.py --program crates/prepaid/out/prepaid
 	tests/refused_growths.sh
 	tests/random.sh --program crates/prepaid/out/prepaid
 	@tail -n 1 out/gate.txt
