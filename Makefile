@@ -25,11 +25,14 @@ else
 endif
 
 # Proves everything from nothing, tries the edits that must fail, and runs the tests and the programs;
-# then refuses memory to each call that takes any, and compares the program with its model.
+# then holds the words of the man page and the completions against the formats, compares runs in parts
+# with whole ones, refuses memory to each call that takes any, and compares the program with its model.
 test:
 	tests/edits_test.py
 	mkdir -p out
 	set -o pipefail; rt ci | tee out/gate.txt
+	tests/words_test.py --program crates/prepaid/out/prepaid
+	tests/divide_test.py --program crates/prepaid/out/prepaid
 	tests/refused_growths.sh
 	tests/random.sh --program crates/prepaid/out/prepaid
 	@tail -n 1 out/gate.txt
@@ -40,6 +43,9 @@ edits:
 
 install: bin/prepaid
 	install -D -m 755 bin/prepaid $(DESTDIR)$(PREFIX)/bin/prepaid
+	install -D -m 644 man/prepaid.1 $(DESTDIR)$(PREFIX)/share/man/man1/prepaid.1
+	install -D -m 644 completions/prepaid.bash $(DESTDIR)$(PREFIX)/share/bash-completion/completions/prepaid
+	install -D -m 644 completions/_prepaid $(DESTDIR)$(PREFIX)/share/zsh/site-functions/_prepaid
 
 # Times price and audit beside plain programs, a run by its length, and shared accounts beside plain ones.
 bench: bin/prepaid

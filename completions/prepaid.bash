@@ -1,0 +1,27 @@
+# Completion of prepaid for bash. tests/words_test.py compares its words with the help.
+
+_prepaid()
+{
+    local current=${COMP_WORDS[COMP_CWORD]} previous=${COMP_WORDS[COMP_CWORD - 1]}
+    local words
+    if ((COMP_CWORD == 1)); then
+        words='price replay run audit help --help -h'
+    elif [[ $previous == --default ]]; then
+        words='proceed release'
+    elif [[ $previous == --* && $previous != --book && $previous != --help ]]; then
+        # a number comes next
+        words=''
+    else
+        case ${COMP_WORDS[1]} in
+            price) words='--fee --before --after --free --help -h' ;;
+            replay) words='--opening --limit --help -h' ;;
+            run) words='--workers --wanted --least --tssf --tccd --delay --default --book --help -h' ;;
+            audit) words='--help -h' ;;
+            help) words='price replay run audit help' ;;
+            *) words='' ;;
+        esac
+    fi
+    COMPREPLY=($(compgen -W "$words" -- "$current"))
+}
+# the input comes from a file after <, which bash completes by itself
+complete -F _prepaid prepaid

@@ -1,0 +1,174 @@
+#!/usr/bin/env python3
+"""Divides inputs by account, runs the parts, and compares the merged lines with those of the whole run.
+
+tests/divide_test.py [--program FILE] [COUNT] takes the examples, COUNT random inputs that run, and one that is larger
+than one run takes. An input that the program refuses must be refused as well when it is divided.
+"""
+import argparse
+import csv
+import os
+import subprocess
+import sys
+import tempfile
+
+TOP = os.path.join(os.path.dirname(os.path.abspath(__file__)), "..")
+sys.path.insert(0, os.path.join(TOP, "examples"))
+from divide import RUN, Limits, Wrong, divide
+from merge import merge
+from model.inputs import make
+
+# The limits of a run, and smaller ones that divide small inputs into many parts.
+SMALL = [Limits(RUN.bytes, 1, 10, 1_000), Limits(RUN.bytes, 2, 5, 1_000), Limits(2_000, 3, 100, 60)]
+# Rows that are wrong only beside rows of another account: of a setup, and of a script.
+WRONG = {
+    "Order": ([], ["5,1,start,491,4930", "4,2,start,492,4930"]),
+    "Repeated": ([], ["5,1,start,491,4930", "5,1,start,492,4930"]),
+    "Unknown": ([], ["5,1,start,491,4930", "5,2,answer,,"]),
+    "Repeated subscriber": (["subscriber,491,8"], []),
+    "Repeated account": (["account,8,5"], []),
+    "Unknown account": (["subscriber,493,9"], []),
+    "What": (["accounts,9,5"], []),
+}
+# Faults that a part needn't have: the input is only too long for one run.
+TOO_LARGE = ["TooLong", "TooManyRows"]
+
+
+def run(program, words, path):
+    with open(path, "rb") as file:
+        ran = subprocess.run([program, *words], stdin=file, capture_output=True, timeout=60)
+    return ran.returncode, ran.stdout.decode(), ran.stderr.decode()
+
+
+def in_parts(program, words, path, folder, count, limits):
+    """The merged lines of the parts, or why there are none."""
+    paths = divide(path, folder, count, limits)
+    for part in paths:
+        status, printed, fault = run(program, words, part)
+        if status:
+            raise Wrong(fault)
+        with open(part + ".out", "w") as file:
+            file.write(printed)
+        exceeds(part, limits)
+    return "".join(merge([it + ".out" for it in paths])), len(paths)
+
+
+def exceeds(path, limits):
+    with open(path, "rb") as file:
+        text = file.read()
+    _, setup, script = text.split(b"%%\n")
+    rows = setup.splitlines()[1:]
+    takes = len(text), sum(it.startswith(b"account,") for it in rows), len(rows), len(script.splitlines()) - 1
+    if any(it > most for it, most in zip(takes, limits)):
+        raise SystemExit(f"{path}: {takes} is more than {limits}")
+
+
+class Trial:
+    def __init__(self, program, folder):
+        self.program, self.folder, self.made, self.compared, self.parts, self.refused = program, folder, 0, 0, 0, 0
+
+    def new(self, text=None):
+        self.made += 1
+        path = os.path.join(self.folder, str(self.made))
+        if text is not None:
+            with open(path, "wb") as file:
+                file.write(text)
+        return path
+
+    def same(self, name, words, path, count=None, limits=RUN, wanted=None):
+        """Compares the merged lines with the whole run's."""
+        wanted = wanted or run(self.program, words, path)[1]
+        found, parts = in_parts(self.program, words, path, self.new(), count, limits)
+        if found != wanted or count not in (None, parts):
+            raise SystemExit(f"{name}: {parts} parts, merged:\n{found}the whole:\n{wanted}")
+        self.compared += 1
+        self.parts += parts
+
+    def refuses(self, name, words, path, fault):
+        try:
+            found, _ = in_parts(self.program, words, path, self.new(), 2, RUN)
+        except (Wrong, csv.Error):
+            self.refused += 1
+        else:
+            raise SystemExit(f"{name}: the whole is refused, {fault}and its parts are not:\n{found}")
+
+    def random(self, seed):
+        """Whether the seed's input is a run that ends."""
+        words, text = make(seed)
+        # the same worker serves all calls, or their order at a shared account is open
+        if words[:1] != ["run"]:
+            return False
+        words = ["run", *(it for it in words[1:] if it != "--book"), "--workers", "1"]
+        for at in [at for at, it in enumerate(words[:-2]) if it == "--workers"]:
+            del words[at : at + 2]
+        path = self.new(text)
+        status, wanted, fault = run(self.program, words, path)
+        if status == 0:
+            self.same(f"seed {seed}", words, path, 1 + seed % 4, wanted=wanted)
+            try:
+                self.same(f"seed {seed}", words, path, limits=SMALL[seed % 2], wanted=wanted)
+            except Wrong as small:
+                if "is more than one run takes" not in str(small):
+                    raise
+        elif not any(it in fault for it in ["arguments", "Config", *TOO_LARGE]):
+            self.refuses(f"seed {seed}", words, path, fault)
+        return status == 0
+
+
+def wrong(setup, script):
+    """An input of two accounts with more rows."""
+    setup = ["kind,key,value", "account,7,1500", "subscriber,491,7", "account,8,1500", "subscriber,492,8", *setup]
+    script = ["moment,call,what,x,y", *script]
+    return "\n".join(["prefix,from,fee,rate", "49,00:00,50,1000", "%%", *setup, "%%", *script, ""]).encode()
+
+
+def large(accounts):
+    """An input of one call for each account, and the lines of its run: each call is that of the README."""
+    numbers = range(1, accounts + 1)
+    setup = "".join(f"account,{it},1500\n" for it in numbers) + "".join(f"subscriber,49{it:08},{it}\n" for it in numbers)
+    script = "".join(f"0,{it},start,49{it:08},4930\n" for it in numbers)
+    script += "".join(f"100,{it},answer,,\n" for it in numbers) + "".join(f"400,{it},disconnect,1,\n" for it in numbers)
+    text = "prefix,from,fee,rate\n49,00:00,50,1000\n%%\nkind,key,value\n" + setup + "%%\nmoment,call,what,x,y\n" + script
+    lines = [f"account {it} opening 1500 available 950 entries 3\n" for it in numbers]
+    lines += [f"call {it} account {it} paid 550 returned\n" for it in numbers]
+    return text.encode(), "".join(lines)
+
+
+def main():
+    asked = argparse.ArgumentParser(description=__doc__)
+    asked.add_argument("--program", default="bin/prepaid")
+    asked.add_argument("count", nargs="?", type=int, default=60)
+    words = asked.parse_args()
+    with tempfile.TemporaryDirectory() as folder:
+        trial = Trial(os.path.abspath(words.program), folder)
+        one = ["run", "--workers", "1"]
+        for name in ("evening", "call", "free_minute", "expiring"):
+            path = os.path.join(TOP, "examples", f"{name}.txt")
+            for count in (1, 2, 3, 9):
+                trial.same(name, one, path, count)
+        for limits in SMALL:
+            trial.same(f"evening {limits}", one, os.path.join(TOP, "examples", "evening.txt"), limits=limits)
+        for name, rows in WRONG.items():
+            path = trial.new(wrong(*rows))
+            fault = run(trial.program, one, path)[2]
+            if name.split()[0] not in fault:
+                raise SystemExit(f"{name}: {fault}")
+            trial.refuses(name, one, path, fault)
+        with open(os.path.join(TOP, "examples", "evening.txt"), "rb") as file:
+            text = file.read().replace(b"%%", b"".join(b"7%03d,00:00,0,0\n" % it for it in range(100)) + b"%%", 1)
+        trial.same("a long tariff", one, trial.new(text), limits=Limits(3_300, 9, 99, 999))
+        text, lines = large(2_500)
+        path = trial.new(text)
+        if run(trial.program, one, path)[2] != "prepaid: setup row 1002: TooManyRows\n":
+            raise SystemExit("a run takes more than 1000 accounts")
+        trial.same("2500 accounts", one, path, 3, wanted=lines)
+        trial.same("2500 accounts", one, path, wanted=lines)
+        # the first seeds have inputs of 16 MiB, which say nothing here
+        seed, ran = 8, 0
+        while ran < words.count:
+            seed += 1
+            ran += trial.random(seed)
+    print(f"divide: {trial.compared} inputs in {trial.parts} parts as in one run, {trial.refused} refused as by one run ({seed} seeds)")
+
+
+if __name__ == "__main__":
+    main()

@@ -1,0 +1,210 @@
+#!/usr/bin/env python3
+"""Holds the words together: the man page, the completions and the help against docs/FORMATS.md.
+
+tests/words_test.py [--program FILE] compares commands, options, ranges, what is left out, and the lines and kinds of
+faults, and runs the examples of the man page.
+"""
+import argparse
+import os
+import re
+import subprocess
+import sys
+
+HELP = {"-h", "--help"}
+
+
+def cells(line):
+    return [it.strip().replace("\\|", "|") for it in line.strip().strip("|").split("|")]
+
+
+def tables_of(text):
+    """The rows of each table of a page, by the first cell of its header."""
+    found, rows = {}, None
+    for line in text.split("\n"):
+        if not line.startswith("|"):
+            rows = None
+        elif rows is None:
+            rows = found.setdefault(cells(line)[0], [])
+        elif not line.startswith("|---"):
+            rows.append(cells(line))
+    return found
+
+
+def said_in_formats(text):
+    """Commands with their options, (range, left out) of each option that takes a value, and lines and kinds of faults."""
+    tables = tables_of(text)
+    commands, values = {"help": set()}, {}
+    for name, options, *_ in tables["Command"]:
+        name, found = name.strip("`"), re.findall(r"(--[a-z]+) N", options)
+        commands[name] = set(found) | HELP
+        for option in found:
+            behind = options[options.index(option) :]
+            values[name, option] = re.search(r"\d+ to (\d+\^)?\d+", behind)[0], None
+            if re.match(rf"{option} N\]` [^`]*it is where it is left out", behind):
+                values[name, option] = values[name, option][0], values[name, option][0].split()[-1]
+            elif left := re.match(rf"{option} N\]` [^`]*which is (\d+) where it is left out", behind):
+                values[name, option] = values[name, option][0], left[1]
+    for option, left, allowed, _ in tables["Option of `run`"]:
+        option, *takes = option.strip("`").split()
+        commands["run"].add(option)
+        if takes:
+            values["run", option] = allowed.replace("`", ""), left.strip("`")
+    lines = {it for row in tables["Line"] if row[0] != "none" for it in fault_lines(row[0])}
+    lines |= {f"prepaid: run: {it}" for row in tables["Line"] for it in re.findall(r"`(\w+)` is a name too", row[2])}
+    kinds = {row[0].strip("`") for row in tables["KIND"]}
+    return commands, values, lines, kinds
+
+
+def fault_lines(cell):
+    first, *more = re.findall("`([^`]*)`", cell)
+    return [first, *(first.rsplit(" ", 1)[0] + " " + it for it in more)]
+
+
+def plain(line):
+    """The words of a line of the man page, without what is for its looks."""
+    if re.match(r"\.(B|I|BI|BR|RB|RI) ", line):
+        pieces = re.findall(r'"([^"]*)"|(\S+)', line.split(" ", 1)[1])
+        glue = " " if line.startswith((".B ", ".I ")) else ""
+        line = glue.join(a or b for a, b in pieces)
+    return re.sub(r"\\f[RBI]", "", line).replace("\\-", "-")
+
+
+def entries_of(text):
+    """What the man page tells of each term: (section, sub-section, term, text)."""
+    section = below = None
+    entries, lines = [], text.split("\n")
+    for at, line in enumerate(lines):
+        word, _, rest = line.partition(" ")
+        if word == ".SH":
+            section, below = rest, None
+        elif word == ".SS":
+            below = rest
+            entries.append([section, below, None, ""])
+        elif word == ".TP":
+            entries.append([section, below, plain(lines[at + 1]), ""])
+        elif entries and not (at and lines[at - 1] == ".TP"):
+            entries[-1][3] += plain(line) + " "
+    return entries
+
+
+def said_in_man(text):
+    commands, values, lines, kinds = {}, {}, set(), set()
+    for section, below, term, said in entries_of(text):
+        if section == "COMMANDS" and term is None:
+            commands[below] = set()
+        elif section == "COMMANDS":
+            option, *takes = term.replace(",", "").split()
+            commands[below] |= {it for it in term.replace(",", " ").split() if it.startswith("-")}
+            if takes and not takes[0].startswith("-"):
+                allowed = re.search(r"Range: ([^.]*)\.", said)[1]
+                left = re.search(r"Left out: ([^.]*)\.", said)
+                values[below, option] = allowed, left and left[1]
+        elif section == "DIAGNOSTICS" and below is None:
+            lines.add(term)
+        elif section == "DIAGNOSTICS" and term:
+            kinds.add(term)
+    return commands, values, lines, kinds
+
+
+def said_in_bash(path, names):
+    """What bash completes: the commands, and the options of each of them."""
+
+    def completed(*words):
+        shell = 'source "$1"; shift; COMP_WORDS=("$@"); COMP_CWORD=$(($# - 1)); _prepaid; echo "${COMPREPLY[*]}"'
+        said = subprocess.run(["bash", "-c", shell, "bash", path, *words], capture_output=True, text=True, check=True)
+        return set(said.stdout.split())
+
+    first = completed("prepaid", "")
+    commands = {it: completed("prepaid", it, "") for it in first | names if not it.startswith("-")}
+    if not commands["help"] == set(commands):
+        raise SystemExit(f"{path}: help takes other commands: {commands['help']}")
+    commands["help"] = set()
+    words = {("run", "--default"): ", ".join(sorted(completed("prepaid", "run", "--default", "")))}
+    return commands if HELP <= first else {}, words
+
+
+def said_in_zsh(path):
+    """The same of the page for zsh, by its text: zsh may not be at hand."""
+    with open(path) as file:
+        text = file.read()
+    listed = set(re.findall(r"^    '([a-z]+):", text, re.M))
+    commands = {}
+    for name, arm in re.findall(r"^    ([a-z]+)\)\n(.*?);;", text, re.M | re.S):
+        commands[name] = set(re.findall(r"'(--[a-z]+)\[", arm)) | (HELP if "{-h,--help}" in arm else set())
+    words = {("run", "--default"): ", ".join(re.search(r"--default\[[^:]*:word:\(([^)]*)\)", text)[1].split())}
+    return commands if listed == set(commands) else {"listed": listed}, words
+
+
+def said_in_help(program):
+    """The commands and options of the help, and what it says in brackets."""
+
+    def told(*words):
+        return subprocess.run([program, *words], capture_output=True, text=True, check=True).stdout
+
+    names = re.findall(r"^  ([a-z]+)  ", told("--help").split("Options:")[0], re.M)
+    commands, left = {}, {}
+    for name in names:
+        text = told("help", name).split("Input, for")[0]
+        commands[name] = set(re.findall(r"^ +(?:-h, )?(--[a-z]+)", text, re.M))
+        commands[name] |= HELP if "-h, --help" in text else set()
+        for option, value in re.findall(r"^ +(--[a-z]+) <.*\[(?:default: )?(\w+)\]$", text, re.M):
+            left[name, option] = value
+    return commands, left
+
+
+def examples_of(text):
+    """Each example of the man page: its command line, and what it prints."""
+    found = []
+    for block in re.findall(r"^\.EX\n(.*?)^\.EE", text, re.M | re.S):
+        for one in re.split(r"^\$ ", block.replace("\\-", "-"), flags=re.M)[1:]:
+            line, _, printed = one.partition("\n")
+            found.append((line, printed))
+    return found
+
+
+def main():
+    asked = argparse.ArgumentParser(description=__doc__)
+    asked.add_argument("--program", default="bin/prepaid")
+    program = os.path.abspath(asked.parse_args().program)
+    os.chdir(os.path.join(os.path.dirname(os.path.abspath(__file__)), ".."))
+    with open("docs/FORMATS.md") as file:
+        formats = file.read()
+    commands, values, lines, kinds = said_in_formats(formats)
+    with open("man/prepaid.1") as file:
+        manual = file.read()
+    of_man, of_help = said_in_man(manual), said_in_help(program)
+    of_bash, of_zsh = said_in_bash("completions/prepaid.bash", set(commands)), said_in_zsh("completions/_prepaid")
+    defaults = {it: left for it, (_, left) in values.items() if left}
+    words = {("run", "--default"): values["run", "--default"][0]}
+    faults = []
+
+    def same(where, what, found, wanted):
+        if found != wanted:
+            more = [it for it in found if it not in wanted or isinstance(wanted, dict) and found[it] != wanted[it]]
+            less = [it for it in wanted if it not in found or isinstance(wanted, dict) and found[it] != wanted[it]]
+            faults.append(f"{where}: {what}: {[(it, found[it]) if isinstance(found, dict) else it for it in more]}"
+                          f" in place of {[(it, wanted[it]) if isinstance(wanted, dict) else it for it in less]}")
+
+    same("man page", "options", of_man[0], commands)
+    same("man page", "ranges and what is left out", of_man[1], values)
+    same("man page", "lines of faults", of_man[2], lines)
+    same("man page", "kinds of faults", of_man[3], kinds)
+    limits = set(re.findall(r"\d+", manual.split(".SH LIMITS")[1].split(".SH")[0]))
+    same("man page", "limits", limits, limits & set(re.findall(r"\d+", formats)))
+    same("help", "options", {**of_help[0], "help": set()}, commands)
+    same("help", "left out", of_help[1], {it: defaults[it] for it in defaults if it in of_help[1]})
+    for name, (found, told) in (("bash", of_bash), ("zsh", of_zsh)):
+        same(name, "options", found, commands)
+        same(name, "words", told, words)
+    examples = examples_of(manual)
+    for line, printed in examples:
+        ran = subprocess.run(["bash", "-c", 'prepaid() { "$PROGRAM" "$@"; }\n' + line], capture_output=True, text=True, env={**os.environ, "PROGRAM": program})
+        if ran.stdout != printed or ran.returncode not in (0, 3):
+            faults.append(f"man page: {line} printed {ran.stdout!r} {ran.stderr!r}")
+    print("\n".join(faults) or f"words: {sum(map(len, commands.values()))} options of {len(commands)} commands, {len(lines)} lines"
+          f" and {len(kinds)} kinds of faults, {len(examples)} examples")
+    return 1 if faults or not examples else 0
+
+
+if __name__ == "__main__":
+    sys.exit(main())
