@@ -354,7 +354,7 @@ fn plays(rt: &impl Abort, name: &str, rows: &[(Input, Want)]) {
     let mut reported = 0;
     for (row, (input, want)) in rows.iter().enumerate() {
         let before = dialogue;
-        let at = 100 * (row as u64 + 1);
+        let at = (row as u64).saturating_add(1);
         let turn = match *input {
             Input::Initial => dialogue.take(7, at, initial(rt)),
             Input::Report(active) => {
