@@ -7,7 +7,7 @@ use crate::looking::gives;
 use crate::making::number;
 use account_core::{Account, AccountFault, AccountPort, Op, Port, Reply};
 use dialogue_core::ServiceConfig;
-use simulator::{CallEnd, DriveFault, drive_call};
+use one_call::{CallEnd, DriveFault, drive_call};
 use ssf_core::{BcsmEvent, DefaultHandling, Moment, SsfConfig, State};
 use std::process::Abort;
 use tariff_core::{MAX_MONEY, Plan, Route, TimeInfo};

@@ -3,7 +3,7 @@
 use crate::looking::gives;
 use account_core::AccountFault;
 use dialogue_core::DialogueFault;
-use simulator::DriveFault;
+use one_call::DriveFault;
 use ssf_core::SsfFault;
 
 const ACCOUNT_FAULTS: [(AccountFault, u8, &str); 6] = [

@@ -1,4 +1,4 @@
-//! The tests of the public calls of `account_core`, `ssf_core`, `dialogue_core` and `simulator`.
+//! The tests of the public calls of `account_core`, `ssf_core`, `dialogue_core` and `one_call`.
 //! They stand apart from these crates, so that none of them is proved a second time for its tests.
 #![tactic(auto)]
 

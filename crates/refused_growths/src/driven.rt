@@ -5,7 +5,7 @@ use crate::outcome::{Course, Outcome, expect};
 use crate::service::{SERVICE, SUBSCRIBER, SWITCH};
 use account_core::AccountPort;
 use cap_values::Number;
-use simulator::{CallEnd, drive_call};
+use one_call::{CallEnd, drive_call};
 use ssf_core::{BcsmEvent, State};
 use std::alloc::Global;
 use tariff_core::{Plan, Route, TimeInfo};

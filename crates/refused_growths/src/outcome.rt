@@ -4,7 +4,7 @@ use account_core::AccountFault;
 use cap_values::ValueFault;
 use runs_core::RunFault;
 use shared_account::CloseFault;
-use simulator::DriveFault;
+use one_call::DriveFault;
 use std::alloc::{AllocError, AllocFailed};
 use std::io;
 use table_core::TableFault;

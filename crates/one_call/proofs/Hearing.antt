@@ -1,0 +1,238 @@
+-- Time passes and messages are heard: what rests stays at rest, and what the service says fits.
+use Rattle.std.proofs.Common.{◌≡◌, ◌+◌, ◌≤◌, ◌++◌, ◌⊎◌, inl, inr, ℕ, Bool, true, Option, Some, Result, Ok, Err, List, [], ◌∷◌, sym, ap, ◌∙◌, arith, append_assoc, ◌<◌, suc, length, get_or, drop, drop-cons, add-one}
+use Rattle.std.proofs.Math.Nat.{le_trans}
+use Rattle.std.proofs.lemmas.List.{append-nil}
+use Rattle.std.specs.Prelude.{is_some, IfOk}
+use Rattle.account_core.specs.Known.{Known}
+use Rattle.cap_values.specs.Orders.{Paid, orders_of, paid_by}
+use Rattle.cap_values.specs.declared.event.Event.{Event}
+use Rattle.cap_values.specs.declared.event.Event.TheVariants as event
+use Rattle.cap_values.specs.declared.message.SsfMsg.{SsfMsg}
+use Rattle.cap_values.specs.declared.message.SsfMsg.TheVariants as msg
+use Rattle.cap_values.specs.declared.mode.Mode.{Mode}
+use Rattle.cap_values.specs.declared.operation.ScfOp.{ScfOp}
+use Rattle.dialogue_core.specs.Phases.{Conditions, Phase, Says, FirstAsk, Running, Settling, MoreAsk, Returning, Ending, Closed}
+use Rattle.dialogue_core.specs.Table.{going_on, reported, told}
+use Rattle.dialogue_core.specs.declared.fault.DialogueFault.{DialogueFault}
+use Rattle.ssf_core.specs.Meters.{EndsWith, Later, Meter, RunsThrough, TakesPeriod}
+use Rattle.ssf_core.specs.Meters as meters
+use Rattle.ssf_core.specs.declared.item.Item.TheVariants as item
+use Rattle.ssf_core.specs.declared.item.Out.{Out}
+use Rattle.tariff_core.specs.Rates.{Rates}
+use Rattle.tariff_core.specs.Times.{Elapsed, no_times}
+use Rattle.one_call.specs.Covered.{IsAtRest, IsCovered, IsReady, IsResting, IsSingle, IsTold}
+use Rattle.one_call.specs.Deliveries.{deliveries_at, queued_in}
+use Rattle.one_call.specs.declared.deliveries.Delivery.{Delivery}
+use Rattle.one_call.specs.declared.fault.DriveFault.{DriveFault}
+use Rattle.one_call.proofs.Asking.{FitsThen, sequel_fits}
+use Rattle.one_call.proofs.Orders.{queued-append, queued-sent}
+use Rattle.one_call.proofs.Settling.{every_report_settles}
+
+-- ---- time passes
+
+single_later : (meter after : Meter) (plan : Rates) (queued : List Paid) → Later meter after → IsSingle meter plan queued → IsSingle after plan queued
+single_later meter after plan [] later single = tt
+single_later meter after plan (paid ∷ []) later single = (later.none_pending single.0, single.1)
+single_later meter after plan (paid ∷ (next ∷ queued)) later single = absurd single
+
+by_then : (switched : Option ℕ) (s moment last : ℕ) → (switched ≡ Some s) ⊎ (last ≤ s) → (switched ≡ Some s → moment ≤ s) → moment ≤ last → moment ≤ s
+by_then switched s moment last (inl was) sooner behind = sooner was
+by_then switched s moment last (inr order) sooner behind = le_trans behind order
+
+told_later : (meter after : Meter) (times : Elapsed) → Later meter after → (times ≡ no_times) ⊎ IsTold meter times → (times ≡ no_times) ⊎ IsTold after times
+told_later meter after times later (inl none) = inl none
+told_later meter after times later (inr told) = inr (record {
+  answer = told.answer;
+  switch = told.switch;
+  moment = told.moment;
+  was_answered = later.keeps_answer told.answer told.was_answered;
+  behind = le_trans told.behind later.no_fall;
+  are = told.are;
+  same_switch = λ s is. later.keeps_switch s (told.same_switch s is);
+  later_switch = λ s none is. by_then meter.switched s told.moment meter.last (later.comes s is) (told.later_switch s none) told.behind;
+})
+
+covered_later : (meter after : Meter) (queued : List Paid) (kept : Known) → Later meter after → IsCovered meter queued kept → IsCovered after queued kept
+covered_later meter after queued kept later covered = record {
+  plan = covered.plan;
+  is_plan = covered.is_plan;
+  covers = rw later.same_granted covered.covers;
+  within_day = covered.within_day;
+  single = single_later meter after covered.plan queued later covered.single;
+  agrees = told_later meter after kept.times later covered.agrees;
+  rated = λ awaited. covered.rated (sym later.same_awaited ∙ awaited);
+  unforfeited = covered.unforfeited;
+}
+
+resting_later : (call : ℕ) (meter after : Meter) (queued : List Paid) (kept : Known) (phase : Phase) → Later meter after → IsResting call meter queued kept phase
+    → IsResting call after queued kept phase
+resting_later call meter after queued kept (FirstAsk t) later rests = tt
+resting_later call meter after queued kept (Running t) later rests = (rests.0, covered_later meter after queued kept later rests.1)
+resting_later call meter after queued kept (Settling t active since) later rests = tt
+resting_later call meter after queued kept (MoreAsk t) later rests = tt
+resting_later call meter after queued kept (Returning then) later rests = tt
+resting_later call meter after queued kept Ending later rests = tt
+resting_later call meter after queued kept Closed later rests = tt
+
+pub rest_later : (call : ℕ) (meter after : Meter) (queued : List Paid) (standing : Option Known) (phase : Phase) → Later meter after
+    → IsAtRest call meter queued standing phase → IsAtRest call after queued standing phase
+rest_later call meter after queued standing phase later rest = record {
+  kept = rest.kept;
+  stands = rest.stands;
+  fits = resting_later call meter after queued rest.kept phase later rest.fits;
+}
+
+-- ---- an order is taken or refused
+
+told_taken : (meter after : Meter) (paid : Paid) (times : Elapsed) → TakesPeriod paid meter after → (times ≡ no_times) ⊎ IsTold meter times → (times ≡ no_times) ⊎ IsTold after times
+told_taken meter after paid times takes (inl none) = inl none
+told_taken meter after paid times takes (inr told) = inr (record {
+  answer = told.answer;
+  switch = told.switch;
+  moment = told.moment;
+  was_answered = takes.same_answer ∙ told.was_answered;
+  behind = le_trans told.behind takes.no_fall;
+  are = told.are;
+  same_switch = λ s is. takes.same_switch ∙ told.same_switch s is;
+  later_switch = λ s none is. told.later_switch s none (sym takes.same_switch ∙ is);
+})
+
+rated_taken : (awaited ordered : Bool) (rated : Type 0) → (awaited ≡ true) ⊎ (ordered ≡ true) → (awaited ≡ true → rated) → (ordered ≡ true → rated) → rated
+rated_taken awaited ordered rated (inl was) old new = old was
+rated_taken awaited ordered rated (inr is) old new = new is
+
+covered_taken : (meter after : Meter) (paid : Paid) (kept : Known) → TakesPeriod paid meter after → IsCovered meter (paid ∷ []) kept → IsCovered after [] kept
+covered_taken meter after paid kept takes covered = record {
+  plan = covered.plan;
+  is_plan = covered.is_plan;
+  covers = rw takes.more_granted (omega (arith, covered.covers));
+  within_day = covered.within_day;
+  single = tt;
+  agrees = told_taken meter after paid kept.times takes covered.agrees;
+  rated = λ awaited. rated_taken meter.awaited (is_some paid.switch) (is_some covered.plan.after ≡ true) (takes.ordered awaited) covered.rated covered.single.1;
+  unforfeited = covered.unforfeited;
+}
+
+covered_refused : (meter after : Meter) (paid : Paid) (kept : Known) → Later meter after → IsCovered meter (paid ∷ []) kept → IsCovered after [] kept
+covered_refused meter after paid kept later covered = record {
+  plan = covered.plan;
+  is_plan = covered.is_plan;
+  covers = rw later.same_granted (omega (arith, covered.covers));
+  within_day = covered.within_day;
+  single = tt;
+  agrees = told_later meter after kept.times later covered.agrees;
+  rated = λ awaited. covered.rated (sym later.same_awaited ∙ awaited);
+  unforfeited = covered.unforfeited;
+}
+
+covered_ends : (handed queued : List Paid) (meter after : Meter) (kept : Known) → EndsWith handed meter after → IsCovered meter (handed ++ queued) kept
+    → IsCovered after queued kept
+covered_ends [] queued meter after kept later covered = covered_later meter after queued kept later covered
+covered_ends (paid ∷ []) [] meter after kept (inl later) covered = covered_refused meter after paid kept later covered
+covered_ends (paid ∷ []) [] meter after kept (inr takes) covered = covered_taken meter after paid kept takes covered
+covered_ends (paid ∷ []) (next ∷ queued) meter after kept ends covered = absurd covered.single
+covered_ends (paid ∷ (next ∷ handed)) queued meter after kept ends covered = absurd covered.single
+
+resting_ends : (call : ℕ) (handed queued : List Paid) (meter after : Meter) (kept : Known) (phase : Phase) → EndsWith handed meter after
+    → IsResting call meter (handed ++ queued) kept phase → IsResting call after queued kept phase
+resting_ends call handed queued meter after kept (FirstAsk t) ends rests = tt
+resting_ends call handed queued meter after kept (Running t) ends rests = (rests.0, covered_ends handed queued meter after kept ends rests.1)
+resting_ends call handed queued meter after kept (Settling t active since) ends rests = tt
+resting_ends call handed queued meter after kept (MoreAsk t) ends rests = tt
+resting_ends call handed queued meter after kept (Returning then) ends rests = tt
+resting_ends call handed queued meter after kept Ending ends rests = tt
+resting_ends call handed queued meter after kept Closed ends rests = tt
+
+-- the next item
+pub run_next : (handed : List Paid) (now after : Meter) (outs : List Out) (index : ℕ) (out : Out) → index < length outs → out ≡ get_or outs index out
+    → RunsThrough handed now (drop index outs) after
+    → (ready : Meter) × (Later now ready × ((sent : Meter) × (meters.Sends ready out.at out.item sent × RunsThrough handed sent (drop (index + 1) outs) after)))
+run_next handed now after outs index out within is run =
+    let front : drop index outs ≡ out ∷ drop (index + 1) outs =
+    drop-cons outs index out within ∙ (ap (λ (o : Out). o ∷ drop (suc index) outs) (sym is) ∙ ap (λ n. out ∷ drop n outs) (sym (add-one index))) in
+    rw front at run
+
+-- all items were heard
+pub rest_ends : (call : ℕ) (handed queued : List Paid) (meter after : Meter) (standing : Option Known) (phase : Phase) → RunsThrough handed meter [] after
+    → IsAtRest call meter (handed ++ queued) standing phase → IsAtRest call after queued standing phase
+rest_ends call handed queued meter after standing phase run rest = record {
+  kept = rest.kept;
+  stands = rest.stands;
+  fits = resting_ends call handed queued run.0 after rest.kept phase run.1.1 (resting_later call meter run.0 (handed ++ queued) rest.kept phase run.1.0 rest.fits);
+}
+
+-- ---- a message is heard
+
+nothing_queued : (call : ℕ) (meter : Meter) (queued : List Paid) (kept : Known) (t : Conditions) → IsResting call meter queued kept (Running t)
+    → IsResting call meter (queued ++ paid_by []) kept (Running t)
+nothing_queued call meter queued kept t rests = rw (append-nil queued) rests
+
+event_fits : (call : ℕ) (meter : Meter) (queued : List Paid) (kept : Known) (t : Conditions) (e : Event) (mode : Mode) → IsResting call meter queued kept (Running t)
+    → FitsThen call meter queued kept (Running t) (reported t e mode)
+event_fits call meter queued kept t event.CollectedInfo mode rests = rests.0
+event_fits call meter queued kept t event.RouteSelectFailure mode rests = rests.0
+event_fits call meter queued kept t event.CalledPartyBusy mode rests = rests.0
+event_fits call meter queued kept t event.NoAnswer mode rests = rests.0
+event_fits call meter queued kept t event.Answer mode rests = nothing_queued call meter queued kept t rests
+event_fits call meter queued kept t event.Disconnect mode rests = rests.0
+event_fits call meter queued kept t event.Abandon mode rests = rests.0
+
+told_fits : (call number moment now : ℕ) (meter after : Meter) (queued : List Paid) (kept : Known) (phase : Phase) (message : SsfMsg) → IsResting call meter queued kept phase
+    → meters.Sends meter now (item.Msg message) after → FitsThen call after queued kept phase (told phase number moment message)
+told_fits call number moment now meter after queued kept (FirstAsk t) message rests sends = tt
+told_fits call number moment now meter after queued kept (Running t) (msg.InitialDp id calling called) rests later = resting_later call meter after queued kept (Running t) later rests
+told_fits call number moment now meter after queued kept (Running t) (msg.EventReport e leg mode) rests later =
+    event_fits call after queued kept t e mode (resting_later call meter after queued kept (Running t) later rests)
+told_fits call number moment now meter after queued kept (Running t) (msg.ChargingReport active info) rests reports =
+    let settles = every_report_settles meter after queued kept now active info rests.1 reports in
+    record { ours = rests.0; its_call = rests.0; accepted = settles.accepted; goes_on = settles.goes_on }
+told_fits call number moment now meter after queued kept (Running t) msg.Ended rests later = rests.0
+told_fits call number moment now meter after queued kept (Settling t active since) message rests sends = tt
+told_fits call number moment now meter after queued kept (MoreAsk t) message rests sends = tt
+told_fits call number moment now meter after queued kept (Returning then) message rests sends = tt
+told_fits call number moment now meter after queued kept Ending (msg.InitialDp id calling called) rests sends = tt
+told_fits call number moment now meter after queued kept Ending (msg.EventReport e leg mode) rests sends = sequel_fits call after queued kept (going_on mode)
+told_fits call number moment now meter after queued kept Ending (msg.ChargingReport active info) rests sends = tt
+told_fits call number moment now meter after queued kept Ending msg.Ended rests sends = tt
+told_fits call number moment now meter after queued kept Closed message rests sends = tt
+
+pub heard : (call number moment now : ℕ) (meter after : Meter) (queued : List Paid) (standing : Option Known) (old new : Phase) (said : Says) (message : SsfMsg)
+    → told old number moment message ≡ Ok (said, new) → IsAtRest call meter queued standing old → meters.Sends meter now (item.Msg message) after
+    → IsReady call after queued standing new said
+heard call number moment now meter after queued standing old new said message is rest sends = record {
+  kept = rest.kept;
+  stands = rest.stands;
+  fits = rw is at (told_fits call number moment now meter after queued rest.kept old message rest.fits sends);
+}
+
+pub unheard : (call number moment now : ℕ) (meter after : Meter) (queued : List Paid) (standing : Option Known) (old new : Phase) (message : SsfMsg) (fault : DialogueFault)
+    → told old number moment message ≡ Err fault → new ≡ old → IsAtRest call meter queued standing old → meters.Sends meter now (item.Msg message) after
+    → IsAtRest call after (queued ++ paid_by (orders_of [])) standing new
+unheard call number moment now meter after queued standing old new message fault is same rest sends =
+    rw (append-nil queued, same) (record {
+      kept = rest.kept;
+      stands = rest.stands;
+      fits = rw is at (told_fits call number moment now meter after queued rest.kept old message rest.fits sends);
+    })
+
+-- ---- operations are on their way
+
+-- the operations of an answer are queued behind what was
+pub sent_rests : (call at : ℕ) (meter : Meter) (handed : List Paid) (before after : List Delivery) (ops : List ScfOp) (standing : Option Known) (phase : Phase)
+    (result : Result Unit DriveFault) → IfOk result (λ _. after ≡ before ++ deliveries_at at ops)
+    → IsAtRest call meter ((handed ++ queued_in before) ++ paid_by (orders_of ops)) standing phase
+    → IfOk result (λ _. IsAtRest call meter (handed ++ queued_in after) standing phase)
+sent_rests call at meter handed before after ops standing phase (Ok done) is rest =
+    let queue : queued_in after ≡ queued_in before ++ paid_by (orders_of ops) =
+    ap queued_in is ∙ (queued-append before (deliveries_at at ops) ∙ ap (λ (q : List Paid). queued_in before ++ q) (queued-sent at ops)) in
+    rw (queue, ← append_assoc handed (queued_in before) (paid_by (orders_of ops))) rest
+sent_rests call at meter handed before after ops standing phase (Err fault) is rest = tt
+
+-- the first operations are on their way
+pub first_rests : (call at : ℕ) (meter : Meter) (before after : List Delivery) (ops : List ScfOp) (standing : Option Known) (phase : Phase)
+    → before ≡ [] → after ≡ before ++ deliveries_at at ops → IsAtRest call meter ([] ++ paid_by (orders_of ops)) standing phase
+    → IsAtRest call meter (queued_in after) standing phase
+first_rests call at meter before after ops standing phase empty is rest =
+    let queue : queued_in after ≡ paid_by (orders_of ops) =
+    ap queued_in (is ∙ ap (λ (ds : List Delivery). ds ++ deliveries_at at ops) empty) ∙ queued-sent at ops in
+    rw queue rest

@@ -1,0 +1,4 @@
+use Rattle.one_call.proofs.ask.ask.Goals as goal
+
+pub returns : goal.returns
+returns g c = record { answer = c.ask-answer.result; moves = c.ask-answer.ensures.moves; counts = c.with_answer.ensures; says = c.go_on.ensures }

@@ -1,0 +1,21 @@
+use Rattle.std.proofs.Common.{◌∷◌, [], ap, ◌∙◌, refl}
+use Rattle.cap_values.specs.Orders.{order_of, paid_by}
+use Rattle.one_call.specs.Deliveries.{queued_in}
+use Rattle.one_call.specs.Steps.{Delivers, Meets}
+use Rattle.one_call.proofs.Orders.{handed-first}
+use Rattle.one_call.proofs.step.step.Goals as goal
+
+pub returns-in-Some : goal.returns-in-Some
+returns-in-Some c = record {
+  next = (Delivers c.in-Some.op, (c.in-Some.ensures, refl));
+  metered = (
+    paid_by (order_of c.in-Some.op ∷ []),
+    (
+      ap queued_in c.in-Some.ensures.1.1 ∙ handed-first c.in-Some.op (queued_in c.take_due.new.deliveries.items),
+      c.operation.ensures.metered,
+    ),
+  );
+}
+
+pub returns-in-Some-take_event-clause-next : goal.returns-in-Some-take_event-clause-next
+returns-in-Some-take_event-clause-next c = (Meets c.in-Some-take_event.event, (rw c.in_default.is at c.take_due.ensures, c.in-Some-take_event.ensures))

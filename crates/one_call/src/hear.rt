@@ -1,0 +1,109 @@
+//! What the gsmSSF sends, heard by the service.
+
+ghost use Rattle.std.specs.Prelude.{◌≡◌, ◌++◌, ℕ, List, IfOk, IfErr};
+ghost use Rattle.cap_values.specs.Orders.{Paid, orders_of, paid_by};
+ghost use Rattle.dialogue_core.specs.Views.{phase_of};
+ghost use Rattle.ssf_core.specs.Meters.{Meter, RunsThrough, Sends};
+ghost use Rattle.ssf_core.specs.declared.item.Item.TheVariants as sent;
+ghost use Rattle.one_call.specs.Covered.{IsAtRest};
+ghost use Rattle.one_call.specs.Deliveries.{AreSent, queued_in};
+
+use crate::DriveFault;
+use crate::converse::converse;
+use crate::deliveries::{Delivery, send};
+use crate::tally::Tally;
+use account_core::Port;
+use arrayvec::ArrayVec;
+use cap_values::{ScfOp, SsfMsg};
+use dialogue_core::Dialogue;
+use ssf_core::{Item, Moment, Out};
+use std::collections::VecDeque;
+
+/// Hands a message to the dialogue at its moment, and gives the operations that it answers with. A
+/// message that has no place in the dialogue is answered by none.
+fn hear<P: Port>(
+    port: &mut P,
+    dialogue: &mut Dialogue,
+    tally: &mut Tally,
+    at: Moment,
+    message: SsfMsg,
+) -> ArrayVec<ScfOp, 4>
+    ensures kept { (call now : ℕ) (meter after : Meter) (queued : List Paid)
+        → IsAtRest call meter queued (P.standing port.old call) (phase_of dialogue.old)
+        → Sends meter now (sent.Msg message) after
+        → tally.new.forfeits ≡ tally.old.forfeits }
+    ensures rests { (call now : ℕ) (meter after : Meter) (queued : List Paid)
+        → IsAtRest call meter queued (P.standing port.old call) (phase_of dialogue.old)
+        → Sends meter now (sent.Msg message) after
+        → IsAtRest call after (queued ++ paid_by (orders_of result.items))
+        (P.standing port.new call) (phase_of dialogue.new) }
+{
+    let number = tally.messages;
+    *tally = tally.with_message(&message);
+    match dialogue.take(number, at, message) {
+        Ok(turn) => converse(port, dialogue, tally, turn),
+        Err(_) => ArrayVec::new(),
+    }
+}
+
+/// Hears one item: a message is answered, and the operations of its answer are on their way.
+fn hear_one<P: Port>(
+    port: &mut P,
+    dialogue: &mut Dialogue,
+    tally: &mut Tally,
+    deliveries: &mut VecDeque<Delivery>,
+    due: Moment,
+    out: Out,
+) -> Result<(), DriveFault>
+    ensures kept { (call now : ℕ) (meter after : Meter) (handed : List Paid)
+        → IsAtRest call meter (handed ++ queued_in deliveries.old.items)
+        (P.standing port.old call) (phase_of dialogue.old)
+        → Sends meter now out.item after
+        → tally.new.forfeits ≡ tally.old.forfeits }
+    ensures rests { (call now : ℕ) (meter after : Meter) (handed : List Paid)
+        → IsAtRest call meter (handed ++ queued_in deliveries.old.items)
+        (P.standing port.old call) (phase_of dialogue.old)
+        → Sends meter now out.item after
+        → IfOk result (λ _. IsAtRest call after (handed ++ queued_in deliveries.new.items)
+        (P.standing port.new call) (phase_of dialogue.new)) }
+    ensures sent { IfOk result (λ _. AreSent due deliveries.old.items deliveries.new.items) }
+    ensures fault { IfErr result (λ fault. fault ≡ DriveFault.OutOfMemory) }
+{
+    match out.item {
+        Item::Msg(message) => {
+            let ops = hear(port, dialogue, tally, out.at, message);
+            send(deliveries, due, ops.as_slice())
+        }
+        Item::Proceed => Ok(()),
+        Item::Clear(_) => Ok(()),
+    }
+}
+
+/// Hears all that the gsmSSF sent, in order. The operations of the answers are due at a moment.
+pub(crate) fn hear_all<P: Port>(
+    port: &mut P,
+    dialogue: &mut Dialogue,
+    tally: &mut Tally,
+    deliveries: &mut VecDeque<Delivery>,
+    due: Moment,
+    sent: &[Out],
+) -> Result<(), DriveFault>
+    ensures kept { (call : ℕ) (meter after : Meter) (handed : List Paid)
+        → IsAtRest call meter (handed ++ queued_in deliveries.old.items)
+        (P.standing port.old call) (phase_of dialogue.old)
+        → RunsThrough handed meter sent.now after
+        → IfOk result (λ _. tally.new.forfeits ≡ tally.old.forfeits) }
+    ensures rests { (call : ℕ) (meter after : Meter) (handed : List Paid)
+        → IsAtRest call meter (handed ++ queued_in deliveries.old.items)
+        (P.standing port.old call) (phase_of dialogue.old)
+        → RunsThrough handed meter sent.now after
+        → IfOk result (λ _. IsAtRest call after (queued_in deliveries.new.items)
+        (P.standing port.new call) (phase_of dialogue.new)) }
+    ensures sent { IfOk result (λ _. AreSent due deliveries.old.items deliveries.new.items) }
+    ensures fault { IfErr result (λ fault. fault ≡ DriveFault.OutOfMemory) }
+{
+    for out in sent {
+        hear_one(port, dialogue, tally, deliveries, due, *out)?;
+    }
+    Ok(())
+}

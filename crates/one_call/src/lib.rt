@@ -1,0 +1,20 @@
+//! One call driven end to end, from the switch that meets its events, over the
+//! gsmSSF and the service, to the account that pays for it.
+#![tactic(auto)]
+
+mod ask;
+mod call_end;
+mod converse;
+mod deliveries;
+mod driving;
+mod fault;
+mod hear;
+mod moments;
+mod rounds;
+mod script;
+mod step;
+mod tally;
+
+pub use call_end::CallEnd;
+pub use driving::drive_call;
+pub use fault::DriveFault;

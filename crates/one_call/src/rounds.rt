@@ -1,0 +1,80 @@
+//! The rounds of a call, from its start to its end.
+
+ghost use Rattle.std.specs.Prelude.{◌≡◌, ◌+◌, ◌<◌, ◌≤◌, Some, IfOk, IfErr};
+ghost use Rattle.std.specs.Option.{ForSome};
+ghost use Rattle.account_core.specs.Known.{nothing_known};
+ghost use Rattle.one_call.specs.Starts.{IsStarted};
+
+use crate::converse::converse;
+use crate::deliveries::send;
+use crate::hear::hear_all;
+use crate::moments::next_moment;
+use crate::step::step;
+use crate::tally::Tally;
+use crate::{CallEnd, DriveFault};
+use account_core::Port;
+use cap_values::Number;
+use dialogue_core::{Dialogue, ServiceConfig};
+use ssf_core::{BcsmEvent, Moment, Ssf, SsfConfig};
+use std::alloc::Global;
+use std::collections::VecDeque;
+use tariff_core::{DAY, HORIZON, LAST_MOMENT, Route};
+
+/// Plays a call from its start until no event, delivery or due moment is left. The operations of an
+/// answer are delivered after a delay.
+pub(crate) fn play<P: Port>(
+    alloc: Global,
+    config: SsfConfig,
+    service: &ServiceConfig,
+    delay: u32,
+    start: Moment,
+    call: (u64, Number, Number),
+    route: Option<Route>,
+    script: &[(Moment, BcsmEvent)],
+    port: &mut P,
+) -> Result<CallEnd, DriveFault>
+    requires start { start ≤ LAST_MOMENT }
+    requires route { ForSome route (λ route.
+        ForSome route.switch_at (λ at. (start < at) × (at ≤ start + DAY))) }
+    ensures forfeits { P.standing port.old call.0 ≡ Some nothing_known
+        → IfOk result (λ end. end.forfeits ≡ 0) }
+    ensures fault { IfErr result (λ fault. fault ≡ DriveFault.OutOfMemory) }
+{
+    let delay = u64::from(delay);
+    let (mut ssf, mut tally) = started(config, start, call);
+    let (mut dialogue, turn) = Dialogue::begin(call.0, start, route, service);
+    let mut deliveries = VecDeque::new(alloc);
+    let mut played = 0;
+    let ops = converse(port, &mut dialogue, &mut tally, turn);
+    send(&mut deliveries, start + delay, ops.as_slice())?;
+    'inputs: for _ in 0..u64::MAX {
+        let Some(now) = next_moment(&ssf, &deliveries, script, played) else {
+            break;
+        };
+        let step = step(&mut ssf, &mut deliveries, script, &mut played, now);
+        tally = tally.with_input(step.fault);
+        let due = now + delay;
+        let sent = step.sent.as_slice();
+        hear_all(port, &mut dialogue, &mut tally, &mut deliveries, due, sent)?;
+    }
+    Ok(CallEnd {
+        state: ssf.state(),
+        reports: tally.reports,
+        forfeits: tally.forfeits,
+        last: tally.last,
+        refused: tally.refused,
+    })
+}
+
+/// Invokes a new gsmSSF and triggers it.
+fn started(config: SsfConfig, start: Moment, call: (u64, Number, Number)) -> (Ssf, Tally)
+    requires { start ≤ HORIZON }
+    ensures started { IsStarted result.0 }
+    ensures none { result.1.forfeits ≡ 0 }
+{
+    let mut ssf = Ssf::new(config);
+    let invoked = ssf.invoke(start);
+    let triggered = ssf.trigger(start, call.0, call.1, call.2);
+    let tally = Tally::new().with_input(invoked.fault);
+    (ssf, tally.with_input(triggered.fault))
+}

@@ -1,0 +1,39 @@
+//! One input of the gsmSSF.
+
+ghost use Rattle.std.specs.Prelude.{◌≡◌, ◌≤◌, ◌++◌, List, drop};
+ghost use Rattle.cap_values.specs.Orders.{Paid};
+ghost use Rattle.ssf_core.specs.Meters.{Metered};
+ghost use Rattle.one_call.specs.Deliveries.{queued_in};
+ghost use Rattle.one_call.specs.Steps.{Given, IsNext};
+
+use crate::deliveries::{Delivery, take_due};
+use crate::script::take_event;
+use ssf_core::{BcsmEvent, Moment, Ssf, Step};
+use std::collections::VecDeque;
+use tariff_core::HORIZON;
+
+/// Gives the gsmSSF its next input at a moment: a delivery that is due, else an event that is, else
+/// the time alone.
+pub(crate) fn step(
+    ssf: &mut Ssf,
+    deliveries: &mut VecDeque<Delivery>,
+    script: &[(Moment, BcsmEvent)],
+    played: &mut usize,
+    now: Moment,
+) -> Step
+    requires { now ≤ HORIZON }
+    ensures next { (given : Given)
+        × IsNext now deliveries.old.items (drop played.old script.now)
+        given deliveries.new.items (drop played.new script.now) }
+    ensures metered { (handed : List Paid)
+        × ((queued_in deliveries.old.items ≡ handed ++ queued_in deliveries.new.items)
+        × Metered handed ssf.old result.sent.items ssf.new) }
+{
+    if let Some(op) = take_due(deliveries, now) {
+        return ssf.operation(now, op);
+    }
+    if let Some(event) = take_event(script, played, now) {
+        return ssf.event(now, event);
+    }
+    ssf.advance(now)
+}
