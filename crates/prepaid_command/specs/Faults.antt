@@ -4,6 +4,8 @@ use Rattle.command_words.specs.declared.fault.WordsFault.{WordsFault}
 use Rattle.command_words.specs.declared.fault.WordsFault.TheVariants as words
 use Rattle.run_command.specs.declared.error.RunError.{RunError}
 use Rattle.run_command.specs.declared.error.RunError.TheVariants as error
+use Rattle.run_texts.specs.declared.input_fault.InputFault.{InputFault}
+use Rattle.run_texts.specs.declared.input_fault.InputFault.TheVariants as input
 use Rattle.runs_core.specs.RunFaults.{name_of}
 use Rattle.runs_core.specs.declared.run_fault.RunFault.TheVariants as run
 use Rattle.table_core.specs.Faults.{text_of}
@@ -58,13 +60,18 @@ of_words words.Arguments = fault.Arguments
 of_words words.Config = fault.Config
 of_words words.OutOfMemory = fault.Run run.OutOfMemory
 
+-- the fault of the input of a run
+abbrev pub of_run_input : InputFault → Fault
+of_run_input input.Parts = fault.Parts
+of_run_input (input.Tariff row) = fault.Tariff row
+of_run_input (input.Setup row) = fault.Table part.Setup row
+of_run_input (input.Script row) = fault.Table part.Script row
+of_run_input input.Device = fault.Device
+of_run_input input.OutOfMemory = fault.Run run.OutOfMemory
+
 -- the fault of a run that has no text
 abbrev pub of_run : RunError → Fault
-of_run error.Parts = fault.Parts
-of_run (error.Tariff row) = fault.Tariff row
-of_run (error.Setup row) = fault.Table part.Setup row
-of_run (error.Script row) = fault.Table part.Script row
-of_run error.Device = fault.Device
+of_run (error.Input why) = of_run_input why
 of_run (error.Run why) = fault.Run why
 
 -- a failed reader and want of memory may come at any words and any input

@@ -7,6 +7,7 @@ ghost use Rattle.prepaid_command.specs.declared.fault.Fault.TheVariants as out;
 
 use command_words::WordsFault;
 use run_command::RunError;
+use run_texts::InputFault;
 use runs_core::RunFault;
 use std::alloc::{AllocError, AllocFailed};
 use std::error::Error;
@@ -65,7 +66,7 @@ pub enum Fault {
 }
 
 impl Fault {
-    ghost use Rattle.prepaid_command.specs.Faults.{in_part, status_of};
+    ghost use Rattle.prepaid_command.specs.Faults.{in_part, of_run_input, status_of};
 
     /// The exit status: 1 for a fault of the words or the input, 2 where the run itself failed.
     pub fn status(self) -> u8
@@ -74,6 +75,20 @@ impl Fault {
         match self {
             Fault::Device | Fault::Run(_) => 2,
             _ => 1,
+        }
+    }
+
+    /// The fault of the input of a run.
+    fn of_run_input(fault: InputFault) -> Fault
+        ensures { result ≡ of_run_input fault }
+    {
+        match fault {
+            InputFault::Parts => Fault::Parts,
+            InputFault::Tariff(fault) => Fault::Tariff(fault),
+            InputFault::Setup(fault) => Fault::Table(Part::Setup, fault),
+            InputFault::Script(fault) => Fault::Table(Part::Script, fault),
+            InputFault::Device => Fault::Device,
+            InputFault::OutOfMemory => Fault::Run(RunFault::OutOfMemory),
         }
     }
 
@@ -125,11 +140,7 @@ impl From<RunError> for Fault {
 
     fn from(error: RunError) -> Fault {
         match error {
-            RunError::Parts => Fault::Parts,
-            RunError::Tariff(fault) => Fault::Tariff(fault),
-            RunError::Setup(fault) => Fault::Table(Part::Setup, fault),
-            RunError::Script(fault) => Fault::Table(Part::Script, fault),
-            RunError::Device => Fault::Device,
+            RunError::Input(fault) => Fault::of_run_input(fault),
             RunError::Run(fault) => Fault::Run(fault),
         }
     }

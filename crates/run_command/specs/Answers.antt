@@ -4,9 +4,10 @@ use Rattle.std.specs.Bool.{MatchBool}
 use Rattle.book_texts.specs.BookTexts.{book_text}
 use Rattle.book_texts.specs.RunTexts.{IsRunText}
 use Rattle.run_command.specs.Books.{AreBooksOf}
-use Rattle.run_command.specs.Inputs.{RunInput, input_of}
 use Rattle.run_command.specs.Plays.{IsGivenBy}
 use Rattle.run_options.specs.declared.ask.RunAsk.{RunAsk}
+use Rattle.run_texts.specs.InputFaults.{Refuses}
+use Rattle.run_texts.specs.Inputs.{RunInput, input_of}
 use Rattle.run_command.specs.declared.error.RunError.{RunError}
 use Rattle.run_command.specs.declared.error.RunError.TheVariants as error
 use Rattle.runs_core.specs.Teams.{are_workers}
@@ -40,7 +41,7 @@ MayEnd workers _ = are_workers workers ≡ true
 -- the same of an error of the run
 abbrev pub MayFail : ℕ → RunError → Type 0
 MayFail workers (error.Run fault) = MayEnd workers fault
-MayFail workers why = ⊥
+MayFail workers (error.Input why) = ⊥
 
 -- a run over this input was ended by a fault
 pub record IsEnded (workers : ℕ) (input : List ℕ) (fault : RunFault) : Type 0 where
@@ -51,7 +52,6 @@ pub record IsEnded (workers : ℕ) (input : List ℕ) (fault : RunFault) : Type 
 -- an answer to the input: the text of a run, or the first fault of the input, or else a fault of the run. A failed reader and want of memory may come at any
 abbrev pub IsRunAnswer : RunAsk → List ℕ → Result (List ℕ) RunError → Type 0
 IsRunAnswer ask input (Ok text) = IsRunOf ask input text
-IsRunAnswer ask input (Err error.Device) = ⊤
 IsRunAnswer ask input (Err (error.Run run.OutOfMemory)) = ⊤
 IsRunAnswer ask input (Err (error.Run fault)) = IsEnded ask.workers input fault
-IsRunAnswer ask input (Err why) = input_of input ≡ Err why
+IsRunAnswer ask input (Err (error.Input why)) = Refuses why (input_of input)

@@ -5,7 +5,6 @@
 mod error;
 mod playing;
 mod running;
-mod texts;
 
 pub use error::RunError;
 pub use running::run;

@@ -12,9 +12,9 @@ ghost use Rattle.workers_core.specs.Setups.{IsWithin};
 ghost use Rattle.workers_core.specs.declared.post.Body.{Body};
 
 use crate::RunError;
-use crate::texts::RunTexts;
 use account_core::MAX_LIMIT;
 use run_options::RunOptions;
+use run_texts::RunTexts;
 use runs_core::{Books, Driver, serve};
 use script_player::ScriptPlayer;
 use shared_account::{Book, OpenGate};

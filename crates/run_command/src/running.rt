@@ -7,9 +7,9 @@ ghost use Rattle.run_options.specs.Options.{ask_of};
 
 use crate::RunError;
 use crate::playing::play;
-use crate::texts::read_texts;
 use book_texts::{book_table, run_lines};
 use run_options::RunOptions;
+use run_texts::read_texts;
 use shared_account::Book;
 use std::alloc::{AllocError, Global};
 use std::sync::Wait;

@@ -1,5 +1,7 @@
 pub mod Entries
 pub mod Happenings
+pub mod InputFaults
+pub mod Inputs
 pub mod Parts
 pub mod Scripts
 pub mod Setups

@@ -1,10 +1,9 @@
 //! The input of a run is read.
 
 ghost use Rattle.std.specs.Prelude.{◌≡◌, ◌≤◌, true, map, All, IfOk};
-ghost use Rattle.run_command.specs.Errors.{Gives};
-ghost use Rattle.run_command.specs.Inputs.{input_of, told};
-ghost use Rattle.run_command.specs.Texts.{input_in};
-ghost use Rattle.run_command.specs.declared.error.RunError.TheVariants as out;
+ghost use Rattle.run_texts.specs.InputFaults.{Gives};
+ghost use Rattle.run_texts.specs.Inputs.{input_in, input_of, told};
+ghost use Rattle.run_texts.specs.declared.input_fault.InputFault.TheVariants as out;
 ghost use Rattle.run_texts.specs.Scripts.{script_of};
 ghost use Rattle.run_texts.specs.Setups.{setup_of};
 ghost use Rattle.run_texts.specs.Views.{are_in_order, event_of, setup_in};
@@ -12,22 +11,24 @@ ghost use Rattle.table_core.specs.Rows.{rows_of};
 ghost use Rattle.tariff_core.specs.TariffTable.{tariff_of};
 ghost use Rattle.workers_core.specs.Setups.{IsWithin};
 
-use crate::RunError;
-use run_texts::{Parts, ScriptRow, divide};
+use crate::{InputFault, Parts, ScriptRow, divide, script, setup};
 use std::alloc::Global;
 use tariff_core::{LAST_MOMENT, Tariff};
 use workers_core::Directory;
 
 /// What the input of a run says.
 #[derive(Drop)]
-pub(crate) struct RunTexts {
+pub struct RunTexts {
+    /// What calls cost.
     pub tariff: Tariff,
+    /// The accounts and the subscribers.
     pub directory: Directory,
+    /// What happens, in order.
     pub script: Vec<ScriptRow>,
 }
 
 /// Reads an input of three parts. The first fault is told, the parts judged in order.
-pub(crate) fn read_texts(alloc: Global, input: &[u8]) -> Result<RunTexts, RunError>
+pub fn read_texts(alloc: Global, input: &[u8]) -> Result<RunTexts, InputFault>
     ensures means { Gives input_in result (input_of input.now) }
     ensures within { IfOk result (λ texts. IsWithin texts.directory) }
     ensures in_range { IfOk result
@@ -38,7 +39,7 @@ pub(crate) fn read_texts(alloc: Global, input: &[u8]) -> Result<RunTexts, RunErr
         tariff,
         setup,
         script,
-    } = divide(input).ok_or(RunError::Parts)?;
+    } = divide(input).ok_or(InputFault::Parts)?;
     let tariff = read_tariff(alloc, tariff)?;
     let directory = read_setup(alloc, setup)?;
     let script = read_script(alloc, &directory, script)?;
@@ -49,22 +50,22 @@ pub(crate) fn read_texts(alloc: Global, input: &[u8]) -> Result<RunTexts, RunErr
     })
 }
 
-fn read_tariff(alloc: Global, text: &[u8]) -> Result<Tariff, RunError>
+fn read_tariff(alloc: Global, text: &[u8]) -> Result<Tariff, InputFault>
     ensures { Gives (λ tariff. tariff) result (told out.Tariff (tariff_of (rows_of text.now))) }
 {
     match Tariff::read(alloc, text) {
         Ok(tariff) => Ok(tariff),
-        Err(fault) => Err(RunError::of_tariff(fault)),
+        Err(fault) => Err(InputFault::of_tariff(fault)),
     }
 }
 
-fn read_setup(alloc: Global, text: &[u8]) -> Result<Directory, RunError>
+fn read_setup(alloc: Global, text: &[u8]) -> Result<Directory, InputFault>
     ensures means { Gives setup_in result (told out.Setup (setup_of (rows_of text.now))) }
     ensures within { IfOk result IsWithin }
 {
-    match run_texts::read_setup(alloc, text) {
+    match setup::read_setup(alloc, text) {
         Ok(directory) => Ok(directory),
-        Err(fault) => Err(RunError::of_setup(fault)),
+        Err(fault) => Err(InputFault::of_setup(fault)),
     }
 }
 
@@ -72,14 +73,14 @@ fn read_script(
     alloc: Global,
     directory: &Directory,
     text: &[u8],
-) -> Result<Vec<ScriptRow>, RunError>
+) -> Result<Vec<ScriptRow>, InputFault>
     ensures means { Gives (λ rows. map event_of rows.items) result
         (told out.Script (script_of directory.now.accounts (rows_of text.now))) }
     ensures in_range { IfOk result (λ rows. All (λ row. row.at ≤ LAST_MOMENT) rows.items) }
     ensures in_order { IfOk result (λ rows. are_in_order 0 rows.items ≡ true) }
 {
-    match run_texts::read_script(alloc, directory, text) {
+    match script::read_script(alloc, directory, text) {
         Ok(script) => Ok(script),
-        Err(fault) => Err(RunError::of_script(fault)),
+        Err(fault) => Err(InputFault::of_script(fault)),
     }
 }
