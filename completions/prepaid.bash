@@ -5,10 +5,10 @@ _prepaid()
     local current=${COMP_WORDS[COMP_CWORD]} previous=${COMP_WORDS[COMP_CWORD - 1]}
     local words
     if ((COMP_CWORD == 1)); then
-        words='price replay run audit help --help -h'
+        words='price replay run audit help --help -h --version -V'
     elif [[ $previous == --default ]]; then
         words='proceed release'
-    elif [[ $previous == --* && $previous != --book && $previous != --help ]]; then
+    elif [[ $previous == --* && $previous != --book && $previous != --help && $previous != --version ]]; then
         # a number comes next
         words=''
     else

@@ -2,15 +2,22 @@
 """Holds the words together: the man page, the completions and the help against docs/FORMATS.md.
 
 tests/words_test.py [--program FILE] compares commands, options, ranges, what is left out, and the lines and kinds of
-faults, and runs the examples of the man page.
+faults, and runs the examples of the man page. The version that is printed is the day of the changelog's newest section,
+with the kit that `rt version` names where that is at hand.
 """
 import argparse
 import os
 import re
+import shutil
 import subprocess
 import sys
 
 HELP = {"-h", "--help"}
+# What the program takes in the place of a command.
+VERSION = {"-V", "--version"}
+# Kinds of a tariff's faults that the program tells as those of a run.
+OF_RUN = {"Device", "OutOfMemory"}
+PARTS = r"(reports|ops|setup|script|book) row"
 
 
 def cells(line):
@@ -120,7 +127,7 @@ def said_in_bash(path, names):
         raise SystemExit(f"{path}: help takes other commands: {commands['help']}")
     commands["help"] = set()
     words = {("run", "--default"): ", ".join(sorted(completed("prepaid", "run", "--default", "")))}
-    return commands if HELP <= first else {}, words
+    return commands if HELP | VERSION <= first else {}, words
 
 
 def said_in_zsh(path):
@@ -132,24 +139,49 @@ def said_in_zsh(path):
     for name, arm in re.findall(r"^    ([a-z]+)\)\n(.*?);;", text, re.M | re.S):
         commands[name] = set(re.findall(r"'(--[a-z]+)\[", arm)) | (HELP if "{-h,--help}" in arm else set())
     words = {("run", "--default"): ", ".join(re.search(r"--default\[[^:]*:word:\(([^)]*)\)", text)[1].split())}
+    if "{-V,--version}" not in text:
+        raise SystemExit(f"{path}: no version")
     return commands if listed == set(commands) else {"listed": listed}, words
 
 
 def said_in_help(program):
-    """The commands and options of the help, and what it says in brackets."""
+    """The commands and options of the help, what it says in brackets, and the lines and kinds of faults."""
 
     def told(*words):
         return subprocess.run([program, *words], capture_output=True, text=True, check=True).stdout
 
     names = re.findall(r"^  ([a-z]+)  ", told("--help").split("Options:")[0], re.M)
-    commands, left = {}, {}
+    commands, left, lines, kinds = {}, {}, set(), set()
     for name in names:
-        text = told("help", name).split("Input, for")[0]
+        text, _, faults = told("help", name).partition("\nA fault is")
+        lines |= {it for line in re.findall(r"^  (prepaid: .*)$", faults, re.M) for it in continued(line)}
+        kinds |= set(re.findall(r"^  ([A-Z]\w+)  ", faults.partition("\nKinds:")[2], re.M))
+        text = text.split("Input, ")[0]
         commands[name] = set(re.findall(r"^ +(?:-h, )?(--[a-z]+)", text, re.M))
         commands[name] |= HELP if "-h, --help" in text else set()
         for option, value in re.findall(r"^ +(--[a-z]+) <.*\[(?:default: )?(\w+)\]$", text, re.M):
             left[name, option] = value
-    return commands, left
+    if not VERSION <= set(told("--help").replace(",", " ").split()):
+        raise SystemExit("help: no version")
+    return commands, left, {re.sub(PARTS, "PART row", it) for it in lines}, kinds
+
+
+def continued(line):
+    """A line of a fault, and those whose last words stand behind it."""
+    first, *more = line.split(", ")
+    return [first, *(first.rsplit(" ", 1)[0] + " " + it for it in more)]
+
+
+def version_faults(program):
+    """How the version that is printed differs from the changelog's newest day and from the kit."""
+    told = subprocess.run([program, "--version"], capture_output=True, text=True, check=True).stdout
+    with open("CHANGELOG.md") as file:
+        day = re.search(r"^## (\S+)$", file.read(), re.M)[1]
+    kit = re.search(r"\((.*)\)", told)[1]
+    if shutil.which("rt"):
+        kit = subprocess.run(["rt", "version"], capture_output=True, text=True, check=True).stdout.split()[0]
+    wanted = f"prepaid {day} ({kit})\n"
+    return [] if told == wanted else [f"version: {told!r} in place of {wanted!r}"]
 
 
 def examples_of(text):
@@ -176,7 +208,7 @@ def main():
     of_bash, of_zsh = said_in_bash("completions/prepaid.bash", set(commands)), said_in_zsh("completions/_prepaid")
     defaults = {it: left for it, (_, left) in values.items() if left}
     words = {("run", "--default"): values["run", "--default"][0]}
-    faults = []
+    faults = version_faults(program)
 
     def same(where, what, found, wanted):
         if found != wanted:
@@ -192,6 +224,8 @@ def main():
     limits = set(re.findall(r"\d+", manual.split(".SH LIMITS")[1].split(".SH")[0]))
     same("man page", "limits", limits, limits & set(re.findall(r"\d+", formats)))
     same("help", "options", {**of_help[0], "help": set()}, commands)
+    same("help", "lines of faults", of_help[2], lines)
+    same("help", "kinds of faults", of_help[3], kinds - OF_RUN)
     same("help", "left out", of_help[1], {it: defaults[it] for it in defaults if it in of_help[1]})
     for name, (found, told) in (("bash", of_bash), ("zsh", of_zsh)):
         same(name, "options", found, commands)

@@ -38,6 +38,14 @@ IsRequestOf wish _ = ⊥
 abbrev pub AsksHelp : List Text → Type 0
 AsksHelp words = IsAmong kind.DisplayHelp (errors_in words)
 
+-- the words ask for the version
+abbrev pub AsksVersion : List Text → Type 0
+AsksVersion words = IsAmong kind.DisplayVersion (errors_in words)
+
+-- an error of clap that answers no wish: it is neither help nor version
+abbrev pub IsMistake : ErrorKind → Type 0
+IsMistake error = (error ≢ kind.DisplayHelp) × (error ≢ kind.DisplayVersion)
+
 -- the words ask for this
 pub record AsksFor (words : List Text) (wish : Wish) : Type 0 where
   pub parsed : errors_in words ≡ []
@@ -50,11 +58,12 @@ pub record AsksInVain (words : List Text) (why : WordsFault) : Type 0 where
 
 -- the words ask for nothing that the program does: they don't parse, or an option has no number in its range
 abbrev pub AsksNothing : List Text → Type 0
-AsksNothing words = ((error : ErrorKind) × IsAmong error (errors_in words) × (error ≢ kind.DisplayHelp)) ⊎ AsksInVain words fault.Arguments
+AsksNothing words = ((error : ErrorKind) × IsAmong error (errors_in words) × IsMistake error) ⊎ AsksInVain words fault.Arguments
 
 -- what is read from the words is what they ask for; want of memory may come at any
 abbrev pub IsRead : List Text → Result Request WordsFault → Type 0
 IsRead words (Ok (request.Help text)) = AsksHelp words
+IsRead words (Ok (request.Version text)) = AsksVersion words
 IsRead words (Ok (request.Price plan)) = AsksFor words (Prices (rates_of plan))
 IsRead words (Ok (request.Replay account)) = AsksFor words (Replays account.opening account.limit)
 IsRead words (Ok (request.Run options)) = AsksFor words (Runs (ask_of options))
@@ -66,7 +75,8 @@ IsRead words (Err fault.Config) = AsksInVain words fault.Config
 -- what is answered to an error of clap
 abbrev pub IsRefusal : ErrorKind → Result Request WordsFault → Type 0
 IsRefusal error (Ok (request.Help text)) = error ≡ kind.DisplayHelp
+IsRefusal error (Ok (request.Version text)) = error ≡ kind.DisplayVersion
 IsRefusal error (Ok _) = ⊥
-IsRefusal error (Err fault.Arguments) = (error ≢ kind.DisplayHelp) × (error ≢ kind.OutOfMemory)
+IsRefusal error (Err fault.Arguments) = IsMistake error × (error ≢ kind.OutOfMemory)
 IsRefusal error (Err fault.OutOfMemory) = ⊤
 IsRefusal error (Err _) = ⊥

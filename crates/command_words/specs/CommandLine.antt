@@ -46,9 +46,9 @@ run_app = with_rules (with_rules (with_rules (new_app (codes "run")) service_rul
 unfoldable pub audit_app : App
 audit_app = new_app (codes "audit")
 
--- the program itself, which has nothing but commands
+-- the program itself, which has nothing but commands and its version
 abbrev pub bare_app : App
-bare_app = on_top (λ top. record top { no_binary_name = true; subcommand_required = true }) (new_app (codes "prepaid"))
+bare_app = on_top (λ top. record top { has_version = true; no_binary_name = true; subcommand_required = true }) (new_app (codes "prepaid"))
 
 -- the program, with its commands
 unfoldable pub program_app : App

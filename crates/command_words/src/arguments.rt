@@ -46,12 +46,13 @@ fn asked(matches: &ArgMatches<'_>) -> Result<Request, WordsFault>
     }
 }
 
-/// What is answered where `clap` gives no matches: its help where that was asked for.
+/// What is answered where `clap` gives no matches: its help or the version where that was asked for.
 fn refusal(alloc: Global, error: &Error) -> Result<Request, WordsFault>
     ensures { IsRefusal (kind_of error.now) result }
 {
     match error.kind() {
         ErrorKind::DisplayHelp => Ok(Request::Help(error.to_string(alloc)?)),
+        ErrorKind::DisplayVersion => Ok(Request::Version(error.to_string(alloc)?)),
         ErrorKind::OutOfMemory => Err(WordsFault::OutOfMemory),
         _ => Err(WordsFault::Arguments),
     }

@@ -5,52 +5,9 @@ ghost use Rattle.clap.specs.Words.{app_of, new_app, rule_of, with_rule};
 ghost use Rattle.clap.specs.declared.builder.command.Command.TheViews.{out-Command as fields_of};
 ghost use Rattle.command_words.specs.CommandLine.{audit_app, bare_app, flag_rule, option_rule, other_rules, price_app, program_app, replay_app, required_rule, run_app, service_rules, switch_rules, with_rules};
 
+use crate::help;
 use clap::{Arg, ArgAction, Command};
 use std::alloc::{AllocError, Global};
-
-/// An input of `price`.
-const REPORTS: &str = "\
-Input, for example:
-
-  before,after
-  0,0
-  600,0
-  600,300";
-
-/// An input of `replay`.
-const OPS: &str = "\
-Input, for example:
-
-  seat,op,call,x1,x2,x3,x4,x5,x6
-  0,reserve,1,50,1000,400,600,50,0
-  0,settle,1,0,n,300,,,
-  0,return,1,,,,,,";
-
-/// An input of `run`.
-const SCRIPT: &str = "\
-Times are in units of 100 ms. Input, for example:
-
-  prefix,from,fee,rate
-  49,00:00,50,1000
-  %%
-  kind,key,value
-  account,7,1500
-  subscriber,491700001,7
-  %%
-  moment,call,what,x,y
-  0,1,start,491700001,4930
-  100,1,answer,,
-  400,1,disconnect,1,";
-
-/// An input of `audit`.
-const BOOK: &str = "\
-Input, for example:
-
-  account,seat,op,call,x1,x2,x3,x4,x5,x6,reply,y1,y2,y3
-  7,,opening,,1500,,,,,,,,,
-  7,1,reserve,1,50,1000,,600,50,0,granted,600,more,450
-  7,1,settle,1,2,n,300,,,,settled,550,,450
-  7,1,return,1,,,,,,,returned,550,,950";
 
 /// The program, with its commands.
 #[tactic(auto, unfolding(crate::specs::CommandLine::program_app))]
@@ -70,6 +27,7 @@ fn bare_command<'a>(alloc: Global) -> Command<'a>
 {
     let about = "Prepaid call control: prices, accounts and calls";
     new_command(alloc, "prepaid", about)
+        .version(help::VERSION)
         .no_binary_name(true)
         .subcommand_required(true)
 }
@@ -80,7 +38,8 @@ fn price_command<'a>(alloc: Global) -> Result<Command<'a>, AllocError>
     ensures local { IfOk result (λ command. (fields_of command).has_globals ≡ false) }
 {
     let about = "Prints what each report adds to the price of a call";
-    let command = input_command(alloc, "price", about, REPORTS);
+    let usage = "prepaid price [OPTIONS] --fee <N> --before <N> < FILE";
+    let command = input_command(alloc, "price", about, usage, help::PRICE);
     let command = add(
         command,
         required(alloc, "fee", "The fee, in units of money"),
@@ -99,7 +58,8 @@ fn replay_command<'a>(alloc: Global) -> Result<Command<'a>, AllocError>
     ensures local { IfOk result (λ command. (fields_of command).has_globals ≡ false) }
 {
     let about = "Prints what an account replies to each operation";
-    let command = input_command(alloc, "replay", about, OPS);
+    let usage = "prepaid replay [OPTIONS] --opening <N> < FILE";
+    let command = input_command(alloc, "replay", about, usage, help::REPLAY);
     let opening = required(alloc, "opening", "The opening credit, in units of money");
     let command = add(command, opening)?;
     add(
@@ -114,7 +74,8 @@ fn run_command<'a>(alloc: Global) -> Result<Command<'a>, AllocError>
     ensures local { IfOk result (λ command. (fields_of command).has_globals ≡ false) }
 {
     let about = "Plays a script of calls, and prints what its accounts come to";
-    let command = input_command(alloc, "run", about, SCRIPT);
+    let usage = "prepaid run [OPTIONS] < FILE";
+    let command = input_command(alloc, "run", about, usage, help::RUN);
     let command = add_service_options(alloc, command)?;
     let command = add_switch_options(alloc, command)?;
     add_other_options(alloc, command)
@@ -126,7 +87,7 @@ fn audit_command<'a>(alloc: Global) -> Command<'a>
     ensures local { (fields_of result).has_globals ≡ false }
 {
     let about = "Tells of each account of a book whether its history is right";
-    input_command(alloc, "audit", about, BOOK)
+    input_command(alloc, "audit", about, "prepaid audit < FILE", help::AUDIT)
 }
 
 /// What the service asks for.
@@ -188,12 +149,20 @@ fn new_command<'a>(alloc: Global, name: &'a str, about: &'a str) -> Command<'a>
     Command::new(alloc, name).about(about)
 }
 
-/// The same of a command that reads an input, which its help shows.
-fn input_command<'a>(alloc: Global, name: &'a str, about: &'a str, input: &'a str) -> Command<'a>
+/// The same of a command that reads an input: how it is called, and what its help ends with.
+fn input_command<'a>(
+    alloc: Global,
+    name: &'a str,
+    about: &'a str,
+    usage: &'a str,
+    ends: &'a str,
+) -> Command<'a>
     ensures app { app_of result ≡ new_app name.entry.now }
     ensures local { (fields_of result).has_globals ≡ false }
 {
-    new_command(alloc, name, about).after_help(input)
+    new_command(alloc, name, about)
+        .override_usage(usage)
+        .after_help(ends)
 }
 
 /// The command with an option besides.

@@ -4,6 +4,7 @@
 mod arguments;
 mod command_line;
 mod fault;
+mod help;
 mod options;
 mod request;
 mod run_words;

@@ -11,6 +11,8 @@ use tariff_core::{MAX_MONEY, Plan};
 pub enum Request {
     /// The text of the help.
     Help(String),
+    /// The text of the version.
+    Version(String),
     /// The price of reports under a plan.
     Price(Plan),
     /// The replies of an account to operations.

@@ -4,7 +4,7 @@ use Rattle.std.specs.Io.KnownBytes.{Appends, Keeps}
 use Rattle.std.specs.Result.{result_map_both}
 use Rattle.book_texts.specs.Audits.{Audited, IsAuditOf}
 use Rattle.book_texts.specs.Books.{Books, books_of}
-use Rattle.command_words.specs.Arguments.{AsksFor, AsksHelp, AsksInVain, AsksNothing}
+use Rattle.command_words.specs.Arguments.{AsksFor, AsksHelp, AsksInVain, AsksNothing, AsksVersion}
 use Rattle.command_words.specs.Wishes.{Wish, Audits, Prices, Replays, Runs}
 use Rattle.command_words.specs.declared.fault.WordsFault.TheVariants as words_fault
 use Rattle.run_command.specs.Answers.{IsRunAnswer}
@@ -72,9 +72,10 @@ pub record IsAnswered (words : List (List ℕ)) (input : List ℕ) (answer : Res
   pub asked : AsksFor words wish
   pub answered : IsAnswerTo wish input answer
 
--- an answer to the words and the input: the help or what is asked for, or the first fault. A failed reader and want of memory may come at any
+-- an answer to the words and the input: the help, the version or what is asked for, or the first fault. A failed reader and want of memory may come at any
 abbrev pub IsAnswer : List (List ℕ) → List ℕ → Result Telling Fault → Type 0
-IsAnswer words input (Ok telling) = (AsksHelp words × (telling.passes ≡ true)) ⊎ IsAnswered words input (Ok telling)
+IsAnswer words input (Ok telling) =
+    ((AsksHelp words ⊎ AsksVersion words) × (telling.passes ≡ true)) ⊎ IsAnswered words input (Ok telling)
 IsAnswer words input (Err fault.Arguments) = AsksNothing words
 IsAnswer words input (Err fault.Config) = AsksInVain words words_fault.Config
 IsAnswer words input (Err fault.Device) = ⊤

@@ -62,7 +62,7 @@ where
 {
     let alloc = rt.alloc();
     match read_words(alloc, words)? {
-        Request::Help(text) => Ok(Answer::plain(text)),
+        Request::Help(text) | Request::Version(text) => Ok(Answer::plain(text)),
         Request::Price(plan) => price_reports(alloc, &plan, input),
         Request::Replay(account) => replay_operations(alloc, account, input),
         Request::Run(options) => run_script(rt, alloc, &options, input),

@@ -27,7 +27,7 @@ const REFUSED: [&str; 20] = [
     "price --fee 1 --before 1 --free 864001",
     "price --fee 1 --fee 1 --before 1",
     "price --fee 1 --before 1 more",
-    "--version",
+    "price --version",
     "replay",
     "replay --opening 1000000000000001",
     "replay --opening 1 --limit 2",
@@ -97,6 +97,8 @@ fn prints_help(rt: HostRuntime) -> Result<(), Fail> {
         "price --help",
         "replay --help",
         "run --help",
+        "audit --help",
+        "help run",
     ] {
         let mut output = Vec::new(rt.alloc());
         let mut faults = Vec::new(rt.alloc());
@@ -105,6 +107,15 @@ fn prints_help(rt: HostRuntime) -> Result<(), Fail> {
         assert_eq!(rt; (status, faults.len()), (0, 0), "of {words:?}");
         assert!(rt; output.ends_with(b"\n".as_slice()), "of {words:?}");
         assert!(rt; output.len() > 50, "of {words:?}");
+    }
+    Ok(())
+}
+
+#[test]
+fn prints_version(rt: HostRuntime) -> Result<(), Fail> {
+    let version = "prepaid 2026-11-23 (rattle-kit-13b)\n";
+    for words in ["--version", "-V"] {
+        expect(&rt, words, "", (0, version, ""))?;
     }
     Ok(())
 }

@@ -1,0 +1,173 @@
+//! What the help of each command says behind its options: an input, the exit statuses, and what each
+//! fault usually means.
+
+/// The day of the program, and the kit that it is proved and built with.
+pub(crate) const VERSION: &str = "2026-11-23 (rattle-kit-13b)";
+
+/// Behind the options of `price`.
+pub(crate) const PRICE: &str = "\
+Times are in units of 100 ms, money in the smallest coin, a rate is money a minute.
+Input, for example:
+
+  before,after
+  0,0
+  600,0
+  600,300
+
+Exit status:
+  0  all of the answer was printed
+  1  the words or the input are refused
+  2  the input or memory failed; without a line, the output failed
+
+A fault is one line on standard error, and then nothing is printed:
+  prepaid: arguments
+      No options of price: mostly a file name (use < FILE), an option given twice, a unit
+      such as 60s, or a number out of its range
+  prepaid: input: TooLong
+      More than 16777216 bytes
+  prepaid: run: Device, OutOfMemory
+      Standard input or memory failed
+  prepaid: reports row N: KIND
+      Rows count from 1, which is the header; empty lines don't count
+
+Kinds:
+  Csv          Another number of fields than the header, perhaps an open quote
+  Header       Nearly always the separator, or columns that a spreadsheet added
+  TooManyRows  More than 10000 rows besides the header
+  Number       Digits only, 0 to 864000: no plus, no point, no space
+  Order        These times can't follow those of the row before: a time fell, the time before
+               the switch changed after it, together they are above 864000, or there is time
+               after a switch and no --after";
+
+/// Behind the options of `replay`.
+pub(crate) const REPLAY: &str = "\
+Times are in units of 100 ms, money in the smallest coin, a rate is money a minute.
+Input, for example:
+
+  seat,op,call,x1,x2,x3,x4,x5,x6,x7
+  0,reserve,1,50,1000,400,600,50,0,0
+  0,settle,1,0,n,300,,,,
+  0,return,1,,,,,,,
+
+Exit status:
+  0  all of the answer was printed
+  1  the words or the input are refused
+  2  the input or memory failed; without a line, the output failed
+
+A fault is one line on standard error, and then nothing is printed:
+  prepaid: arguments
+      No options of replay: mostly a file name (use < FILE), an option given twice, or a
+      number out of its range
+  prepaid: input: TooLong
+      More than 16777216 bytes
+  prepaid: run: Device, OutOfMemory
+      Standard input or memory failed
+  prepaid: ops row N: KIND
+      Rows count from 1, which is the header; empty lines don't count
+
+Kinds:
+  Csv          Another number of fields than the header, perhaps an open quote
+  Header       Nearly always the separator, or columns that a spreadsheet added
+  TooManyRows  More than 10000 rows besides the header
+  What         op is none of credit, reserve, settle, return; or x2 of a settle is neither n nor s
+  Number       Digits only, in the smallest coin, within the range: no plus, no point, no space
+  Empty        A field has something that the operation doesn't take";
+
+/// Behind the options of `run`.
+pub(crate) const RUN: &str = "\
+Times are in units of 100 ms: 1 <= delay <= tccd <= least <= wanted <= 864000, and tssf is 1
+to 864000. Money is in the smallest coin, a rate is money a minute.
+Input, for example:
+
+  prefix,from,fee,rate
+  49,00:00,50,1000
+  %%
+  kind,key,value
+  account,7,1500
+  subscriber,491700001,7
+  %%
+  moment,call,what,x,y
+  0,1,start,491700001,4930
+  100,1,answer,,
+  400,1,disconnect,1,
+
+Exit status:
+  0  all of the answer was printed
+  1  the words or the input are refused
+  2  the run failed; without a line, the output failed
+
+A fault is one line on standard error, and then nothing is printed:
+  prepaid: arguments
+      No options of run: mostly a file name (use < FILE), an option given twice, or a unit
+      such as 60s
+  prepaid: input: Config
+      A time is out of the relation above
+  prepaid: input: TooLong
+      More than 16777216 bytes
+  prepaid: input: Parts
+      A line that is %% alone stands exactly twice: behind the tariff and behind the setup
+  prepaid: tariff row N: KIND
+  prepaid: setup row N: KIND
+  prepaid: script row N: KIND
+      Rows count from 1, which is the header of that part; empty lines don't count
+  prepaid: run: Workers
+      0 workers or more than 16
+  prepaid: run: Mismatch, Channel, Thread, GateClosed, Device, OutOfMemory
+      A book, a worker, a thread, a gate, standard input or memory failed
+
+Kinds:
+  Csv             Another number of fields than the header, perhaps an open quote
+  Header          Nearly always the separator, or columns that a spreadsheet added
+  TooManyRows     More than 10000 rows besides the header (a script: 1000000), or the 1001st
+                  account
+  Digits          A prefix is 0 to 15 digits
+  From            A time of day is HH:MM, 00:00 to 23:59
+  Money           A fee or a rate is digits only, 0 to 1000000000: no plus, no point
+  Free            Free units are digits only, 0 to 864000
+  NoMidnightBand  A prefix has no row from 00:00
+  What            A kind is account or subscriber; what happens is start, answer, busy,
+                  noanswer, routefail, abandon, disconnect or recharge
+  Number          Digits only, in the smallest coin, within the range: no plus, no point; a party
+                  is 1 to 15 digits
+  Empty           A field has something that the row doesn't take
+  Order           This moment is below that of the row before; often the row before is wrong
+  Repeated        A prefix with the same start, an account, a subscriber or a start of a call
+                  stands there already
+  Unknown         In a setup accounts stand above their subscribers; in a script a call's start
+                  stands above its other rows, and a recharge is of an account of the setup";
+
+/// Behind the options of `audit`.
+pub(crate) const AUDIT: &str = "\
+Input, a book as run --book prints it, for example:
+
+  account,seat,op,call,x1,x2,x3,x4,x5,x6,x7,reply,y1,y2,y3
+  7,,opening,,1500,,,,,,,,,,
+  7,1,reserve,1,50,1000,,600,50,0,0,granted,600,more,450
+  7,1,settle,1,2,n,300,,,,,settled,550,,450
+  7,1,return,1,,,,,,,,returned,550,,950
+
+Exit status:
+  0  each account has yes
+  1  the words or the input are refused
+  2  the input or memory failed; without a line, the output failed
+  3  an account has no: its history isn't the one that an account would have
+
+A fault is one line on standard error, and then nothing is printed:
+  prepaid: arguments
+      audit has no options: mostly a file name (use < FILE)
+  prepaid: input: TooLong
+      More than 16777216 bytes
+  prepaid: run: Device, OutOfMemory
+      Standard input or memory failed
+  prepaid: book row N: KIND
+      Rows count from 1, which is the header; empty lines don't count
+
+Kinds:
+  Csv          Another number of fields than the header, perhaps an open quote
+  Header       Nearly always the separator, or columns that a spreadsheet added
+  TooManyRows  More than 1000000 rows besides the header
+  What         A word that op, reply, x2 of a settle or y2 of a grant never has
+  Number       Digits only, within the range: no plus, no point, no space
+  Empty        A field has something that the row doesn't take
+  Repeated     A second opening of an account
+  Unknown      An entry stands above its account's opening";
