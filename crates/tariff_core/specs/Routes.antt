@@ -2,6 +2,7 @@
 use Rattle.std.specs.Prelude.{◌≡◌, ◌≢◌, ◌+◌, ◌-◌, ◌%◌, ◌<◌, ◌≤◌, ℕ, List, ◌++◌, length, Option, Some, None, All, Any, Contains, if◌then◌else◌, nat_lt}
 use Rattle.tariff_core.specs.Bands.{Band}
 use Rattle.tariff_core.specs.declared.route.Route.{Route}
+use Rattle.tariff_core.specs.declared.times.TheConstants.{DAY}
 
 -- a called number begins with a prefix
 abbrev pub BeginsWith : List ℕ → List ℕ → Type 0
@@ -29,7 +30,7 @@ pub record IsSoonest (bands : List Band) (prefix : List ℕ) (time : ℕ) (band 
 
 -- how long after a time of day the next start is: later on that day, else on the next
 abbrev pub wait : ℕ → ℕ → ℕ
-wait time start = if nat_lt time start then start - time else (864000 - time) + start
+wait time start = if nat_lt time start then start - time else (DAY - time) + start
 
 -- the row of a prefix that starts next after a time of day
 pub record IsNextBand (bands : List Band) (prefix : List ℕ) (time : ℕ) (band : Band) : Type 0 where
@@ -49,9 +50,9 @@ HasAnother bands prefix band = Any (λ other. (other.prefix ≡ prefix) × (othe
 pub record IsSwitch (bands : List Band) (prefix : List ℕ) (band : Band) (now at : ℕ) (rate : Option ℕ) : Type 0 where
   pub another : HasAnother bands prefix band
   pub next : Band
-  pub is_next : IsNextBand bands prefix (now % 864000) next
+  pub is_next : IsNextBand bands prefix (now % DAY) next
   pub second_rate : rate ≡ Some next.rate
-  pub moment : at ≡ now + wait (now % 864000) next.start
+  pub moment : at ≡ now + wait (now % DAY) next.start
 
 abbrev pub Switches : List Band → List ℕ → Band → ℕ → Option ℕ → Option ℕ → Type 0
 Switches bands prefix band now None rate = IsOnly bands prefix band × (rate ≡ None)
@@ -62,11 +63,19 @@ pub record IsRoute (bands : List Band) (called : List ℕ) (now : ℕ) (route : 
   pub prefix : List ℕ
   pub is_prefix : IsPrefixFor bands called prefix
   pub band : Band
-  pub is_band : IsBandAt bands prefix (now % 864000) band
+  pub is_band : IsBandAt bands prefix (now % DAY) band
   pub fee : route.plan.fee ≡ band.fee
   pub first_rate : route.plan.before ≡ band.rate
   pub free : route.plan.free ≡ band.free
   pub switches : Switches bands prefix band now route.switch_at route.plan.after
+
+-- the route of a called number at a moment, with the prefix that counts and the start of its row
+pub record IsQuote (bands : List Band) (called : List ℕ) (now : ℕ) (prefix : List ℕ) (start : ℕ) (route : Route) : Type 0 where
+  pub is_prefix : IsPrefixFor bands called prefix
+  pub band : Band
+  pub is_band : IsBandAt bands prefix (now % DAY) band
+  pub starts : start ≡ band.start
+  pub routed : IsRoute bands called now route
 
 -- the called number begins with no prefix of the table
 abbrev pub HasNoRoute : List Band → List ℕ → Type 0

@@ -24,7 +24,7 @@ pub(crate) fn read_row(header: usize, fields: &ByteRecord) -> Result<Row, Tariff
         return Err(TariffKind::Digits);
     }
     let prefix = Prefix::new(digits);
-    let start = time(field(fields, 1)).ok_or(TariffKind::From)?;
+    let start = time_of_day(field(fields, 1)).ok_or(TariffKind::From)?;
     let fee = decimal(field(fields, 2), MAX_RATE).ok_or(TariffKind::Money)?;
     let rate = decimal(field(fields, 3), MAX_RATE).ok_or(TariffKind::Money)?;
     let free = free_units(header, fields)?;
@@ -53,11 +53,11 @@ fn is_prefix(text: &[u8]) -> bool
     text.len() <= PREFIX_DIGITS && are_digits(text)
 }
 
-/// The time of day that `HH:MM` writes, in units of 100 ms.
+/// The time of day that `HH:MM` writes, 00:00 to 23:59, in units of 100 ms after midnight.
 #[tactic(auto, unfolding(crate::specs::TariffTable::time_of))]
-fn time(text: &[u8]) -> Option<u32>
+pub fn time_of_day(text: &[u8]) -> Option<u32>
     ensures value { result ≡ time_of text.now }
-    ensures in_day { IfSome result (λ time. time < 864000) }
+    ensures in_day { IfSome result (λ time. time < DAY) }
 {
     if text.len() != 5 || text[2] != b':' {
         return None;

@@ -1,19 +1,19 @@
 //! The tariff: what a call to a number costs at a moment.
 
-ghost use Rattle.std.specs.Prelude.{◌≡◌, ◌+◌, ◌<◌, ◌≤◌, ◌%◌, true, is_some, unwrap_or, IfNone, IfSome};
+ghost use Rattle.std.specs.Prelude.{◌≡◌, ◌+◌, ◌<◌, ◌≤◌, ◌%◌, true, is_some, length, unwrap_or, IfNone, IfSome};
 ghost use Rattle.table_core.specs.Rows.{rows_of};
 ghost use Rattle.tariff_core.specs.Bands.{has_band};
 ghost use Rattle.tariff_core.specs.Prefixes.{digits_of};
-ghost use Rattle.tariff_core.specs.Routes.{HasAnother, HasNoRoute, IsBandAt, IsNextBand, IsOnly, IsPrefixFor, IsRoute, wait};
+ghost use Rattle.tariff_core.specs.Routes.{HasAnother, HasNoRoute, IsBandAt, IsNextBand, IsOnly, IsPrefixFor, IsQuote, IsRoute, wait};
 ghost use Rattle.tariff_core.specs.Tariff.{band_of};
 ghost use Rattle.tariff_core.specs.TariffTable.{Gives, tariff_of};
 
 use crate::bands::Bands;
 use crate::prefix::{PREFIX_DIGITS, Prefix};
-use crate::route::Route;
+use crate::route::{Quote, Route};
 use crate::row::Row;
 use crate::tariff_fault::{TariffFault, TariffKind};
-use crate::{DAY, Plan};
+use crate::{DAY, HORIZON, Plan};
 use std::alloc::Global;
 use std::io::Read;
 use std::marker::Model;
@@ -69,36 +69,55 @@ impl Tariff {
     /// The next band of the prefix, perhaps on the next day, gives the second rate, and no free
     /// units.
     pub fn plan(&self, called: &[u8], now: u64) -> Option<Route>
-        requires { now ≤ 2000000000000 }
+        requires { now ≤ HORIZON }
         ensures none { IfNone result (HasNoRoute self.now called.now) }
         ensures route { IfSome result (IsRoute self.now called.now now) }
         ensures switches { IfSome result (λ route. IfSome route.switch_at
-            (λ at. (now < at) × (at ≤ now + 864000))) }
+            (λ at. (now < at) × (at ≤ now + DAY))) }
     {
-        let prefix = self.longest_prefix(called)?;
+        Some(self.quote(called, now)?.route)
+    }
+
+    /// The same, with the prefix that counts and the start of its band.
+    pub fn quote<'a>(&self, called: &'a [u8], now: u64) -> Option<Quote<'a>>
+        requires { now ≤ HORIZON }
+        ensures none { IfNone result (HasNoRoute self.now called.now) }
+        ensures quote { IfSome result (λ quote.
+            IsQuote self.now called.now now quote.prefix.now quote.start quote.route) }
+        ensures switches { IfSome result (λ quote. IfSome quote.route.switch_at
+            (λ at. (now < at) × (at ≤ now + DAY))) }
+    {
+        let digits = self.longest_prefix(called)?;
+        let prefix = Prefix::new(digits);
         let time = (now % u64::from(DAY)) as u32;
         let band = self.band_at(prefix, time);
-        match self.next_band(prefix, time, band) {
-            None => Some(route(band, None, None)),
+        let route = match self.next_band(prefix, time, band) {
+            None => route(band, None, None),
             Some(next) => {
                 let switch_at = now + u64::from(wait(time, next.place.start));
-                Some(route(band, Some(next.cost.rate), Some(switch_at)))
+                route(band, Some(next.cost.rate), Some(switch_at))
             }
-        }
+        };
+        Some(Quote {
+            prefix: digits,
+            start: band.place.start,
+            route,
+        })
     }
 
     /// The longest prefix of the table that a called number begins with.
-    fn longest_prefix(&self, called: &[u8]) -> Option<Prefix>
+    fn longest_prefix<'a>(&self, called: &'a [u8]) -> Option<&'a [u8]>
         ensures none { IfNone result (HasNoRoute self.now called.now) }
         ensures prefix { IfSome result
-            (λ prefix. IsPrefixFor self.now called.now (digits_of prefix)) }
+            (λ digits. IsPrefixFor self.now called.now digits.now) }
         ensures midnight { IfSome result
-            (λ prefix. has_band (digits_of prefix) 0 self.now ≡ true) }
+            (λ digits. has_band digits.now 0 self.now ≡ true) }
+        ensures short { IfSome result (λ digits. length digits.now ≤ 15) }
     {
         for length in (0..=called.len().min(PREFIX_DIGITS)).rev() {
-            let prefix = Prefix::new(&called[..length]);
-            if self.bands.has(prefix, 0) {
-                return Some(prefix);
+            let digits = &called[..length];
+            if self.bands.has(Prefix::new(digits), 0) {
+                return Some(digits);
             }
         }
         None

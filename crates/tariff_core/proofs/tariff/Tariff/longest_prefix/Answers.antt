@@ -1,7 +1,9 @@
-use Rattle.std.proofs.Common.{◌≡◌, ◌∙◌, sym, arith}
+use Rattle.std.proofs.Common.{◌≡◌, ◌∙◌, ℕ, List, sym, subst, arith}
 use Rattle.tariff_core.specs.Prefixes.{digits_of}
 use Rattle.tariff_core.proofs.PrefixLemmas.{is_longest, no_route, none_longer_first, none_longer_next}
 use Rattle.tariff_core.proofs.tariff.Tariff.longest_prefix.Goals as goal
+use Rattle.tariff_core.proofs.tariff.Tariff.longest_prefix.Goals.{else-loop-length-test, then-loop-length-test+else-has+else-length-gt0}
+use Rattle.tariff_core.specs.Routes.{IsPrefixFor}
 
 pub loop-length-init : goal.loop-length-init
 loop-length-init c = none_longer_first c.args.self.now c.args.called.now c.min-length.result c.min-length.ensures
@@ -9,17 +11,21 @@ loop-length-init c = none_longer_first c.args.self.now c.args.called.now c.min-l
 pub returns-then-has-clause-prefix : goal.returns-then-has-clause-prefix
 returns-then-has-clause-prefix c =
     let view : c.self.inside.bands ≡ c.args.self.now = c.self.view_is in
-    is_longest c.args.self.now c.args.called.now (digits_of c.new-prefix.result) c.loop-length.length c.new-prefix.ensures
-    (omega (arith, c.min-length.ensures)) (rw (← view) (sym c.has.ensures.value ∙ c.if-has.true)) (rw view at c.has.ensures.short) c.loop-length.invariant
+    let Is : List ℕ → Type 0 = λ digits. IsPrefixFor c.args.self.now c.args.called.now digits in
+    subst Is c.new.ensures (is_longest c.args.self.now c.args.called.now (digits_of c.new.result) c.loop-length.length c.new.ensures
+    (omega (arith, c.min-length.ensures)) (rw (← view) (sym c.has.ensures.value ∙ c.if-has.true)) (rw view at c.has.ensures.short) c.loop-length.invariant)
 
 pub loop-length-preserved : goal.loop-length-preserved
 loop-length-preserved c =
     let view : c.self.inside.bands ≡ c.args.self.now = c.self.view_is in
-    none_longer_next c.args.self.now c.args.called.now (digits_of c.new-prefix.result) c.loop-length.length c.new-prefix.ensures
+    none_longer_next c.args.self.now c.args.called.now (digits_of c.new.result) c.loop-length.length c.new.ensures
     (rw (← view) c.self.invariant) (rw (← view) (sym c.has.ensures.value ∙ c.if-has.false)) c.loop-length.invariant
 
-pub returns-else-has-clause-none : goal.returns-else-has-clause-none
-returns-else-has-clause-none c =
+pub returns-clause-none : goal.returns-clause-none
+returns-clause-none c = elim c.loop-length-test.branch [
+    else-loop-length-test w ↦ absurd (omega (arith, w.loop-length-test.false))
+  | then-loop-length-test+else-has+else-length-gt0 w ↦
     let view : c.self.inside.bands ≡ c.args.self.now = c.self.view_is in
-    no_route c.args.self.now c.args.called.now (digits_of c.new-prefix.result) c.loop-length.length c.new-prefix.ensures
-    (rw (← view) c.self.invariant) (rw (← view) (sym c.has.ensures.value ∙ c.if-has.false)) (rw view at c.has.ensures.short) c.loop-length.invariant (omega arith)
+    no_route c.args.self.now c.args.called.now (digits_of w.new.result) c.loop-length.length w.new.ensures
+    (rw (← view) c.self.invariant) (rw (← view) (sym w.has.ensures.value ∙ w.if-has.false)) (rw view at w.has.ensures.short) c.loop-length.invariant (omega arith)
+  ]
