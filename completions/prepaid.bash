@@ -5,7 +5,7 @@ _prepaid()
     local current=${COMP_WORDS[COMP_CWORD]} previous=${COMP_WORDS[COMP_CWORD - 1]}
     local words
     if ((COMP_CWORD == 1)); then
-        words='price replay run audit help --help -h --version -V'
+        words='price replay run audit quote help --help -h --version -V'
     elif [[ $previous == --default ]]; then
         words='proceed release'
     elif [[ $previous == --* && $previous != --book && $previous != --help && $previous != --version ]]; then
@@ -17,7 +17,8 @@ _prepaid()
             replay) words='--opening --limit --help -h' ;;
             run) words='--workers --wanted --least --tssf --tccd --delay --default --book --help -h' ;;
             audit) words='--help -h' ;;
-            help) words='price replay run audit help' ;;
+            quote) words='--called --at --for --credit --help -h' ;;
+            help) words='price replay run audit quote help' ;;
             *) words='' ;;
         esac
     fi

@@ -42,7 +42,7 @@ def said_in_formats(text):
     tables = tables_of(text)
     commands, values = {"help": set()}, {}
     for name, options, *_ in tables["Command"]:
-        name, found = name.strip("`"), re.findall(r"(--[a-z]+) N", options)
+        name, found = name.strip("`"), re.findall(r"(--[a-z]+) [A-Z]+", options)
         commands[name] = set(found) | HELP
         for option in found:
             behind = options[options.index(option) :]

@@ -1,9 +1,21 @@
 """The commands: words and an input to a status, an output and a line of fault."""
 import re
 
-from .account import DAY, MAX_MONEY, Account, Plan, price
+from .account import DAY, MAX_MONEY, Account, Plan, Times, afford, price
 from .run import Options, Run
-from .tables import MAX_RATE, Fault, divide, read_book, read_ops, read_reports, read_script, read_setup, read_tariff
+from .tables import (
+    LAST_MOMENT,
+    MAX_RATE,
+    Fault,
+    divide,
+    read_book,
+    read_ops,
+    read_reports,
+    read_script,
+    read_setup,
+    read_tariff,
+    route,
+)
 
 MAX_INPUT = 16_777_216
 # More entries than an input has room for.
@@ -13,6 +25,7 @@ TAKEN = {
     "price": {"--fee", "--before", "--after", "--free"},
     "replay": {"--opening", "--limit"},
     "audit": set(),
+    "quote": {"--called", "--at", "--for", "--credit"},
     "run": {"--workers", "--wanted", "--least", "--tssf", "--tccd", "--delay", "--default", "--book"},
 }
 
@@ -28,7 +41,7 @@ def command(words, text, book=None):
             return 0, run.book() if "--book" in given else run.lines(), "", not run.is_contended
         if words[0] == "audit":
             return *do_audit(text), "", True
-        return 0, (do_price if words[0] == "price" else do_replay)(given, text), "", True
+        return 0, {"price": do_price, "replay": do_replay, "quote": do_quote}[words[0]](given, text), "", True
     except Fault as fault:
         return fault.status, "", fault.line + "\n", True
 
@@ -71,6 +84,34 @@ def do_price(given, text):
         lines.append(f"debit {now - total} total {now}\n")
         total = now
     return "".join([*lines, f"total {total}\n"])
+
+
+def do_quote(given, text):
+    called, at = given.get("--called", ""), given.get("--at", "")
+    if not re.fullmatch("[0-9]{1,15}", called):
+        raise ARGUMENTS
+    if time := re.fullmatch("([01][0-9]|2[0-3]):([0-5][0-9])", at):
+        now = (int(time[1]) * 60 + int(time[2])) * 600
+    else:
+        now = number(given, "--at", most=LAST_MOMENT)
+    talk = number(given, "--for", most=DAY) if "--for" in given else None
+    credit = number(given, "--credit", most=MAX_MONEY) if "--credit" in given else None
+    tariff = read_tariff(whole(text))
+    found = route(tariff, called, now)
+    if found is None:
+        return "no route\n"
+    plan, switch = found
+    prefix = max((it for it in tariff if called.startswith(it)), key=len)
+    start = max(it[0] for it in tariff[prefix] if it[0] <= now % DAY)
+    lines = [f"prefix {prefix or '-'} from {start // 36000:02}:{start // 600 % 60:02} fee {plan.fee} rate {plan.before} free {plan.free}\n"]
+    if switch is not None:
+        lines.append(f"switch {switch} rate {plan.after}\n")
+    if talk is not None:
+        before = talk if switch is None else min(talk, switch - now)
+        lines.append(f"price {price(plan, before, talk - before)}\n")
+    if credit is not None:
+        lines.append(f"afford {afford(plan, Times(0, 0, False), DAY, credit)}\n")
+    return "".join(lines)
 
 
 def do_replay(given, text):

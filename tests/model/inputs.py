@@ -21,8 +21,8 @@ PREFIXES = ["", "4", "49", "493", "44", "4930"]
 def make(seed):
     """The words and the input of this seed."""
     it = random.Random(seed)
-    kind = it.choices(["price", "replay", "run", "audit"], [2, 3, 9, 5])[0]
-    words, text = {"price": prices, "replay": operations, "run": runs, "audit": books}[kind](it)
+    kind = "quote" if seed % 10 == 9 else it.choices(["price", "replay", "run", "audit"], [2, 3, 9, 5])[0]
+    words, text = {"price": prices, "replay": operations, "run": runs, "audit": books, "quote": quotes}[kind](it)
     if it.random() < 0.12:
         words = other_words(it, words)
     if it.random() < 0.35:
@@ -59,6 +59,16 @@ def prices(it):
         after += it.choice([0, 0, it.randrange(500)]) if has_after or it.random() < 0.05 else 0
         rows.append((before, after) if it.random() < 0.9 else (it.choice([0, DAY, before]), it.choice([0, 1, after])))
     return list(map(str, words)), table(rows)
+
+
+def quotes(it):
+    text, starts = tariff(it)
+    day = it.choice([0, 0, 1, 10**6]) * DAY
+    at = it.choice([f"{it.randrange(1440) // 60:02}:{it.randrange(60):02}", day + it.choice(starts) + it.choice([-1, 0, 1, 300]), 10**12, 10**12 + 1])
+    words = ["quote", "--called", it.choice(NUMBERS), "--at", max(0, at) if isinstance(at, int) else at]
+    words += ["--for", it.choice([0, 1, 600, it.randrange(3000), DAY])] if it.random() < 0.6 else []
+    words += ["--credit", it.choice([0, 50, 1500, it.randrange(10_000), MAX_MONEY])] if it.random() < 0.6 else []
+    return list(map(str, words)), text
 
 
 def operations(it):

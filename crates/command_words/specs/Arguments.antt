@@ -9,7 +9,9 @@ use Rattle.tariff_core.specs.RatesOf.{rates_of}
 use Rattle.command_words.specs.CommandLine.{command_in, errors_in}
 use Rattle.command_words.specs.Options.{plan_in, replay_in}
 use Rattle.command_words.specs.RunWords.{run_in}
-use Rattle.command_words.specs.Wishes.{Wish, Audits, Prices, Replays, Runs}
+use Rattle.command_words.specs.QuoteWishes.{wish_of}
+use Rattle.command_words.specs.QuoteWords.{quote_in}
+use Rattle.command_words.specs.Wishes.{Wish, Audits, Prices, Quotes, Replays, Runs}
 use Rattle.command_words.specs.declared.request.Request.{Request}
 use Rattle.command_words.specs.declared.request.Request.TheVariants as request
 use Rattle.command_words.specs.declared.fault.WordsFault.{WordsFault}
@@ -22,7 +24,9 @@ wish_in (Some command) =
     if bytes_eq command.0 (codes "price") then ok_or (option_map (λ plan. Prices plan) (plan_in command.1)) fault.Arguments
     else if bytes_eq command.0 (codes "replay") then ok_or (replay_in command.1) fault.Arguments
     else if bytes_eq command.0 (codes "run") then run_in command.1
-    else if bytes_eq command.0 (codes "audit") then Ok Audits else Err fault.Arguments
+    else if bytes_eq command.0 (codes "audit") then Ok Audits
+    else if bytes_eq command.0 (codes "quote") then ok_or (option_map (λ quote. Quotes quote) (quote_in command.1)) fault.Arguments
+    else Err fault.Arguments
 
 -- the request is what was wished, or the fault is why nothing is
 abbrev pub IsRequestOf : Result Wish WordsFault → Result Request WordsFault → Type 0
@@ -30,6 +34,7 @@ IsRequestOf wish (Ok (request.Price plan)) = wish ≡ Ok (Prices (rates_of plan)
 IsRequestOf wish (Ok (request.Replay account)) = wish ≡ Ok (Replays account.opening account.limit)
 IsRequestOf wish (Ok (request.Run options)) = wish ≡ Ok (Runs (ask_of options))
 IsRequestOf wish (Ok request.Audit) = wish ≡ Ok Audits
+IsRequestOf wish (Ok (request.Quote ask)) = wish ≡ Ok (Quotes (wish_of ask))
 IsRequestOf wish (Err fault.Arguments) = wish ≡ Err fault.Arguments
 IsRequestOf wish (Err fault.Config) = wish ≡ Err fault.Config
 IsRequestOf wish _ = ⊥
@@ -68,6 +73,7 @@ IsRead words (Ok (request.Price plan)) = AsksFor words (Prices (rates_of plan))
 IsRead words (Ok (request.Replay account)) = AsksFor words (Replays account.opening account.limit)
 IsRead words (Ok (request.Run options)) = AsksFor words (Runs (ask_of options))
 IsRead words (Ok request.Audit) = AsksFor words Audits
+IsRead words (Ok (request.Quote ask)) = AsksFor words (Quotes (wish_of ask))
 IsRead words (Err fault.Arguments) = AsksNothing words
 IsRead words (Err fault.OutOfMemory) = ⊤
 IsRead words (Err fault.Config) = AsksInVain words fault.Config

@@ -46,13 +46,18 @@ run_app = with_rules (with_rules (with_rules (new_app (codes "run")) service_rul
 unfoldable pub audit_app : App
 audit_app = new_app (codes "audit")
 
+-- `quote --called N --at N [--for N] [--credit N]`
+unfoldable pub quote_app : App
+quote_app = with_rules (new_app (codes "quote")) (required_rule (codes "called") ∷ required_rule (codes "at") ∷ option_rule (codes "for") ∷ option_rule (codes "credit") ∷ [])
+
 -- the program itself, which has nothing but commands and its version
 abbrev pub bare_app : App
 bare_app = on_top (λ top. record top { has_version = true; no_binary_name = true; subcommand_required = true }) (new_app (codes "prepaid"))
 
 -- the program, with its commands
 unfoldable pub program_app : App
-program_app = with_subcommand (with_subcommand (with_subcommand (with_subcommand bare_app price_app.top) replay_app.top) run_app.top) audit_app.top
+program_app =
+    with_subcommand (with_subcommand (with_subcommand (with_subcommand (with_subcommand bare_app price_app.top) replay_app.top) run_app.top) audit_app.top) quote_app.top
 
 -- the kinds of error that clap has for the words; none where they parse
 unfoldable pub errors_in : List Text → List ErrorKind

@@ -7,6 +7,7 @@ ghost use Rattle.command_words.specs.Arguments.{IsRead, IsRefusal, IsRequestOf, 
 use crate::command_line::program_command;
 use crate::fault::WordsFault;
 use crate::options::{price_plan, replay_opening};
+use crate::quote_words::quote_ask;
 use crate::request::Request;
 use crate::run_words::run_request;
 use clap::error::ErrorKind;
@@ -42,6 +43,10 @@ fn asked(matches: &ArgMatches<'_>) -> Result<Request, WordsFault>
         },
         Some(("run", options)) => run_request(options),
         Some(("audit", _)) => Ok(Request::Audit),
+        Some(("quote", options)) => match quote_ask(options) {
+            Some(ask) => Ok(Request::Quote(ask)),
+            None => Err(WordsFault::Arguments),
+        },
         Some(_) | None => Err(WordsFault::Arguments),
     }
 }

@@ -3,7 +3,7 @@
 ghost use Rattle.std.specs.Prelude.{◌≡◌, false, IfOk};
 ghost use Rattle.clap.specs.Words.{app_of, new_app, rule_of, with_rule};
 ghost use Rattle.clap.specs.declared.builder.command.Command.TheViews.{out-Command as fields_of};
-ghost use Rattle.command_words.specs.CommandLine.{audit_app, bare_app, flag_rule, option_rule, other_rules, price_app, program_app, replay_app, required_rule, run_app, service_rules, switch_rules, with_rules};
+ghost use Rattle.command_words.specs.CommandLine.{audit_app, bare_app, flag_rule, option_rule, other_rules, price_app, program_app, quote_app, replay_app, required_rule, run_app, service_rules, switch_rules, with_rules};
 
 use crate::help;
 use clap::{Arg, ArgAction, Command};
@@ -18,7 +18,8 @@ pub(crate) fn program_command<'a>(alloc: Global) -> Result<Command<'a>, AllocErr
         .subcommand(price_command(alloc)?)?
         .subcommand(replay_command(alloc)?)?
         .subcommand(run_command(alloc)?)?
-        .subcommand(audit_command(alloc))
+        .subcommand(audit_command(alloc))?
+        .subcommand(quote_command(alloc)?)
 }
 
 /// The program without its commands.
@@ -88,6 +89,29 @@ fn audit_command<'a>(alloc: Global) -> Command<'a>
 {
     let about = "Tells of each account of a book whether its history is right";
     input_command(alloc, "audit", about, "prepaid audit < FILE", help::AUDIT)
+}
+
+#[tactic(auto, unfolding(crate::specs::CommandLine::quote_app))]
+fn quote_command<'a>(alloc: Global) -> Result<Command<'a>, AllocError>
+    ensures app { IfOk result (λ command. app_of command ≡ quote_app) }
+    ensures local { IfOk result (λ command. (fields_of command).has_globals ≡ false) }
+{
+    let about = "Prints what a call to a number costs at a moment";
+    let usage = "prepaid quote [OPTIONS] --called <DIGITS> --at <MOMENT> < FILE";
+    let command = input_command(alloc, "quote", about, usage, help::QUOTE);
+    let called = named(alloc, "called", "DIGITS", "The called number");
+    let command = add(command, called.required(true))?;
+    let at = named(alloc, "at", "MOMENT", "When the call is answered");
+    let command = add(command, at.required(true))?;
+    let talk = named(
+        alloc,
+        "for",
+        "UNITS",
+        "How long a call lasts whose price is printed",
+    );
+    let command = add(command, talk)?;
+    let credit = "A credit of which is printed what it affords";
+    add(command, option(alloc, "credit", credit))
 }
 
 /// What the service asks for.

@@ -171,3 +171,39 @@ Kinds:
   Empty        A field has something that the row doesn't take
   Repeated     A second opening of an account
   Unknown      An entry stands above its account's opening";
+
+/// Behind the options of `quote`.
+pub(crate) const QUOTE: &str = "\
+A moment is in units of 100 ms, or HH:MM of the first day. A time is in units of 100 ms, money
+in the smallest coin, a rate is money a minute.
+Input, for example:
+
+  prefix,from,fee,rate
+  49,00:00,50,1000
+
+Exit status:
+  0  all of the answer was printed
+  1  the words or the input are refused
+  2  the input or memory failed; without a line, the output failed
+
+A fault is one line on standard error, and then nothing is printed:
+  prepaid: arguments
+      No options of quote: mostly a file name (use < FILE), an option given twice, a unit
+      such as 60s, or a number out of its range
+  prepaid: input: TooLong
+      More than 16777216 bytes
+  prepaid: run: Device, OutOfMemory
+      Standard input or memory failed
+  prepaid: tariff row N: KIND
+      Rows count from 1, which is the header; empty lines don't count
+
+Kinds:
+  Csv             Another number of fields than the header, perhaps an open quote
+  Header          Nearly always the separator, or columns that a spreadsheet added
+  TooManyRows     More than 10000 rows besides the header
+  Digits          A prefix is 0 to 15 digits
+  From            A time of day is HH:MM, 00:00 to 23:59
+  Money           A fee or a rate is digits only, 0 to 1000000000: no plus, no point
+  Free            Free units are digits only, 0 to 864000
+  Repeated        A prefix with the same start stands there already
+  NoMidnightBand  A prefix has no row from 00:00";

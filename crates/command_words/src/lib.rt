@@ -6,9 +6,10 @@ mod command_line;
 mod fault;
 mod help;
 mod options;
+mod quote_words;
 mod request;
 mod run_words;
 
 pub use arguments::read_words;
 pub use fault::WordsFault;
-pub use request::{Opening, Request};
+pub use request::{Opening, QuoteAsk, Request};

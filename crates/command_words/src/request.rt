@@ -1,10 +1,12 @@
 //! What a command line asks for.
 
-ghost use Rattle.std.specs.Prelude.{◌≤◌};
+ghost use Rattle.std.specs.Prelude.{◌≤◌, unwrap_or};
 ghost use Rattle.tariff_core.specs.declared.money.TheConstants.{MAX_MONEY};
+ghost use Rattle.tariff_core.specs.declared.times.TheConstants.{DAY, LAST_MOMENT};
 
+use cap_values::Number;
 use run_options::RunOptions;
-use tariff_core::{MAX_MONEY, Plan};
+use tariff_core::{DAY, LAST_MOMENT, MAX_MONEY, Plan};
 
 /// What the words ask for.
 #[derive(Drop)]
@@ -21,6 +23,24 @@ pub enum Request {
     Run(RunOptions),
     /// The audit of books.
     Audit,
+    /// What a call to a number costs.
+    Quote(QuoteAsk),
+}
+
+/// What `quote` is asked for.
+#[derive(Clone, Copy)]
+pub struct QuoteAsk {
+    /// The called number.
+    pub called: Number,
+    /// The moment of the answer, 0 to `LAST_MOMENT`, in units of 100 ms.
+    pub at: u64,
+    /// How long the call lasts whose price is asked for, 0 to `DAY`, in units of 100 ms.
+    pub talk: Option<u32>,
+    /// The credit of which it is asked what it affords, 0 to `MAX_MONEY`.
+    pub credit: Option<u64>,
+    pub ghost at_in_range: { at ≤ LAST_MOMENT },
+    pub ghost talk_in_range: { unwrap_or talk 0 ≤ DAY },
+    pub ghost credit_in_range: { unwrap_or credit 0 ≤ MAX_MONEY },
 }
 
 /// An account as it is opened.

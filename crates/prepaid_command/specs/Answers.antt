@@ -5,18 +5,22 @@ use Rattle.std.specs.Result.{result_map_both}
 use Rattle.book_texts.specs.Audits.{Audited, IsAuditOf}
 use Rattle.book_texts.specs.Books.{Books, books_of}
 use Rattle.command_words.specs.Arguments.{AsksFor, AsksHelp, AsksInVain, AsksNothing, AsksVersion}
-use Rattle.command_words.specs.Wishes.{Wish, Audits, Prices, Replays, Runs}
+use Rattle.command_words.specs.QuoteWishes.{QuoteWish}
+use Rattle.command_words.specs.Wishes.{Wish, Audits, Prices, Quotes, Replays, Runs}
 use Rattle.command_words.specs.declared.fault.WordsFault.TheVariants as words_fault
 use Rattle.run_command.specs.Answers.{IsRunAnswer}
 use Rattle.run_command.specs.declared.error.RunError.{RunError}
 use Rattle.run_options.specs.declared.ask.RunAsk.{RunAsk}
+use Rattle.run_texts.specs.Inputs.{tariff_in}
 use Rattle.runs_core.specs.declared.run_fault.RunFault.TheVariants as run
 use Rattle.table_core.specs.Judging.{after}
 use Rattle.table_core.specs.Rows.{rows_of}
+use Rattle.tariff_core.specs.Bands.{Band}
 use Rattle.tariff_core.specs.Rates.{Rates}
-use Rattle.prepaid_command.specs.Faults.{meaning_in, of_run, status_of}
+use Rattle.prepaid_command.specs.Faults.{meaning_in, meaning_of_part, of_run, status_of}
 use Rattle.prepaid_command.specs.Input.{sized}
 use Rattle.prepaid_command.specs.PriceLines.{price_lines}
+use Rattle.prepaid_command.specs.Quotes.{IsQuoteText}
 use Rattle.prepaid_command.specs.Replays.{replayed}
 use Rattle.prepaid_command.specs.Reports.{reports_of}
 use Rattle.prepaid_command.specs.Tellings.{Telling, plain, status_of_telling}
@@ -59,12 +63,24 @@ abbrev pub IsAuditOfInput : List ℕ → Result Telling Fault → Type 0
 IsAuditOfInput input answer =
     MatchResult (after (sized input) (λ text. meaning_in part.Book (books_of (rows_of text)))) (λ books. IsToldAudit books answer) (λ why. answer ≡ Err why)
 
+-- a quote of this tariff is told
+pub record IsToldQuote (bands : List Band) (wish : QuoteWish) (answer : Result Telling Fault) : Type 0 where
+  pub text : List ℕ
+  pub is_text : IsQuoteText bands wish text
+  pub told : answer ≡ Ok (plain text)
+
+-- what `quote` makes of an input, which is a tariff
+abbrev pub IsQuoteOfInput : QuoteWish → List ℕ → Result Telling Fault → Type 0
+IsQuoteOfInput wish input answer =
+    MatchResult (after (sized input) (λ text. meaning_of_part (tariff_in text))) (λ bands. IsToldQuote bands wish answer) (λ why. answer ≡ Err why)
+
 -- what is made of an input as it was wished
 abbrev pub IsAnswerTo : Wish → List ℕ → Result Telling Fault → Type 0
 IsAnswerTo (Prices plan) input answer = price_of_input plan input ≡ answer
 IsAnswerTo (Replays opening limit) input answer = replay_of_input opening limit input ≡ answer
 IsAnswerTo (Runs ask) input answer = IsRunOfInput ask input answer
 IsAnswerTo Audits input answer = IsAuditOfInput input answer
+IsAnswerTo (Quotes wish) input answer = IsQuoteOfInput wish input answer
 
 -- the words ask for what has this answer
 pub record IsAnswered (words : List (List ℕ)) (input : List ℕ) (answer : Result Telling Fault) : Type 0 where

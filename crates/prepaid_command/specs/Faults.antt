@@ -69,6 +69,11 @@ of_run_input (input.Script row) = fault.Table part.Script row
 of_run_input input.Device = fault.Device
 of_run_input input.OutOfMemory = fault.Run run.OutOfMemory
 
+-- what a part of the input of a run means, its faults told as the program's
+abbrev pub meaning_of_part : {X : Type 0} → Result X InputFault → Result X Fault
+meaning_of_part (Ok x) = Ok x
+meaning_of_part (Err why) = Err (of_run_input why)
+
 -- the fault of a run that has no text
 abbrev pub of_run : RunError → Fault
 of_run (error.Input why) = of_run_input why

@@ -4,6 +4,7 @@ pub mod Asks
 pub mod Faults
 pub mod Input
 pub mod PriceLines
+pub mod Quotes
 pub mod ReplayLines
 pub mod Replays
 pub mod Reports

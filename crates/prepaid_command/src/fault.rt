@@ -79,7 +79,7 @@ impl Fault {
     }
 
     /// The fault of the input of a run.
-    fn of_run_input(fault: InputFault) -> Fault
+    pub fn of_run_input(fault: InputFault) -> Fault
         ensures { result ≡ of_run_input fault }
     {
         match fault {

@@ -7,6 +7,7 @@ mod fault;
 mod input;
 mod price_lines;
 mod program;
+mod quoting;
 mod replay_lines;
 mod replaying;
 mod reports;

@@ -4,8 +4,9 @@ ghost use Rattle.std.specs.Prelude.{◌≡◌, ◌⊎◌, map, IfSome, string_by
 ghost use Rattle.std.specs.Io.KnownBytes.{Appends, Keeps};
 ghost use Rattle.std.specs.Result.{result_map_both};
 ghost use Rattle.tariff_core.specs.RatesOf.{rates_of};
+ghost use Rattle.command_words.specs.QuoteWishes.{wish_of};
 ghost use Rattle.run_options.specs.Options.{ask_of};
-ghost use Rattle.prepaid_command.specs.Answers.{Answers, IsAnswer, IsAuditOfInput, IsRunOfInput, price_of_input, replay_of_input};
+ghost use Rattle.prepaid_command.specs.Answers.{Answers, IsAnswer, IsAuditOfInput, IsQuoteOfInput, IsRunOfInput, price_of_input, replay_of_input};
 ghost use Rattle.prepaid_command.specs.Faults.{Gives, GivesOne};
 ghost use Rattle.prepaid_command.specs.Tellings.{status_of_telling, telling_of};
 
@@ -13,12 +14,14 @@ use crate::answer::Answer;
 use crate::fault::{Fault, Part};
 use crate::input::read_input;
 use crate::price_lines::print_reports;
+use crate::quoting::print_quote;
 use crate::replaying::replay;
 use crate::reports::read_reports;
 use book_texts::audit_books;
-use command_words::{Opening, Request, read_words};
+use command_words::{Opening, QuoteAsk, Request, read_words};
 use run_command::run;
 use run_options::RunOptions;
+use run_texts::read_tariff;
 use std::alloc::Global;
 use std::convert::AsStr;
 use std::io::{Read, Write};
@@ -67,6 +70,7 @@ where
         Request::Replay(account) => replay_operations(alloc, account, input),
         Request::Run(options) => run_script(rt, alloc, &options, input),
         Request::Audit => audit_input(alloc, input),
+        Request::Quote(ask) => quote_input(alloc, &ask, input),
     }
 }
 
@@ -126,6 +130,20 @@ fn audit_input<I: Read + Drop>(alloc: Global, input: I) -> Result<Answer, Fault>
         }),
         Err(fault) => Err(Fault::in_part(Part::Book, fault)),
     }
+}
+
+/// The lines of `quote` for the tariff in the input.
+fn quote_input<I: Read + Drop>(alloc: Global, ask: &QuoteAsk, input: I) -> Result<Answer, Fault>
+    ensures { IfSome (I.remaining input) (λ text. GivesOne
+        (IsQuoteOfInput (wish_of ask.now) text)
+        (result_map_both telling_of (λ fault. fault) result)) }
+{
+    let bytes = read_input(alloc, input)?;
+    let tariff = match read_tariff(alloc, bytes.as_slice()) {
+        Ok(tariff) => tariff,
+        Err(fault) => return Err(Fault::of_run_input(fault)),
+    };
+    Ok(Answer::plain(print_quote(alloc, &tariff, ask)?))
 }
 
 /// The status of an answer: its own where the whole text went to the output, 2 where the output

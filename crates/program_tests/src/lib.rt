@@ -19,6 +19,8 @@ mod prices;
 #[cfg(test)]
 mod program;
 #[cfg(test)]
+mod quotes;
+#[cfg(test)]
 mod replays;
 #[cfg(test)]
 mod runs;

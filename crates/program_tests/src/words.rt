@@ -98,6 +98,7 @@ fn prints_help(rt: HostRuntime) -> Result<(), Fail> {
         "replay --help",
         "run --help",
         "audit --help",
+        "quote --help",
         "help run",
     ] {
         let mut output = Vec::new(rt.alloc());

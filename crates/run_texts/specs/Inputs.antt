@@ -28,11 +28,15 @@ abbrev pub told : {X E : Type 0} → (E → InputFault) → Result X E → Resul
 told tell (Ok x) = Ok x
 told tell (Err why) = Err (tell why)
 
+-- what a tariff says
+abbrev pub tariff_in : List ℕ → Result (List Band) InputFault
+tariff_in text = told input.Tariff (tariff_of (rows_of text))
+
 -- what an input says, its parts judged in order
 abbrev pub input_of : List ℕ → Result RunInput InputFault
 input_of text =
     after (ok_or (texts_of text) input.Parts) (λ texts.
-    after (told input.Tariff (tariff_of (rows_of texts.tariff))) (λ tariff.
+    after (tariff_in texts.tariff) (λ tariff.
     after (told input.Setup (setup_of (rows_of texts.setup))) (λ setup.
     after (told input.Script (script_of setup.accounts (rows_of texts.script))) (λ script.
     Ok (record { tariff = tariff; setup = setup; script = script })))))

@@ -2,13 +2,12 @@
 
 ghost use Rattle.std.specs.Prelude.{◌≡◌, ◌≤◌, true, map, All, IfOk};
 ghost use Rattle.run_texts.specs.InputFaults.{Gives};
-ghost use Rattle.run_texts.specs.Inputs.{input_in, input_of, told};
+ghost use Rattle.run_texts.specs.Inputs.{input_in, input_of, tariff_in, told};
 ghost use Rattle.run_texts.specs.declared.input_fault.InputFault.TheVariants as out;
 ghost use Rattle.run_texts.specs.Scripts.{script_of};
 ghost use Rattle.run_texts.specs.Setups.{setup_of};
 ghost use Rattle.run_texts.specs.Views.{are_in_order, event_of, setup_in};
 ghost use Rattle.table_core.specs.Rows.{rows_of};
-ghost use Rattle.tariff_core.specs.TariffTable.{tariff_of};
 ghost use Rattle.workers_core.specs.Setups.{IsWithin};
 
 use crate::{InputFault, Parts, ScriptRow, divide, script, setup};
@@ -50,8 +49,9 @@ pub fn read_texts(alloc: Global, input: &[u8]) -> Result<RunTexts, InputFault>
     })
 }
 
-fn read_tariff(alloc: Global, text: &[u8]) -> Result<Tariff, InputFault>
-    ensures { Gives (λ tariff. tariff) result (told out.Tariff (tariff_of (rows_of text.now))) }
+/// Reads a tariff alone. Its first fault is told as that of an input.
+pub fn read_tariff(alloc: Global, text: &[u8]) -> Result<Tariff, InputFault>
+    ensures { Gives (λ tariff. tariff) result (tariff_in text.now) }
 {
     match Tariff::read(alloc, text) {
         Ok(tariff) => Ok(tariff),

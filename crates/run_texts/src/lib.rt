@@ -13,7 +13,7 @@ mod script_row;
 mod setup;
 mod word;
 
-pub use input::{RunTexts, read_texts};
+pub use input::{RunTexts, read_tariff, read_texts};
 pub use input_fault::InputFault;
 pub use parts::{Parts, divide};
 pub use script::read_script;

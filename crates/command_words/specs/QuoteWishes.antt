@@ -1,0 +1,15 @@
+-- What `quote` is asked for, as plain data.
+use Rattle.std.specs.Prelude.{ℕ, List, Option}
+use Rattle.cap_values.specs.NumberDigits.{digits_of}
+use Rattle.command_words.specs.declared.request.QuoteAsk.{QuoteAsk}
+
+-- the digits of the called number, the moment of the answer, and perhaps how long the call lasts and a credit
+pub record QuoteWish : Type 0 where
+  pub called : List ℕ
+  pub at : ℕ
+  pub talk : Option ℕ
+  pub credit : Option ℕ
+
+-- what the code asks for
+abbrev pub wish_of : QuoteAsk → QuoteWish
+wish_of ask = record { called = digits_of ask.called; at = ask.at; talk = ask.talk; credit = ask.credit }

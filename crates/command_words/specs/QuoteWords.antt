@@ -1,0 +1,40 @@
+-- What the options of `quote` say.
+use Rattle.std.specs.Prelude.{ℕ, List, Option, Some, None, codes, if◌then◌else◌, option_and_then, option_map}
+use Rattle.clap.specs.Words.{Row, Text, first_of}
+use Rattle.cap_values.specs.Numbers.{is_number}
+use Rattle.table_core.specs.Decimals.{decimal_of}
+use Rattle.tariff_core.specs.TariffTable.{time_of}
+use Rattle.tariff_core.specs.declared.money.TheConstants.{MAX_MONEY}
+use Rattle.tariff_core.specs.declared.times.TheConstants.{DAY, LAST_MOMENT}
+use Rattle.command_words.specs.Options.{optional_number_in}
+use Rattle.command_words.specs.QuoteWishes.{QuoteWish}
+use Rattle.command_words.specs.Wishes.{Wish, Quotes}
+
+-- the digits of a number, 1 to 15 of them
+abbrev pub called_of : Text → Option (List ℕ)
+called_of text = if is_number text then Some text else None
+
+-- the time of day that a text writes, else its number of units
+abbrev pub time_or : Option ℕ → Text → Option ℕ
+time_or (Some time) text = Some time
+time_or None text = decimal_of LAST_MOMENT text
+
+-- the moment that a text writes: `HH:MM` of the first day, or a number of units, at most `LAST_MOMENT`
+abbrev pub moment_of : Text → Option ℕ
+moment_of text = time_or (time_of text) text
+
+abbrev pub called_in : List Row → Option (List ℕ)
+called_in options = option_and_then called_of (first_of (codes "called") options)
+
+abbrev pub moment_in : List Row → Option ℕ
+moment_in options = option_and_then moment_of (first_of (codes "at") options)
+
+-- what is asked of a number at a moment
+abbrev pub asked_at : List Row → List ℕ → ℕ → Option QuoteWish
+asked_at options called at = option_and_then (λ talk.
+    option_map (λ credit. record { called = called; at = at; talk = talk; credit = credit })
+    (optional_number_in options (codes "credit") MAX_MONEY)) (optional_number_in options (codes "for") DAY)
+
+-- what the options ask for
+unfoldable pub quote_in : List Row → Option QuoteWish
+quote_in options = option_and_then (λ called. option_and_then (λ at. asked_at options called at) (moment_in options)) (called_in options)

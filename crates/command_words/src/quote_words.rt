@@ -1,0 +1,49 @@
+//! The options of `quote`.
+
+ghost use Rattle.std.specs.Prelude.{◌≡◌, ◌≤◌, option_map, IfSome};
+ghost use Rattle.cap_values.specs.NumberDigits.{digits_of};
+ghost use Rattle.clap.specs.Words.{found_of, rows_of};
+ghost use Rattle.command_words.specs.QuoteWishes.{wish_of};
+ghost use Rattle.command_words.specs.QuoteWords.{called_of, moment_of, quote_in};
+
+use crate::options::{option_text, optional_number};
+use crate::request::QuoteAsk;
+use cap_values::Number;
+use clap::ArgMatches;
+use table_core::decimal;
+use tariff_core::{DAY, LAST_MOMENT, MAX_MONEY, time_of_day};
+
+/// What the options ask for.
+#[tactic(auto, unfolding(crate::specs::QuoteWords::quote_in))]
+pub(crate) fn quote_ask(options: &ArgMatches<'_>) -> Option<QuoteAsk>
+    ensures { option_map wish_of result ≡ quote_in (rows_of (found_of options.now)) }
+{
+    let called = called(option_text(options, "called")?)?;
+    let at = moment(option_text(options, "at")?)?;
+    let talk = optional_number(options, "for", u64::from(DAY))?;
+    let credit = optional_number(options, "credit", MAX_MONEY)?;
+    Some(QuoteAsk {
+        called,
+        at,
+        talk: talk.map(|units| units as u32),
+        credit,
+    })
+}
+
+/// The number that a text writes, 1 to 15 digits.
+fn called(text: &str) -> Option<Number>
+    ensures { option_map digits_of result ≡ called_of text.now }
+{
+    Number::new(text).ok()
+}
+
+/// The moment that a text writes: `HH:MM` of the first day, or a number of units of 100 ms.
+fn moment(text: &str) -> Option<u64>
+    ensures value { result ≡ moment_of text.now }
+    ensures within { IfSome result (λ at. at ≤ LAST_MOMENT) }
+{
+    match time_of_day(text.as_bytes()) {
+        Some(time) => Some(u64::from(time)),
+        None => decimal(text.as_bytes(), LAST_MOMENT),
+    }
+}

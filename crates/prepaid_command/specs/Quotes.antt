@@ -1,0 +1,78 @@
+-- The lines that `quote` prints.
+use Rattle.std.specs.Prelude.{◌≡◌, ◌⊎◌, ◌-◌, ◌/◌, ◌%◌, ℕ, List, [], ◌∷◌, ◌++◌, Option, Some, None, codes, min}
+use Rattle.std.specs.Fmt.{decimal}
+use Rattle.std.specs.List.{flat_map}
+use Rattle.tariff_core.specs.Afford.{units_afforded}
+use Rattle.tariff_core.specs.Bands.{Band}
+use Rattle.tariff_core.specs.Price.{price_of}
+use Rattle.tariff_core.specs.RatesOf.{rates_of}
+use Rattle.tariff_core.specs.Rates.{Rates}
+use Rattle.tariff_core.specs.Routes.{HasNoRoute, IsQuote}
+use Rattle.tariff_core.specs.Times.{no_times}
+use Rattle.tariff_core.specs.declared.route.Route.{Route}
+use Rattle.tariff_core.specs.declared.times.TheConstants.{DAY}
+use Rattle.command_words.specs.QuoteWishes.{QuoteWish}
+
+-- the digits of a prefix, and `-` for none
+abbrev pub prefix_text : List ℕ → List ℕ
+prefix_text [] = codes "-"
+prefix_text (digit ∷ digits) = flat_map (λ byte. decimal (byte - 48)) (digit ∷ digits)
+
+-- a number below 100 in two digits
+abbrev pub two_digits : ℕ → List ℕ
+two_digits number = decimal (number / 10) ++ decimal (number % 10)
+
+-- a time of day as `HH:MM`
+abbrev pub time_text : ℕ → List ℕ
+time_text time = two_digits (time / 36000) ++ (codes ":" ++ two_digits ((time / 600) % 60))
+
+-- `fee F rate R free U`, and the end of its line
+abbrev pub plan_text : Rates → List ℕ
+plan_text plan = codes " fee " ++ (decimal plan.fee ++ (codes " rate " ++ (decimal plan.before ++ (codes " free " ++ (decimal plan.free ++ codes "\n")))))
+
+-- `prefix P from HH:MM fee F rate R free U`
+abbrev pub band_line : List ℕ → ℕ → Rates → List ℕ
+band_line prefix start plan = codes "prefix " ++ (prefix_text prefix ++ (codes " from " ++ (time_text start ++ plan_text plan)))
+
+-- where there is a switch, `switch M rate R`
+abbrev pub switch_line : Option ℕ → Option ℕ → List ℕ
+switch_line (Some at) (Some rate) = codes "switch " ++ (decimal at ++ (codes " rate " ++ (decimal rate ++ codes "\n")))
+switch_line _ _ = []
+
+-- of a call that is answered at a moment and lasts so long, how much of it lies before the switch
+abbrev pub before_switch : ℕ → ℕ → Option ℕ → ℕ
+before_switch at talk None = talk
+before_switch at talk (Some switch) = min talk (switch - at)
+
+-- what such a call costs
+abbrev pub price_of_call : Rates → ℕ → Option ℕ → ℕ → ℕ
+price_of_call plan at switch talk = price_of plan (before_switch at talk switch) (talk - before_switch at talk switch)
+
+-- `price N` of a call that lasts so long, where that is asked for
+abbrev pub price_line : Rates → ℕ → Option ℕ → Option ℕ → List ℕ
+price_line plan at switch None = []
+price_line plan at switch (Some talk) = codes "price " ++ (decimal (price_of_call plan at switch talk) ++ codes "\n")
+
+-- `afford N`: the units of a day that a credit affords at their dearest, where that is asked for
+abbrev pub afford_line : Rates → Option ℕ → List ℕ
+afford_line plan None = []
+afford_line plan (Some credit) = codes "afford " ++ (decimal (units_afforded plan no_times DAY credit) ++ codes "\n")
+
+-- the lines of a quote
+abbrev pub quote_lines : QuoteWish → List ℕ → ℕ → Route → List ℕ
+quote_lines wish prefix start route =
+    band_line prefix start (rates_of route.plan)
+    ++ (switch_line route.switch_at route.plan.after
+    ++ (price_line (rates_of route.plan) wish.at route.switch_at wish.talk ++ afford_line (rates_of route.plan) wish.credit))
+
+-- the lines of the quote that a tariff has for a number at a moment
+pub record IsQuoted (bands : List Band) (wish : QuoteWish) (text : List ℕ) : Type 0 where
+  pub prefix : List ℕ
+  pub start : ℕ
+  pub route : Route
+  pub is_quote : IsQuote bands wish.called wish.at prefix start route
+  pub lines : text ≡ quote_lines wish prefix start route
+
+-- what `quote` prints: these lines, or `no route` where the number has none
+abbrev pub IsQuoteText : List Band → QuoteWish → List ℕ → Type 0
+IsQuoteText bands wish text = IsQuoted bands wish text ⊎ (HasNoRoute bands wish.called × (text ≡ codes "no route\n"))

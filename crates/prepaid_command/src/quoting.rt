@@ -1,0 +1,131 @@
+//! The lines that `quote` prints.
+
+ghost use Rattle.std.specs.Prelude.{◌≡◌, ◌+◌, ◌-◌, ◌++◌, ◌≤◌, ◌<◌, IfOk, IfSome, OnOk, string_bytes};
+ghost use Rattle.std.specs.List.{flat_map};
+ghost use Rattle.std.specs.Fmt.{decimal};
+ghost use Rattle.tariff_core.specs.RatesOf.{rates_of};
+ghost use Rattle.command_words.specs.QuoteWishes.{wish_of};
+ghost use Rattle.prepaid_command.specs.Quotes.{IsQuoteText, afford_line, band_line, before_switch, plan_text, prefix_text, price_line, quote_lines, switch_line, time_text, two_digits};
+
+use command_words::QuoteAsk;
+use std::alloc::{AllocError, Global};
+use tariff_core::{DAY, HORIZON, LAST_MOMENT, Plan, Quote, Route, Tariff, Times, afford, price};
+
+/// What a call to a number costs at a moment: the band and the switch, and the price of a call and
+/// the units that a credit affords where they are asked for; `no route` where no prefix fits.
+pub(crate) fn print_quote(
+    alloc: Global,
+    tariff: &Tariff,
+    ask: &QuoteAsk,
+) -> Result<String, AllocError>
+    ensures { IfOk result (λ text.
+        IsQuoteText tariff.now (wish_of ask.now) (string_bytes text)) }
+{
+    let mut text = String::new(alloc);
+    let Some(quote) = tariff.quote(ask.called.as_bytes(), ask.at) else {
+        writeln!(text, "no route")?;
+        return Ok(text);
+    };
+    write_quote(&mut text, ask, &quote)?;
+    Ok(text)
+}
+
+/// Adds the lines of a quote.
+fn write_quote(text: &mut String, ask: &QuoteAsk, quote: &Quote<'_>) -> Result<(), AllocError>
+    requires { IfSome quote.now.route.switch_at (λ at. (ask.now.at < at) × (at ≤ ask.now.at + DAY)) }
+    ensures { OnOk result (string_bytes text.new ≡ string_bytes text.old
+        ++ quote_lines (wish_of ask.now) quote.now.prefix.now quote.now.start quote.now.route) }
+{
+    let plan = &quote.route.plan;
+    write_band(text, quote.prefix, quote.start, plan)?;
+    write_switch(text, &quote.route)?;
+    if let Some(talk) = ask.talk {
+        let before = before_switch(ask.at, talk, quote.route.switch_at);
+        let price = price(plan, before, talk - before);
+        writeln!(text, "price {price}")?;
+    }
+    if let Some(credit) = ask.credit {
+        let units = afford(plan, Times::ZERO, DAY, credit);
+        writeln!(text, "afford {units}")?;
+    }
+    Ok(())
+}
+
+/// Adds the line of a band.
+fn write_band(text: &mut String, prefix: &[u8], start: u32, plan: &Plan) -> Result<(), AllocError>
+    ensures { OnOk result (string_bytes text.new ≡ string_bytes text.old
+        ++ band_line prefix.now start (rates_of plan.now)) }
+{
+    write!(text, "prefix ")?;
+    write_prefix(text, prefix)?;
+    write!(text, " from ")?;
+    write_time(text, start)?;
+    let Plan {
+        fee,
+        before,
+        free,
+        ..
+    } = plan;
+    writeln!(text, " fee {fee} rate {before} free {free}")
+}
+
+/// Adds the digits of a prefix, or `-` where it has none.
+fn write_prefix(text: &mut String, prefix: &[u8]) -> Result<(), AllocError>
+    ensures { OnOk result (string_bytes text.new ≡ string_bytes text.old
+        ++ prefix_text prefix.now) }
+{
+    if prefix.is_empty() {
+        return write!(text, "-");
+    }
+    write_digits(text, prefix)
+}
+
+/// Adds digits.
+fn write_digits(text: &mut String, digits: &[u8]) -> Result<(), AllocError>
+    ensures { OnOk result (string_bytes text.new ≡ string_bytes text.old
+        ++ flat_map (λ byte. decimal (byte - 48)) digits.now) }
+{
+    for digit in digits {
+        let value = digit.saturating_sub(b'0');
+        write!(text, "{value}")?;
+    }
+    Ok(())
+}
+
+/// Adds a time of day as `HH:MM`.
+fn write_time(text: &mut String, time: u32) -> Result<(), AllocError>
+    ensures { OnOk result (string_bytes text.new ≡ string_bytes text.old ++ time_text time) }
+{
+    let (hours, minutes) = (time / 36_000, time / 600 % 60);
+    write!(
+        text,
+        "{}{}:{}{}",
+        hours / 10,
+        hours % 10,
+        minutes / 10,
+        minutes % 10
+    )
+}
+
+/// Adds the line of a switch, where there is one.
+fn write_switch(text: &mut String, route: &Route) -> Result<(), AllocError>
+    ensures { OnOk result (string_bytes text.new ≡ string_bytes text.old
+        ++ switch_line route.now.switch_at route.now.plan.after) }
+{
+    match (route.switch_at, route.plan.after) {
+        (Some(at), Some(rate)) => writeln!(text, "switch {at} rate {rate}"),
+        _ => Ok(()),
+    }
+}
+
+/// How much of a call lies before the switch.
+fn before_switch(at: u64, talk: u32, switch_at: Option<u64>) -> u32
+    requires { IfSome switch_at (λ switch. at < switch) }
+    ensures value { result ≡ before_switch at talk switch_at }
+    ensures within { result ≤ talk }
+{
+    match switch_at {
+        Some(switch) => u64::from(talk).min(switch - at) as u32,
+        None => talk,
+    }
+}

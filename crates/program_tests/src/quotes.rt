@@ -1,0 +1,132 @@
+//! Quotes: worked rows of a tariff, and what `quote` refuses.
+
+use crate::program::{expect, expect_fault};
+use std::test::Fail;
+
+/// One band, all day.
+const FLAT: &str = "prefix,from,fee,rate\n49,00:00,50,1000\n";
+
+/// A band from midnight on and one from 08:00 on.
+const TWO_BANDS: &str = "prefix,from,fee,rate\n49,00:00,50,1000\n49,08:00,60,400\n";
+
+/// A minute free, and calls to all other numbers.
+const FREE: &str = "prefix,from,fee,rate,free\n49,00:00,50,1000,600\n,00:00,0,1,0\n,12:34,1,2,3\n";
+
+/// Words, a tariff, and the lines of the quote.
+const QUOTED: [(&str, &str, &str); 13] = [
+    (
+        "quote --called 4930 --at 0",
+        FLAT,
+        "prefix 49 from 00:00 fee 50 rate 1000 free 0\n",
+    ),
+    (
+        "quote --called 4930 --at 1000000000000 --for 300 --credit 1500",
+        FLAT,
+        "prefix 49 from 00:00 fee 50 rate 1000 free 0\nprice 550\nafford 870\n",
+    ),
+    (
+        "quote --called 4930 --at 07:59 --for 900 --credit 1500",
+        TWO_BANDS,
+        "prefix 49 from 00:00 fee 50 rate 1000 free 0\nswitch 288000 rate 400\nprice 1250\nafford 870\n",
+    ),
+    (
+        "quote --called 49 --at 287400 --for 600",
+        TWO_BANDS,
+        "prefix 49 from 00:00 fee 50 rate 1000 free 0\nswitch 288000 rate 400\nprice 1050\n",
+    ),
+    (
+        "quote --called 49 --at 08:00 --credit 1500",
+        TWO_BANDS,
+        "prefix 49 from 08:00 fee 60 rate 400 free 0\nswitch 864000 rate 1000\nafford 864\n",
+    ),
+    (
+        "quote --called 49 --at 863999 --for 601",
+        TWO_BANDS,
+        "prefix 49 from 08:00 fee 60 rate 400 free 0\nswitch 864000 rate 1000\nprice 1061\n",
+    ),
+    (
+        "quote --called 491 --at 0 --for 0",
+        FREE,
+        "prefix 49 from 00:00 fee 50 rate 1000 free 600\nprice 0\n",
+    ),
+    (
+        "quote --called 491 --at 0 --for 300 --credit 49",
+        FREE,
+        "prefix 49 from 00:00 fee 50 rate 1000 free 600\nprice 50\nafford 0\n",
+    ),
+    (
+        "quote --credit 50 --at 0 --called 491",
+        FREE,
+        "prefix 49 from 00:00 fee 50 rate 1000 free 600\nafford 600\n",
+    ),
+    (
+        "quote --called 33 --at 12:33",
+        FREE,
+        "prefix - from 00:00 fee 0 rate 1 free 0\nswitch 452400 rate 2\n",
+    ),
+    (
+        "quote --called 123456789012345 --at 23:59",
+        FREE,
+        "prefix - from 12:34 fee 1 rate 2 free 3\nswitch 864000 rate 1\n",
+    ),
+    (
+        "quote --called 33 --at 0 --for 300 --credit 1500",
+        FLAT,
+        "no route\n",
+    ),
+    (
+        "quote --called 33 --at 0",
+        "prefix,from,fee,rate\n",
+        "no route\n",
+    ),
+];
+
+/// Words that ask for no quote.
+const REFUSED: [&str; 13] = [
+    "quote",
+    "quote --called 49",
+    "quote --at 0",
+    "quote --called  --at 0",
+    "quote --called x --at 0",
+    "quote --called 1234567890123456 --at 0",
+    "quote --called 49 --at 24:00",
+    "quote --called 49 --at 8:00",
+    "quote --called 49 --at 1000000000001",
+    "quote --called 49 --at 0 --for 864001",
+    "quote --called 49 --at 0 --credit 1000000000000001",
+    "quote --called 49 --at 0 --at 0",
+    "quote --called 49 --at 0 60s",
+];
+
+/// Tariffs that are refused, and their first fault.
+const FAULTS: [(&str, &str); 4] = [
+    ("", "tariff row 1: Header"),
+    (
+        "prefix,from,fee,rate\n4x,00:00,0,0\n",
+        "tariff row 2: Digits",
+    ),
+    (
+        "prefix,from,fee,rate\n49,00:01,0,0\n",
+        "tariff row 2: NoMidnightBand",
+    ),
+    ("prefix,from,fee,rate\n49,00:00,0\n", "tariff row 2: Csv"),
+];
+
+#[test]
+fn quotes_calls(rt: HostRuntime) -> Result<(), Fail> {
+    for (words, tariff, lines) in QUOTED {
+        expect(&rt, words, tariff, (0, lines, ""))?;
+    }
+    Ok(())
+}
+
+#[test]
+fn refuses_quotes(rt: HostRuntime) -> Result<(), Fail> {
+    for words in REFUSED {
+        expect(&rt, words, FLAT, (1, "", "prepaid: arguments\n"))?;
+    }
+    for (tariff, fault) in FAULTS {
+        expect_fault(&rt, "quote --called 49 --at 0", tariff, fault)?;
+    }
+    Ok(())
+}
