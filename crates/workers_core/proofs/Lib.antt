@@ -1,5 +1,6 @@
 pub mod Abouts
 pub mod AtRest
+pub mod Chaining
 pub mod Closes
 pub mod Doings
 pub mod Handling
