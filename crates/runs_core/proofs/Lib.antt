@@ -1,3 +1,4 @@
+pub mod Columns
 pub mod Deals
 pub mod Finishing
 pub mod Leaving
