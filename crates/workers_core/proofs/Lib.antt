@@ -3,6 +3,7 @@ pub mod AtRest
 pub mod Chaining
 pub mod Closes
 pub mod Doings
+pub mod Entering
 pub mod Handling
 pub mod Judging
 pub mod Listing

@@ -1,9 +1,15 @@
-//! Laws of talks, each the contract of a function that does nothing.
+//! Laws of talks and of workers, each the contract of a function that does nothing.
 
-ghost use Rattle.workers_core.specs.Laws.{WhatIsSaidIsSent};
+ghost use Rattle.workers_core.specs.Laws.{RechargesAreEntered, WhatIsSaidIsSent};
 
 /// An answer to a message that asks no account has the operations that the dialogue said at once,
 /// and no refusal.
 pub fn what_is_said_is_sent()
     ensures { WhatIsSaidIsSent }
+{}
+
+/// The Credits of an account by a worker are just the recharges of it that the worker handled and
+/// that weren't refused, in order, each with its amount and its last moment.
+pub fn recharges_are_entered()
+    ensures { RechargesAreEntered }
 {}
