@@ -10,18 +10,18 @@ use Rattle.account_core.specs.Events.{Event}
 use Rattle.account_core.specs.declared.fault.AccountFault.{AccountFault}
 use Rattle.cap_values.specs.declared.message.SsfMsg.{SsfMsg}
 use Rattle.dialogue_core.specs.Phases.{Says, Asks}
-use Rattle.dialogue_core.specs.Table.{Step, begun, told}
+use Rattle.dialogue_core.specs.Table.{Step, begun}
 use Rattle.workers_core.proofs.Abouts.{TakesTo, begun_about, begun_says, takes_told, talk_credits}
 use Rattle.workers_core.proofs.Chaining.{first_sound, once_sound}
 use Rattle.workers_core.proofs.Handling.{Means, at_place, many_keys, means_on, own_of, same_number}
-use Rattle.workers_core.specs.Chains.{AreHandled, IsHandledOnce, at_first}
+use Rattle.workers_core.specs.Chains.{AreHandled, at_first}
 use Rattle.workers_core.specs.Handled.{Holding, IsDone, IsTalked, Told, grown}
 use Rattle.workers_core.specs.Laws.{RechargesAreEntered, accepted_of, credited_by}
 use Rattle.workers_core.specs.Openings.{no_credit}
 use Rattle.workers_core.specs.Served.{AreServed, Money, credited_in, credits_of}
 use Rattle.workers_core.specs.Setups.{Setup}
 use Rattle.workers_core.specs.Talks.{Got, entries_of, entry_of, last_fault}
-use Rattle.workers_core.specs.Verdicts.{Standing, Verdict, Strays, Rejects, Recharges, Begins, GoesOn, place_of, recharged, verdict_on}
+use Rattle.workers_core.specs.Verdicts.{Verdict, Strays, Rejects, Recharges, Begins, GoesOn, place_of, recharged, verdict_on}
 use Rattle.workers_core.specs.Workers.{IsSound}
 use Rattle.workers_core.specs.declared.opening_credit.OpeningCredit.{OpeningCredit}
 use Rattle.workers_core.specs.declared.post.Body.{Body}

@@ -10,5 +10,6 @@ pub mod Listing
 pub mod Orders
 pub mod Parts
 pub mod Placing
+pub mod Reserving
 pub mod Talking
 pub mod Verdicts
