@@ -67,7 +67,7 @@ pub at_place : (setup : Setup) (account place : ℕ) → place_of account setup 
 at_place setup account place at =
     let found = position-Some (λ (other : ℕ × OpeningCredit). other.0 == account) setup.accounts place (0, no_credit) at in (found.0, found.1)
 
-home_within : (setup : Setup) (account : Option ℕ) (place : ℕ) → option_and_then (λ a. place_of a setup) account ≡ Some place → place < length setup.accounts
+pub home_within : (setup : Setup) (account : Option ℕ) (place : ℕ) → option_and_then (λ a. place_of a setup) account ≡ Some place → place < length setup.accounts
 home_within setup None place at = cc
 home_within setup (Some account) place at = (at_place setup account place at).0
 

@@ -1,4 +1,5 @@
 pub mod Abouts
+pub mod Asking
 pub mod AtRest
 pub mod Chaining
 pub mod Closes
