@@ -7,7 +7,7 @@ use crate::forms::NUMBER;
 use crate::outcome::{Course, Outcome, expect};
 use crate::service::{SWITCH, answered, begun, hung_up, last_report, of_call, ops_for};
 use crate::workers::{lasting, set_up};
-use account_core::{Entry, Reply};
+use account_core::{AccountFault, Entry, Reply};
 use cap_values::SsfMsg;
 use run_texts::read_script;
 use runs_core::{Books, Driver, serve};
@@ -57,23 +57,42 @@ fn player(alloc: Global) -> Result<ScriptPlayer, Outcome>
 pub(crate) fn serves<R: Wait + Threads + Sync>(rt: &R, alloc: Global) -> Course {
     let setup = set_up(alloc)?;
     let mut player = player(alloc)?;
-    let Books { books, handled } = serve(rt, alloc, &setup, &mut player, 2, &OpenGate)?;
+    let Books {
+        books,
+        handled,
+        refusals,
+    } = serve(rt, alloc, &setup, &mut player, 2, &OpenGate)?;
     let mut posts = 0usize;
     for one in &handled {
         posts = posts.saturating_add(one.len());
     }
     expect(posts == player.given().len())?;
     match books.as_slice() {
-        [book] => outcome_of(book.history()),
+        [book] => outcome_of(book.history(), refused_in(&refusals)),
         _ => Err(Outcome::Wrong),
     }
 }
 
-/// The call has its entries, or, where there was no memory for its grant, none.
-fn outcome_of(entries: &[Entry]) -> Course {
+/// The first refusal in the books of a run.
+fn refused_in(refusals: &[Vec<Option<AccountFault>>]) -> Option<AccountFault> {
+    for one in refusals {
+        for refusal in one {
+            if refusal.is_some() {
+                return *refusal;
+            }
+        }
+    }
+    None
+}
+
+/// The call has its entries, and no refusal; or, where there was no memory for its grant, none, and
+/// a refusal that says so.
+fn outcome_of(entries: &[Entry], refused: Option<AccountFault>) -> Course {
     if entries.is_empty() {
+        expect(refused == Some(AccountFault::OutOfMemory))?;
         return Ok(Outcome::Refused);
     }
+    expect(refused.is_none())?;
     expect(entries.len() == REPLIES.len())?;
     for (entry, reply) in entries.iter().zip(&REPLIES) {
         expect(entry.reply == *reply)?;

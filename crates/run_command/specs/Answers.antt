@@ -20,7 +20,7 @@ use Rattle.workers_core.specs.declared.post.Body.{Body}
 abbrev pub IsTextOf : Bool → List Closed → List ℕ → Type 0
 IsTextOf book books text = MatchBool book (text ≡ book_text books) (IsRunText books text)
 
--- the text is that of the books of a run over the accounts of the input, by the workers asked for, to which the script of the input was played
+-- the text is that of the books of a run over the input, as it was asked for, to which the script of the input was played
 pub record IsRunOf (ask : RunAsk) (input : List ℕ) (text : List ℕ) : Type 0 where
   pub said : RunInput
   pub read : input_of input ≡ Ok said
@@ -28,7 +28,7 @@ pub record IsRunOf (ask : RunAsk) (input : List ℕ) (text : List ℕ) : Type 0 
   pub given : List (ℕ × Body)
   pub given_by : IsGivenBy ask said.script given
   pub books : List Closed
-  pub are_books : AreBooksOf said.setup.accounts ask.workers given books
+  pub are_books : AreBooksOf ask said given books
   pub printed : IsTextOf ask.book books text
 
 -- what can end a run of so many workers: `Workers` where there can't be so many, and only then; no gate closes

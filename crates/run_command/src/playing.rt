@@ -5,6 +5,7 @@ ghost use Rattle.run_command.specs.Answers.{MayFail};
 ghost use Rattle.run_command.specs.Books.{AreBooksOf};
 ghost use Rattle.run_options.specs.Options.{ask_of};
 ghost use Rattle.run_command.specs.Plays.{IsGivenBy, IsPlayOf};
+ghost use Rattle.run_command.specs.Texts.{input_in};
 ghost use Rattle.runs_core.specs.Teams.{are_workers};
 ghost use Rattle.run_texts.specs.Views.{are_in_order, event_of};
 ghost use Rattle.run_texts.specs.declared.script_row.ScriptRow.{ScriptRow};
@@ -37,7 +38,7 @@ pub(crate) fn play<R: Wait + Threads + Sync>(
     ensures workers { IfOk result (λ _. are_workers options.now.workers ≡ true) }
     ensures books { IfOk result (λ books. (given : List (ℕ × Body))
         × IsGivenBy (ask_of options.now) (map event_of texts.script.items) given
-        × AreBooksOf texts.directory.accounts options.now.workers given books.items) }
+        × AreBooksOf (ask_of options.now) (input_in texts) given books.items) }
     ensures fault { IfErr result (MayFail options.now.workers) }
 {
     let RunTexts {

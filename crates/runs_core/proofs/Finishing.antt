@@ -4,11 +4,12 @@ use Rattle.std.specs.Option.{option_or}
 use mathlib.Core.Logic.{inl, inr}
 use Rattle.std.proofs.lemmas.List.{append-nil, append_assoc, map-append}
 use Rattle.workers_core.specs.declared.opening_credit.OpeningCredit.{OpeningCredit}
+use Rattle.workers_core.specs.Chains.{IsWorked}
 use Rattle.workers_core.specs.Setups.{Setup}
 use Rattle.runs_core.specs.Sending.{AreLeftBy, ArePromised, IsLeftBy, IsPromised, MayBeShut, promises_of, sent_by}
 use Rattle.std.specs.Map.{keys_of}
 use Rattle.shared_account.specs.Terms.{Terms}
-use Rattle.runs_core.specs.Closing.{AreLeftFrom, IsLeftFrom}
+use Rattle.runs_core.specs.Closing.{AreLeftFrom, AreWorkedFrom, IsLeftFrom}
 use Rattle.runs_core.specs.Teams.{IsLeft, Reads, terms_of, terms_with}
 use Rattle.runs_core.specs.declared.line.Left.{Left}
 use Rattle.runs_core.specs.declared.line.Line.{Line}
@@ -110,9 +111,9 @@ pub all_finished : {K S G T : Type 0} (read : Reads K T) (key : S → K) (may_sh
 all_finished read key may_shut lines [] left fault none finishing = sym (append-nil finishing.done) ∙ finishing.split
 all_finished read key may_shut lines (line ∷ rest) left fault none finishing = absurd (cc)
 
-left_as : {K S T : Type 0} (read : Reads K T) (keys : List K) (numbers : List ℕ) (number : ℕ) (one : Left S T) → IsLeft read keys numbers number one.posts.items one.seats.items
-    → IsLeftFrom read keys numbers one
-left_as read keys numbers number one is = record { of_accounts = is.of_accounts; served = is.served }
+left_as : {K S T : Type 0} (read : Reads K T) (keys : List K) (setup : Setup) (number : ℕ) (one : Left S T) → IsLeft read keys setup number one.posts.items one.refusals.items one.seats.items
+    → IsLeftFrom read keys (keys_of setup.accounts) one
+left_as read keys setup number one is = record { of_accounts = is.of_accounts; served = is.served }
 
 -- what the workers of one run have left
 pub left_from : {K S G T : Type 0} (read : Reads K T) (key : S → K) (setup : Setup) (accounts : List S) (gate : G) (number : ℕ) (promises : List (Returns S G T)) (left : List (Left S T))
@@ -122,9 +123,19 @@ left_from read key setup accounts gate number [] (one ∷ left) promised by = ab
 left_from read key setup accounts gate number (promise ∷ promises) [] promised by = absurd by
 left_from read key setup accounts gate number (promise ∷ promises) (one ∷ left) promised by = (
   rw (sym promised.0.accounts_are, sym promised.0.setup_is)
-      (left_as read (map key promise.accounts.now) (keys_of promise.setup.now.accounts) promise.number one by.0),
+      (left_as read (map key promise.accounts.now) promise.setup.now promise.number one by.0),
   left_from read key setup accounts gate (number + 1) promises left promised.1 by.1,
 )
+
+-- and that is what handling their posts comes to
+pub worked_from : {K S G T : Type 0} (read : Reads K T) (key : S → K) (setup : Setup) (accounts : List S) (gate : G) (number : ℕ) (promises : List (Returns S G T)) (left : List (Left S T))
+    → ArePromised setup accounts gate number promises → AreLeftBy read key promises left → AreWorkedFrom read setup number left
+worked_from read key setup accounts gate number [] [] promised by = tt
+worked_from read key setup accounts gate number [] (one ∷ left) promised by = absurd by
+worked_from read key setup accounts gate number (promise ∷ promises) [] promised by = absurd by
+worked_from read key setup accounts gate number (promise ∷ promises) (one ∷ left) promised by =
+    let Its : Setup → ℕ → Type 0 = λ s n. IsWorked s n one.posts.items one.refusals.items (map read.mine one.seats.items) in
+    (subst (λ n. Its setup n) promised.0.number_is (subst (λ s. Its s promise.number) promised.0.setup_is by.0.worked), worked_from read key setup accounts gate (number + 1) promises left promised.1 by.1)
 
 -- the numbers of accounts that were opened are those of the setup
 pub numbers_of : {S : Type 0} (terms : S → Terms) (limit workers : ℕ) (setup : List (ℕ × OpeningCredit)) (accounts : List S) → map terms accounts ≡ terms_of limit workers setup

@@ -1,5 +1,7 @@
+pub mod Columns
 pub mod Deals
 pub mod Finishing
+pub mod InBooks
 pub mod Leaving
 pub mod Mailing
 pub mod Rows

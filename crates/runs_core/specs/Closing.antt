@@ -1,9 +1,12 @@
 -- The books of a run, and where their entries come from.
-use Rattle.std.specs.Prelude.{◌≡◌, ℕ, List, [], ◌∷◌, length, map, All}
+use Rattle.std.specs.Prelude.{◌≡◌, ◌+◌, ℕ, Option, List, [], ◌∷◌, length, map, All, slice_index_or}
 use Rattle.account_core.specs.Events.{Event}
+use Rattle.account_core.specs.declared.fault.AccountFault.{AccountFault}
 use Rattle.shared_account.specs.Closed.{Closed}
 use Rattle.shared_account.specs.Terms.{Terms}
+use Rattle.workers_core.specs.Chains.{IsWorked}
 use Rattle.workers_core.specs.Served.{AreServed, IsServed}
+use Rattle.workers_core.specs.Setups.{Setup}
 use Rattle.workers_core.specs.declared.post.Post.{Post}
 use Rattle.runs_core.specs.Teams.{Reads}
 use Rattle.runs_core.specs.declared.line.Left.{Left}
@@ -34,3 +37,26 @@ AreServedBy account [] [] = Unit {0}
 AreServedBy account [] (mine ∷ lists) = ⊥
 AreServedBy account (posts ∷ handled) [] = ⊥
 AreServedBy account (posts ∷ handled) (mine ∷ lists) = IsServed account posts mine × AreServedBy account handled lists
+
+-- the lists of a worker's seats, in the order of the books
+abbrev pub lists_of : ℕ → List Closed → List (List Event)
+lists_of worker books = map (λ book. slice_index_or book.own worker []) books
+
+-- the workers from this number on have these lists in the books
+abbrev pub AreListed : List Closed → ℕ → List (List (List Event)) → Type 0
+AreListed books worker [] = Unit {0}
+AreListed books worker (lists ∷ others) = (lists_of worker books ≡ lists) × AreListed books (worker + 1) others
+
+-- what the workers from this number on have left is what handling their posts comes to
+abbrev pub AreWorkedFrom : {K S T : Type 0} → Reads K T → Setup → ℕ → List (Left S T) → Type 0
+AreWorkedFrom read setup number [] = Unit {0}
+AreWorkedFrom read setup number (one ∷ left) =
+    IsWorked setup number one.posts.items one.refusals.items (map read.mine one.seats.items) × AreWorkedFrom read setup (number + 1) left
+
+-- of each worker, from this number on, the lists in the books are what handling its posts comes to, and these of the posts were refused
+abbrev pub AreWorked : Setup → List Closed → ℕ → List (List Post) → List (List (Option AccountFault)) → Type 0
+AreWorked setup books worker [] [] = Unit {0}
+AreWorked setup books worker [] (refused ∷ refusals) = ⊥
+AreWorked setup books worker (posts ∷ handled) [] = ⊥
+AreWorked setup books worker (posts ∷ handled) (refused ∷ refusals) =
+    IsWorked setup worker posts refused (lists_of worker books) × AreWorked setup books (worker + 1) handled refusals

@@ -1,5 +1,6 @@
 pub mod Closing
 pub mod Dealing
+pub mod Entered
 pub mod Headline
 pub mod Mails
 pub mod RunFaults

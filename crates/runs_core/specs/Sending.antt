@@ -1,6 +1,5 @@
 -- The lines of the workers of a run: what was sent by them, and what their threads promise.
 use Rattle.std.specs.Prelude.{◌≡◌, ◌+◌, ◌⊎◌, ℕ, List, [], ◌∷◌, length, map}
-use Rattle.std.specs.Map.{keys_of}
 use Rattle.runs_core.specs.Mails.{posts_in}
 use Rattle.runs_core.specs.Shares.{HaveHandled}
 use Rattle.runs_core.specs.Teams.{IsLeft, Reads}
@@ -43,7 +42,7 @@ MayBeShut may_shut (promise ∷ promises) = may_shut promise.gate.now ⊎ MayBeS
 -- a worker has left what its thread promised
 abbrev pub IsLeftBy : {K S G T : Type 0} → Reads K T → (S → K) → Returns S G T → Left S T → Type 0
 IsLeftBy read key promise left =
-    IsLeft read (map key promise.accounts.now) (keys_of promise.setup.now.accounts) promise.number left.posts.items left.seats.items
+    IsLeft read (map key promise.accounts.now) promise.setup.now promise.number left.posts.items left.refusals.items left.seats.items
 
 abbrev pub AreLeftBy : {K S G T : Type 0} → Reads K T → (S → K) → List (Returns S G T) → List (Left S T) → Type 0
 AreLeftBy read key [] [] = Unit {0}

@@ -1,9 +1,13 @@
 -- The seats of the accounts of a run: a team of each worker's, a row of each account's.
-use Rattle.std.specs.Prelude.{◌≡◌, ◌+◌, ◌&&◌, ℕ, Bool, nat_le, true, List, [], ◌∷◌, map, All, ⊤}
+use Rattle.std.specs.Prelude.{◌≡◌, ◌+◌, ◌&&◌, ℕ, Bool, Option, nat_le, true, List, [], ◌∷◌, map, All, ⊤}
+use Rattle.std.specs.Map.{keys_of}
 use Rattle.account_core.specs.Events.{Event}
 use Rattle.shared_account.specs.Seats.{are_all}
 use Rattle.shared_account.specs.Terms.{Terms}
+use Rattle.account_core.specs.declared.fault.AccountFault.{AccountFault}
+use Rattle.workers_core.specs.Chains.{IsWorked}
 use Rattle.workers_core.specs.Served.{AreServed}
+use Rattle.workers_core.specs.Setups.{Setup}
 use Rattle.workers_core.specs.declared.opening_credit.OpeningCredit.{OpeningCredit}
 use Rattle.workers_core.specs.declared.post.Post.{Post}
 
@@ -44,8 +48,9 @@ abbrev pub AreFresh : {K T : Type 0} → Reads K T → List K → ℕ → List (
 AreFresh read keys number [] = ⊤
 AreFresh read keys number (team ∷ teams) = IsFresh read keys number team × AreFresh read keys (number + 1) teams
 
--- a worker's seats after its posts: one of each account, in order, all of its number, with entries that come from the posts
-pub record IsLeft {K T : Type 0} (read : Reads K T) (keys : List K) (accounts : List ℕ) (number : ℕ) (posts : List Post) (team : List T) : Type 0 where
+-- a worker's seats after its posts, some of which were refused: one of each account, in order, all of its number, with the entries that handling the posts made
+pub record IsLeft {K T : Type 0} (read : Reads K T) (keys : List K) (setup : Setup) (number : ℕ) (posts : List Post) (refusals : List (Option AccountFault)) (team : List T) : Type 0 where
   pub of_accounts : map read.key team ≡ keys
   pub numbered : All (λ seat. read.number seat ≡ number) team
-  pub served : AreServed accounts posts (map read.mine team)
+  pub served : AreServed (keys_of setup.accounts) posts (map read.mine team)
+  pub worked : IsWorked setup number posts refusals (map read.mine team)

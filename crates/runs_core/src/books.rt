@@ -1,5 +1,6 @@
 //! What a run comes to.
 
+use account_core::AccountFault;
 use shared_account::Book;
 use workers_core::Post;
 
@@ -10,4 +11,7 @@ pub struct Books {
     pub books: Vec<Book>,
     /// The posts that each worker has handled, in order.
     pub handled: Vec<Vec<Post>>,
+    /// For each post that a worker has handled, in the same order, the last fault that an ask of an
+    /// account for it got; none where every ask for it was entered, or there was none.
+    pub refusals: Vec<Vec<Option<AccountFault>>>,
 }

@@ -3,7 +3,7 @@
 ghost use Rattle.std.specs.Prelude.{◌≡◌, ◌≢◌, length, map, All, IfOk};
 ghost use Rattle.account_core.specs.Answers.{IsLegal};
 ghost use Rattle.shared_account.specs.Own.{IsMerged};
-ghost use Rattle.runs_core.specs.Closing.{AreLeftFrom, AreOf, AreServedBy, terms_shown};
+ghost use Rattle.runs_core.specs.Closing.{AreLeftFrom, AreListed, AreOf, AreServedBy, terms_shown};
 ghost use Rattle.runs_core.specs.Teams.{reads};
 
 use crate::dealing::deal;
@@ -31,17 +31,31 @@ pub(crate) fn close_accounts<S: Shared>(
         map (λ posts. posts.items) all.handled.items ≡ map (λ one. one.posts.items) left.items) }
     ensures served { IfOk result (λ all. All (λ book. AreServedBy book.account
         (map (λ posts. posts.items) all.handled.items) book.own) all.books.items) }
+    ensures refusals { IfOk result (λ all. map (λ one. one.items) all.refusals.items
+        ≡ map (λ one. one.refusals.items) left.items) }
+    ensures lists { IfOk result (λ all. AreListed all.books.items 0
+        (map (λ one. map S.mine_of one.seats.items) left.items)) }
     ensures fault { (result ≢ Err RunFault.GateClosed) × (result ≢ Err RunFault.Workers) }
 {
     let mut rows = empty_piles(alloc, accounts.len())?;
     let mut handled = Vec::with_capacity(alloc, left.len())?;
+    let mut refusals = Vec::with_capacity(alloc, left.len())?;
     for one in left {
-        let Left { seats, posts } = one;
+        let Left {
+            seats,
+            posts,
+            refusals: refused,
+        } = one;
         deal(&mut rows, seats)?;
         handled.push(posts)?;
+        refusals.push(refused)?;
     }
     let books = close_each(alloc, accounts, rows)?;
-    Ok(Books { books, handled })
+    Ok(Books {
+        books,
+        handled,
+        refusals,
+    })
 }
 
 /// Closes each account, with its row of seats.

@@ -1,5 +1,6 @@
-//! The law of the books of a run, the contract of a function that does nothing.
+//! The laws of the books of a run, each the contract of a function that does nothing.
 
+ghost use Rattle.runs_core.specs.Entered.{RechargesAreInTheBooks, ReservesAreInTheBooks};
 ghost use Rattle.runs_core.specs.Headline.{BooksAreRight};
 
 use account_core::{closed_calls_pay_the_tariff, no_balance_is_negative};
@@ -15,3 +16,19 @@ pub fn books_are_right()
     no_balance_is_negative();
     closed_calls_pay_the_tariff();
 }
+
+/// In the book of an account the Credits of a worker are just the recharges of that account which
+/// the worker handled and which weren't refused, in order.
+///
+/// The premise is a clause of `serve` (`worked`); `Books` has what each worker handled, and which of
+/// that was refused.
+pub fn recharges_are_in_the_books()
+    ensures { RechargesAreInTheBooks }
+{}
+
+/// In the book of an account each Reserve of a worker is of a call of a subscriber of that account,
+/// with the plan of the called number's route, and for what the service wants. The premise is that
+/// of `recharges_are_in_the_books`.
+pub fn reserves_are_in_the_books()
+    ensures { ReservesAreInTheBooks }
+{}

@@ -18,6 +18,6 @@ mod working;
 
 pub use books::Books;
 pub use driver::Driver;
-pub use laws::books_are_right;
+pub use laws::{books_are_right, recharges_are_in_the_books, reserves_are_in_the_books};
 pub use run_fault::RunFault;
 pub use serving::{serve, serve_over};

@@ -9,6 +9,7 @@ ghost use Rattle.workers_core.specs.Ends.{ArePaired, IsSameInbox, sent, taken};
 use crate::RunFault;
 use crate::returns::{Finished, Returns};
 use crate::working::work;
+use account_core::AccountFault;
 use crossbeam_channel::{Receiver, unbounded};
 use shared_account::{Gate, Shared};
 use std::alloc::Global;
@@ -20,11 +21,13 @@ use workers_core::{Answer, Mail, Outbox, Post, RunSetup, compare, mailbox};
 /// How many mails wait for a worker at most.
 const MAILBOX: u32 = 64;
 
-/// What a worker leaves: its seats, one of each account, and the posts that it has handled.
+/// What a worker leaves: its seats, one of each account, and the posts that it has handled, with the
+/// refusal of each.
 #[derive(Drop)]
 pub(crate) struct Left<S: Shared> {
     pub seats: Vec<S::Seat>,
     pub posts: Vec<Post>,
+    pub refusals: Vec<Option<AccountFault>>,
 }
 
 /// A worker's line: its mailbox, its answers and its thread. The worker never waits for its answers
@@ -77,7 +80,7 @@ pub(crate) fn start<'s, E, S: Shared, R: Wait + Threads + Sync, G: Gate + Sync>(
         ensures { IfOk result (λ f. IsSameInbox inbox f.inbox
             × (taken f.inbox ≡ mails_of f.posts.items)
             × IsLeft (reads S.key_of S.number_of S.mine_of) (map S.key accounts.entry.now)
-            (keys_of setup.entry.now.accounts) number f.posts.items f.seats.items)
+            setup.entry.now number f.posts.items f.refusals.items f.seats.items)
             × (result ≡ Err RunFault.GateClosed → G.may_shut gate.entry.now)
             × (result ≢ Err RunFault.Workers) }
     { work(rt, alloc, number, setup, accounts, seats, inbox, &to, gate) };
@@ -122,8 +125,8 @@ impl<S: Shared, G: Gate> Line<'_, S, G> {
         ensures posts { IfOk result (λ left. left.posts.items ≡ posts_in (sent self.entry.outbox)) }
         ensures left { IfOk result (λ left. IsLeft (reads S.key_of S.number_of S.mine_of)
             (map S.key self.entry.child.promise.accounts.now)
-            (keys_of self.entry.child.promise.setup.now.accounts)
-            self.entry.child.promise.number left.posts.items left.seats.items) }
+            self.entry.child.promise.setup.now self.entry.child.promise.number
+            left.posts.items left.refusals.items left.seats.items) }
         ensures gate { result ≡ Err RunFault.GateClosed
             → G.may_shut self.entry.child.promise.gate.now }
         ensures workers { result ≢ Err RunFault.Workers }
@@ -137,9 +140,14 @@ impl<S: Shared, G: Gate> Line<'_, S, G> {
         let Finished {
             seats,
             posts,
+            refusals,
             inbox,
         } = child.join(rt)?;
         compare(outbox, inbox);
-        Ok(Left { seats, posts })
+        Ok(Left {
+            seats,
+            posts,
+            refusals,
+        })
     }
 }

@@ -4,7 +4,7 @@ ghost use Rattle.std.specs.Prelude.{◌≡◌, ◌≢◌, ◌≤◌, ◌↔◌, 
 ghost use Rattle.std.specs.Map.{keys_of};
 ghost use Rattle.account_core.specs.Answers.{IsLegal};
 ghost use Rattle.shared_account.specs.Own.{IsMerged};
-ghost use Rattle.runs_core.specs.Closing.{AreLeftFrom, AreServedBy, terms_shown};
+ghost use Rattle.runs_core.specs.Closing.{AreLeftFrom, AreServedBy, AreWorked, AreWorkedFrom, terms_shown};
 ghost use Rattle.runs_core.specs.Sending.{ArePromised, AreSent, promises_of};
 ghost use Rattle.runs_core.specs.Shares.{HaveHandled};
 ghost use Rattle.runs_core.specs.Teams.{AreFresh, are_workers, reads, terms_of};
@@ -54,6 +54,9 @@ pub fn serve<D: Driver, R: Wait + Threads + Sync, G: Gate + Sync>(
         (λ all. All (λ book. IsMerged book.history book.own) all.books.items) }
     ensures served { IfOk result (λ all. All (λ book. AreServedBy book.account
         (map (λ posts. posts.items) all.handled.items) book.own) all.books.items) }
+    ensures worked { IfOk result (λ all. AreWorked setup.now all.books.items 0
+        (map (λ posts. posts.items) all.handled.items)
+        (map (λ one. one.items) all.refusals.items)) }
     ensures gate { result ≡ Err RunFault.GateClosed → G.may_shut gate.now }
 {
     serve_over::<D, TurnAccount, R, G>(rt, alloc, setup, driver, workers, gate)
@@ -83,6 +86,9 @@ pub fn serve_over<D: Driver, S: Shared, R: Wait + Threads + Sync, G: Gate + Sync
         (λ all. All (λ book. IsMerged book.history book.own) all.books.items) }
     ensures served { IfOk result (λ all. All (λ book. AreServedBy book.account
         (map (λ posts. posts.items) all.handled.items) book.own) all.books.items) }
+    ensures worked { IfOk result (λ all. AreWorked setup.now all.books.items 0
+        (map (λ posts. posts.items) all.handled.items)
+        (map (λ one. one.items) all.refusals.items)) }
     ensures gate { result ≡ Err RunFault.GateClosed → G.may_shut gate.now }
 {
     if workers < 1 || workers > MOST_WORKERS {
@@ -122,6 +128,8 @@ fn run_workers<D: Driver, S: Shared, R: Wait + Threads + Sync, G: Gate + Sync>(
         (map (λ one. one.posts.items) left.items)) }
     ensures left { IfOk result (λ left. AreLeftFrom (reads S.key_of S.number_of S.mine_of)
         (map S.key accounts.now) (keys_of setup.now.accounts) left.items) }
+    ensures worked { IfOk result (λ left.
+        AreWorkedFrom (reads S.key_of S.number_of S.mine_of) setup.now 0 left.items) }
     ensures gate { result ≡ Err RunFault.GateClosed → G.may_shut gate.now }
     ensures workers { result ≢ Err RunFault.Workers }
 {
@@ -143,6 +151,9 @@ fn run_workers<D: Driver, S: Shared, R: Wait + Threads + Sync, G: Gate + Sync>(
                 (map (λ one. one.posts.items) left.items))
                 × IfOk result.left (λ left. AreLeftFrom (reads S.key_of S.number_of S.mine_of)
                 (map S.key accounts.entry.now) (keys_of setup.entry.now.accounts) left.items)
+                × IfOk result.left
+                (λ left. AreWorkedFrom (reads S.key_of S.number_of S.mine_of)
+                setup.entry.now 0 left.items)
                 × (result.left ≡ Err RunFault.GateClosed → G.may_shut gate.entry.now)
                 × (result.left ≢ Err RunFault.Workers) }
         {
@@ -184,6 +195,8 @@ fn run_in<'s, E, D: Driver, S: Shared, R: Wait + Threads + Sync, G: Gate + Sync>
         (map (λ one. one.posts.items) left.items)) }
     ensures left { IfOk result (λ left. AreLeftFrom (reads S.key_of S.number_of S.mine_of)
         (map S.key accounts.now) (keys_of setup.now.accounts) left.items) }
+    ensures worked { IfOk result (λ left.
+        AreWorkedFrom (reads S.key_of S.number_of S.mine_of) setup.now 0 left.items) }
     ensures gate { result ≡ Err RunFault.GateClosed → G.may_shut gate.now }
     ensures workers { result ≢ Err RunFault.Workers }
 {

@@ -34,35 +34,40 @@ use Rattle.workers_core.specs.declared.post.Post.{Post}
 
 -- ---- what a verdict says of its post
 
-record IsOfAccount (setup : Setup) (body : Body) (place amount : ℕ) (until : Option ℕ) : Type 0 where
-  account : ℕ
-  is : body ≡ Recharge account amount until
-  at : place_of account setup ≡ Some place
+pub record IsOfAccount (setup : Setup) (body : Body) (place amount : ℕ) (until : Option ℕ) : Type 0 where
+  pub account : ℕ
+  pub is : body ≡ Recharge account amount until
+  pub at : place_of account setup ≡ Some place
 
-record IsOfBeginning (setup : Setup) (body : Body) (call place : ℕ) : Type 0 where
-  begins : begun_by body ≡ call ∷ []
-  within : place < length setup.accounts
+pub record IsOfBeginning (setup : Setup) (talks : ℕ → Option Standing) (body : Body) (call place : ℕ) (called : Number) : Type 0 where
+  pub other : ℕ
+  pub calling : Number
+  pub none : talks call ≡ None
+  pub is : body ≡ Ssf call (msg.InitialDp other calling called)
+  pub home : home_of calling setup ≡ Some place
+  pub begins : begun_by body ≡ call ∷ []
+  pub within : place < length setup.accounts
 
-record IsOfDialogue (talks : ℕ → Option Standing) (number at : ℕ) (body : Body) (call place : ℕ) (said : Says) (phase : Phase) : Type 0 where
-  standing : Standing
-  message : SsfMsg
-  stands : talks call ≡ Some standing
-  same : standing.place ≡ place
-  is : body ≡ Ssf call message
-  takes : told standing.phase number at message ≡ Ok (said, phase)
+pub record IsOfDialogue (talks : ℕ → Option Standing) (number at : ℕ) (body : Body) (call place : ℕ) (said : Says) (phase : Phase) : Type 0 where
+  pub standing : Standing
+  pub message : SsfMsg
+  pub stands : talks call ≡ Some standing
+  pub same : standing.place ≡ place
+  pub is : body ≡ Ssf call message
+  pub takes : told standing.phase number at message ≡ Ok (said, phase)
 
-abbrev Means : Setup → (ℕ → Option Standing) → ℕ → ℕ → Body → Verdict → Type 0
+abbrev pub Means : Setup → (ℕ → Option Standing) → ℕ → ℕ → Body → Verdict → Type 0
 Means setup talks number at body Strays = Unit {0}
 Means setup talks number at body Rejects = Unit {0}
 Means setup talks number at body (Recharges place amount until) = IsOfAccount setup body place amount until
-Means setup talks number at body (Begins call place called) = IsOfBeginning setup body call place
+Means setup talks number at body (Begins call place called) = IsOfBeginning setup talks body call place called
 Means setup talks number at body (GoesOn call place said phase) = IsOfDialogue talks number at body call place said phase
 
-at_place : (setup : Setup) (account place : ℕ) → place_of account setup ≡ Some place → (place < length setup.accounts) × (((get_or setup.accounts place (0, no_credit)).0 == account) ≡ true)
+pub at_place : (setup : Setup) (account place : ℕ) → place_of account setup ≡ Some place → (place < length setup.accounts) × (((get_or setup.accounts place (0, no_credit)).0 == account) ≡ true)
 at_place setup account place at =
     let found = position-Some (λ (other : ℕ × OpeningCredit). other.0 == account) setup.accounts place (0, no_credit) at in (found.0, found.1)
 
-home_within : (setup : Setup) (account : Option ℕ) (place : ℕ) → option_and_then (λ a. place_of a setup) account ≡ Some place → place < length setup.accounts
+pub home_within : (setup : Setup) (account : Option ℕ) (place : ℕ) → option_and_then (λ a. place_of a setup) account ≡ Some place → place < length setup.accounts
 home_within setup None place at = cc
 home_within setup (Some account) place at = (at_place setup account place at).0
 
@@ -71,17 +76,24 @@ means_recharged : (setup : Setup) (talks : ℕ → Option Standing) (number at a
 means_recharged setup talks number at account amount until None found = tt
 means_recharged setup talks number at account amount until (Some place) found = record { account = account; is = refl; at = found }
 
-means_begins : (setup : Setup) (talks : ℕ → Option Standing) (number at call other : ℕ) (calling called : Number) (place : Option ℕ) → home_of calling setup ≡ place
+means_begins : (setup : Setup) (talks : ℕ → Option Standing) (number at call other : ℕ) (calling called : Number) (place : Option ℕ) → talks call ≡ None → home_of calling setup ≡ place
     → Means setup talks number at (Ssf call (msg.InitialDp other calling called)) (begins call called place)
-means_begins setup talks number at call other calling called None found = tt
-means_begins setup talks number at call other calling called (Some place) found =
-    record { begins = refl; within = home_within setup (account_of calling setup.subscribers) place found }
+means_begins setup talks number at call other calling called None none found = tt
+means_begins setup talks number at call other calling called (Some place) none found = record {
+  other = other;
+  calling = calling;
+  none = none;
+  is = refl;
+  home = found;
+  begins = refl;
+  within = home_within setup (account_of calling setup.subscribers) place found;
+}
 
-means_fresh : (setup : Setup) (talks : ℕ → Option Standing) (number at call : ℕ) (message : SsfMsg) → Means setup talks number at (Ssf call message) (fresh setup call message)
-means_fresh setup talks number at call (msg.InitialDp other calling called) = means_begins setup talks number at call other calling called (home_of calling setup) refl
-means_fresh setup talks number at call (msg.EventReport event leg mode) = tt
-means_fresh setup talks number at call (msg.ChargingReport active info) = tt
-means_fresh setup talks number at call msg.Ended = tt
+means_fresh : (setup : Setup) (talks : ℕ → Option Standing) (number at call : ℕ) (message : SsfMsg) → talks call ≡ None → Means setup talks number at (Ssf call message) (fresh setup call message)
+means_fresh setup talks number at call (msg.InitialDp other calling called) none = means_begins setup talks number at call other calling called (home_of calling setup) none refl
+means_fresh setup talks number at call (msg.EventReport event leg mode) none = tt
+means_fresh setup talks number at call (msg.ChargingReport active info) none = tt
+means_fresh setup talks number at call msg.Ended none = tt
 
 means_goes_on : (setup : Setup) (talks : ℕ → Option Standing) (number at call : ℕ) (message : SsfMsg) (standing : Standing) (step : Step) → talks call ≡ Some standing
     → told standing.phase number at message ≡ step → Means setup talks number at (Ssf call message) (goes_on call standing.place step)
@@ -91,21 +103,21 @@ means_goes_on setup talks number at call message standing (Err fault) stands tak
 
 means_spoken : (setup : Setup) (talks : ℕ → Option Standing) (number at call : ℕ) (message : SsfMsg) (standing : Option Standing) → talks call ≡ standing
     → Means setup talks number at (Ssf call message) (spoken setup number at call message standing)
-means_spoken setup talks number at call message None stands = means_fresh setup talks number at call message
+means_spoken setup talks number at call message None stands = means_fresh setup talks number at call message stands
 means_spoken setup talks number at call message (Some standing) stands = means_goes_on setup talks number at call message standing (told standing.phase number at message) stands refl
 
-means_on : (setup : Setup) (talks : ℕ → Option Standing) (number at : ℕ) (body : Body) → Means setup talks number at body (verdict_on setup talks number at body)
+pub means_on : (setup : Setup) (talks : ℕ → Option Standing) (number at : ℕ) (body : Body) → Means setup talks number at body (verdict_on setup talks number at body)
 means_on setup talks number at (Ssf call message) = means_spoken setup talks number at call message (talks call) refl
 means_on setup talks number at (Recharge account amount until) = means_recharged setup talks number at account amount until (place_of account setup) refl
 
 -- ---- the place of a case
 
-own_of : (count : ℕ) (posts : List Post) (call : ℕ) (standing : Standing) (found : Option Standing) → found ≡ Some standing → IfSome found (λ s. IsOwn count posts call s)
+pub own_of : (count : ℕ) (posts : List Post) (call : ℕ) (standing : Standing) (found : Option Standing) → found ≡ Some standing → IfSome found (λ s. IsOwn count posts call s)
     → IsOwn count posts call standing
 own_of count posts call standing None is own = cc
 own_of count posts call standing (Some other) is own = let same : other ≡ standing = cc in let P : Standing → Type 0 = λ s. IsOwn count posts call s in subst P same own
 
-many_keys : (setup : Setup) → length (keys_of setup.accounts) ≡ length setup.accounts
+pub many_keys : (setup : Setup) → length (keys_of setup.accounts) ≡ length setup.accounts
 many_keys setup = length-map setup.accounts (λ (e : ℕ × OpeningCredit). e.0)
 
 within_by : (setup : Setup) (at : ℕ) (posts : List Post) (old : Holding) (number : ℕ) (body : Body) (v : Verdict) (case : Case) → IsSound (keys_of setup.accounts) posts old
@@ -122,7 +134,7 @@ within_by setup at posts old number body v (case.Talk call talk turn) sound mean
           (let m : IsOfDialogue old.talks number at body call talk.place (says_of turn) (phase_of talk.dialogue) = subst P goes means in
           let own = own_of (length (keys_of setup.accounts)) posts call m.standing (old.talks call) m.stands (sound.talks call) in
           rw (← m.same, ← many_keys setup) own.placed)
-      | inr first ↦ (let m : IsOfBeginning setup body call talk.place = subst P first.is means in m.within)
+      | inr first ↦ (let m : IsOfBeginning setup old.talks body call talk.place first.called = subst P first.is means in m.within)
     ]
 
 pub case_within : (setup : Setup) (posts : List Post) (old : Holding) (post : Post) (case : Case) → IsSound (keys_of setup.accounts) posts old
@@ -225,10 +237,10 @@ unasked_sound accounts posts post old new sound lists talks = record {
   talks = λ call. own_same (length accounts) posts post call (old.talks call) (new.talks call) (talks call) (sound.talks call);
 }
 
-same_number : (s t : ℕ) → (s == t) ≡ true → s ≡ t
+pub same_number : (s t : ℕ) → (s == t) ≡ true → s ≡ t
 same_number s t is = grind (arith, nat_tests, is)
 
-is_itself : (n : ℕ) → (n == n) ≡ true
+pub is_itself : (n : ℕ) → (n == n) ≡ true
 is_itself n = grind (arith, nat_tests)
 
 own_now : (count : ℕ) (posts : List Post) (post : Post) (call other : ℕ) (b : Bool) (standing : Standing) (found after : Option Standing) → (other == call) ≡ b

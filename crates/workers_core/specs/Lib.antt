@@ -1,4 +1,5 @@
 pub mod Cases
+pub mod Chains
 pub mod Ends
 pub mod Handled
 pub mod Laws

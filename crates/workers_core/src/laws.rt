@@ -1,9 +1,45 @@
-//! Laws of talks, each the contract of a function that does nothing.
+//! Laws of talks and of workers, each the contract of a function that does nothing.
 
-ghost use Rattle.workers_core.specs.Laws.{WhatIsSaidIsSent};
+ghost use Rattle.workers_core.specs.Laws.{CallsAreReserved, CallsAreReturned, PostsAreHandled, RechargesAreEntered, ReportsAreSettled, ReservesAreOnTerms, WhatIsSaidIsSent};
 
 /// An answer to a message that asks no account has the operations that the dialogue said at once,
 /// and no refusal.
 pub fn what_is_said_is_sent()
     ensures { WhatIsSaidIsSent }
+{}
+
+/// The Credits of an account by a worker are just the recharges of it that the worker handled and
+/// that weren't refused, in order, each with its amount and its last moment.
+pub fn recharges_are_entered()
+    ensures { RechargesAreEntered }
+{}
+
+/// Each Reserve by a worker is for the account of the calling number of its call's InitialDp, with
+/// the plan of the called number's route at that moment, and for what the service wants and takes
+/// at least. It is asked for at the moment of a message of the call.
+pub fn reserves_are_on_terms()
+    ensures { ReservesAreOnTerms }
+{}
+
+/// Each post of a worker that wasn't refused is handled after those before it, and its lists in the
+/// end come from what it holds then.
+pub fn posts_are_handled()
+    ensures { PostsAreHandled }
+{}
+
+/// The first InitialDp of a call from a subscriber, to a number with a route, has its Reserve at
+/// the subscriber's account, or it was refused.
+pub fn calls_are_reserved()
+    ensures { CallsAreReserved }
+{}
+
+/// A ChargingReport of a call that goes on is settled at the call's account with the number of its
+/// post, or it was refused.
+pub fn reports_are_settled()
+    ensures { ReportsAreSettled }
+{}
+
+/// A call that goes on and is ended by a message is returned at its account, or that was refused.
+pub fn calls_are_returned()
+    ensures { CallsAreReturned }
 {}

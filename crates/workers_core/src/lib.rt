@@ -22,7 +22,10 @@ mod worker_fault;
 pub use answer::Answer;
 pub use directory::Directory;
 pub use inbox::{Gone, Inbox};
-pub use laws::what_is_said_is_sent;
+pub use laws::{
+    calls_are_reserved, calls_are_returned, posts_are_handled, recharges_are_entered,
+    reports_are_settled, reserves_are_on_terms, what_is_said_is_sent,
+};
 pub use opening::{compare, mailbox};
 pub use opening_credit::OpeningCredit;
 pub use outbox::Outbox;

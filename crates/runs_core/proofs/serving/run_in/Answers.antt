@@ -1,5 +1,5 @@
 use Rattle.std.proofs.Common.{rules}
-use Rattle.runs_core.proofs.Finishing.{left_from, shut_by}
+use Rattle.runs_core.proofs.Finishing.{left_from, shut_by, worked_from}
 use Rattle.runs_core.specs.Sending.{promises_of}
 use Rattle.runs_core.specs.Teams.{reads}
 use Rattle.runs_core.proofs.serving.run_in.Goals as goal
@@ -12,4 +12,9 @@ returns-in_err-finish_all-clause-gate g c = λ closed.
 pub returns-clause-left : goal.returns-clause-left
 returns-clause-left g c =
     left_from (reads g.S.Shared.key_of g.S.Shared.number_of g.S.Shared.mine_of) g.S.Shared.key c.args.setup.now c.args.accounts.now c.args.gate.now 0 _ _
+    c.start_and_play-ran.ensures.promised c.in_ok-finish_all.ensures.left
+
+pub returns-clause-worked : goal.returns-clause-worked
+returns-clause-worked g c =
+    worked_from (reads g.S.Shared.key_of g.S.Shared.number_of g.S.Shared.mine_of) g.S.Shared.key c.args.setup.now c.args.accounts.now c.args.gate.now 0 _ _
     c.start_and_play-ran.ensures.promised c.in_ok-finish_all.ensures.left

@@ -1,4 +1,5 @@
 use Rattle.std.proofs.Common.{map, sym, subst}
+use Rattle.runs_core.proofs.Columns.{worked_so}
 use Rattle.runs_core.proofs.Finishing.{numbers_of}
 use Rattle.runs_core.specs.Closing.{AreLeftFrom}
 use Rattle.runs_core.specs.Teams.{reads}
@@ -14,3 +15,8 @@ close_accounts-requires-clause-left g c = λ _ _.
     subst (λ numbers. AreLeftFrom (reads g.S.Shared.key_of g.S.Shared.number_of g.S.Shared.mine_of) (map g.S.Shared.key c.in_ok-accounts.field-0.accounts.items) numbers c.in_ok-left.left.items)
     (sym (numbers_of g.S.Shared.terms c.args.setup.now.limit c.args.workers c.args.setup.now.accounts c.in_ok-accounts.field-0.accounts.items c.in_ok-accounts.ensures.accounts))
     (rw (c.as_slice.ensures.value) at c.in_ok-left.ensures.left)
+
+pub returns-clause-worked : goal.returns-clause-worked
+returns-clause-worked g c =
+    worked_so (reads g.S.Shared.key_of g.S.Shared.number_of g.S.Shared.mine_of) c.args.setup.now c.in_ok-left.left.items c.close_accounts.result c.in_ok-left.ensures.worked
+    c.close_accounts.ensures.handled c.close_accounts.ensures.refusals c.close_accounts.ensures.lists

@@ -1,0 +1,77 @@
+//! The refusals in the books of a run, beside the posts that they are of.
+
+use crate::messages::{begun, of_call, recharge, report};
+use crate::rounds::Rounds;
+use crate::setups::{BAND, set_up};
+use account_core::AccountFault;
+use cap_values::{Number, SsfMsg};
+use runs_core::serve;
+use shared_account::OpenGate;
+use std::alloc::Global;
+use std::process::Abort;
+use std::sync::Wait;
+use std::test::Fail;
+use std::thread::Threads;
+use workers_core::Body;
+
+/// The limit of the accounts' histories, the number of workers, the posts, one in each round, and
+/// the refusals of each worker's posts.
+type Row<'a> = (u32, u32, &'a [Body], &'a [&'a [Option<AccountFault>]]);
+
+/// Serves posts over accounts 7 and 8 of 1500 each, with a subscriber of account 7, and compares the
+/// refusals in the books.
+fn expect_refusals<R: Abort + Threads + Wait + Sync>(
+    rt: &R,
+    alloc: Global,
+    row: Row<'_>,
+) -> Result<(), Fail> {
+    let (limit, workers, posts, refusals) = row;
+    let subscribers = [(Number::new("491700001")?, 7)];
+    let setup = set_up(alloc, BAND, &[(7, 1500), (8, 1500)], &subscribers, limit)??;
+    let mut rounds = Vec::new(alloc);
+    for body in posts {
+        rounds.push((*body, None))?;
+    }
+    let mut driver = Rounds::new(alloc, rounds.as_slice());
+    let books = serve(rt, alloc, &setup, &mut driver, workers, &OpenGate)?;
+    assert_eq!(rt; books.refusals.len(), refusals.len(), "of {posts:?}");
+    for (told, expected) in books.refusals.iter().zip(refusals) {
+        assert_eq!(rt; told.as_slice(), *expected, "of {posts:?}");
+    }
+    Ok(())
+}
+
+#[test]
+fn refusals_stand_beside_the_posts(rt: HostRuntime) -> Result<(), Fail> {
+    let begins = begun(1, "491700001", "4930")?;
+    let unknown = begun(3, "999", "4930")?;
+    let minute = of_call(1, report(true, 600));
+    let last = of_call(1, report(false, 300));
+    let ends = of_call(1, SsfMsg::Ended);
+    let range = Some(AccountFault::OutOfRange);
+    let full = Some(AccountFault::HistoryFull);
+    // Call 1 and accounts 7 and 9 are worker 1's of two, account 8 is worker 0's.
+    let rows: [Row<'_>; 7] = [
+        (1000, 2, &[], &[&[], &[]]),
+        (1000, 1, &[begins, last, ends], &[&[None, None, None]]),
+        (1000, 1, &[recharge(7, 0), begins], &[&[range, None]]),
+        (
+            1000,
+            2,
+            &[recharge(7, 5), recharge(8, 0), recharge(7, 0)],
+            &[&[range], &[None, range]],
+        ),
+        (
+            1000,
+            2,
+            &[recharge(9, 5), unknown, ends],
+            &[&[], &[None, None, None]],
+        ),
+        (4, 2, &[begins, minute, ends], &[&[], &[None, full, None]]),
+        (5, 2, &[begins, minute], &[&[], &[None, None]]),
+    ];
+    for row in rows {
+        expect_refusals(&rt, rt.alloc(), row)?;
+    }
+    Ok(())
+}

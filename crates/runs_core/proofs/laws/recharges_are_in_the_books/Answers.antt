@@ -1,0 +1,5 @@
+use Rattle.runs_core.proofs.InBooks.{recharges_in_books}
+use Rattle.runs_core.proofs.laws.recharges_are_in_the_books.Goals as goal
+
+pub returns : goal.returns
+returns c = recharges_in_books
