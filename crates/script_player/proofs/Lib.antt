@@ -1,7 +1,17 @@
+pub mod Chainings
+pub mod Changes
+pub mod Deliverings
 pub mod Endings
+pub mod Firsts
+pub mod Givings
 pub mod Goings
 pub mod Items
+pub mod Keepings
+pub mod Listings
+pub mod Playings
+pub mod Roundings
 pub mod Sendings
 pub mod Startings
 pub mod Takings
 pub mod Tellings
+pub mod Waitings
