@@ -57,7 +57,7 @@ pub(crate) fn play<R: Wait + Threads + Sync>(
 fn is_played(player: &ScriptPlayer)
     requires { player.now.ended ≡ true }
     ensures { (rows : List ScriptRow) → player.now.taken ++ player.now.left ≡ rows
-        → IsPlayOf player.now.config rows player.now.given }
+        → IsPlayOf player.now.network.config player.now.delay rows player.now.network.given }
 {
     let _ = player.ended();
     let _ = player.given();
