@@ -1,6 +1,7 @@
 pub mod Chainings
 pub mod Changes
 pub mod Deliverings
+pub mod Doings
 pub mod Endings
 pub mod Firsts
 pub mod Givings
@@ -8,6 +9,7 @@ pub mod Goings
 pub mod Items
 pub mod Keepings
 pub mod Listings
+pub mod Livings
 pub mod Playings
 pub mod Roundings
 pub mod Sendings

@@ -18,6 +18,7 @@ begun_trace at call calling called =
 -- a gsmSSF was invoked and triggered at a moment: all that it has sent is InitialDp
 pub record HasBegun (config : SsfConfig) (at call : ℕ) (calling called : Number) (view : View) (sent : List Out) : Type 0 where
   pub same_config : view.config ≡ config
+  pub moment : view.last ≡ at
   pub trace : List Happening
   pub is : trace ≡ begun_trace at call calling called
   pub stands : Stands view trace

@@ -3,6 +3,7 @@ pub mod Chains
 pub mod Deliveries
 pub mod Dues
 pub mod Inputs
+pub mod Lives
 pub mod Moments
 pub mod Networks
 pub mod Playing

@@ -102,7 +102,7 @@ impl Driver for ScriptPlayer {
     ghost use Rattle.workers_core.specs.declared.post.Body.{Body};
     ghost use Rattle.script_player.specs.Plays.{IsPlayed};
     ghost use Rattle.script_player.specs.Rounds.{IsTurn};
-    ghost use Rattle.script_player.specs.Runs.{HasHeard, IsReached};
+    ghost use Rattle.script_player.specs.Runs.{HasHeard, IsReached, LivesByItsDeeds};
     ghost use Rattle.workers_core.specs.declared.answer.Answer.{Answer};
     ghost use Rattle.script_player.specs.Posts.{Begins, items_of, opening_of, recharges_in, recharges_of};
 
@@ -129,11 +129,14 @@ impl Driver for ScriptPlayer {
     }
 
     /// Whether it has ended: then no row is left, and it is what a fresh player of its rows has
-    /// come to, round by round.
+    /// come to, round by round. What it has given of a call is what the call's gsmSSF has sent by
+    /// what it was given, one after the other.
     fn ended(&self) -> bool
         ensures value { result ≡ self.now.ended }
         ensures left { result ≡ true → self.now.left ≡ [] }
         ensures reached { result ≡ true → IsReached self.now.network.config self.now.delay
+            (self.now.taken ++ self.now.left) self.now }
+        ensures lives { LivesByItsDeeds self.now.network.config self.now.delay
             (self.now.taken ++ self.now.left) self.now }
     {
         self.ended
