@@ -6,7 +6,7 @@ use Rattle.run_texts.specs.Views.{event_of}
 use Rattle.run_texts.specs.declared.script_row.ScriptRow.{ScriptRow}
 use Rattle.script_player.specs.Plays.{IsPlayed, Play}
 use Rattle.script_player.specs.Posts.{Begins, items_of, opening_of, recharges_in, recharges_of}
-use Rattle.script_player.specs.Runs.{IsReached}
+use Rattle.script_player.specs.Runs.{IsReached, LivesByItsDeeds}
 use Rattle.ssf_core.specs.declared.config.SsfConfig.{SsfConfig}
 use Rattle.workers_core.specs.declared.post.Body.{Body}
 
@@ -17,7 +17,9 @@ pub record IsPlayOf (config : SsfConfig) (delay : ℕ) (rows : List ScriptRow) (
   pub reached : IsReached config delay rows play
   pub ended : play.ended ≡ true
   pub gives : play.network.given ≡ given
-  -- of a call: what a gsmSSF sends along a trace, in order, from the row on that starts the call
+  -- of a call: what its gsmSSF sends in the life that the inputs of the run have made
+  pub lives : LivesByItsDeeds config delay rows play
+  -- and so what a gsmSSF sends along a trace, in order, from the row on that starts the call
   pub calls : (call : ℕ) → IsPlayed config call given
   pub begins : (call : ℕ) → Begins (opening_of call rows) (items_of call given)
   -- and the recharges of the rows, in order

@@ -5,5 +5,5 @@ use Rattle.run_command.proofs.playing.is_played.Goals as goal
 pub returns : goal.returns
 returns c = λ rows all.
     let player = c.args.player.now in
-    play_of player.network.config player.delay player.taken player.left rows player.network.given player (c.ended.ensures.left (search rules)) all (c.ended.ensures.reached (search rules)) c.requires refl
+    play_of player.network.config player.delay player.taken player.left rows player.network.given player (c.ended.ensures.left (search rules)) all (c.ended.ensures.reached (search rules)) c.ended.ensures.lives c.requires refl
     c.given.ensures.calls c.given.ensures.begins c.given.ensures.recharges
