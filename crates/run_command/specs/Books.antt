@@ -3,7 +3,7 @@ use Rattle.std.specs.Prelude.{◌≡◌, ℕ, Option, List, map, All}
 use Rattle.account_core.specs.Answers.{IsLegal}
 use Rattle.account_core.specs.declared.fault.AccountFault.{AccountFault}
 use Rattle.account_core.specs.declared.limits.TheConstants.{MAX_LIMIT}
-use Rattle.run_command.specs.Inputs.{RunInput}
+use Rattle.run_texts.specs.Inputs.{RunInput}
 use Rattle.run_options.specs.declared.ask.RunAsk.{RunAsk}
 use Rattle.run_texts.specs.Views.{with_digits}
 use Rattle.runs_core.specs.Closing.{AreServedBy, AreWorked, terms_shown}

@@ -1,17 +1,25 @@
 -- What the workers of a run are given: what a script says, and what the gsmSSFs of its calls send.
-use Rattle.std.specs.Prelude.{◌≡◌, ℕ, List, map}
+use Rattle.std.specs.Prelude.{◌≡◌, ℕ, true, List, map}
 use Rattle.run_options.specs.declared.ask.RunAsk.{RunAsk}
 use Rattle.run_texts.specs.Happenings.{Event}
 use Rattle.run_texts.specs.Views.{event_of}
 use Rattle.run_texts.specs.declared.script_row.ScriptRow.{ScriptRow}
-use Rattle.script_player.specs.Plays.{IsPlayed}
+use Rattle.script_player.specs.Plays.{IsPlayed, Play}
 use Rattle.script_player.specs.Posts.{Begins, items_of, opening_of, recharges_in, recharges_of}
+use Rattle.script_player.specs.Runs.{IsReached, LivesByItsDeeds}
 use Rattle.ssf_core.specs.declared.config.SsfConfig.{SsfConfig}
 use Rattle.workers_core.specs.declared.post.Body.{Body}
 
--- the play of these rows with gsmSSFs of this configuration
-pub record IsPlayOf (config : SsfConfig) (rows : List ScriptRow) (given : List (ℕ × Body)) : Type 0 where
-  -- of a call: what a gsmSSF sends along a trace, in order, from the row on that starts the call
+-- the play of these rows with gsmSSFs of this configuration, to which operations come after this delay
+pub record IsPlayOf (config : SsfConfig) (delay : ℕ) (rows : List ScriptRow) (given : List (ℕ × Body)) : Type 0 where
+  -- what a fresh player of the rows has come to, round by round, where it has ended
+  pub play : Play
+  pub reached : IsReached config delay rows play
+  pub ended : play.ended ≡ true
+  pub gives : play.network.given ≡ given
+  -- of a call: what its gsmSSF sends in the life that the inputs of the run have made
+  pub lives : LivesByItsDeeds config delay rows play
+  -- and so what a gsmSSF sends along a trace, in order, from the row on that starts the call
   pub calls : (call : ℕ) → IsPlayed config call given
   pub begins : (call : ℕ) → Begins (opening_of call rows) (items_of call given)
   -- and the recharges of the rows, in order
@@ -29,4 +37,4 @@ pub record IsGivenBy (ask : RunAsk) (script : List Event) (given : List (ℕ × 
   pub asked_for : IsAskedFor ask config
   pub rows : List ScriptRow
   pub says : map event_of rows ≡ script
-  pub play : IsPlayOf config rows given
+  pub play : IsPlayOf config ask.delay rows given

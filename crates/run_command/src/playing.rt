@@ -5,7 +5,7 @@ ghost use Rattle.run_command.specs.Answers.{MayFail};
 ghost use Rattle.run_command.specs.Books.{AreBooksOf};
 ghost use Rattle.run_options.specs.Options.{ask_of};
 ghost use Rattle.run_command.specs.Plays.{IsGivenBy, IsPlayOf};
-ghost use Rattle.run_command.specs.Texts.{input_in};
+ghost use Rattle.run_texts.specs.Inputs.{input_in};
 ghost use Rattle.runs_core.specs.Teams.{are_workers};
 ghost use Rattle.run_texts.specs.Views.{are_in_order, event_of};
 ghost use Rattle.run_texts.specs.declared.script_row.ScriptRow.{ScriptRow};
@@ -58,7 +58,7 @@ pub(crate) fn play<R: Wait + Threads + Sync>(
 fn is_played(player: &ScriptPlayer)
     requires { player.now.ended ≡ true }
     ensures { (rows : List ScriptRow) → player.now.taken ++ player.now.left ≡ rows
-        → IsPlayOf player.now.config rows player.now.given }
+        → IsPlayOf player.now.network.config player.now.delay rows player.now.network.given }
 {
     let _ = player.ended();
     let _ = player.given();

@@ -5,6 +5,7 @@ use Rattle.cap_values.specs.declared.message.SsfMsg.TheVariants as message
 use Rattle.cap_values.specs.declared.number.Number.{Number}
 use Rattle.ssf_core.specs.Calls.{AreExpiries, IsExpiry, Stands, Takes, View, with_input}
 use Rattle.ssf_core.specs.Happenings.{Expired, Happening, Took, What, sent_at, sent_in}
+use Rattle.ssf_core.specs.Inputs.{invokes, triggers}
 use Rattle.ssf_core.specs.Phases.{Initial, Phase, Requested, Unused}
 use Rattle.ssf_core.specs.Table.{Effect, goes, on_input}
 use Rattle.ssf_core.specs.Traces.{HasEffect, IsTrace, MayFollow, due_in, phase_after}
@@ -76,11 +77,11 @@ requested_after config now (Expired timer) sent answers = absurd answers
 
 -- it was invoked, and then triggered
 pub has_begun : (config : SsfConfig) (fresh invoked triggered : View) (now call : ℕ) (calling called : Number) (first second : List Out) (why other : Option SsfFault) (invoke trigger : What)
-    → triggered.config ≡ config → TakesWhat fresh invoked now invoke [] first why → Answers [] Unused now invoke (goes [] Requested)
+    → triggered.config ≡ config → triggered.last ≡ now → TakesWhat fresh invoked now invoke [] first why → Answers [] Unused now invoke (goes [] Requested)
     → ((trace : List Happening) → Stands invoked trace → TakesWhat invoked triggered now trigger trace second other)
     → ((trace : List Happening) → Answers trace Requested now trigger (goes (item.Msg (message.InitialDp call calling called) ∷ []) Initial))
-    → HasBegun config now call calling called triggered second
-has_begun config fresh invoked triggered now call calling called first second why other invoke trigger same takes answers then answered =
+    → invoke ≡ Took invokes → trigger ≡ Took (triggers call calling called) → HasBegun config now call calling called triggered second
+has_begun config fresh invoked triggered now call calling called first second why other invoke trigger same moment takes answers then answered first_is then_is =
     let one = taken_at fresh invoked now invoke [] first why (goes [] Requested) (unused_due fresh.config) takes answers in
     let trace : List Happening = record { at = now; what = invoke; sent = [] } ∷ [] in
     let phase : phase_after invoked.config trace ≡ Requested = requested_after invoked.config now invoke [] answers in
@@ -91,7 +92,9 @@ has_begun config fresh invoked triggered now call calling called first second wh
     (subst N (sym phase) (requested_due invoked.config trace)) (then trace one.0) (subst A (sym phase) (answered trace)) in
     record {
       same_config = same;
+      moment = moment;
       trace = record { at = now; what = trigger; sent = item.Msg (message.InitialDp call calling called) ∷ [] } ∷ trace;
+      is = rw (first_is, then_is) refl;
       stands = two.0;
       sends = sym two.1;
       initial = two.1;

@@ -78,7 +78,7 @@ follows_grown taken before after grows follows = record {
   recharged = grows.same_recharges ∙ follows.recharged;
 }
 
-items_of-recharged : (call : ℕ) (given : List (ℕ × Body)) (at account amount : ℕ) (until : Option ℕ) → items_of call (given ++ (at, body.Recharge account amount until) ∷ []) ≡ items_of call given
+pub items_of-recharged : (call : ℕ) (given : List (ℕ × Body)) (at account amount : ℕ) (until : Option ℕ) → items_of call (given ++ (at, body.Recharge account amount until) ∷ []) ≡ items_of call given
 items_of-recharged call given at account amount until =
     filter-append (λ (item : ℕ × Body). is_of call item.1) given ((at, body.Recharge account amount until) ∷ []) ∙ append-nil (items_of call given)
 

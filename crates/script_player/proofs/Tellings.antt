@@ -26,7 +26,7 @@ use Rattle.script_player.proofs.Items.{items_of-other, items_of-own, posts_in_ra
 abbrev IsToldOf : SsfConfig → List (ℕ × Body) → ℕ → Option View → Type 0
 IsToldOf config given call found = MatchOption found (items_of call given ≡ []) (IsTold config call given)
 
-apart_at : (call other : ℕ) → (call == other) ≡ false → is_at (nat_cmp call) other ≡ false
+pub apart_at : (call other : ℕ) → (call == other) ≡ false → is_at (nat_cmp call) other ≡ false
 apart_at call other apart = grind (arith, nat_tests)
 
 told_same : (config : SsfConfig) (call : ℕ) (given more : List (ℕ × Body)) (found : Option View) → items_of call more ≡ items_of call given
@@ -85,14 +85,14 @@ none_begins_by true call other given sent is some none =
 none_begins_by false call other given sent is some none = items_of-other call other given sent is ∙ none
 
 -- the posts of a call that has begun are added
-pub grows_posted : (config : SsfConfig) (call : ℕ) (given after : List (ℕ × Body)) (sent : List Out) → (items_of call given ≡ [] → ⊥) → after ≡ given ++ posts_of call sent
-    → Grows (record { config = config; given = given }) (record { config = config; given = after })
-grows_posted config call given after sent some is = record {
-  same_config = refl;
+pub grows_posted : (call : ℕ) (before after : Shown) (sent : List Out) → (items_of call before.given ≡ [] → ⊥) → after.config ≡ before.config
+    → after.given ≡ before.given ++ posts_of call sent → Grows before after
+grows_posted call before after sent some same is = record {
+  same_config = same;
   added = posts_of call sent;
   grown = is;
-  same_recharges = rw is (recharges_in-posts call given sent);
-  none_begins = λ other none. rw is (none_begins_by _ call other given sent refl some none);
+  same_recharges = rw is (recharges_in-posts call before.given sent);
+  none_begins = λ other none. rw is (none_begins_by _ call other before.given sent refl some none);
 }
 
 -- one growth follows another

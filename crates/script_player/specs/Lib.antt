@@ -1,8 +1,15 @@
 pub mod Beginnings
+pub mod Chains
 pub mod Deliveries
+pub mod Dues
+pub mod Inputs
+pub mod Lives
 pub mod Moments
 pub mod Networks
 pub mod Playing
 pub mod Plays
 pub mod Posts
+pub mod Rounds
 pub mod Rows
+pub mod Runs
+pub mod Steps

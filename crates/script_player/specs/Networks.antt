@@ -1,5 +1,5 @@
 -- The gsmSSFs of a run beside what was given of them.
-use Rattle.std.specs.Prelude.{◌≡◌, ◌++◌, ◌≤◌, ℕ, Some, List, [], All, MatchOption}
+use Rattle.std.specs.Prelude.{◌≡◌, ◌++◌, ◌≤◌, ℕ, Bool, Some, List, [], All, MatchOption}
 use Rattle.std.specs.BTreeMap.{BTreeMap, Updates, get}
 use Rattle.std.specs.Ordering.{nat_cmp}
 use Rattle.ssf_core.specs.Calls.{Stands, View}
@@ -7,13 +7,18 @@ use Rattle.ssf_core.specs.Happenings.{Happening, sent_in}
 use Rattle.ssf_core.specs.declared.config.SsfConfig.{SsfConfig}
 use Rattle.ssf_core.specs.declared.item.Out.{Out}
 use Rattle.workers_core.specs.declared.post.Body.{Body}
+use Rattle.script_player.specs.Inputs.{IsGiven, IsNext}
 use Rattle.script_player.specs.Posts.{items_of, posts_of, recharges_in}
+use Rattle.script_player.specs.declared.feeding.Fed.{Fed}
+use Rattle.script_player.specs.declared.input.Input.{Input}
 use Rattle.tariff_core.specs.declared.times.TheConstants.{HORIZON}
 
--- what a network shows: the configuration of its gsmSSFs, and all that was given
+-- what a network shows: the configuration of its gsmSSFs, the gsmSSF of each call that has started, all that was given, and whether memory never ran out while a moment was put down
 pub record Shown : Type 0 where
   pub config : SsfConfig
+  pub ssfs : List (ℕ × View)
   pub given : List (ℕ × Body)
+  pub whole : Bool
 
 -- the gsmSSF of a call stands for a trace whose messages are the items of the call, of which there are some
 pub record IsTold (config : SsfConfig) (call : ℕ) (given : List (ℕ × Body)) (view : View) : Type 0 where
@@ -47,6 +52,13 @@ pub record Moves (before after : BTreeMap ℕ View) (call : ℕ) (sent : List Ou
   pub was : get nat_cmp before call ≡ Some old
   pub updates : Updates nat_cmp before after call (Some new)
   pub goes_on : GoesOn old new sent
+
+-- the gsmSSF of a call is given an input, and its next timer was due then, and is due then
+pub record Feeds (before after : BTreeMap ℕ View) (now call : ℕ) (input : Input) (fed : Fed) : Type 0 where
+  pub moves : Moves before after call fed.sent.items
+  pub is_given : IsGiven moves.old moves.new now input fed.sent.items
+  pub was_next : IsNext moves.old fed.before
+  pub is_next : IsNext moves.new fed.after
 
 -- what was given stays and grows; no recharge is added, and no call begins
 pub record Grows (before after : Shown) : Type 0 where

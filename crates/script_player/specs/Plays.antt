@@ -1,19 +1,27 @@
 -- What a player of a script shows, and what holds of what it has given.
-use Rattle.std.specs.Prelude.{◌≡◌, ℕ, Bool, List}
+use Rattle.std.specs.Prelude.{◌≡◌, ℕ, Bool, List, drop, take}
 use Rattle.run_texts.specs.declared.script_row.ScriptRow.{ScriptRow}
 use Rattle.ssf_core.specs.Happenings.{Happening, sent_in}
 use Rattle.ssf_core.specs.Traces.{IsTrace}
 use Rattle.ssf_core.specs.declared.config.SsfConfig.{SsfConfig}
 use Rattle.workers_core.specs.declared.post.Body.{Body}
+use Rattle.script_player.specs.Networks.{Shown}
 use Rattle.script_player.specs.Posts.{items_of, posts_of}
+use Rattle.script_player.specs.declared.deliveries.Delivery.{Delivery}
 
--- the configuration of its gsmSSFs, the rows that it has taken and those that are left, all that it has given, each with its moment, and whether it has ended
+-- its gsmSSFs and all that it has given, the deliveries that wait, the delay, the rows that it has taken and those that are left, and whether it has ended
 pub record Play : Type 0 where
-  pub config : SsfConfig
+  pub network : Shown
+  pub queue : List Delivery
+  pub delay : ℕ
   pub taken : List ScriptRow
   pub left : List ScriptRow
-  pub given : List (ℕ × Body)
   pub ended : Bool
+
+-- what a player shows that has taken so many of its rows
+abbrev pub play_at : Shown → List Delivery → ℕ → List ScriptRow → ℕ → Bool → Play
+play_at network queue delay rows taken ended =
+    record { network = network; queue = queue; delay = delay; taken = take taken rows; left = drop taken rows; ended = ended }
 
 -- what was given of a call is what a gsmSSF sends along a trace: each of its messages, in order, with its moment
 pub record IsPlayed (config : SsfConfig) (call : ℕ) (given : List (ℕ × Body)) : Type 0 where

@@ -1,9 +1,9 @@
 //! The operations of the service on their way to the gsmSSFs.
 
-ghost use Rattle.std.specs.Prelude.{◌≡◌, ◌≤◌, ◌<◌, ◌++◌, ◌+◌, All, OnOk};
-ghost use Rattle.std.specs.Option.{ForSome};
+ghost use Rattle.std.specs.Prelude.{◌≡◌, ◌≤◌, ◌++◌, All, OnOk};
 ghost use Rattle.script_player.specs.Deliveries.{TakesDue, deliveries_at, deliveries_of, deliveries_to, next_delivery};
 ghost use Rattle.script_player.specs.Networks.{Grows};
+ghost use Rattle.script_player.specs.Steps.{DeliversDue};
 
 use crate::input::Input;
 use crate::network::Network;
@@ -89,7 +89,8 @@ pub(crate) fn deliver(
 ) -> Result<(), AllocError>
     requires { now ≤ HORIZON }
     ensures grows { Grows network.old network.new }
-    ensures left { OnOk result (ForSome (next_delivery deliveries.new.items) (λ at. now < at)) }
+    ensures delivers { OnOk result
+        (DeliversDue now network.old network.new deliveries.old.items deliveries.new.items) }
 {
     while let Some(delivery) = take_due(deliveries, now) {
         network.give(now, delivery.call, Input::Operate(delivery.op))?;

@@ -1,7 +1,10 @@
 //! An input of one gsmSSF.
 
 ghost use Rattle.std.specs.Prelude.{◌≡◌, ◌≤◌, None, IfNone, IfSome};
-ghost use Rattle.script_player.specs.Networks.{GoesOn, Moves};
+ghost use Rattle.std.specs.BTreeMap.{get};
+ghost use Rattle.std.specs.Ordering.{nat_cmp};
+ghost use Rattle.script_player.specs.Inputs.{IsGiven};
+ghost use Rattle.script_player.specs.Networks.{Feeds, GoesOn};
 
 use crate::input::Input;
 use arrayvec::ArrayVec;
@@ -26,7 +29,8 @@ pub(crate) fn feed(
 ) -> Option<Fed>
     requires { now ≤ HORIZON }
     ensures none { IfNone result (calls.new ≡ calls.old) }
-    ensures some { IfSome result (λ fed. Moves calls.old calls.new call fed.sent.items) }
+    ensures absent { IfNone result (get nat_cmp calls.old call ≡ None) }
+    ensures some { IfSome result (λ fed. Feeds calls.old calls.new now call input fed) }
 {
     let ssf = calls.get_mut(&call)?;
     let before = ssf.next_due();
@@ -42,7 +46,8 @@ pub(crate) fn feed(
 /// Gives a gsmSSF an input at a moment. What it refuses is ignored.
 fn step(ssf: &mut Ssf, now: Moment, input: Input) -> Step
     requires { now ≤ HORIZON }
-    ensures { GoesOn ssf.old ssf.new result.sent.items }
+    ensures goes_on { GoesOn ssf.old ssf.new result.sent.items }
+    ensures given { IsGiven ssf.old ssf.new now input result.sent.items }
 {
     match input {
         Input::Operate(op) => ssf.operation(now, op),

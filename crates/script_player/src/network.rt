@@ -1,5 +1,8 @@
 //! The gsmSSFs of a run, and what was given of them.
 
+ghost use Rattle.std.specs.Prelude.{OnOk};
+ghost use Rattle.script_player.specs.Dues.{Replaces};
+
 use crate::beginning::{Begun, begin};
 use crate::feeding::feed;
 use crate::input::Input;
@@ -23,35 +26,52 @@ pub(crate) struct Network {
     /// Each call with a timer that runs, by the moment at which the first one is due.
     dues: BTreeSet<(Moment, u64)>,
     given: Vec<(u64, Body)>,
+    alloc: Global,
+    /// Whether memory never ran out while a moment was put down.
+    whole: bool,
 }
 
 impl Model for Network {
+    ghost use Rattle.std.specs.Prelude.{◌≡◌, true};
+    ghost use Rattle.script_player.specs.Dues.{AreDues};
     ghost use Rattle.script_player.specs.Networks.{AreTold, Shown};
 
     ghost Value = { Shown };
 
-    ghost view = { λ n. record { config = n.config; given = n.given.items } };
+    ghost view = { λ n. record {
+      config = n.config;
+      ssfs = n.calls.entries;
+      given = n.given.items;
+      whole = n.whole;
+    } };
 
-    ghost invariant = { λ n. AreTold n.config n.calls n.given.items };
+    ghost invariant = { λ n. AreTold n.config n.calls n.given.items
+        × (n.whole ≡ true → AreDues n.calls.entries n.dues) };
 }
 
 impl Network {
-    ghost use Rattle.std.specs.Prelude.{◌≡◌, ◌≤◌, ◌++◌, ◌∷◌, ℕ, [], All, IfOk, OnOk, OnErr};
+    ghost use Rattle.std.specs.Prelude.{◌≡◌, ◌≤◌, ◌<◌, ◌++◌, ◌∷◌, ℕ, [], true, All, IfOk, OnOk, OnErr};
+    ghost use Rattle.script_player.specs.Dues.{AreDueBy, HasTimer, IsFirstDue};
     ghost use Rattle.script_player.specs.Networks.{Grows};
     ghost use Rattle.script_player.specs.Plays.{IsPlayed};
     ghost use Rattle.script_player.specs.Posts.{initial};
     ghost use Rattle.script_player.specs.Rows.{Starts};
+    ghost use Rattle.script_player.specs.Steps.{GivesTo, Recharges, RunsTimers, StartsCall};
+    ghost use Rattle.script_player.specs.declared.input.Input.TheVariants as what;
     ghost use Rattle.workers_core.specs.declared.post.Body.TheVariants as body;
 
     /// A network without calls. There is room for so many items.
     pub fn new(alloc: Global, config: SsfConfig, room: usize) -> Result<Network, AllocError>
-        ensures { IfOk result (λ network. network ≡ record { config = config; given = [] }) }
+        ensures { IfOk result (λ network. network
+            ≡ record { config = config; ssfs = []; given = []; whole = true }) }
     {
         Ok(Network {
             config,
             calls: BTreeMap::new(alloc),
             dues: BTreeSet::new(alloc),
             given: Vec::with_capacity(alloc, room)?,
+            alloc,
+            whole: true,
         })
     }
 
@@ -65,7 +85,9 @@ impl Network {
     }
 
     /// The first moment at which a timer is due.
-    pub fn first_due(&self) -> Option<Moment> {
+    pub fn first_due(&self) -> Option<Moment>
+        ensures { self.now.whole ≡ true → IsFirstDue self.now.ssfs result }
+    {
         let (at, _) = *self.dues.first()?;
         Some(at)
     }
@@ -82,15 +104,19 @@ impl Network {
         ensures config { self.new.config ≡ self.old.config }
         ensures started { OnOk result
             (Starts self.old.given self.new.given call (initial now call calling called)) }
-        ensures unchanged { OnErr result (self.new ≡ self.old) }
+        ensures starts { OnOk result (StartsCall now call calling called self.old self.new) }
+        ensures unchanged { OnErr result (self.new.given ≡ self.old.given) }
     {
         if self.calls.contains_key(&call) {
             return Ok(());
         }
         self.given.reserve(MOST_SENT)?;
         let Begun { ssf, sent } = begin(self.config, now, call, calling, called);
-        keep_due(&mut self.dues, call, None, ssf.next_due())?;
+        let whole = self.whole;
+        self.whole = false;
+        replace_due(&mut self.dues, call, None, ssf.next_due())?;
         self.calls.insert(call, ssf)?;
+        self.whole = whole;
         post(&mut self.given, call, sent.as_slice());
         Ok(())
     }
@@ -98,14 +124,21 @@ impl Network {
     /// Gives the gsmSSF of a call an input at a moment. Nothing happens where it has none.
     pub fn give(&mut self, now: Moment, call: u64, input: Input) -> Result<(), AllocError>
         requires { now ≤ HORIZON }
-        ensures { Grows self.old self.new }
+        ensures grows { Grows self.old self.new }
+        ensures gives { OnOk result (GivesTo now call input self.old self.new) }
+        ensures waited { OnOk result (input ≡ what.Wait
+            → (at : ℕ) → HasTimer self.new.ssfs call at → now < at) }
     {
         self.given.reserve(MOST_SENT)?;
         let Some(fed) = feed(&mut self.calls, now, call, input) else {
             return Ok(());
         };
+        let whole = self.whole;
+        self.whole = false;
         post(&mut self.given, call, fed.sent.as_slice());
-        keep_due(&mut self.dues, call, fed.before, fed.after)
+        replace_due(&mut self.dues, call, fed.before, fed.after)?;
+        self.whole = whole;
+        Ok(())
     }
 
     /// Adds a recharge: the money for an account, and its last moment from then on.
@@ -120,6 +153,8 @@ impl Network {
         ensures config { self.new.config ≡ self.old.config }
         ensures added { OnOk result
             (self.new.given ≡ self.old.given ++ (now, body.Recharge account amount until) ∷ []) }
+        ensures recharges { OnOk result
+            (Recharges now account amount until self.old self.new) }
         ensures unchanged { OnErr result (self.new ≡ self.old) }
     {
         let money = Body::Recharge {
@@ -134,37 +169,39 @@ impl Network {
     /// Lets the timers run that are due by a moment, in ascending order of the calls.
     pub fn advance(&mut self, now: Moment) -> Result<(), AllocError>
         requires { now ≤ HORIZON }
-        ensures { Grows self.old self.new }
+        ensures grows { Grows self.old self.new }
+        ensures runs { OnOk result (self.old.whole ≡ true → RunsTimers now self.old self.new) }
     {
-        for _ in 0..self.dues.len() {
-            let Some(call) = self.take_due(now) else {
-                return Ok(());
-            };
-            self.give(now, call, Input::Wait)?;
+        let due = self.due_calls(now)?;
+        for call in due.iter() {
+            self.give(now, *call, Input::Wait)?;
         }
         Ok(())
     }
 
-    /// Takes the first call with a timer that is due by now.
-    fn take_due(&mut self, now: Moment) -> Option<u64>
-        ensures { self.new ≡ self.old }
+    /// The calls with a timer that is due by a moment.
+    fn due_calls(&self, now: Moment) -> Result<BTreeSet<u64>, AllocError>
+        requires { now ≤ HORIZON }
+        ensures { IfOk result (λ calls.
+            self.now.whole ≡ true → AreDueBy self.now.ssfs now calls.keys) }
     {
-        let (at, call) = *self.dues.first()?;
-        if now < at {
-            return None;
+        let mut calls = BTreeSet::new(self.alloc);
+        for due in self.dues.range(..(now + 1, 0)) {
+            calls.insert(due.1)?;
         }
-        self.dues.pop_first();
-        Some(call)
+        Ok(calls)
     }
 }
 
 /// Puts down when a call's next timer is due, in place of what was put down of it.
-fn keep_due(
+fn replace_due(
     dues: &mut BTreeSet<(Moment, u64)>,
     call: u64,
     before: Option<Moment>,
     after: Option<Moment>,
-) -> Result<(), AllocError> {
+) -> Result<(), AllocError>
+    ensures { OnOk result (Replaces dues.old dues.new call before after) }
+{
     if let Some(at) = before {
         dues.remove(&(at, call));
     }

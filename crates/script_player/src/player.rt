@@ -37,29 +37,32 @@ pub struct ScriptPlayer {
     rows: Vec<ScriptRow>,
     taken: usize,
     ended: bool,
+    /// Whether the rounds so far came to their ends. Where memory ran out in one, no further round
+    /// is played.
+    sound: bool,
 }
 
 impl Model for ScriptPlayer {
-    ghost use Rattle.std.specs.Prelude.{◌≡◌, ◌≤◌, All, length, take, drop};
-    ghost use Rattle.script_player.specs.Plays.{Play};
+    ghost use Rattle.std.specs.Prelude.{◌≡◌, true};
+    ghost use Rattle.script_player.specs.Plays.{Play, play_at};
     ghost use Rattle.script_player.specs.Playing.{IsKept};
+    ghost use Rattle.script_player.specs.Runs.{IsReached};
 
     ghost Value = { Play };
 
-    ghost view = { λ p. record {
-      config = p.network.config;
-      taken = take p.taken p.rows.items;
-      left = drop p.taken p.rows.items;
-      given = p.network.given;
-      ended = p.ended;
-    } };
+    ghost view = { λ p.
+        play_at p.network p.deliveries.items p.delay p.rows.items p.taken p.ended };
 
-    ghost invariant = { λ p. IsKept p.network.given p.delay p.rows.items p.taken p.ended };
+    ghost invariant = { λ p. IsKept p.network.given p.delay p.rows.items p.taken p.ended
+        × (p.ended ≡ true → p.sound ≡ true)
+        × (p.sound ≡ true → IsReached p.network.config p.delay p.rows.items
+        (play_at p.network p.deliveries.items p.delay p.rows.items p.taken p.ended)) };
 }
 
 impl ScriptPlayer {
     ghost use Rattle.std.specs.Prelude.{◌≡◌, ◌≤◌, [], true, false, All, IfOk};
     ghost use Rattle.run_texts.specs.Views.{are_in_order};
+    ghost use Rattle.script_player.specs.Runs.{fresh};
 
     /// The player of these rows, before its first round. Each gsmSSF has this configuration, and
     /// the delay is 1 to 864,000 units of 100 ms.
@@ -73,10 +76,11 @@ impl ScriptPlayer {
         requires delay_within_day { delay ≤ DAY }
         requires in_range { All (λ row. row.at ≤ LAST_MOMENT) rows.items }
         requires in_order { are_in_order 0 rows.items ≡ true }
-        ensures config { IfOk result (λ player. player.config ≡ config) }
+        ensures fresh { IfOk result (λ player. player ≡ fresh config delay rows.items) }
+        ensures config { IfOk result (λ player. player.network.config ≡ config) }
         ensures taken { IfOk result (λ player. player.taken ≡ []) }
         ensures left { IfOk result (λ player. player.left ≡ rows.items) }
-        ensures given { IfOk result (λ player. player.given ≡ []) }
+        ensures given { IfOk result (λ player. player.network.given ≡ []) }
         ensures running { IfOk result (λ player. player.ended ≡ false) }
     {
         Ok(ScriptPlayer {
@@ -86,42 +90,54 @@ impl ScriptPlayer {
             rows,
             taken: 0,
             ended: false,
+            sound: true,
         })
     }
 }
 
 impl Driver for ScriptPlayer {
-    ghost use Rattle.std.specs.Prelude.{◌≡◌, ◌≤◌, ◌++◌, ℕ, List, [], not, true, false, All, IfOk, OnOk};
+    ghost use Rattle.std.specs.Prelude.{◌≡◌, ◌≤◌, ◌++◌, ◌∷◌, ℕ, List, [], not, true, false, All, IfOk, OnOk};
     ghost use Rattle.run_texts.specs.declared.script_row.ScriptRow.{ScriptRow};
     ghost use Rattle.ssf_core.specs.declared.config.SsfConfig.{SsfConfig};
     ghost use Rattle.workers_core.specs.declared.post.Body.{Body};
     ghost use Rattle.script_player.specs.Plays.{IsPlayed};
+    ghost use Rattle.script_player.specs.Rounds.{IsTurn};
+    ghost use Rattle.script_player.specs.Runs.{HasHeard, IsReached, LivesByItsDeeds};
+    ghost use Rattle.workers_core.specs.declared.answer.Answer.{Answer};
     ghost use Rattle.script_player.specs.Posts.{Begins, items_of, opening_of, recharges_in, recharges_of};
 
-    ghost given = { λ player. player.given };
+    ghost given = { λ player. player.network.given };
 
     ghost ended = { λ player. player.ended };
 
-    ghost Plan = { SsfConfig × List ScriptRow };
+    ghost Plan = { SsfConfig × ℕ × List ScriptRow };
 
-    ghost plan = { λ player. (player.config, player.taken ++ player.left) };
+    ghost plan = { λ player.
+        (player.network.config, player.delay, player.taken ++ player.left) };
 
     /// All that it has given: the messages of the gsmSSFs, and the recharges of the rows taken.
     fn given(&self) -> &[(u64, Body)]
-        ensures items { result.now ≡ self.now.given }
+        ensures items { result.now ≡ self.now.network.given }
         ensures moments { All (λ item. item.0 ≤ HORIZON) result.now }
-        ensures calls { (call : ℕ) → IsPlayed self.now.config call self.now.given }
+        ensures calls { (call : ℕ)
+            → IsPlayed self.now.network.config call self.now.network.given }
         ensures begins { (call : ℕ)
-            → Begins (opening_of call self.now.taken) (items_of call self.now.given) }
-        ensures recharges { recharges_in self.now.given ≡ recharges_of self.now.taken }
+            → Begins (opening_of call self.now.taken) (items_of call self.now.network.given) }
+        ensures recharges { recharges_in self.now.network.given ≡ recharges_of self.now.taken }
     {
         self.network.given()
     }
 
-    /// Whether it has ended: then no row is left.
+    /// Whether it has ended: then no row is left, and it is what a fresh player of its rows has
+    /// come to, round by round. What it has given of a call is what the call's gsmSSF has sent by
+    /// what it was given, one after the other.
     fn ended(&self) -> bool
         ensures value { result ≡ self.now.ended }
         ensures left { result ≡ true → self.now.left ≡ [] }
+        ensures reached { result ≡ true → IsReached self.now.network.config self.now.delay
+            (self.now.taken ++ self.now.left) self.now }
+        ensures lives { LivesByItsDeeds self.now.network.config self.now.delay
+            (self.now.taken ++ self.now.left) self.now }
     {
         self.ended
     }
@@ -129,17 +145,31 @@ impl Driver for ScriptPlayer {
     /// Takes the answers to the items of the round before: the number of an answer is the place of
     /// its item. Plays the round of the next moment; false where there is none. The recharge of a
     /// row has no operations.
+    ///
+    /// Where memory runs out, so it does in each further round.
     fn round(&mut self, answers: &[Answer]) -> Result<bool, AllocError>
-        ensures grows { IfOk result (λ _.
-            (added : List (ℕ × Body)) × (self.new.given ≡ self.old.given ++ added)) }
+        ensures grows { IfOk result (λ _. (added : List (ℕ × Body))
+            × (self.new.network.given ≡ self.old.network.given ++ added)) }
         ensures ended { IfOk result (λ more. self.new.ended ≡ not more) }
-        ensures end { IfOk result (λ more. more ≡ false → self.new.given ≡ self.old.given) }
-        ensures config { self.new.config ≡ self.old.config }
+        ensures end { IfOk result (λ more.
+            more ≡ false → self.new.network.given ≡ self.old.network.given) }
+        ensures turn { IfOk result (λ more.
+            self.old.ended ≡ false → IsTurn more self.old self.new answers.now) }
+        ensures heard { IfOk result (λ _. self.old.ended ≡ false
+            → (config : SsfConfig) (delay : ℕ) (rows : List ScriptRow) (heard : List (List Answer))
+            → HasHeard config delay rows heard self.old
+            → HasHeard config delay rows (heard ++ answers.now ∷ []) self.new) }
+        ensures config { self.new.network.config ≡ self.old.network.config }
+        ensures delay { self.new.delay ≡ self.old.delay }
         ensures rows { self.new.taken ++ self.new.left ≡ self.old.taken ++ self.old.left }
     {
         if self.ended {
             return Ok(false);
         }
+        if !self.sound {
+            return Err(AllocError);
+        }
+        self.sound = false;
         put_down(
             &mut self.deliveries,
             self.delay,
@@ -150,6 +180,7 @@ impl Driver for ScriptPlayer {
         let delivery = next_delivery(&self.deliveries);
         let Some(now) = next_moment(row, delivery, self.network.first_due()) else {
             self.ended = true;
+            self.sound = true;
             return Ok(false);
         };
         deliver(&mut self.network, &mut self.deliveries, now)?;
@@ -160,6 +191,7 @@ impl Driver for ScriptPlayer {
             now,
         )?;
         self.network.advance(now)?;
+        self.sound = true;
         Ok(true)
     }
 }

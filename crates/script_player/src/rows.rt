@@ -1,9 +1,9 @@
 //! The rows of a script are taken.
 
-ghost use Rattle.std.specs.Prelude.{◌≡◌, ◌≤◌, ◌<◌, All, OnErr, OnOk, drop, length, take};
-ghost use Rattle.std.specs.Option.{ForSome};
+ghost use Rattle.std.specs.Prelude.{◌≡◌, ◌≤◌, All, OnErr, OnOk, drop, length, take};
 ghost use Rattle.script_player.specs.Networks.{Grows};
 ghost use Rattle.script_player.specs.Rows.{Adds, FollowsRows, TakesRow, next_row};
+ghost use Rattle.script_player.specs.Steps.{PlaysDue, PlaysRow};
 
 use crate::input::Input;
 use crate::network::Network;
@@ -33,7 +33,8 @@ pub(crate) fn take_rows(
     requires within { taken.old ≤ length rows.now }
     requires follows { FollowsRows (take taken.old rows.now) network.old.given }
     ensures within { taken.new ≤ length rows.now }
-    ensures left { OnOk result (ForSome (next_row (drop taken.new rows.now)) (λ at. now < at)) }
+    ensures plays { OnOk result (PlaysDue now network.old network.new
+        (drop taken.old rows.now) (drop taken.new rows.now)) }
     ensures follows { FollowsRows (take taken.new rows.now) network.new.given }
     ensures added { Adds network.old network.new }
 {
@@ -48,6 +49,7 @@ pub(crate) fn take_rows(
 fn take_row(network: &mut Network, row: ScriptRow) -> Result<(), AllocError>
     requires { row.at ≤ LAST_MOMENT }
     ensures taken { OnOk result (TakesRow network.old network.new row.at row.what) }
+    ensures plays { OnOk result (PlaysRow network.old row network.new) }
     ensures failed { OnErr result (Grows network.old network.new) }
 {
     match row.what {

@@ -1,6 +1,7 @@
 -- A call of the gsmSSF: its timers have run, and its input is taken.
 use Rattle.std.proofs.Common.{◌≡◌, ◌+◌, ◌≤◌, ◌<◌, ◌++◌, ℕ, Bool, true, false, Option, Some, None, List, refl, sym, ◌∙◌, arith}
 use Rattle.std.proofs.lemmas.Bool.Decides.{nat_tests}
+use Rattle.std.specs.Option.{ForSome}
 use Rattle.std.specs.Result.{result_err, result_unwrap_or}
 use Rattle.cap_values.specs.declared.charge.Charge.{Charge}
 use Rattle.cap_values.specs.declared.event.Event.{Event}
@@ -32,7 +33,7 @@ use Rattle.ssf_core.specs.declared.stage.Stage.{Stage}
 use Rattle.ssf_core.specs.declared.stage.Stage.TheVariants as stage
 use Rattle.ssf_core.specs.declared.stage.Switch.{Switch}
 use Rattle.ssf_core.specs.declared.stage.Switch.TheVariants as switch
-use Rattle.ssf_core.proofs.ExpiryLemmas.{due-stage}
+use Rattle.ssf_core.proofs.ExpiryLemmas.{due-stage, timely_due}
 use Rattle.ssf_core.proofs.TimerLemmas.{later_than, next_first, next_leads, next_sound}
 use Rattle.ssf_core.proofs.InputLemmas.{taken}
 
@@ -247,3 +248,14 @@ next_due_as config last s t (Some e) st is = (
 -- the next expiry is at the least due moment of the trace
 pub next_due_of : (config : SsfConfig) (last : ℕ) (s : Stage) (t : List Happening) → StageStands config last s t → IsNextDue config t (moment_of (next_of s))
 next_due_of config last s t st = next_due_as config last s t (next_of s) st refl
+
+ahead_by : (last : ℕ) (s : Stage) (x : Option Expiry) → IsTimely last s → next_of s ≡ x → (at : ℕ) → moment_of x ≡ Some at → last ≤ at
+ahead_by last s None timely is at found = cc
+ahead_by last s (Some e) timely is at found =
+    let same : e.due ≡ at = cc in
+    let late : last ≤ e.due = timely_due last s e.timer e.due timely (next_sound s e is) in
+    omega arith
+
+-- the next expiry lies ahead
+pub next_ahead : (last : ℕ) (s : Stage) → IsTimely last s → ForSome (moment_of (next_of s)) (λ at. last ≤ at)
+next_ahead last s timely = λ at found. ahead_by last s (next_of s) timely refl at found

@@ -1,6 +1,7 @@
 pub mod Calls
 pub mod Configs
 pub mod Happenings
+pub mod Inputs
 pub mod Laws
 pub mod Meters
 pub mod Modes

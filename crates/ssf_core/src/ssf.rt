@@ -39,6 +39,7 @@ impl Model for Ssf {
 
 impl Ssf {
     ghost use Rattle.std.specs.Prelude.{◌≡◌, ◌≤◌, ◌<◌, ◌∷◌, List, [], Some, None};
+    ghost use Rattle.std.specs.Option.{ForSome};
     ghost use Rattle.ssf_core.specs.Calls.{Advances, IsNextDue, Stands, Takes};
     ghost use Rattle.cap_values.specs.Orders.{order_of, paid_by};
     ghost use Rattle.ssf_core.specs.Meters.{Metered};
@@ -67,9 +68,12 @@ impl Ssf {
         state_of(&self.stage)
     }
 
-    /// The least moment at which a timer is due, or none where no timer runs.
+    /// The least moment at which a timer is due, or none where no timer runs. It doesn't lie behind
+    /// the last moment that the gsmSSF took.
     pub fn next_due(&self) -> Option<Moment>
-        ensures { (t : List Happening) → Stands self.now t → IsNextDue self.now.config t result }
+        ensures least { (t : List Happening)
+            → Stands self.now t → IsNextDue self.now.config t result }
+        ensures ahead { ForSome result (λ at. self.now.last ≤ at) }
     {
         next_moment(&self.stage)
     }

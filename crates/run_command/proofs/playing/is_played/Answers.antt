@@ -1,8 +1,9 @@
 use Rattle.run_command.proofs.PlayLemmas.{play_of}
-use Rattle.std.proofs.Common.{rules}
+use Rattle.std.proofs.Common.{refl, rules}
 use Rattle.run_command.proofs.playing.is_played.Goals as goal
 
 pub returns : goal.returns
 returns c = λ rows all.
-    play_of c.args.player.now.config c.args.player.now.taken c.args.player.now.left rows c.args.player.now.given (c.ended.ensures.left (search rules)) all
+    let player = c.args.player.now in
+    play_of player.network.config player.delay player.taken player.left rows player.network.given player (c.ended.ensures.left (search rules)) all (c.ended.ensures.reached (search rules)) c.ended.ensures.lives c.requires refl
     c.given.ensures.calls c.given.ensures.begins c.given.ensures.recharges

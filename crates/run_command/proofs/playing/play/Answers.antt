@@ -10,11 +10,12 @@ returns-clause-books g c =
     let before = c.in_ok-player.player in
     let after = c.serve.new.driver in
     let kept = c.in_ok-books.ensures.plan in (
-      after.given,
-      given_by (ask_of c.args.options.now) c.args.options.now.ssf after.config c.args.texts.script.items after.taken after.left after.given
+      after.network.given,
+      given_by (ask_of c.args.options.now) c.args.options.now.ssf after.network.config after.delay c.args.texts.script.items after.taken after.left after.network.given
           (record { tssf = refl; tccd = refl; default_handling = refl })
           (ap (λ p. p.0) kept ∙ c.in_ok-player.ensures.config)
-          (ap (λ p. p.1) kept ∙ ap (λ rows. rows ++ before.left) c.in_ok-player.ensures.taken ∙ c.in_ok-player.ensures.left)
+          (ap (λ p. p.1) kept ∙ ap (λ play. play.delay) c.in_ok-player.ensures.fresh)
+          (ap (λ p. p.2) kept ∙ ap (λ rows. rows ++ before.left) c.in_ok-player.ensures.taken ∙ c.in_ok-player.ensures.left)
           c.is_played.ensures,
       record {
         opened = search rules;

@@ -1,4 +1,5 @@
-use Rattle.std.proofs.Common.{◌+◌, ◌≤◌, arith, length, take}
+use Rattle.std.proofs.Common.{◌+◌, ◌≤◌, arith, drop, length, take}
+use Rattle.script_player.proofs.Playings.{played_more, same_moment}
 use Rattle.script_player.proofs.Takings.{adds_on, adds_row, follows_grown, follows_more}
 use Rattle.script_player.proofs.rows.take_rows.Goals as goal
 
@@ -11,6 +12,10 @@ loop-taken-preserved c =
           c.loop-taken.invariant.1,
       adds_on c.args.network.now c.loop-taken.network c.take_row.new.network c.loop-taken.invariant.2
           (adds_row c.loop-taken.network c.take_row.new.network row.at row.what c.in_ok-take_row.ensures.taken),
+      played_more c.args.now c.loop-taken.taken c.args.network.now c.loop-taken.network c.take_row.new.network (drop c.args.taken.now c.args.rows.now) c.args.rows.now row c.loop-taken-test.true
+          c.index-rows-taken-in-loop-taken.is c.loop-taken.invariant.3
+          (same_moment c.args.rows.now c.loop-taken.taken c.args.now c.index-rows-taken.result row c.loop-taken-test.true c.index-rows-taken.is c.index-rows-taken-in-loop-taken.is c.if-rows-taken.true)
+          c.in_ok-take_row.ensures.plays,
     )
 
 pub returns-in_err-take_row-clause-follows : goal.returns-in_err-take_row-clause-follows

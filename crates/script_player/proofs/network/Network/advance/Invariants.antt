@@ -1,5 +1,5 @@
-use Rattle.script_player.specs.Networks.{Grows}
+use Rattle.script_player.proofs.Waitings.{HaveWaited}
 use Rattle.script_player.proofs.network.Network.advance.Given as goal
 
-abbrev pub invariant-loop : goal.invariant-loop
-invariant-loop l = Grows l.initial.self l.self
+abbrev pub invariant-loop-call : goal.invariant-loop-call
+invariant-loop-call l = HaveWaited l.now l.initial.self l.self l.initial.call-iterator l.call-iterator

@@ -1,0 +1,49 @@
+-- The rounds of a run.
+use Rattle.std.specs.Prelude.{◌≡◌, ◌++◌, ℕ, Bool, true, false, Option, Some, None, List}
+use Rattle.workers_core.specs.declared.answer.Answer.{Answer}
+use Rattle.script_player.specs.Deliveries.{deliveries_of, next_delivery}
+use Rattle.script_player.specs.Dues.{IsFirstDue}
+use Rattle.script_player.specs.Moments.{in_reach, sooner}
+use Rattle.script_player.specs.Networks.{Shown}
+use Rattle.script_player.specs.Plays.{Play}
+use Rattle.script_player.specs.Rows.{next_row}
+use Rattle.script_player.specs.Steps.{DeliversDue, PlaysDue, RunsTimers}
+use Rattle.script_player.specs.declared.deliveries.Delivery.{Delivery}
+
+-- the deliveries that wait once answers were heard: each operation of an answer comes last, a delay after the moment of its item
+abbrev pub waiting : Play → List Answer → List Delivery
+waiting play answers = play.queue ++ deliveries_of play.delay play.network.given answers
+
+-- the least of the moments of the next row, of the next delivery, and at which a timer is due, where a gsmSSF takes it
+abbrev pub next_of : Play → List Answer → Option ℕ → Option ℕ
+next_of play answers due = in_reach (sooner (sooner (next_row play.left) (next_delivery (waiting play answers))) due)
+
+-- a round of one moment: the deliveries that are due, then the rows of the moment, then the timers
+pub record IsRound (before after : Play) (answers : List Answer) : Type 0 where
+  pub due : Option ℕ
+  pub first_due : IsFirstDue before.network.ssfs due
+  pub now : ℕ
+  pub next : next_of before answers due ≡ Some now
+  pub delivered : Shown
+  pub played : Shown
+  pub delivers : DeliversDue now before.network delivered (waiting before answers) after.queue
+  pub plays : PlaysDue now delivered played before.left after.left
+  pub runs : RunsTimers now played after.network
+  pub same_delay : after.delay ≡ before.delay
+  pub running : after.ended ≡ false
+
+-- the run ends: no moment is next
+pub record IsEnd (before after : Play) (answers : List Answer) : Type 0 where
+  pub due : Option ℕ
+  pub first_due : IsFirstDue before.network.ssfs due
+  pub none : next_of before answers due ≡ None
+  pub same_network : after.network ≡ before.network
+  pub same_queue : after.queue ≡ waiting before answers
+  pub same_left : after.left ≡ before.left
+  pub same_delay : after.delay ≡ before.delay
+  pub ended : after.ended ≡ true
+
+-- a round, or the end
+abbrev pub IsTurn : Bool → Play → Play → List Answer → Type 0
+IsTurn true before after answers = IsRound before after answers
+IsTurn false before after answers = IsEnd before after answers
