@@ -1,7 +1,8 @@
 pub mod Answers
 pub mod Asked
 pub mod Available
-pub mod CallStandings
+pub mod CallStages
+pub mod CallStates
 pub mod Checked
 pub mod Events
 pub mod Expiry

@@ -9,6 +9,6 @@ returns-in-Some-clause-ungated c = λ gated.
     let why : c.in-Some.fault ≡ fault.GateClosed = cc in
     never_gated c.args.self.now.limit (reverse c.args.self.now.history) (asked_of c.args.op) (sym c.in-Some.ensures.value ∙ ap Some why)
 
-pub answer-reply-requires : goal.answer-reply-requires
-answer-reply-requires c =
+pub answer-reply-requires-clause-admissible : goal.answer-reply-requires-clause-admissible
+answer-reply-requires-clause-admissible c =
     (admitted c.args.self.now.limit (reverse c.args.self.now.history) (asked_of c.args.op) (sym c.in_default.ensures.value)).0

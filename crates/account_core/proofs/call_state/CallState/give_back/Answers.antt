@@ -1,7 +1,7 @@
 use Rattle.std.proofs.Common.{arith}
 use Rattle.account_core.specs.Kept.{known_of}
-use Rattle.account_core.proofs.StandingLemmas.{paid_within}
-use Rattle.account_core.proofs.standing.Standing.give_back.Goals as goal
+use Rattle.account_core.proofs.CallStateLemmas.{paid_within}
+use Rattle.account_core.proofs.call_state.CallState.give_back.Goals as goal
 
 pub overflow_sub-result : goal.overflow_sub-result
 overflow_sub-result c =

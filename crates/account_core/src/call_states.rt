@@ -1,9 +1,8 @@
 //! What is known of the calls of a history.
 
 ghost use Rattle.std.specs.Prelude.{◌≡◌, ℕ, OnErr, OnOk};
-ghost use Rattle.account_core.specs.Kept.{unknown};
 
-use crate::standing::Standing;
+use crate::call_state::CallState;
 use std::alloc::{AllocError, Global};
 use std::collections::BTreeMap;
 
@@ -11,61 +10,61 @@ use std::collections::BTreeMap;
 #[derive(Clone, Copy)]
 pub(crate) struct KnownCall {
     pub call: u64,
-    pub standing: Standing,
+    pub state: CallState,
 }
 
 /// What is known of each call. Most entries are of the call that came last, so that it stands apart
 /// from the map of the others.
 #[derive(Drop)]
-pub(crate) struct CallStandings {
+pub(crate) struct CallStates {
     pub last: Option<KnownCall>,
-    pub others: BTreeMap<u64, Standing>,
+    pub others: BTreeMap<u64, CallState>,
 }
 
-impl CallStandings {
-    ghost use Rattle.account_core.specs.CallStandings.{AreSame, Renews, standing_of};
+impl CallStates {
+    ghost use Rattle.account_core.specs.CallStates.{AreSame, Renews, state_of};
 
     /// Those of no calls.
-    pub fn new(alloc: Global) -> CallStandings
-        ensures { (call : ℕ) → standing_of result call ≡ unknown }
+    pub fn new(alloc: Global) -> CallStates
+        ensures { (call : ℕ) → state_of result call ≡ CallState.Fresh }
     {
-        CallStandings {
+        CallStates {
             last: None,
             others: BTreeMap::new(alloc),
         }
     }
 
     /// What is known of a call.
-    pub fn standing(&self, call: u64) -> Standing
-        ensures { result ≡ standing_of self.now call }
+    pub fn state(&self, call: u64) -> CallState
+        ensures { result ≡ state_of self.now call }
     {
         if let Some(last) = self.last {
             if last.call == call {
-                return last.standing;
+                return last.state;
             }
         }
         match self.others.get(&call) {
-            Some(standing) => *standing,
-            None => Standing::UNKNOWN,
+            Some(state) => *state,
+            None => CallState::Fresh,
         }
     }
 
     /// Keeps what is known of a call now. Memory is taken where nothing was known of it.
-    pub fn renew(&mut self, call: u64, standing: Standing) -> Result<(), AllocError>
-        ensures renewed { OnOk result (Renews self.old self.new call standing) }
+    pub fn renew(&mut self, call: u64, state: CallState) -> Result<(), AllocError>
+        ensures renewed { OnOk result (Renews self.old self.new call state) }
         ensures kept { OnErr result (AreSame self.old self.new) }
-        ensures fresh { OnErr result (standing_of self.old call ≡ unknown) }
+        ensures fresh { OnErr result (state_of self.old call ≡ CallState.Fresh) }
     {
         if let Some(last) = self.last {
             if last.call != call {
                 if let Some(other) = self.others.get_mut(&call) {
-                    *other = standing;
+                    *other = state;
                     return Ok(());
                 }
-                self.others.insert(last.call, last.standing)?;
+                self.others.insert(last.call, last.state)?;
             }
         }
-        self.last = Some(KnownCall { call, standing });
+        self.last = Some(KnownCall { call, state });
         Ok(())
     }
 }
