@@ -1,3 +1,4 @@
+pub mod Admitting
 pub mod Answers
 pub mod Asked
 pub mod Available

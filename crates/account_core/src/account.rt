@@ -1,6 +1,7 @@
 //! The sequential account.
 
-ghost use Rattle.std.specs.Prelude.{◌≡◌, ◌≢◌, ◌≤◌, ◌++◌, ◌∷◌, [], None, map, reverse, IsOk, OnOk, OnErr, IfOk, IfErr};
+ghost use Rattle.std.specs.Prelude.{◌≡◌, ◌≢◌, ◌≤◌, ◌++◌, ◌∷◌, [], None, Some, map, reverse, IsOk, OnOk, OnErr, IfOk, IfErr};
+ghost use Rattle.account_core.specs.Admitting.{IsAdmitted};
 ghost use Rattle.account_core.specs.Answers.{IsLegal, inadmissible};
 ghost use Rattle.account_core.specs.Asked.{call_of};
 ghost use Rattle.account_core.specs.Available.{available};
@@ -18,8 +19,8 @@ mod sums;
 use crate::call_state::CallState;
 use crate::judging::{judge, reply};
 use crate::laws::legal_pasts_are_sound;
-use crate::{AccountFault, Entry, Op, Reply};
-use std::alloc::Global;
+use crate::{AccountFault, Admitted, Entry, Op, Reply};
+use std::alloc::{AllocError, Global};
 use std::collections::BTreeMap;
 use std::marker::Model;
 use tariff_core::MAX_MONEY;
@@ -99,12 +100,41 @@ impl Account {
         ensures ungated { result ≢ Err AccountFault.GateClosed }
         ensures closing { IsClosing (reverse self.old.history) (asked_of op) → IsOk result }
     {
+        let admitted = self.admit(op)?;
+        Ok(self.enter(seat, admitted)?)
+    }
+
+    /// Judges an operation: the first half of `apply`, for a caller that has its own room to make
+    /// before the second. A fault is as in `apply`, but for want of memory.
+    pub fn admit(&self, op: Op) -> Result<Admitted, AccountFault>
+        ensures admitted { IfOk result (λ admitted.
+            (admitted.op ≡ op) × IsAdmitted self.now admitted) }
+        ensures refused { IfErr result (λ fault. refusal_of self.now (asked_of op) ≡ Some fault) }
+        ensures ungated { result ≢ Err AccountFault.GateClosed }
+        ensures closing { IsClosing (reverse self.now.history) (asked_of op) → IsOk result }
+    {
         let call = self.state(op.call());
-        if let Some(fault) = self.judge(&op, &call) {
-            return Err(fault);
+        match self.judge(&op, &call) {
+            Some(fault) => Err(fault),
+            None => Ok(Admitted { op, call }),
         }
+    }
+
+    /// Answers an operation that the account admits as it is, and enters it for a seat: the second
+    /// half of `apply`. The only error is want of memory, which changes nothing, and which a Return
+    /// of an open call, and its first Settle since its last grant, never meet.
+    pub fn enter(&mut self, seat: u32, admitted: Admitted) -> Result<Reply, AllocError>
+        requires { IsAdmitted self.old admitted }
+        ensures answered { IfOk result (λ reply. reply ≡ answer_of self.old (asked_of admitted.op)) }
+        ensures entered { IfOk result (λ reply. self.new ≡ record self.old {
+          history = self.old.history ++ event_by seat (asked_of admitted.op) reply ∷ [];
+        }) }
+        ensures kept { OnErr result (self.new ≡ self.old) }
+        ensures closing { IsClosing (reverse self.old.history) (asked_of admitted.op) → IsOk result }
+    {
+        let Admitted { op, call } = admitted;
         let reply = self.answer(op, &call);
-        self.enter(Entry { seat, op, reply }, call)?;
+        self.keep(Entry { seat, op, reply }, call)?;
         Ok(reply)
     }
 

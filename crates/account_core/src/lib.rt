@@ -4,6 +4,7 @@
 
 mod account;
 mod account_port;
+mod admitted;
 mod call_stage;
 mod call_state;
 mod call_states;
@@ -25,6 +26,7 @@ mod walks;
 
 pub use account::Account;
 pub use account_port::AccountPort;
+pub use admitted::Admitted;
 pub use call_stage::CallStage;
 pub use call_sum::{CallSum, Fate};
 pub use entry::{Entry, Op, Reply};

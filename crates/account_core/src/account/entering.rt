@@ -16,9 +16,9 @@ use std::alloc::AllocError;
 use std::collections::BTreeMap;
 
 impl Account {
-    /// Enters an answered operation, with what was known of its call before. Room for it, and for
+    /// Keeps an answered operation, with what was known of its call before. Room for it, and for
     /// all that is owed after it, is made before anything changes.
-    pub(super) fn enter(&mut self, entry: Entry, before: CallState) -> Result<(), AllocError>
+    pub(super) fn keep(&mut self, entry: Entry, before: CallState) -> Result<(), AllocError>
         requires known { known_of before
             ≡ known (call_of (asked_of entry.op)) (reverse self.old.history) }
         requires admitted { refusal_of self.old (asked_of entry.op) ≡ None }
@@ -29,15 +29,15 @@ impl Account {
         ensures closing { IsClosing (reverse self.old.history) (asked_of entry.op) → IsOk result }
     {
         match entry.op {
-            Op::Credit { .. } => self.enter_credit(entry),
+            Op::Credit { .. } => self.keep_credit(entry),
             Op::Reserve { call, .. } | Op::Settle { call, .. } | Op::Return { call } => {
-                self.enter_call(call, entry, before)
+                self.keep_call(call, entry, before)
             }
         }
     }
 
-    /// Enters a Credit.
-    fn enter_credit(&mut self, entry: Entry) -> Result<(), AllocError>
+    /// Keeps a Credit.
+    fn keep_credit(&mut self, entry: Entry) -> Result<(), AllocError>
         requires credit { IsCredit (asked_of entry.op) }
         requires admitted { refusal_of self.old (asked_of entry.op) ≡ None }
         requires answered { entry.reply ≡ answer_of self.old (asked_of entry.op) }
@@ -54,8 +54,8 @@ impl Account {
         Ok(())
     }
 
-    /// Enters an operation of a call.
-    fn enter_call(&mut self, call: u64, entry: Entry, before: CallState) -> Result<(), AllocError>
+    /// Keeps an operation of a call.
+    fn keep_call(&mut self, call: u64, entry: Entry, before: CallState) -> Result<(), AllocError>
         requires known { known_of before ≡ known call (reverse self.old.history) }
         requires of_call { IsOfCall call (asked_of entry.op) }
         requires admitted { refusal_of self.old (asked_of entry.op) ≡ None }

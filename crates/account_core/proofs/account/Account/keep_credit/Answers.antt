@@ -2,7 +2,7 @@ use Rattle.std.proofs.Common.{arith, ◌≤◌, ◌+◌, ◌++◌, ◌∷◌, []
 use Rattle.std.specs.Vec.{vec_capacity}
 use Rattle.account_core.specs.Events.{asked_of, event_of}
 use Rattle.account_core.proofs.Entering.{admitted, credit_entered, entered_inside, funds_fit, kept_of, length_past}
-use Rattle.account_core.proofs.account.Account.enter_credit.Goals as goal
+use Rattle.account_core.proofs.account.Account.keep_credit.Goals as goal
 
 pub overflow_add-self : goal.overflow_add-self
 overflow_add-self c =

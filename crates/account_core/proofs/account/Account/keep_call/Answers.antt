@@ -3,7 +3,7 @@ use Rattle.std.specs.Vec.{vec_capacity}
 use Rattle.account_core.specs.Events.{event_of}
 use Rattle.account_core.specs.Kept.{known_of}
 use Rattle.account_core.proofs.Entering.{call_entered, entered_inside, kept_of, length_past, owed_enough, placed_known, room_known, some_place}
-use Rattle.account_core.proofs.account.Account.enter_call.Goals as goal
+use Rattle.account_core.proofs.account.Account.keep_call.Goals as goal
 
 pub after-after-requires-clause-room : goal.after-after-requires-clause-room
 after-after-requires-clause-room c =
