@@ -49,19 +49,27 @@ impl CallStates {
         }
     }
 
-    /// Keeps what is known of a call now. Memory is taken where nothing was known of it.
-    pub fn renew(&mut self, call: u64, state: CallState) -> Result<(), AllocError>
+    /// Keeps what is known of a call now, by what was known of it. Memory is taken where that was
+    /// nothing.
+    pub fn renew(
+        &mut self,
+        call: u64,
+        before: &CallState,
+        state: CallState,
+    ) -> Result<(), AllocError>
+        requires { before.now ≡ state_of self.old call }
         ensures renewed { OnOk result (Renews self.old self.new call state) }
         ensures kept { OnErr result (AreSame self.old self.new) }
         ensures fresh { OnErr result (state_of self.old call ≡ CallState.Fresh) }
     {
         if let Some(last) = self.last {
             if last.call != call {
-                if let Some(other) = self.others.get_mut(&call) {
+                if let CallState::Fresh = before {
+                    self.others.insert(last.call, last.state)?;
+                } else if let Some(other) = self.others.get_mut(&call) {
                     *other = state;
                     return Ok(());
                 }
-                self.others.insert(last.call, last.state)?;
             }
         }
         self.last = Some(KnownCall { call, state });

@@ -107,7 +107,7 @@ fn renew_state(
     let Some(after) = after_legal(entry, &state, funds, available, last_moment) else {
         return Ok(false);
     };
-    calls.renew(call, after)?;
+    calls.renew(call, &state, after)?;
     Ok(true)
 }
 
