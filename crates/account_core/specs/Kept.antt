@@ -10,7 +10,7 @@ use Rattle.account_core.specs.KeptPlans.{rates_kept}
 use Rattle.account_core.specs.Known.{Known, known, nothing_known}
 use Rattle.account_core.specs.Places.{owed}
 use Rattle.account_core.specs.declared.call_state.CallState.{CallState}
-use Rattle.account_core.specs.declared.call_state.CallState.TheVariants.{Fresh, Open, Over}
+use Rattle.account_core.specs.declared.call_state.CallState.TheVariants.{Fresh, Granted, Over, Reported}
 use Rattle.account_core.specs.declared.held_call.HeldCall.{HeldCall}
 use Rattle.tariff_core.specs.declared.money.TheConstants.{MAX_MONEY}
 
@@ -29,7 +29,8 @@ held_of held returned awaits = record {
 -- what a state says of its call
 abbrev pub known_of : CallState → Known
 known_of Fresh = nothing_known
-known_of (Open held awaits) = held_of held false awaits
+known_of (Granted held) = held_of held false true
+known_of (Reported held) = held_of held false false
 known_of (Over held) = held_of held true false
 
 -- the map has for each call what the history says of it

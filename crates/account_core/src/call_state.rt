@@ -24,13 +24,10 @@ use tariff_core::{
 pub(crate) enum CallState {
     /// It was never granted anything.
     Fresh,
-    /// It was granted something and isn't over.
-    Open {
-        /// What is kept of it.
-        held: HeldCall,
-        /// Whether no report has come since its last grant.
-        awaits: bool,
-    },
+    /// It is open, and no report has come since its last grant.
+    Granted(HeldCall),
+    /// It is open, and a report has come since its last grant.
+    Reported(HeldCall),
     /// It is over.
     Over(HeldCall),
 }
@@ -42,7 +39,8 @@ impl CallState {
     {
         match *self {
             CallState::Fresh => CallStage::Fresh,
-            CallState::Open { awaits, .. } => CallStage::Open { awaits },
+            CallState::Granted(_) => CallStage::Open { awaits: true },
+            CallState::Reported(_) => CallStage::Open { awaits: false },
             CallState::Over(_) => CallStage::Over,
         }
     }
@@ -53,7 +51,9 @@ impl CallState {
     {
         match self {
             CallState::Fresh => None,
-            CallState::Open { held, .. } | CallState::Over(held) => Some(held.paid()),
+            CallState::Granted(held) | CallState::Reported(held) | CallState::Over(held) => Some(
+                held.paid(),
+            ),
         }
     }
 
@@ -64,7 +64,7 @@ impl CallState {
     {
         match self {
             CallState::Fresh => 0,
-            CallState::Open { held, .. } => held.top,
+            CallState::Granted(held) | CallState::Reported(held) => held.top,
             CallState::Over(held) => held.paid(),
         }
     }
@@ -100,7 +100,8 @@ impl CallState {
     {
         match self {
             CallState::Fresh => Reply::Forfeit { paid: 0, available },
-            CallState::Open { held, .. } | CallState::Over(held) => held.settle(info, available),
+            CallState::Granted(held) | CallState::Reported(held) | CallState::Over(held) =>
+                held.settle(info, available),
         }
     }
 
@@ -159,16 +160,13 @@ impl CallState {
     {
         let plan = self.plan_in_force(plan);
         let times = self.times();
-        CallState::Open {
-            held: HeldCall {
-                plan: KeptPlan::of(plan),
-                times,
-                granted: times.total() + units,
-                top: ceiling(&plan, times, units),
-                forfeited: self.is_forfeited(),
-            },
-            awaits: true,
-        }
+        CallState::Granted(HeldCall {
+            plan: KeptPlan::of(plan),
+            times,
+            granted: times.total() + units,
+            top: ceiling(&plan, times, units),
+            forfeited: self.is_forfeited(),
+        })
     }
 
     /// What is known after a report that was accepted.
@@ -177,10 +175,9 @@ impl CallState {
         ensures { known_of result ≡ known_after (known_of self) (Reports info) }
     {
         match self {
-            CallState::Open { held, .. } => CallState::Open {
-                held: held.reported(info),
-                awaits: false,
-            },
+            CallState::Granted(held) | CallState::Reported(held) => {
+                CallState::Reported(held.reported(info))
+            }
             CallState::Fresh | CallState::Over(_) => self,
         }
     }
@@ -191,13 +188,12 @@ impl CallState {
         ensures { known_of result ≡ known_after (known_of self) Forfeits }
     {
         match self {
-            CallState::Open { held, .. } => CallState::Open {
-                held: HeldCall {
+            CallState::Granted(held) | CallState::Reported(held) => {
+                CallState::Reported(HeldCall {
                     forfeited: true,
                     ..held
-                },
-                awaits: false,
-            },
+                })
+            }
             CallState::Fresh | CallState::Over(_) => self,
         }
     }
@@ -208,7 +204,7 @@ impl CallState {
         ensures { known_of result ≡ record (known_of self) { returned = true; awaits = false } }
     {
         match self {
-            CallState::Open { held, .. } => CallState::Over(held),
+            CallState::Granted(held) | CallState::Reported(held) => CallState::Over(held),
             CallState::Fresh | CallState::Over(_) => self,
         }
     }
@@ -219,7 +215,8 @@ impl CallState {
     {
         match self {
             CallState::Fresh => 0,
-            CallState::Open { held, .. } | CallState::Over(held) => held.paid(),
+            CallState::Granted(held) | CallState::Reported(held) | CallState::Over(held) =>
+                held.paid(),
         }
     }
 
@@ -229,7 +226,8 @@ impl CallState {
     {
         match self {
             CallState::Fresh => plan,
-            CallState::Open { held, .. } | CallState::Over(held) => held.plan.plan(),
+            CallState::Granted(held) | CallState::Reported(held) | CallState::Over(held) =>
+                held.rates(),
         }
     }
 
@@ -239,7 +237,8 @@ impl CallState {
     {
         match self {
             CallState::Fresh => Times::ZERO,
-            CallState::Open { held, .. } | CallState::Over(held) => held.times,
+            CallState::Granted(held) | CallState::Reported(held) | CallState::Over(held) =>
+                held.times,
         }
     }
 
@@ -249,7 +248,8 @@ impl CallState {
     {
         match self {
             CallState::Fresh => false,
-            CallState::Open { held, .. } | CallState::Over(held) => held.forfeited,
+            CallState::Granted(held) | CallState::Reported(held) | CallState::Over(held) =>
+                held.forfeited,
         }
     }
 }

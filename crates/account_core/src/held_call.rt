@@ -3,13 +3,15 @@
 ghost use Rattle.std.specs.Prelude.{◌≡◌, ◌+◌, ◌≤◌, Bool, Some, false, unwrap_or};
 ghost use Rattle.account_core.specs.Answers.{accepted_times};
 ghost use Rattle.account_core.specs.Kept.{held_of};
+ghost use Rattle.account_core.specs.KeptPlans.{rates_kept};
 ghost use Rattle.account_core.specs.Known.{paid_of, price_under};
 ghost use Rattle.account_core.specs.Replies.{settle_reply};
+ghost use Rattle.tariff_core.specs.RatesOf.{rates_of};
 ghost use Rattle.tariff_core.specs.Reading.{times_read};
 
 use crate::Reply;
 use crate::kept_plan::KeptPlan;
-use tariff_core::{TimeInfo, Times, lawful, price, read_times};
+use tariff_core::{Plan, TimeInfo, Times, lawful, price, read_times};
 
 /// What an account keeps of a call that was granted something, while it is open and afterwards.
 #[derive(Clone, Copy, Debug)]
@@ -27,6 +29,13 @@ pub(crate) struct HeldCall {
 }
 
 impl HeldCall {
+    /// The plan of the call's first grant, as it was asked for.
+    pub fn rates(&self) -> Plan
+        ensures { rates_of result ≡ rates_kept self.now.plan }
+    {
+        self.plan.plan()
+    }
+
     /// What the call has paid so far.
     pub fn paid(&self) -> u64
         ensures { result ≡ paid_of (held_of self.now false false) }
@@ -48,7 +57,7 @@ impl HeldCall {
             return None;
         }
         let times = read_times(self.times, info)?;
-        if lawful(&self.plan.plan(), self.times, times, self.granted) {
+        if lawful(&self.rates(), self.times, times, self.granted) {
             Some(times)
         } else {
             None
@@ -89,6 +98,6 @@ impl HeldCall {
     fn price_of(&self, times: Times) -> u64
         ensures { result ≡ price_under (held_of self.now false false).plan times }
     {
-        price(&self.plan.plan(), times.before(), times.after())
+        price(&self.rates(), times.before(), times.after())
     }
 }

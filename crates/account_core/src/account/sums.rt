@@ -50,7 +50,7 @@ fn sum_of(call: u64, state: &CallState) -> Option<CallSum>
 {
     let (held, fate) = match state {
         CallState::Fresh => return None,
-        CallState::Open { held, .. } => (held, Fate::Holding),
+        CallState::Granted(held) | CallState::Reported(held) => (held, Fate::Holding),
         CallState::Over(held) => (held, Fate::Returned),
     };
     Some(CallSum {
