@@ -55,7 +55,7 @@ offered_within : TariffLaws → (call : Known) (plan : Rates) (credit wanted : �
     → (units_offered credit call plan wanted ≤ wanted) × (call.times.before + call.times.after + units_offered credit call plan wanted ≤ 864000)
 unfolding units_offered
 offered_within laws call plan credit wanted sound =
-    let (standing, day) = stands laws call plan sound in laws.within (plan_in_force call plan) call.times wanted (credit + taken_of call) day
+    let (state, day) = stands laws call plan sound in laws.within (plan_in_force call plan) call.times wanted (credit + taken_of call) day
 
 kindly_here : TariffLaws → (opening : ℕ) (until : Option ℕ) (h : List Event) (c : ℕ) (asked : Asked) → IsSound (known c h) → IsOfCall c asked
     → IsReplyTo (known c h) asked (answer opening until h asked)

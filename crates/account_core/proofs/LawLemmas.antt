@@ -12,7 +12,7 @@ use Rattle.account_core.specs.Asked.{Asked, Credits, Reserves, Returns, Settles,
 use Rattle.account_core.specs.Available.{available, credited}
 use Rattle.account_core.specs.Events.{Event}
 use Rattle.account_core.specs.Known.{Deed, Ends, Forfeits, Grants, Known, Reports, Rests, deed_of, is_open, known, known_after, paid_of, taken_of}
-use Rattle.account_core.specs.Laws.{AreReported, ClosedCallsPayTheTariff, IsSettle, NoBalanceIsNegative, SettlesKeepTheCredit, TimesAreReported, last_report, report_after, told, told_after}
+use Rattle.account_core.specs.Laws.{AreReported, ClosedCallsPayTheTariff, IsSettle, NoBalanceIsNegative, Reporting, SettlesKeepTheCredit, TimesAreReported, last_report, report_after, told, told_after}
 use Rattle.account_core.specs.TariffLaws.{TariffLaws}
 use Rattle.account_core.specs.declared.entry.Reply.{Reply}
 use Rattle.account_core.specs.declared.entry.Reply.TheVariants as reply
@@ -87,9 +87,9 @@ read_unwrapped old info times is = rw is refl
 -- a Settle's answer either reads the report or forfeits
 settle_reported : (call : Known) (c number : ℕ) (info : TimeInfo) (times : Option Elapsed) → accepted_times call info ≡ times
     → (known_after call (deed_of (Settles c number info) (settle_verdict call times))).forfeited ≡ false
-    → AreReported (Some info) (known_after call (deed_of (Settles c number info) (settle_verdict call times))).times
+    → AreReported (Some (record { before = call.times; info = info })) (known_after call (deed_of (Settles c number info) (settle_verdict call times))).times
 settle_reported call c number info None is lawful = cc
-settle_reported call c number info (Some times) is lawful = (call.times, read_unwrapped call.times info times (accepted call info times is).read)
+settle_reported call c number info (Some times) is lawful = read_unwrapped call.times info times (accepted call info times is).read
 
 reserve_times : (call : Known) (c : ℕ) (plan : Rates) (wanted least at : ℕ) (told : Reply)
     → ((known_after call (deed_of (Reserves c plan wanted least at) told)).times ≡ call.times) × ((known_after call (deed_of (Reserves c plan wanted least at) told)).forfeited ≡ call.forfeited)
@@ -97,10 +97,10 @@ reserve_times call c plan wanted least at (reply.Granted units last available) =
 reserve_times call c plan wanted least at told = (refl, refl)
 
 -- what an answered entry does to the times of its call is what its report states
-reported_by : (opening : ℕ) (until : Option ℕ) (h : List Event) (asked : Asked) (before : Option TimeInfo)
+reported_by : (opening : ℕ) (until : Option ℕ) (h : List Event) (asked : Asked) (before : Option Reporting)
     → ((known (call_of asked) h).forfeited ≡ false → AreReported before (known (call_of asked) h).times)
     → (known_after (known (call_of asked) h) (deed_of asked (verdict opening until h asked))).forfeited ≡ false
-    → AreReported (report_after before asked) (known_after (known (call_of asked) h) (deed_of asked (verdict opening until h asked))).times
+    → AreReported (report_after before (known (call_of asked) h).times asked) (known_after (known (call_of asked) h) (deed_of asked (verdict opening until h asked))).times
 reported_by opening until h (Credits amount moment) before known_told lawful = known_told lawful
 reported_by opening until h (Reserves c plan wanted least at) before known_told lawful =
     let (times, forfeited) = reserve_times (known c h) c plan wanted least at (verdict opening until h (Reserves c plan wanted least at)) in
@@ -109,7 +109,7 @@ reported_by opening until h (Settles c number info) before known_told lawful =
     settle_reported (known c h) c number info (accepted_times (known c h) info) refl lawful
 reported_by opening until h (Returns c) before known_told lawful = known_told lawful
 
-report_here : (h : List Event) (event : Event) → last_report (its_call event) (event ∷ h) ≡ report_after (last_report (its_call event) h) event.asked
+report_here : (h : List Event) (event : Event) → last_report (its_call event) (event ∷ h) ≡ report_after (last_report (its_call event) h) (known (its_call event) h).times event.asked
 report_here h event = rw (eq-eqb (its_call event) (its_call event) refl) refl
 
 report_apart : (h : List Event) (event : Event) (call : ℕ) → (its_call event == call) ≡ false → last_report call (event ∷ h) ≡ last_report call h

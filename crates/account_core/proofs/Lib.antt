@@ -8,7 +8,7 @@ pub mod Listing
 pub mod Moves
 pub mod SoundPasts
 pub mod Soundness
-pub mod StandingLemmas
+pub mod CallStateLemmas
 pub mod SumLemmas
 pub mod Sums
 pub mod Tallying

@@ -11,7 +11,7 @@ use Rattle.tariff_core.specs.declared.time_info.TimeInfo.{TimeInfo}
 use Rattle.account_core.specs.Answers.{accepted_times, lawful_times}
 use Rattle.account_core.specs.Known.{Deed, Ends, Forfeits, Grants, Known, Reports, Rests, is_open, known_after, paid_of, plan_in_force, taken_of, taken_under}
 use Rattle.account_core.specs.Sound.{IsHeld, IsSound, IsSoundUnder}
-use Rattle.account_core.proofs.StandingLemmas.{paid_within}
+use Rattle.account_core.proofs.CallStateLemmas.{paid_within}
 use Rattle.account_core.specs.TariffLaws.{TariffLaws}
 
 -- ---- what an answered entry may do, with this much credit left

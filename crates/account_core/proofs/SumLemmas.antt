@@ -11,12 +11,13 @@ use Rattle.std.specs.declared.cmp.Ordering.TheVariants.{Less}
 use Rattle.std.proofs.lemmas.Bool.Decides.{nat_tests}
 use Rattle.tariff_core.specs.Rates.{Rates}
 use Rattle.account_core.specs.Events.{event_of}
-use Rattle.account_core.specs.Kept.{IsKept, known_of, unknown}
+use Rattle.account_core.specs.Kept.{IsKept, known_of}
 use Rattle.account_core.specs.Known.{Known, known}
 use Rattle.account_core.specs.Ledger.{Ledger}
 use Rattle.account_core.specs.Sums.{AreSums, sum_in, sum_of, sum_under, sums_told}
 use Rattle.account_core.specs.declared.account.Account.TheInside.{Inside}
-use Rattle.account_core.specs.declared.standing.Standing.{Standing}
+use Rattle.account_core.specs.declared.call_state.CallState.{CallState}
+use Rattle.account_core.specs.declared.call_state.CallState.TheVariants.{Fresh}
 use Rattle.account_core.specs.declared.call_sum.CallSum.{CallSum}
 use Rattle.account_core.proofs.Entering.{kept_of}
 
@@ -24,7 +25,7 @@ use Rattle.account_core.proofs.Entering.{kept_of}
 abbrev IsBelow : ℕ → List ℕ → Type 0
 IsBelow call others = AllByRecursion (λ other. nat_cmp call other ≡ Less) others
 
--- ---- one standing more
+-- ---- one state more
 
 below_by : (plan : Option Rates) (known : Known) (least call : ℕ) (sums : List CallSum) → nat_cmp least call ≡ Less → IsBelow least (map (λ sum. sum.call) sums)
     → IsBelow least (map (λ sum. sum.call) (option_to_list (sum_under plan call known) ++ sums))
@@ -61,48 +62,48 @@ at_false q call is = grind (arith, nat_tests)
 same_true : (q : ℕ) → (q == q) ≡ true
 same_true q = grind (arith, nat_tests)
 
-below_all : (least : ℕ) (entries : List (ℕ × Standing)) → IsBelow least (map (λ e. e.0) entries) → IsBelow least (map (λ sum. sum.call) (sums_told entries))
+below_all : (least : ℕ) (entries : List (ℕ × CallState)) → IsBelow least (map (λ e. e.0) entries) → IsBelow least (map (λ sum. sum.call) (sums_told entries))
 below_all least [] below = tt
-below_all least ((call, standing) ∷ entries) below =
-    below_by (known_of standing).plan (known_of standing) least call (sums_told entries) below.0 (below_all least entries below.1)
+below_all least ((call, state) ∷ entries) below =
+    below_by (known_of state).plan (known_of state) least call (sums_told entries) below.0 (below_all least entries below.1)
 
-rising_all : (entries : List (ℕ × Standing)) → IsStrictlySortedBy nat_cmp (map (λ e. e.0) entries)
+rising_all : (entries : List (ℕ × CallState)) → IsStrictlySortedBy nat_cmp (map (λ e. e.0) entries)
     → IsStrictlySortedBy nat_cmp (map (λ sum. sum.call) (sums_told entries))
 unfolding IsStrictlySortedBy
 rising_all [] rising = tt
-rising_all ((call, standing) ∷ entries) rising =
-    rising_by (known_of standing).plan (known_of standing) call (sums_told entries) (below_all call entries rising.0) (rising_all entries rising.1)
+rising_all ((call, state) ∷ entries) rising =
+    rising_by (known_of state).plan (known_of state) call (sums_told entries) (below_all call entries rising.0) (rising_all entries rising.1)
 
-absent_all : (q : ℕ) (entries : List (ℕ × Standing)) → IsBelow q (map (λ e. e.0) entries) → sum_in q (sums_told entries) ≡ None
+absent_all : (q : ℕ) (entries : List (ℕ × CallState)) → IsBelow q (map (λ e. e.0) entries) → sum_in q (sums_told entries) ≡ None
 absent_all q [] below = refl
-absent_all q ((call, standing) ∷ entries) below =
-    apart_by (known_of standing).plan (known_of standing) q call (sums_told entries) (less_apart q call below.0) ∙ absent_all q entries below.1
+absent_all q ((call, state) ∷ entries) below =
+    apart_by (known_of state).plan (known_of state) q call (sums_told entries) (less_apart q call below.0) ∙ absent_all q entries below.1
 
--- the sum of the standing that a search finds
-abbrev sum_found : ℕ → Option Standing → Option CallSum
+-- the sum of the state that a search finds
+abbrev sum_found : ℕ → Option CallState → Option CallSum
 sum_found q None = None
-sum_found q (Some standing) = sum_of q (known_of standing)
+sum_found q (Some state) = sum_of q (known_of state)
 
-found_by : (here : Bool) (q call : ℕ) (standing : Standing) (entries : List (ℕ × Standing)) → is_at (nat_cmp q) call ≡ here
+found_by : (here : Bool) (q call : ℕ) (state : CallState) (entries : List (ℕ × CallState)) → is_at (nat_cmp q) call ≡ here
     → IsBelow call (map (λ e. e.0) entries) → sum_in q (sums_told entries) ≡ sum_found q (lookup (is_at (nat_cmp q)) entries)
-    → sum_in q (option_to_list (sum_of call (known_of standing)) ++ sums_told entries) ≡ sum_found q (if here then Some standing else lookup (is_at (nat_cmp q)) entries)
-found_by true q call standing entries is below rest =
+    → sum_in q (option_to_list (sum_of call (known_of state)) ++ sums_told entries) ≡ sum_found q (if here then Some state else lookup (is_at (nat_cmp q)) entries)
+found_by true q call state entries is below rest =
     let P : ℕ → Type 0 = λ n. IsBelow n (map (λ e. e.0) entries)
-    → sum_in q (option_to_list (sum_of n (known_of standing)) ++ sums_told entries) ≡ sum_of q (known_of standing) in
-    subst P (at_true q call is) (λ b. here_by (known_of standing).plan (known_of standing) q (sums_told entries) (same_true q) (absent_all q entries b)) below
-found_by false q call standing entries is below rest =
-    apart_by (known_of standing).plan (known_of standing) q call (sums_told entries) (at_false q call is) ∙ rest
+    → sum_in q (option_to_list (sum_of n (known_of state)) ++ sums_told entries) ≡ sum_of q (known_of state) in
+    subst P (at_true q call is) (λ b. here_by (known_of state).plan (known_of state) q (sums_told entries) (same_true q) (absent_all q entries b)) below
+found_by false q call state entries is below rest =
+    apart_by (known_of state).plan (known_of state) q call (sums_told entries) (at_false q call is) ∙ rest
 
-found_all : (q : ℕ) (entries : List (ℕ × Standing)) → IsStrictlySortedBy nat_cmp (map (λ e. e.0) entries)
+found_all : (q : ℕ) (entries : List (ℕ × CallState)) → IsStrictlySortedBy nat_cmp (map (λ e. e.0) entries)
     → sum_in q (sums_told entries) ≡ sum_found q (lookup (is_at (nat_cmp q)) entries)
 unfolding IsStrictlySortedBy
 found_all q [] rising = refl
-found_all q ((call, standing) ∷ entries) rising =
-    found_by (is_at (nat_cmp q) call) q call standing entries refl rising.0 (found_all q entries rising.1)
+found_all q ((call, state) ∷ entries) rising =
+    found_by (is_at (nat_cmp q) call) q call state entries refl rising.0 (found_all q entries rising.1)
 
-found_told : (q : ℕ) (found : Option Standing) (call : Known) → known_of (unwrap_or found unknown) ≡ call → sum_found q found ≡ sum_of q call
+found_told : (q : ℕ) (found : Option CallState) (call : Known) → known_of (unwrap_or found Fresh) ≡ call → sum_found q found ≡ sum_of q call
 found_told q None call is = ap (sum_of q) is
-found_told q (Some standing) call is = ap (sum_of q) is
+found_told q (Some state) call is = ap (sum_of q) is
 
 -- ---- an account's
 

@@ -5,17 +5,18 @@ use Rattle.std.proofs.lemmas.Bool.{eqb-true}
 use Rattle.account_core.specs.Answers.{IsAnswered, answer, inadmissible, inadmissible_for, shown_by}
 use Rattle.account_core.specs.Available.{credited}
 use Rattle.account_core.specs.Events.{Event}
-use Rattle.account_core.specs.CallStandings.{Renews, TellsCalls, standing_of}
+use Rattle.account_core.specs.CallStates.{Renews, TellsCalls, state_of}
 use Rattle.account_core.specs.Expiry.{last_moment_after}
-use Rattle.account_core.specs.Kept.{known_of, unknown}
+use Rattle.account_core.specs.Kept.{known_of}
 use Rattle.account_core.specs.Known.{Known, known, known_after, taken_of}
 use Rattle.account_core.specs.Replies.{reply_for}
 use Rattle.account_core.specs.Sound.{HasRoom, LegalPastsAreSound, SoundPastsAnswer}
 use Rattle.account_core.specs.Tallied.{IsTallied, IsToldOf, tally_of}
 use Rattle.account_core.specs.declared.entry.Reply.{Reply}
 use Rattle.account_core.specs.declared.fault.AccountFault.{AccountFault}
-use Rattle.account_core.specs.declared.call_standings.CallStandings.{CallStandings}
-use Rattle.account_core.specs.declared.standing.Standing.{Standing}
+use Rattle.account_core.specs.declared.call_states.CallStates.{CallStates}
+use Rattle.account_core.specs.declared.call_state.CallState.{CallState}
+use Rattle.account_core.specs.declared.call_state.CallState.TheVariants.{Fresh}
 use Rattle.account_core.specs.declared.tally.Tally.{Tally}
 use Rattle.account_core.proofs.Answering.{money_kept, reply_is_answer}
 use Rattle.account_core.proofs.Entering.{nothing_taken_yet}
@@ -23,8 +24,8 @@ use Rattle.account_core.proofs.Fitting.{answer_shows}
 use Rattle.account_core.proofs.Moves.{its_call, its_deed, known_apart, known_here}
 use Rattle.account_core.proofs.Walking.{room_walk}
 
-pub tallied_new : (opening : ℕ) (until : Option ℕ) (calls : CallStandings) → opening ≤ 1000000000000000
-    → ((call : ℕ) → standing_of calls call ≡ unknown) → IsTallied [] (tally_of opening until calls opening opening until)
+pub tallied_new : (opening : ℕ) (until : Option ℕ) (calls : CallStates) → opening ≤ 1000000000000000
+    → ((call : ℕ) → state_of calls call ≡ Fresh) → IsTallied [] (tally_of opening until calls opening opening until)
 tallied_new opening until calls small none = record {
   small = small;
   legal = tt;
@@ -79,12 +80,12 @@ module _ (opening : ℕ) (until : Option ℕ) (h : List Event) (event : Event) (
   pub told_after : known_after call (its_deed event) ≡ known (its_call event) (event ∷ h)
   told_after = ap (λ k. known_after k (its_deed event)) told.call_is ∙ sym (known_here h event)
 
--- ---- an entry, by the standings of all calls
+-- ---- an entry, by the states of all calls
 
-module _ (opening : ℕ) (until : Option ℕ) (h : List Event) (calls : CallStandings) (funds credit : ℕ) (last : Option ℕ) (event : Event)
+module _ (opening : ℕ) (until : Option ℕ) (h : List Event) (calls : CallStates) (funds credit : ℕ) (last : Option ℕ) (event : Event)
     (tallied : IsTallied h (tally_of opening until calls funds credit last)) where
-  pub told_by : (standing : Standing) → standing ≡ standing_of calls (its_call event) → IsToldOf opening until h event (known_of standing) funds credit last
-  told_by standing is = record {
+  pub told_by : (state : CallState) → state ≡ state_of calls (its_call event) → IsToldOf opening until h event (known_of state) funds credit last
+  told_by state is = record {
     small = tallied.small;
     legal = tallied.legal;
     call_is = ap known_of is ∙ tallied.tells (its_call event);
@@ -93,17 +94,17 @@ module _ (opening : ℕ) (until : Option ℕ) (h : List Event) (calls : CallStan
     last_is = tallied.last_is;
   }
 
-  tells_at : (here : Bool) (new : CallStandings) (after : Standing) (call : ℕ) → (its_call event == call) ≡ here → Renews calls new (its_call event) after
-      → known_of after ≡ known (its_call event) (event ∷ h) → known_of (standing_of new call) ≡ known call (event ∷ h)
+  tells_at : (here : Bool) (new : CallStates) (after : CallState) (call : ℕ) → (its_call event == call) ≡ here → Renews calls new (its_call event) after
+      → known_of after ≡ known (its_call event) (event ∷ h) → known_of (state_of new call) ≡ known call (event ∷ h)
   tells_at true new after call is renews after_is =
       let P : ℕ → Type 0 = λ c. known_of after ≡ known c (event ∷ h) in
-      let now : standing_of new call ≡ after = renews call ∙ ap (λ b. if b then after else standing_of calls call) is in
+      let now : state_of new call ≡ after = renews call ∙ ap (λ b. if b then after else state_of calls call) is in
       ap known_of now ∙ subst P (eqb-true (its_call event) call is) after_is
   tells_at false new after call is renews after_is =
-      let now : standing_of new call ≡ standing_of calls call = renews call ∙ ap (λ b. if b then after else standing_of calls call) is in
+      let now : state_of new call ≡ state_of calls call = renews call ∙ ap (λ b. if b then after else state_of calls call) is in
       ap known_of now ∙ (tallied.tells call ∙ sym (known_apart h event call is))
 
-  pub tells_after : (new : CallStandings) (after : Standing) → Renews calls new (its_call event) after
+  pub tells_after : (new : CallStates) (after : CallState) → Renews calls new (its_call event) after
       → known_of after ≡ known (its_call event) (event ∷ h) → TellsCalls new (event ∷ h)
   tells_after new after renews after_is call = tells_at (its_call event == call) new after call refl renews after_is
 
@@ -113,7 +114,7 @@ module _ (h : List Event) (tally : Tally) (event : Event) (tallied : IsTallied h
   pub funds_more : LegalPastsAreSound → tally.funds + credited event.asked event.reply ≤ 1000000000000000
   funds_more sounds = omega (arith, tallied.funds_are, (sounds tally.opening tally.until (event ∷ h) tallied.small (tallied.legal, answered)).capped)
 
-  pub tallied_more : (calls : CallStandings) (added credit : ℕ) (last : Option ℕ) → TellsCalls calls (event ∷ h) → added ≡ credited event.asked event.reply
+  pub tallied_more : (calls : CallStates) (added credit : ℕ) (last : Option ℕ) → TellsCalls calls (event ∷ h) → added ≡ credited event.asked event.reply
       → credit ≡ shown_by event.reply → last ≡ last_moment_after tally.last_moment event.asked event.reply
       → IsTallied (event ∷ h) (tally_of tally.opening tally.until calls (tally.funds + added) credit last)
   tallied_more calls added credit last tells added_is shows last_is = record {

@@ -84,7 +84,7 @@ module _ (laws : TariffLaws) where
       → units_offered credit call plan wanted ≡ units → 1 ≤ units → IsGrant credit call plan units
   unfolding units_offered
   grant_allowed credit call plan wanted units sound here is some =
-      let (standing, day) = stands laws call plan sound in
+      let (state, day) = stands laws call plan sound in
       let money : ℕ = credit + taken_of call in
       let P : ℕ → Type 0 = λ n. 1 ≤ n → IsGrant credit call plan n in
       subst P is (λ more. record {

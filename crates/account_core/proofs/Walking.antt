@@ -1,10 +1,10 @@
 -- Walks through a legal history.
-use Rattle.std.proofs.Common.{◌≡◌, ℕ, ◌+◌, ◌≤◌, ◌<◌, Bool, true, false, Option, List, [], ◌∷◌, ◌++◌, drop, get_or, length, take, sym, ap, ◌∙◌, arith, subst, add-one}
+use Rattle.std.proofs.Common.{◌≡◌, ℕ, ◌+◌, ◌≤◌, ◌<◌, Bool, true, false, Option, None, List, [], ◌∷◌, ◌++◌, drop, get_or, length, take, sym, ap, ◌∙◌, arith, subst, add-one}
 use Rattle.std.specs.Prelude.{◌==◌, if◌then◌else◌, map, reverse, sum_by}
 use Rattle.std.proofs.Math.Seq.{take-length, take-suc}
 use Rattle.std.proofs.lemmas.Bool.Decides.{nat_tests}
 use Rattle.std.proofs.lemmas.List.{map-append, reverse-append, take-append-drop}
-use Rattle.account_core.specs.Answers.{IsAnswered, IsLegalPast}
+use Rattle.account_core.specs.Answers.{IsAnswered, IsLegalPast, inadmissible, misplaced}
 use Rattle.account_core.specs.Available.{begins_call, calls, credited, credits, taken_by_all}
 use Rattle.account_core.specs.Events.{Event, asked_of, event_of}
 use Rattle.account_core.specs.Known.{Deed, Known, known, known_after, taken_of}
@@ -16,6 +16,7 @@ use Rattle.account_core.proofs.Entering.{past_pushed}
 use Rattle.account_core.proofs.LawLemmas.{prefix_legal}
 use Rattle.account_core.proofs.Moves.{its_call, its_deed, known_apart, known_here, sum_if}
 use Rattle.account_core.proofs.SoundPasts.{answered_deed}
+use Rattle.account_core.proofs.Verdicts.{in_place}
 
 -- the first i entries, newest first
 abbrev pub past_to : List Entry → ℕ → List Event
@@ -63,6 +64,12 @@ room_walk sounds fits opening until h small legal event answered call c is here 
     let D : Deed → Type 0 = λ d. HasRoom (known (its_call event) h) d in
     let K : Known → Type 0 = λ k. HasRoom k (its_deed event) in
     subst K (ap (λ n. known n h) here ∙ sym is) (subst D (sym (answered_deed opening until h event answered)) fitting.room)
+
+pub placed_walk : (h : List Event) (event : Event) → inadmissible h event.asked ≡ None → (call : Known) (c : ℕ) → call ≡ known c h → its_call event ≡ c
+    → misplaced call event.asked ≡ None
+placed_walk h event admissible call c is here =
+    let K : Known → Type 0 = λ k. misplaced k event.asked ≡ None in
+    subst K (ap (λ n. known n h) here ∙ sym is) (in_place h event.asked admissible).1
 
 pub known_walk : (h : List Event) (event : Event) (call later : Known) (c : ℕ) → call ≡ known c h → its_call event ≡ c → later ≡ known_after call (its_deed event)
     → later ≡ known c (event ∷ h)

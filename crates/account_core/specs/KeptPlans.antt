@@ -1,4 +1,4 @@
--- What the plan of a standing says.
+-- What the plan of a state says.
 use Rattle.tariff_core.specs.Rates.{Rates}
 use Rattle.account_core.specs.declared.kept_plan.KeptPlan.{KeptPlan}
 

@@ -32,7 +32,7 @@ unfoldable pub deed : ℕ → Event → Deed
 deed call event = if call_of event.asked == call then deed_of event.asked event.reply else Rests
 
 -- the plan of a call's first grant; its times, which its last accepted report states; the time granted in all, which is its times at its last grant and the units of that
--- grant; the most that it can come to pay for them; whether it has a forfeit; whether it was returned; and whether no report has come since its last grant
+-- grant; the most that it can come to pay for them; whether it has a forfeit; whether it was returned; and whether it isn't and no report has come since its last grant
 pub record Known : Type 0 where
   pub plan : Option Rates
   pub times : Elapsed
@@ -62,7 +62,7 @@ known_after known (Grants plan units) = record {
 }
 known_after known (Reports info) = record known { times = unwrap_or (times_read known.times info) known.times; awaits = false }
 known_after known Forfeits = record known { forfeited = true; awaits = false }
-known_after known (Ends paid) = record known { returned = true }
+known_after known (Ends paid) = record known { returned = true; awaits = false }
 known_after known Rests = known
 
 -- what a history says of a call

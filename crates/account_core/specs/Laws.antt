@@ -39,19 +39,24 @@ abbrev pub ClosedCallsPayTheTariff : Type 0
 ClosedCallsPayTheTariff = (opening : ℕ) (until : Option ℕ) (history : List Event) (call : ℕ) (plan : Rates) → opening ≤ MAX_MONEY → IsLegal opening until history
     → IsClosed call plan (reverse history) → told call (reverse history) ≡ Some (price_at plan (known call (reverse history)).times)
 
+-- a report, and the times of its call before it
+pub record Reporting : Type 0 where
+  pub before : Elapsed
+  pub info : TimeInfo
+
 -- the last report of a call, whatever was answered
-abbrev pub report_after : Option TimeInfo → Asked → Option TimeInfo
-report_after before (Settles call number info) = Some info
-report_after before asked = before
+abbrev pub report_after : Option Reporting → Elapsed → Asked → Option Reporting
+report_after last times (Settles call number info) = Some (record { before = times; info = info })
+report_after last times asked = last
 
-abbrev pub last_report : ℕ → List Event → Option TimeInfo
+abbrev pub last_report : ℕ → List Event → Option Reporting
 last_report call [] = None
-last_report call (event ∷ h) = if call_of event.asked == call then report_after (last_report call h) event.asked else last_report call h
+last_report call (event ∷ h) = if call_of event.asked == call then report_after (last_report call h) (known call h).times event.asked else last_report call h
 
--- the times of a call without a forfeit: those read from its last report, and none before any report
-abbrev pub AreReported : Option TimeInfo → Elapsed → Type 0
+-- the times of a call without a forfeit: those read from its last report after the times before it, and none before any report
+abbrev pub AreReported : Option Reporting → Elapsed → Type 0
 AreReported None times = times ≡ no_times
-AreReported (Some info) times = (before : Elapsed) × (times_read before info ≡ Some times)
+AreReported (Some report) times = times_read report.before report.info ≡ Some times
 
 abbrev pub TimesAreReported : Type 0
 TimesAreReported = (opening : ℕ) (until : Option ℕ) (history : List Event) (call : ℕ) → opening ≤ MAX_MONEY → IsLegal opening until history

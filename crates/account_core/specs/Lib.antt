@@ -1,7 +1,9 @@
+pub mod Admitting
 pub mod Answers
 pub mod Asked
 pub mod Available
-pub mod CallStandings
+pub mod CallStages
+pub mod CallStates
 pub mod Checked
 pub mod Events
 pub mod Expiry

@@ -6,7 +6,7 @@ use Rattle.tariff_core.specs.Rates.{Rates}
 use Rattle.account_core.specs.Events.{Event}
 use Rattle.account_core.specs.Kept.{known_of}
 use Rattle.account_core.specs.Known.{Known, known, paid_of}
-use Rattle.account_core.specs.declared.standing.Standing.{Standing}
+use Rattle.account_core.specs.declared.call_state.CallState.{CallState}
 use Rattle.account_core.specs.declared.call_sum.CallSum.{CallSum}
 use Rattle.account_core.specs.declared.call_sum.Fate.{Fate}
 use Rattle.account_core.specs.declared.call_sum.Fate.TheVariants as fate
@@ -33,7 +33,7 @@ pub record AreSums (h : List Event) (sums : List CallSum) : Type 0 where
   pub rising : IsStrictlySortedBy nat_cmp (map (λ sum. sum.call) sums)
   pub each : (call : ℕ) → sum_in call sums ≡ sum_of call (known call h)
 
--- the sums that standings tell
-abbrev pub sums_told : List (ℕ × Standing) → List CallSum
+-- the sums that states tell
+abbrev pub sums_told : List (ℕ × CallState) → List CallSum
 sums_told [] = []
 sums_told (entry ∷ entries) = option_to_list (sum_of entry.0 (known_of entry.1)) ++ sums_told entries

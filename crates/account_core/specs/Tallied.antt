@@ -3,20 +3,20 @@ use Rattle.std.specs.Prelude.{◌≡◌, ◌+◌, ◌≤◌, ℕ, Option, List}
 use Rattle.account_core.specs.Answers.{IsLegalPast}
 use Rattle.account_core.specs.Asked.{call_of}
 use Rattle.account_core.specs.Available.{available, credits}
-use Rattle.account_core.specs.CallStandings.{TellsCalls}
+use Rattle.account_core.specs.CallStates.{TellsCalls}
 use Rattle.account_core.specs.Events.{Event}
 use Rattle.account_core.specs.Expiry.{last_moment}
 use Rattle.account_core.specs.Known.{Known, known}
-use Rattle.account_core.specs.declared.call_standings.CallStandings.{CallStandings}
+use Rattle.account_core.specs.declared.call_states.CallStates.{CallStates}
 use Rattle.account_core.specs.declared.tally.Tally.{Tally}
 use Rattle.tariff_core.specs.declared.money.TheConstants.{MAX_MONEY}
 
 -- a tally with these parts
-abbrev pub tally_of : ℕ → Option ℕ → CallStandings → ℕ → ℕ → Option ℕ → Tally
+abbrev pub tally_of : ℕ → Option ℕ → CallStates → ℕ → ℕ → Option ℕ → Tally
 tally_of opening until calls funds available last =
     record { opening = opening; until = until; calls = calls; funds = funds; available = available; last_moment = last }
 
--- the history is legal from this opening, and the standings, the totals and the last moment are those of the history
+-- the history is legal from this opening, and the states, the totals and the last moment are those of the history
 pub record IsTallied (h : List Event) (tally : Tally) : Type 0 where
   pub small : tally.opening ≤ MAX_MONEY
   pub legal : IsLegalPast tally.opening tally.until h

@@ -1,7 +1,9 @@
 //! The sequential account.
 
-ghost use Rattle.std.specs.Prelude.{◌≡◌, ◌≢◌, ◌≤◌, ◌++◌, ◌∷◌, [], None, map, reverse, IsOk, OnOk, OnErr, IfOk, IfErr};
+ghost use Rattle.std.specs.Prelude.{◌≡◌, ◌≢◌, ◌≤◌, ◌++◌, ◌∷◌, [], None, Some, map, reverse, IsOk, OnOk, OnErr, IfOk, IfErr};
+ghost use Rattle.account_core.specs.Admitting.{IsAdmitted};
 ghost use Rattle.account_core.specs.Answers.{IsLegal, inadmissible};
+ghost use Rattle.account_core.specs.Asked.{call_of};
 ghost use Rattle.account_core.specs.Available.{available};
 ghost use Rattle.account_core.specs.Events.{asked_of, event_of};
 ghost use Rattle.account_core.specs.Kept.{known_of};
@@ -14,25 +16,25 @@ mod entering;
 mod parts;
 mod sums;
 
+use crate::call_state::CallState;
 use crate::judging::{judge, reply};
 use crate::laws::legal_pasts_are_sound;
-use crate::standing::Standing;
-use crate::{AccountFault, Entry, Op, Reply};
-use std::alloc::Global;
+use crate::{AccountFault, Admitted, Entry, Op, Reply};
+use std::alloc::{AllocError, Global};
 use std::collections::BTreeMap;
 use std::marker::Model;
 use tariff_core::MAX_MONEY;
 
 /// An account: a history of entries, each the one right answer of a sequential account in its place.
 ///
-/// Beside its entries it keeps what they come to: the standing of each call, the funds, the credit
+/// Beside its entries it keeps what they come to: the state of each call, the funds, the credit
 /// that is left, the last moment, and the places that are owed for closing the open calls. It keeps
 /// room in memory for those places, so that a Return of an open call, and its first Settle since its
 /// last grant, always succeed.
 #[derive(Drop)]
 pub struct Account {
     entries: Vec<Entry>,
-    calls: BTreeMap<u64, Standing>,
+    calls: BTreeMap<u64, CallState>,
     opening: u64,
     until: Option<u64>,
     limit: u32,
@@ -98,23 +100,51 @@ impl Account {
         ensures ungated { result ≢ Err AccountFault.GateClosed }
         ensures closing { IsClosing (reverse self.old.history) (asked_of op) → IsOk result }
     {
-        if let Some(fault) = self.refusal(&op) {
-            return Err(fault);
+        let admitted = self.admit(op)?;
+        Ok(self.enter(seat, admitted)?)
+    }
+
+    /// Judges an operation: the first half of `apply`, for a caller that has its own room to make
+    /// before the second. A fault is as in `apply`, but for want of memory.
+    pub fn admit(&self, op: Op) -> Result<Admitted, AccountFault>
+        ensures admitted { IfOk result (λ admitted.
+            (admitted.op ≡ op) × IsAdmitted self.now admitted) }
+        ensures refused { IfErr result (λ fault. refusal_of self.now (asked_of op) ≡ Some fault) }
+        ensures ungated { result ≢ Err AccountFault.GateClosed }
+        ensures closing { IsClosing (reverse self.now.history) (asked_of op) → IsOk result }
+    {
+        let call = self.state(op.call());
+        match self.judge(&op, &call) {
+            Some(fault) => Err(fault),
+            None => Ok(Admitted { op, call }),
         }
-        let reply = self.answer(op);
-        self.enter(Entry { seat, op, reply })?;
+    }
+
+    /// Answers an operation that the account admits as it is, and enters it for a seat: the second
+    /// half of `apply`. The only error is want of memory, which changes nothing, and which a Return
+    /// of an open call, and its first Settle since its last grant, never meet.
+    pub fn enter(&mut self, seat: u32, admitted: Admitted) -> Result<Reply, AllocError>
+        requires { IsAdmitted self.old admitted }
+        ensures answered { IfOk result (λ reply. reply ≡ answer_of self.old (asked_of admitted.op)) }
+        ensures entered { IfOk result (λ reply. self.new ≡ record self.old {
+          history = self.old.history ++ event_by seat (asked_of admitted.op) reply ∷ [];
+        }) }
+        ensures kept { OnErr result (self.new ≡ self.old) }
+        ensures closing { IsClosing (reverse self.old.history) (asked_of admitted.op) → IsOk result }
+    {
+        let Admitted { op, call } = admitted;
+        let reply = self.answer(op, &call);
+        self.keep(Entry { seat, op, reply }, call)?;
         Ok(reply)
     }
 
     /// Why an operation would be refused now, if it would be for any reason but want of memory. One
     /// that closes a call, a Return or the first Settle since its last grant, never is.
-    #[tactic(auto, unfolding(crate::specs::Places::refusal))]
     pub fn refusal(&self, op: &Op) -> Option<AccountFault>
         ensures value { result ≡ refusal_of self.now (asked_of op.now) }
         ensures closing { IsClosing (reverse self.now.history) (asked_of op.now) → result ≡ None }
     {
-        let standing = self.standing(op.call());
-        judge(op, &standing, self.entries.len(), self.owed, self.limit)
+        self.judge(op, &self.state(op.call()))
     }
 
     /// The entries, oldest first. They are a legal history.
@@ -137,32 +167,39 @@ impl Account {
     pub fn paid(&self, call: u64) -> Option<u64>
         ensures { result ≡ paid_if_granted (known call (reverse self.now.history)) }
     {
-        let standing = self.standing(call);
-        if standing.plan.is_some() {
-            Some(standing.paid())
-        } else {
-            None
-        }
+        self.state(call).paid_if_granted()
     }
 
     /// What the account knows of a call.
-    fn standing(&self, call: u64) -> Standing
+    fn state(&self, call: u64) -> CallState
         ensures { known_of result ≡ known call (reverse self.now.history) }
     {
         match self.calls.get(&call) {
-            Some(standing) => *standing,
-            None => Standing::UNKNOWN,
+            Some(state) => *state,
+            None => CallState::Fresh,
         }
     }
 
-    /// The answer to an admissible operation.
-    fn answer(&self, op: Op) -> Reply
-        requires { inadmissible (reverse self.now.history) (asked_of op) ≡ None }
+    /// Why an operation would be refused, by what is known of its call.
+    #[tactic(auto, unfolding(crate::specs::Places::refusal))]
+    fn judge(&self, op: &Op, call: &CallState) -> Option<AccountFault>
+        requires { known_of call.now
+            ≡ known (call_of (asked_of op.now)) (reverse self.now.history) }
+        ensures value { result ≡ refusal_of self.now (asked_of op.now) }
+        ensures closing { IsClosing (reverse self.now.history) (asked_of op.now) → result ≡ None }
+    {
+        judge(op, call, self.entries.len(), self.owed, self.limit)
+    }
+
+    /// The answer to an admissible operation, by what is known of its call.
+    fn answer(&self, op: Op, call: &CallState) -> Reply
+        requires known { known_of call.now
+            ≡ known (call_of (asked_of op)) (reverse self.now.history) }
+        requires admissible { inadmissible (reverse self.now.history) (asked_of op) ≡ None }
         ensures { result ≡ answer_of self.now (asked_of op) }
     {
         self.history_is_sound();
-        let standing = self.standing(op.call());
-        reply(op, &standing, self.funds, self.available, self.last_moment)
+        reply(op, call, self.funds, self.available, self.last_moment)
     }
 
     /// What the type keeps.

@@ -31,7 +31,7 @@ impl AccountPort {
 }
 
 impl Port for AccountPort {
-    ghost standing = { λ port call. Some (known call (reverse port.account.history)) };
+    ghost state = { λ port call. Some (known call (reverse port.account.history)) };
 
     /// Asks the account, as `Account::apply` with the seat's number.
     fn ask(&mut self, op: Op) -> Result<Reply, AccountFault>

@@ -4,7 +4,7 @@ ghost use Rattle.std.specs.Prelude.{◌≡◌, ◌≤◌, ◌∷◌, [], ℕ, Li
 ghost use Rattle.std.specs.Bool.{Decides};
 ghost use Rattle.account_core.specs.Answers.{IsLegalPast};
 ghost use Rattle.account_core.specs.Asked.{call_of};
-ghost use Rattle.account_core.specs.Checked.{IsCheckOf};
+ghost use Rattle.account_core.specs.Checked.{HasBegun, IsCheckOf};
 ghost use Rattle.account_core.specs.Events.{Event, asked_of, event_of};
 ghost use Rattle.account_core.specs.Known.{known, nothing_known};
 
@@ -17,7 +17,23 @@ use tariff_core::MAX_MONEY;
 /// what they come to while they are legal.
 #[derive(Drop)]
 pub struct HistoryCheck {
-    tally: Option<Tally>,
+    heard: Heard,
+}
+
+/// What a check has heard. A book may have hundreds of thousands of accounts without entries, so
+/// that a tally lies in memory of its own, from the first entry on.
+#[derive(Drop)]
+enum Heard {
+    /// No entry yet, of an account with this opening and last moment.
+    Nothing {
+        alloc: Global,
+        opening: u64,
+        until: Option<u64>,
+    },
+    /// A legal history.
+    Legal(Box<Tally>),
+    /// A history that isn't legal, and never will be.
+    Illegal,
 }
 
 impl HistoryCheck {
@@ -28,12 +44,16 @@ impl HistoryCheck {
         ensures { IsCheckOf opening until [] result }
     {
         HistoryCheck {
-            tally: Some(Tally::new(alloc, opening, until)),
+            heard: Heard::Nothing {
+                alloc,
+                opening,
+                until,
+            },
         }
     }
 
-    /// Takes one entry more, from any seat. The only error is want of memory, which is taken for a
-    /// call that is new; the check is then still that of the entries before.
+    /// Takes one entry more, from any seat. The only error is want of memory, which is taken for the
+    /// first entry and for a call that is new; the check is then still that of the entries before.
     pub fn hear(&mut self, entry: Entry) -> Result<(), AllocError>
         requires { (opening : ℕ) × (until : Option ℕ) × (h : List Event) × IsCheckOf opening until h self.old }
         ensures heard { OnOk result ((opening : ℕ) (until : Option ℕ) (h : List Event) →
@@ -43,12 +63,8 @@ impl HistoryCheck {
         ensures fresh { OnErr result ((opening : ℕ) (until : Option ℕ) (h : List Event) →
             IsCheckOf opening until h self.old → known (call_of (asked_of entry.op)) h ≡ nothing_known) }
     {
-        if let Some(tally) = &mut self.tally {
-            if !tally.hear(entry)? {
-                self.tally = None;
-            }
-        }
-        Ok(())
+        self.begin()?;
+        self.judge(entry)
     }
 
     /// Whether the entries so far are a legal history.
@@ -56,6 +72,45 @@ impl HistoryCheck {
         ensures { (opening : ℕ) (until : Option ℕ) (h : List Event) → IsCheckOf opening until h self.now →
             Decides result (IsLegalPast opening until h) }
     {
-        self.tally.is_some()
+        !matches!(self.heard, Heard::Illegal)
+    }
+
+    /// Takes one entry more, where there is a tally, or no need of one.
+    fn judge(&mut self, entry: Entry) -> Result<(), AllocError>
+        requires begun { HasBegun self.old }
+        requires of { (opening : ℕ) × (until : Option ℕ) × (h : List Event) × IsCheckOf opening until h self.old }
+        ensures heard { OnOk result ((opening : ℕ) (until : Option ℕ) (h : List Event) →
+            IsCheckOf opening until h self.old → IsCheckOf opening until (event_of entry ∷ h) self.new) }
+        ensures kept { OnErr result ((opening : ℕ) (until : Option ℕ) (h : List Event) →
+            IsCheckOf opening until h self.old → IsCheckOf opening until h self.new) }
+        ensures fresh { OnErr result ((opening : ℕ) (until : Option ℕ) (h : List Event) →
+            IsCheckOf opening until h self.old → known (call_of (asked_of entry.op)) h ≡ nothing_known) }
+    {
+        if let Heard::Legal(tally) = &mut self.heard {
+            if !tally.hear(entry)? {
+                self.heard = Heard::Illegal;
+            }
+        }
+        Ok(())
+    }
+
+    /// Makes the tally where there is none yet.
+    fn begin(&mut self) -> Result<(), AllocError>
+        requires { (opening : ℕ) × (until : Option ℕ) × (h : List Event) × IsCheckOf opening until h self.old }
+        ensures same { (opening : ℕ) (until : Option ℕ) (h : List Event) →
+            IsCheckOf opening until h self.old → IsCheckOf opening until h self.new }
+        ensures begun { OnOk result (HasBegun self.new) }
+        ensures empty { OnErr result ((opening : ℕ) (until : Option ℕ) (h : List Event) →
+            IsCheckOf opening until h self.old → h ≡ []) }
+    {
+        if let Heard::Nothing {
+            alloc,
+            opening,
+            until,
+        } = self.heard
+        {
+            self.heard = Heard::Legal(Box::new(alloc, Tally::new(alloc, opening, until))?);
+        }
+        Ok(())
     }
 }

@@ -11,25 +11,25 @@ ghost use Rattle.account_core.specs.Places.{refusal_for};
 ghost use Rattle.account_core.specs.Replies.{credit_reply, reply_for};
 ghost use Rattle.account_core.specs.Sound.{IsSound};
 
-use crate::standing::Standing;
+use crate::call_state::CallState;
 use crate::{AccountFault, Op, Reply};
 use tariff_core::{DAY, MAX_MONEY};
 
 /// Why an operation is refused, if it is: out of range, else out of place, else over the limit.
 pub(crate) fn judge(
     op: &Op,
-    standing: &Standing,
+    state: &CallState,
     entries: usize,
     owed: usize,
     limit: u32,
 ) -> Option<AccountFault>
     requires { entries + owed ≤ limit }
-    ensures { result ≡ refusal_for limit entries owed (known_of standing.now) (asked_of op.now) }
+    ensures { result ≡ refusal_for limit entries owed (known_of state.now) (asked_of op.now) }
 {
-    if let Some(fault) = inadmissible(op, standing) {
+    if let Some(fault) = inadmissible(op, state) {
         return Some(fault);
     }
-    if entries + owed + standing.needed(op) > limit as usize {
+    if entries + owed + state.needed(op) > limit as usize {
         Some(AccountFault::HistoryFull)
     } else {
         None
@@ -37,15 +37,17 @@ pub(crate) fn judge(
 }
 
 /// Whether an operation is out of range, or out of place.
-pub(crate) fn inadmissible(op: &Op, standing: &Standing) -> Option<AccountFault>
-    ensures { result ≡ inadmissible_for (known_of standing.now) (asked_of op.now) }
+pub(crate) fn inadmissible(op: &Op, state: &CallState) -> Option<AccountFault>
+    ensures { result ≡ inadmissible_for (known_of state.now) (asked_of op.now) }
 {
     if !is_in_range(op) {
         return Some(AccountFault::OutOfRange);
     }
-    match op {
-        Op::Reserve { .. } if standing.returned => Some(AccountFault::CallUsed),
-        Op::Settle { .. } | Op::Return { .. } if !standing.is_open() => Some(AccountFault::NotOpen),
+    match (op, state) {
+        (Op::Reserve { .. }, CallState::Over(_)) => Some(AccountFault::CallUsed),
+        (Op::Settle { .. } | Op::Return { .. }, CallState::Fresh | CallState::Over(_)) => {
+            Some(AccountFault::NotOpen)
+        }
         _ => None,
     }
 }
@@ -65,16 +67,16 @@ fn is_in_range(op: &Op) -> bool
 /// credits, so much of them is available, and the account has this last moment, if any.
 pub(crate) fn reply(
     op: Op,
-    standing: &Standing,
+    state: &CallState,
     funds: u64,
     available: u64,
     last_moment: Option<u64>,
 ) -> Reply
-    requires sound { IsSound (known_of standing.now) }
-    requires money { available + taken_of (known_of standing.now) ≤ MAX_MONEY }
+    requires sound { IsSound (known_of state.now) }
+    requires money { available + taken_of (known_of state.now) ≤ MAX_MONEY }
     requires capped { funds ≤ MAX_MONEY }
     requires ranged { is_in_range (asked_of op) ≡ true }
-    ensures { result ≡ reply_for available funds last_moment (known_of standing.now) (asked_of op) }
+    ensures { result ≡ reply_for available funds last_moment (known_of state.now) (asked_of op) }
 {
     match op {
         Op::Credit { amount, .. } => credit(amount, funds, available),
@@ -84,9 +86,9 @@ pub(crate) fn reply(
             least,
             at,
             ..
-        } => standing.reserve(plan, wanted, least, is_past(last_moment, at), available),
-        Op::Settle { info, .. } => standing.settle(info, available),
-        Op::Return { .. } => standing.give_back(available),
+        } => state.reserve(plan, wanted, least, is_past(last_moment, at), available),
+        Op::Settle { info, .. } => state.settle(info, available),
+        Op::Return { .. } => state.give_back(available),
     }
 }
 

@@ -6,7 +6,7 @@ ghost use Rattle.tariff_core.specs.declared.times.TheConstants.{DAY};
 
 use tariff_core::Plan;
 
-/// A plan as the standing of a call keeps it. Its numbers have 32 bits, so that it takes half the
+/// A plan as the state of a call keeps it. Its numbers have 32 bits, so that it takes half the
 /// memory of a plan: books may have hundreds of thousands of calls.
 #[derive(Clone, Copy, Debug)]
 pub(crate) struct KeptPlan {

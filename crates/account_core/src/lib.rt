@@ -4,11 +4,15 @@
 
 mod account;
 mod account_port;
-mod call_standings;
+mod admitted;
+mod call_stage;
+mod call_state;
+mod call_states;
 mod call_sum;
 mod check;
 mod entry;
 mod fault;
+mod held_call;
 mod history_check;
 mod judging;
 mod kept_plan;
@@ -17,12 +21,13 @@ mod limits;
 mod list_account;
 mod port;
 mod sharing_laws;
-mod standing;
 mod tally;
 mod walks;
 
 pub use account::Account;
 pub use account_port::AccountPort;
+pub use admitted::Admitted;
+pub use call_stage::CallStage;
 pub use call_sum::{CallSum, Fate};
 pub use entry::{Entry, Op, Reply};
 pub use fault::AccountFault;

@@ -11,10 +11,10 @@ ghost use Rattle.account_core.specs.Ledger.{IsRefusal, answer_of, event_by, refu
 ghost use Rattle.account_core.specs.Places.{owed};
 ghost use Rattle.account_core.specs.Sound.{AnswersFit, IsSoundPast};
 
+use crate::call_state::CallState;
 use crate::judging::{judge, reply};
 use crate::laws::legal_pasts_are_sound;
-use crate::standing::Standing;
-use crate::walks::{funds_in, last_moment_in, owed_in, standing_in, taken_in};
+use crate::walks::{funds_in, last_moment_in, owed_in, state_in, taken_in};
 use crate::{AccountFault, Entry, Op, Reply};
 use std::alloc::Global;
 use std::marker::Model;
@@ -100,12 +100,7 @@ impl ListAccount {
     pub fn paid(&self, call: u64) -> Option<u64>
         ensures { result ≡ paid_if_granted (known call (reverse self.now.history)) }
     {
-        let standing = self.standing(call);
-        if standing.plan.is_some() {
-            Some(standing.paid())
-        } else {
-            None
-        }
+        self.state(call).paid_if_granted()
     }
 
     /// Why an operation would be refused, if it would be for any reason but want of memory.
@@ -113,8 +108,8 @@ impl ListAccount {
     fn refusal(&self, op: &Op) -> Option<AccountFault>
         ensures { result ≡ refusal_of self.now (asked_of op.now) }
     {
-        let standing = self.standing(op.call());
-        judge(op, &standing, self.entries.len(), self.owed(), self.limit)
+        let state = self.state(op.call());
+        judge(op, &state, self.entries.len(), self.owed(), self.limit)
     }
 
     /// The answer to an admissible operation.
@@ -123,10 +118,10 @@ impl ListAccount {
         ensures { result ≡ answer_of self.now (asked_of op) }
     {
         self.history_is_sound();
-        let standing = self.standing(op.call());
+        let state = self.state(op.call());
         reply(
             op,
-            &standing,
+            &state,
             self.funds(),
             self.available(),
             self.last_moment(),
@@ -134,10 +129,10 @@ impl ListAccount {
     }
 
     /// What the history says of a call.
-    fn standing(&self, call: u64) -> Standing
+    fn state(&self, call: u64) -> CallState
         ensures { known_of result ≡ known call (reverse self.now.history) }
     {
-        standing_in(self.entries.as_slice(), call)
+        state_in(self.entries.as_slice(), call)
     }
 
     /// The opening and the accepted credits.

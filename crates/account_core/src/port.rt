@@ -12,9 +12,9 @@ use crate::{AccountFault, Op, Reply};
 /// A port may state what it keeps of a call, and then moves it as an account's history would. One
 /// that others move too, as they share its account, can't state it.
 pub trait Port {
-    ghost standing: { Self → ℕ → Option Known } = { λ _ _. None };
+    ghost state: { Self → ℕ → Option Known } = { λ _ _. None };
 
     /// Asks the account, and gives its reply or its refusal.
     fn ask(&mut self, op: Op) -> Result<Reply, AccountFault>
-        ensures moves { (call : ℕ) → IfSome (standing self.old call) (λ before. Moves call before (asked_of op) result (standing self.new call)) };
+        ensures moves { (call : ℕ) → IfSome (state self.old call) (λ before. Moves call before (asked_of op) result (state self.new call)) };
 }

@@ -3,28 +3,28 @@
 ghost use Rattle.std.specs.Prelude.{◌≡◌, ◌≤◌, ◌∷◌, [], ℕ, List, Option, true, false, IfNone, IfOk, IfSome, OnErr};
 ghost use Rattle.account_core.specs.Answers.{IsAnswered};
 ghost use Rattle.account_core.specs.Asked.{call_of};
-ghost use Rattle.account_core.specs.CallStandings.{AreSame, TellsCalls, standing_of};
+ghost use Rattle.account_core.specs.CallStates.{AreSame, TellsCalls, state_of};
 ghost use Rattle.account_core.specs.Events.{Event, asked_of, event_of};
-ghost use Rattle.account_core.specs.Kept.{known_of, unknown};
+ghost use Rattle.account_core.specs.Kept.{known_of};
 ghost use Rattle.account_core.specs.Known.{known, nothing_known};
 ghost use Rattle.account_core.specs.Tallied.{IsTallied, IsToldOf, tally_of};
 
 use crate::Entry;
-use crate::call_standings::CallStandings;
+use crate::call_state::CallState;
+use crate::call_states::CallStates;
 use crate::judging::{inadmissible, reply};
 use crate::laws::legal_pasts_are_sound;
-use crate::standing::Standing;
 use std::alloc::{AllocError, Global};
 use tariff_core::MAX_MONEY;
 
-/// What a legal history comes to: the standing of each call, the opening with the accepted credits,
+/// What a legal history comes to: the state of each call, the opening with the accepted credits,
 /// the credit that is left, and the last moment, if there is one. The history itself isn't kept:
 /// each clause speaks of every history that comes to this.
 #[derive(Drop)]
 pub(crate) struct Tally {
     pub opening: u64,
     pub until: Option<u64>,
-    pub calls: CallStandings,
+    pub calls: CallStates,
     pub funds: u64,
     pub available: u64,
     pub last_moment: Option<u64>,
@@ -41,7 +41,7 @@ impl Tally {
         Tally {
             opening,
             until,
-            calls: CallStandings::new(alloc),
+            calls: CallStates::new(alloc),
             funds: opening,
             available: opening,
             last_moment: until,
@@ -64,7 +64,7 @@ impl Tally {
             known (call_of (asked_of entry.op)) h ≡ nothing_known) }
     {
         legal_pasts_are_sound();
-        if !renew_standing(
+        if !renew_state(
             &mut self.calls,
             entry,
             self.funds,
@@ -82,8 +82,8 @@ impl Tally {
 
 /// Keeps what is known of a call after an entry of it, where the entry is legal after a history
 /// with these funds, of which so much is available, and this last moment; tells whether it is.
-fn renew_standing(
-    calls: &mut CallStandings,
+fn renew_state(
+    calls: &mut CallStates,
     entry: Entry,
     funds: u64,
     available: u64,
@@ -100,14 +100,14 @@ fn renew_standing(
         → IsTallied h (tally_of opening until calls.old funds available last_moment)
         → IsAnswered opening until h (event_of entry) → ⊥) }
     ensures kept { OnErr result (AreSame calls.old calls.new) }
-    ensures fresh { OnErr result (standing_of calls.old (call_of (asked_of entry.op)) ≡ unknown) }
+    ensures fresh { OnErr result (state_of calls.old (call_of (asked_of entry.op)) ≡ CallState.Fresh) }
 {
     let call = entry.op.call();
-    let standing = calls.standing(call);
-    let Some(after) = after_legal(entry, &standing, funds, available, last_moment) else {
+    let state = calls.state(call);
+    let Some(after) = after_legal(entry, &state, funds, available, last_moment) else {
         return Ok(false);
     };
-    calls.renew(call, after)?;
+    calls.renew(call, &state, after)?;
     Ok(true)
 }
 
@@ -115,30 +115,30 @@ fn renew_standing(
 /// these funds, of which so much is available, and this last moment.
 fn after_legal(
     entry: Entry,
-    standing: &Standing,
+    state: &CallState,
     funds: u64,
     available: u64,
     last_moment: Option<u64>,
-) -> Option<Standing>
+) -> Option<CallState>
     requires { (opening : ℕ) × (until : Option ℕ) × (h : List Event) ×
-        IsToldOf opening until h (event_of entry) (known_of standing.now)
+        IsToldOf opening until h (event_of entry) (known_of state.now)
         funds available last_moment }
     ensures legal { IfSome result (λ after. (opening : ℕ) (until : Option ℕ) (h : List Event) →
-        IsToldOf opening until h (event_of entry) (known_of standing.now)
+        IsToldOf opening until h (event_of entry) (known_of state.now)
         funds available last_moment →
         IsAnswered opening until h (event_of entry)
         × (known_of after ≡ known (call_of (asked_of entry.op)) (event_of entry ∷ h))) }
     ensures illegal { IfNone result ((opening : ℕ) (until : Option ℕ) (h : List Event) →
-        IsToldOf opening until h (event_of entry) (known_of standing.now)
+        IsToldOf opening until h (event_of entry) (known_of state.now)
         funds available last_moment →
         IsAnswered opening until h (event_of entry) → ⊥) }
 {
     legal_pasts_are_sound();
-    if inadmissible(&entry.op, standing).is_some() {
+    if inadmissible(&entry.op, state).is_some() {
         return None;
     }
-    if reply(entry.op, standing, funds, available, last_moment) != entry.reply {
+    if reply(entry.op, state, funds, available, last_moment) != entry.reply {
         return None;
     }
-    Some(standing.after(entry.op, entry.reply))
+    Some(state.after(entry.op, entry.reply))
 }

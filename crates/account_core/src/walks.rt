@@ -10,24 +10,24 @@ ghost use Rattle.account_core.specs.Known.{known};
 ghost use Rattle.account_core.specs.Listed.{HasOpening};
 ghost use Rattle.account_core.specs.Places.{owed};
 
+use crate::call_state::CallState;
 use crate::laws::legal_pasts_are_sound;
-use crate::standing::Standing;
 use crate::{Entry, Op, Reply};
 use tariff_core::MAX_MONEY;
 
 /// What a legal history says of a call.
-pub(crate) fn standing_in(history: &[Entry], call: u64) -> Standing
+pub(crate) fn state_in(history: &[Entry], call: u64) -> CallState
     requires { HasOpening (map event_of history.now) }
     ensures { known_of result ≡ known call (reverse (map event_of history.now)) }
 {
     legal_pasts_are_sound();
-    let mut standing = Standing::UNKNOWN;
+    let mut state = CallState::Fresh;
     for entry in history {
         if entry.op.call() == call {
-            standing = standing.after(entry.op, entry.reply);
+            state = state.after(entry.op, entry.reply);
         }
     }
-    standing
+    state
 }
 
 /// The opening and the credits that a legal history accepted.
@@ -65,7 +65,7 @@ pub(crate) fn taken_in(history: &[Entry]) -> u64
     for at in 0..history.len() {
         let entry = history[at];
         if begins_call(&history[..at], entry) {
-            taken += standing_in(history, entry.op.call()).taken();
+            taken += state_in(history, entry.op.call()).taken();
         }
     }
     taken
@@ -81,7 +81,7 @@ pub(crate) fn owed_in(history: &[Entry]) -> usize
     for at in 0..history.len() {
         let entry = history[at];
         if begins_call(&history[..at], entry) {
-            owed += standing_in(history, entry.op.call()).owed();
+            owed += state_in(history, entry.op.call()).owed();
         }
     }
     owed
@@ -93,7 +93,9 @@ fn begins_call(past: &[Entry], entry: Entry) -> bool
     ensures { result ≡ begins_call (event_of entry) (reverse (map event_of past.now)) }
 {
     match (entry.op, entry.reply) {
-        (Op::Reserve { call, .. }, Reply::Granted { .. }) => standing_in(past, call).plan.is_none(),
+        (Op::Reserve { call, .. }, Reply::Granted { .. }) => {
+            matches!(state_in(past, call), CallState::Fresh)
+        }
         _ => false,
     }
 }

@@ -1,6 +1,6 @@
 -- A seat keeps the room for what its own entries owe.
-use Rattle.std.proofs.Common.{◌≡◌, ℕ, ◌+◌, ◌-◌, ◌≤◌, Bool, true, false, Some, List, [], ◌∷◌, ◌++◌, length, refl, sym, ap, ◌∙◌, arith, subst, Option}
-use Rattle.std.specs.Prelude.{◌==◌, ◌&&◌, if◌then◌else◌, not, map, reverse, unwrap_or}
+use Rattle.std.proofs.Common.{◌≡◌, ℕ, ◌+◌, ◌-◌, ◌≤◌, Bool, true, false, None, Some, List, [], ◌∷◌, ◌++◌, length, refl, sym, ap, ◌∙◌, arith, subst, Option}
+use Rattle.std.specs.Prelude.{◌==◌, ◌&&◌, if◌then◌else◌, is_some, not, map, reverse, unwrap_or}
 use Rattle.std.specs.Vec.{vec_capacity}
 use Rattle.std.specs.BTreeMap.{BTreeMap, IsEmpty, Updates, get, is_at}
 use Rattle.std.specs.Ordering.{nat_cmp}
@@ -12,93 +12,63 @@ use Rattle.std.proofs.lemmas.List.{length-map, length-reverse, map-append, rever
 use Rattle.tariff_core.specs.Rates.{Rates}
 use Rattle.account_core.specs.Answers.{answer}
 use Rattle.account_core.specs.Asked.{Asked, Credits, IsCredit, IsOfCall, Reserves, Returns, Settles, call_of}
+use Rattle.account_core.specs.CallStages.{stage_of}
 use Rattle.account_core.specs.Events.{Event, event_of}
-use Rattle.account_core.specs.Known.{Deed, Ends, Forfeits, Grants, Known, Reports, Rests, deed_of, known, known_after}
-use Rattle.account_core.specs.Places.{owed, owed_to, places_needed, places_owed}
+use Rattle.account_core.specs.Known.{Known, Rests, deed_of, is_open, known, known_after}
+use Rattle.account_core.specs.Places.{needed_by, owed, owed_to, places_needed, places_owed}
 use Rattle.account_core.specs.SharingLaws.{EntriesOweToTheirCalls}
+use Rattle.account_core.specs.declared.call_stage.CallStage.{CallStage}
+use Rattle.account_core.specs.declared.call_stage.CallStage.TheVariants.{Fresh}
 use Rattle.account_core.specs.declared.entry.Entry.{Entry}
 use Rattle.account_core.specs.declared.entry.Reply.{Reply}
 use Rattle.account_core.specs.declared.entry.Reply.TheVariants as reply
 use Rattle.shared_account.specs.Kinds.{IsReplyTo}
-use Rattle.shared_account.specs.Places.{needed_at, no_places, owed_at, places_after, places_of}
-use Rattle.shared_account.specs.Room.{IsRoomy, TellsPlaces}
+use Rattle.shared_account.specs.Room.{IsRoomy, TellsStages}
 use Rattle.shared_account.specs.Seats.{Place}
-use Rattle.shared_account.specs.declared.places.Places.{Places}
 use Rattle.shared_account.specs.declared.seat.Seat.TheInside.{Inside}
 use Rattle.shared_account.proofs.Answering.{answer_fits}
 use Rattle.shared_account.proofs.Knowing.{its_call, its_deed, known_apart, known_here, known_resting}
 
 -- ---- the places of one call
 
-pub places_of_after : (call : Known) (deed : Deed) → places_of (known_after call deed) ≡ places_after (places_of call) deed
-places_of_after call (Grants plan units) = refl
-places_of_after call (Reports info) = refl
-places_of_after call Forfeits = refl
-places_of_after call (Ends paid) = refl
-places_of_after call Rests = refl
+owes_grant : (plan : Option Rates) (returned awaits : Bool) (call : ℕ) (rates : Rates) (wanted least at : ℕ)
+    → 1 + places_owed (not returned) true ≤ places_owed (is_some plan && not returned) awaits + places_needed (is_some plan && not returned) awaits (Reserves call rates wanted least at)
+owes_grant None true awaits call rates wanted least at = omega arith
+owes_grant None false awaits call rates wanted least at = omega arith
+owes_grant (Some plan) true awaits call rates wanted least at = omega arith
+owes_grant (Some plan) false true call rates wanted least at = omega arith
+owes_grant (Some plan) false false call rates wanted least at = omega arith
 
-owed_to_is : (call : Known) → owed_to call ≡ owed_at (places_of call)
-unfolding owed_to
-owed_to_is call = refl
-
-owes_grant : (granted returned awaits : Bool) (call : ℕ) (plan : Rates) (wanted least at : ℕ)
-    → 1 + places_owed (not returned) true ≤ places_owed (granted && not returned) awaits + places_needed (granted && not returned) awaits (Reserves call plan wanted least at)
-owes_grant false true awaits call plan wanted least at = omega arith
-owes_grant false false awaits call plan wanted least at = omega arith
-owes_grant true true awaits call plan wanted least at = omega arith
-owes_grant true false true call plan wanted least at = omega arith
-owes_grant true false false call plan wanted least at = omega arith
-
-owes_denied : (open_yet awaits : Bool) (call : ℕ) (plan : Rates) (wanted least at : ℕ) → 1 ≤ places_needed open_yet awaits (Reserves call plan wanted least at)
-owes_denied true true call plan wanted least at = omega arith
-owes_denied true false call plan wanted least at = omega arith
-owes_denied false awaits call plan wanted least at = omega arith
+owes_denied : (open_yet awaits : Bool) (call : ℕ) (rates : Rates) (wanted least at : ℕ) → 1 ≤ places_needed open_yet awaits (Reserves call rates wanted least at)
+owes_denied true true call rates wanted least at = omega arith
+owes_denied true false call rates wanted least at = omega arith
+owes_denied false awaits call rates wanted least at = omega arith
 
 owes_report : (open_yet awaits : Bool) → 1 + places_owed open_yet false ≤ places_owed open_yet awaits + (if open_yet && awaits then 0 else 1)
 owes_report true true = omega arith
 owes_report true false = omega arith
 owes_report false awaits = omega arith
 
-owes_end : (granted returned awaits : Bool)
-    → 1 + places_owed (granted && false) awaits ≤ places_owed (granted && not returned) awaits + (if granted && not returned then 0 else 1)
-owes_end false returned awaits = omega arith
-owes_end true true awaits = omega arith
-owes_end true false true = omega arith
-owes_end true false false = omega arith
+owes_end : (plan : Option Rates) (returned awaits : Bool)
+    → 1 + places_owed (is_some plan && false) false ≤ places_owed (is_some plan && not returned) awaits + (if is_some plan && not returned then 0 else 1)
+owes_end None returned awaits = omega arith
+owes_end (Some plan) true awaits = omega arith
+owes_end (Some plan) false true = omega arith
+owes_end (Some plan) false false = omega arith
 
 -- an entry and what is owed after it take the places that were owed and needed
-owes : (places : Places) (asked : Asked) (told : Reply) → IsReplyTo asked told
-    → 1 + owed_at (places_after places (deed_of asked told)) ≤ owed_at places + needed_at places asked
-owes places (Credits amount moment) (reply.Credited available) fits = omega arith
-owes places (Credits amount moment) (reply.CreditOver available) fits = omega arith
-owes places (Credits amount moment) (reply.Granted units last available) fits = absurd fits
-owes places (Credits amount moment) (reply.Denied available) fits = absurd fits
-owes places (Credits amount moment) (reply.Settled paid available) fits = absurd fits
-owes places (Credits amount moment) (reply.Forfeit paid available) fits = absurd fits
-owes places (Credits amount moment) (reply.Returned paid available) fits = absurd fits
-owes places (Reserves call plan wanted least at) (reply.Credited available) fits = absurd fits
-owes places (Reserves call plan wanted least at) (reply.CreditOver available) fits = absurd fits
-owes places (Reserves call plan wanted least at) (reply.Granted units last available) fits =
-    owes_grant places.granted places.returned places.awaits call plan wanted least at
-owes places (Reserves call plan wanted least at) (reply.Denied available) fits =
-    omega (arith, owes_denied (places.granted && not places.returned) places.awaits call plan wanted least at)
-owes places (Reserves call plan wanted least at) (reply.Settled paid available) fits = absurd fits
-owes places (Reserves call plan wanted least at) (reply.Forfeit paid available) fits = absurd fits
-owes places (Reserves call plan wanted least at) (reply.Returned paid available) fits = absurd fits
-owes places (Settles call number info) (reply.Credited available) fits = absurd fits
-owes places (Settles call number info) (reply.CreditOver available) fits = absurd fits
-owes places (Settles call number info) (reply.Granted units last available) fits = absurd fits
-owes places (Settles call number info) (reply.Denied available) fits = absurd fits
-owes places (Settles call number info) (reply.Settled paid available) fits = owes_report (places.granted && not places.returned) places.awaits
-owes places (Settles call number info) (reply.Forfeit paid available) fits = owes_report (places.granted && not places.returned) places.awaits
-owes places (Settles call number info) (reply.Returned paid available) fits = absurd fits
-owes places (Returns call) (reply.Credited available) fits = absurd fits
-owes places (Returns call) (reply.CreditOver available) fits = absurd fits
-owes places (Returns call) (reply.Granted units last available) fits = absurd fits
-owes places (Returns call) (reply.Denied available) fits = absurd fits
-owes places (Returns call) (reply.Settled paid available) fits = absurd fits
-owes places (Returns call) (reply.Forfeit paid available) fits = absurd fits
-owes places (Returns call) (reply.Returned paid available) fits = owes_end places.granted places.returned places.awaits
+owes : (known : Known) (asked : Asked) (told : Reply) → IsReplyTo asked told
+    → 1 + owed_to (known_after known (deed_of asked told)) ≤ owed_to known + needed_by known asked
+unfolding owed_to
+owes known (Credits amount moment) (reply.Credited available) fits = omega arith
+owes known (Credits amount moment) (reply.CreditOver available) fits = omega arith
+owes known (Reserves call plan wanted least at) (reply.Granted units last available) fits =
+    owes_grant known.plan known.returned known.awaits call plan wanted least at
+owes known (Reserves call plan wanted least at) (reply.Denied available) fits = omega (arith, owes_denied (is_open known) known.awaits call plan wanted least at)
+owes known (Settles call number info) (reply.Settled paid available) fits = owes_report (is_open known) known.awaits
+owes known (Settles call number info) (reply.Forfeit paid available) fits = owes_report (is_open known) known.awaits
+owes known (Returns call) (reply.Returned paid available) fits = owes_end known.plan known.returned known.awaits
+owes known asked told fits = absurd fits
 
 pub of_call : (call : ℕ) (asked : Asked) → IsOfCall call asked → call_of asked ≡ call
 of_call call (Credits amount moment) is = absurd is
@@ -117,45 +87,43 @@ credit_rests (Returns call) told is = absurd is
 apart_at : (call other : ℕ) → (call == other) ≡ false → is_at (nat_cmp call) other ≡ false
 apart_at call other apart = grind (arith, nat_tests)
 
-tells_by : (here : Bool) (old held new : BTreeMap ℕ Places) (h : List Event) (event : Event) (before after : Places) (call : ℕ) → (its_call event == call) ≡ here
+tells_by : (here : Bool) (old held new : BTreeMap ℕ CallStage) (h : List Event) (event : Event) (before after : CallStage) (call : ℕ) → (its_call event == call) ≡ here
     → Updates nat_cmp old held (its_call event) (Some before) → Updates nat_cmp held new (its_call event) (Some after)
-    → TellsPlaces old h → after ≡ places_of (known (its_call event) (event ∷ h)) → unwrap_or (get nat_cmp new call) no_places ≡ places_of (known call (event ∷ h))
+    → TellsStages old h → after ≡ stage_of (known (its_call event) (event ∷ h)) → unwrap_or (get nat_cmp new call) Fresh ≡ stage_of (known call (event ∷ h))
 tells_by true old held new h event before after call is holds renews tells after_is =
-    let P : ℕ → Type 0 = λ c. unwrap_or (get nat_cmp new c) no_places ≡ places_of (known c (event ∷ h)) in
+    let P : ℕ → Type 0 = λ c. unwrap_or (get nat_cmp new c) Fresh ≡ stage_of (known c (event ∷ h)) in
     subst P (eqb-true (its_call event) call is) (rw renews.1 after_is)
 tells_by false old held new h event before after call is holds renews tells after_is =
     rw (renews.2 call (apart_at (its_call event) call is), holds.2 call (apart_at (its_call event) call is))
-    (tells call ∙ ap places_of (sym (known_apart h event call is)))
+    (tells call ∙ ap stage_of (sym (known_apart h event call is)))
 
 -- ---- the whole
 
--- an entry that an account answered, and the places of its call before it and after it
-pub record IsEntry (h : List Event) (event : Event) (before after : Places) : Type 0 where
+-- what a seat held for a call, with its entry that an account answered, and what it holds then
+pub record IsEntry (h : List Event) (event : Event) (before after : CallStage) (owed_before owed_now needs : ℕ) : Type 0 where
   pub fits : IsReplyTo event.asked event.reply
-  pub before_is : before ≡ places_of (known (its_call event) h)
-  pub after_is : after ≡ places_after before (its_deed event)
+  pub after_is : after ≡ stage_of (known_after (known (its_call event) h) (its_deed event))
+  pub before_owed : owed_before ≡ owed_to (known (its_call event) h)
+  pub now_owed : stage_of (known (its_call event) (event ∷ h)) ≡ after → owed_now ≡ owed_to (known (its_call event) (event ∷ h))
+  pub needs_are : needs ≡ needed_by (known (its_call event) h) event.asked
 
-module _ (moves : EntriesOweToTheirCalls) (h : List Event) (event : Event) (before after : Places) (entry : IsEntry h event before after) where
-  pub after_known : after ≡ places_of (known (its_call event) (event ∷ h))
-  after_known =
-      entry.after_is ∙ (ap (λ p. places_after p (its_deed event)) entry.before_is
-      ∙ (sym (places_of_after (known (its_call event) h) (its_deed event)) ∙ ap places_of (sym (known_here h event))))
+module _ (moves : EntriesOweToTheirCalls) (h : List Event) (event : Event) (before after : CallStage) (owed_before owed_now needs : ℕ)
+    (entry : IsEntry h event before after owed_before owed_now needs) where
+  after_known : after ≡ stage_of (known (its_call event) (event ∷ h))
+  after_known = entry.after_is ∙ ap stage_of (sym (known_here h event))
 
-  pub owed_moves : owed (event ∷ h) + owed_at before ≡ owed h + owed_at after
-  owed_moves =
-      let was : owed_at before ≡ owed_to (known (its_call event) h) = ap owed_at entry.before_is ∙ sym (owed_to_is (known (its_call event) h)) in
-      let is : owed_at after ≡ owed_to (known (its_call event) (event ∷ h)) = ap owed_at after_known ∙ sym (owed_to_is (known (its_call event) (event ∷ h))) in
-      omega (arith, moves h event, was, is)
+  pub owed_moves : owed (event ∷ h) + owed_before ≡ owed h + owed_now
+  owed_moves = omega (arith, moves h event, entry.before_owed, entry.now_owed (sym after_known))
 
-  pub owed_after : 1 + owed (event ∷ h) ≤ owed h + needed_at before event.asked
+  pub owed_after : 1 + owed (event ∷ h) ≤ owed h + needs
   owed_after =
-      let takes = owes before event.asked event.reply entry.fits in
-      let is : owed_at after ≡ owed_at (places_after before (its_deed event)) = ap owed_at entry.after_is in
-      omega (arith, owed_moves, takes, is)
+      let takes = owes (known (its_call event) h) event.asked event.reply entry.fits in
+      let now : owed_now ≡ owed_to (known_after (known (its_call event) h) (its_deed event)) = entry.now_owed (sym after_known) ∙ ap owed_to (known_here h event) in
+      omega (arith, owed_moves, takes, now, entry.before_owed, entry.needs_are)
 
-  pub roomy_after : (old held new : BTreeMap ℕ Places) (places places' capacity capacity' : ℕ) → IsRoomy h old places capacity
+  pub roomy_after : (old held new : BTreeMap ℕ CallStage) (places places' capacity capacity' : ℕ) → IsRoomy h old places capacity
       → Updates nat_cmp old held (its_call event) (Some before) → Updates nat_cmp held new (its_call event) (Some after)
-      → places' ≡ places + owed_at after - owed_at before → length h + (places + needed_at before event.asked) ≤ capacity' → IsRoomy (event ∷ h) new places' capacity'
+      → places' ≡ places + owed_now - owed_before → length h + (places + needs) ≤ capacity' → IsRoomy (event ∷ h) new places' capacity'
   roomy_after old held new places places' capacity capacity' roomy holds renews places'_are room =
       let now_owed : places' ≡ owed (event ∷ h) = omega (arith, owed_moves, places'_are, roomy.places_are) in
       record {
@@ -164,13 +132,13 @@ module _ (moves : EntriesOweToTheirCalls) (h : List Event) (event : Event) (befo
         places_are = now_owed;
       }
 
-pub roomy_resting : EntriesOweToTheirCalls → (h : List Event) (event : Event) (kept : BTreeMap ℕ Places) (places capacity capacity' : ℕ) → IsRoomy h kept places capacity
+pub roomy_resting : EntriesOweToTheirCalls → (h : List Event) (event : Event) (kept : BTreeMap ℕ CallStage) (places capacity capacity' : ℕ) → IsRoomy h kept places capacity
     → its_deed event ≡ Rests → length h + (places + 1) ≤ capacity' → IsRoomy (event ∷ h) kept places capacity'
 roomy_resting moves h event kept places capacity capacity' roomy rests room =
     let same : owed_to (known (its_call event) (event ∷ h)) ≡ owed_to (known (its_call event) h) = ap owed_to (known_resting h event (its_call event) rests) in
     record {
       room = omega (arith, room);
-      tells = λ call. roomy.tells call ∙ ap places_of (sym (known_resting h event call rests));
+      tells = λ call. roomy.tells call ∙ ap stage_of (sym (known_resting h event call rests));
       places_are = omega (arith, moves h event, same, roomy.places_are);
     }
 
@@ -178,7 +146,7 @@ nothing_owed : owed [] ≡ 0
 unfolding owed
 nothing_owed = refl
 
-pub roomy_new : (mine : Vec Entry Global) (kept : BTreeMap ℕ Places) → mine.items ≡ [] → IsEmpty kept
+pub roomy_new : (mine : Vec Entry Global) (kept : BTreeMap ℕ CallStage) → mine.items ≡ [] → IsEmpty kept
     → IsRoomy (reverse (map event_of mine.items)) kept 0 (vec_capacity mine)
 roomy_new mine kept none empty =
     let R : List Entry → Type 0 = λ es. IsRoomy (reverse (map event_of es)) kept 0 (vec_capacity mine) in
@@ -190,7 +158,7 @@ past_pushed : (items : List Entry) (entry : Entry) → reverse (map event_of (it
 past_pushed items entry = rw (map-append event_of items (entry ∷ []), reverse-append) refl
 
 -- a seat's list with an entry at its end
-pub roomy_pushed : (old items : List Entry) (entry : Entry) (kept : BTreeMap ℕ Places) (places capacity : ℕ) → items ≡ old ++ entry ∷ []
+pub roomy_pushed : (old items : List Entry) (entry : Entry) (kept : BTreeMap ℕ CallStage) (places capacity : ℕ) → items ≡ old ++ entry ∷ []
     → IsRoomy (event_of entry ∷ reverse (map event_of old)) kept places capacity → IsRoomy (reverse (map event_of items)) kept places capacity
 roomy_pushed old items entry kept places capacity is roomy =
     let R : List Event → Type 0 = λ h. IsRoomy h kept places capacity in
@@ -204,23 +172,31 @@ pub past_seen : (s : Inside) (place : Place) → record { account = s.account; n
     → reverse place.mine ≡ reverse (map event_of s.mine.items)
 past_seen s place view_is = ap (λ p. reverse p.mine) (sym view_is)
 
-pub credit_roomy : EntriesOweToTheirCalls → (old : List Entry) (entry : Entry) (kept : BTreeMap ℕ Places) (places capacity capacity' : ℕ)
+pub credit_roomy : EntriesOweToTheirCalls → (old : List Entry) (entry : Entry) (kept : BTreeMap ℕ CallStage) (places capacity capacity' : ℕ)
     → IsRoomy (reverse (map event_of old)) kept places capacity → IsCredit (event_of entry).asked → length old + (places + 1) ≤ capacity'
     → IsRoomy (event_of entry ∷ reverse (map event_of old)) kept places capacity'
 credit_roomy moves old entry kept places capacity capacity' roomy credit room =
     roomy_resting moves (reverse (map event_of old)) (event_of entry) kept places capacity capacity' roomy
     (credit_rests (event_of entry).asked (event_of entry).reply credit) (omega (arith, room, length_past old))
 
--- what an account answered to an operation of a call
-pub is_entry : (s : Inside) (place : Place) → record { account = s.account; number = s.number; mine = map event_of s.mine.items } ≡ place
-    → (opening : ℕ) (until : Option ℕ) (past : List Event) (seat call : ℕ) (asked : Asked) (told : Reply) (before after : Places) → IsOfCall call asked → told ≡ answer opening until past asked
-    → before ≡ places_of (known call (reverse place.mine)) → after ≡ places_after before (deed_of asked told)
-    → IsEntry (reverse (map event_of s.mine.items)) (record { seat = seat; asked = asked; reply = told }) before after
-is_entry s place view_is opening until past seat call asked told before after here told_is before_is after_is =
+-- what an account answered to an operation of a call, by the stages of the call
+pub is_entry : (s : Inside) → IsRoomy (reverse (map event_of s.mine.items)) s.stages s.owed (vec_capacity s.mine)
+    → (opening : ℕ) (until : Option ℕ) (past : List Event) (seat call : ℕ) (asked : Asked) (told : Reply) (before after : CallStage) (owed_before owed_now needs : ℕ)
+    → IsOfCall call asked → told ≡ answer opening until past asked → before ≡ unwrap_or (get nat_cmp s.stages call) Fresh
+    → ((known : Known) → stage_of known ≡ before → after ≡ stage_of (known_after known (deed_of asked told)))
+    → ((known : Known) → stage_of known ≡ before → owed_before ≡ owed_to known)
+    → ((known : Known) → stage_of known ≡ after → owed_now ≡ owed_to known)
+    → ((known : Known) → stage_of known ≡ before → needs ≡ needed_by known asked)
+    → IsEntry (reverse (map event_of s.mine.items)) (record { seat = seat; asked = asked; reply = told }) before after owed_before owed_now needs
+is_entry s roomy opening until past seat call asked told before after owed_before owed_now needs here told_is before_is after_is before_owed now_owed needs_are =
     let R : Reply → Type 0 = IsReplyTo asked in
+    let h : List Event = reverse (map event_of s.mine.items) in
+    let C : ℕ → Type 0 = λ c. stage_of (known c h) ≡ before in
+    let before_known : stage_of (known (call_of asked) h) ≡ before = subst C (sym (of_call call asked here)) (sym (before_is ∙ roomy.tells call)) in
     record {
       fits = subst R (sym told_is) (answer_fits opening until past asked);
-      before_is = before_is ∙ (ap (λ h. places_of (known call h)) (past_seen s place view_is)
-          ∙ ap (λ q. places_of (known q (reverse (map event_of s.mine.items)))) (sym (of_call call asked here)));
-      after_is = after_is;
+      after_is = after_is (known (call_of asked) h) before_known;
+      before_owed = before_owed (known (call_of asked) h) before_known;
+      now_owed = now_owed (known (call_of asked) (record { seat = seat; asked = asked; reply = told } ∷ h));
+      needs_are = needs_are (known (call_of asked) h) before_known;
     }

@@ -2,7 +2,6 @@ pub mod Closed
 pub mod Faults
 pub mod Kinds
 pub mod Own
-pub mod Places
 pub mod Plays
 pub mod Prefixes
 pub mod Room

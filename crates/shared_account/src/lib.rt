@@ -2,14 +2,12 @@
 //! at the end a book tells its history and what each seat has entered.
 #![tactic(auto)]
 
-mod asking;
 mod board;
 mod book;
 mod closing;
 mod fault;
 mod gate;
 mod opening;
-mod places;
 mod plays;
 mod sameness;
 mod seat;

@@ -1,18 +1,16 @@
 //! Seats, from which an account is asked.
 
-ghost use Rattle.std.specs.Prelude.{◌≡◌, ◌≢◌, ◌≤◌, ◌++◌, ◌∷◌, [], None, map, reverse, IsOk, OnOk, OnErr, IfOk, IfErr};
-ghost use Rattle.account_core.specs.Asked.{call_of};
+ghost use Rattle.std.specs.Prelude.{◌≡◌, ◌≢◌, ◌≤◌, ◌++◌, ◌∷◌, [], None, false, map, reverse, IsOk, OnOk, OnErr, IfOk, IfErr};
+ghost use Rattle.account_core.specs.Asked.{call_of, is_in_range};
 ghost use Rattle.account_core.specs.Events.{asked_of, event_of};
-ghost use Rattle.account_core.specs.Known.{known};
 ghost use Rattle.account_core.specs.Ledger.{IsRefusal, answer_of, event_by, refusal_of};
 ghost use Rattle.account_core.specs.Places.{IsClosing};
+ghost use Rattle.shared_account.specs.Kinds.{IsReplyTo, IsReturn};
 ghost use Rattle.shared_account.specs.Own.{of_call};
-ghost use Rattle.shared_account.specs.Places.{places_of};
 
 mod entering;
 
-use crate::places::Places;
-use account_core::{Account, AccountFault, Entry, Op, Reply, accounts_have_no_gate};
+use account_core::{Account, AccountFault, CallStage, Entry, Op, Reply};
 use std::alloc::Global;
 use std::collections::BTreeMap;
 use std::marker::Model;
@@ -27,7 +25,7 @@ pub struct Seat {
     account: u32,
     number: u32,
     mine: Vec<Entry>,
-    places: BTreeMap<u64, Places>,
+    stages: BTreeMap<u64, CallStage>,
     owed: usize,
 }
 
@@ -42,7 +40,7 @@ impl Model for Seat {
 
     ghost view = { λ s. record { account = s.account; number = s.number; mine = map event_of s.mine.items } };
 
-    ghost invariant = { λ s. IsRoomy (reverse (map event_of s.mine.items)) s.places s.owed (vec_capacity s.mine) };
+    ghost invariant = { λ s. IsRoomy (reverse (map event_of s.mine.items)) s.stages s.owed (vec_capacity s.mine) };
 }
 
 impl Seat {
@@ -54,7 +52,7 @@ impl Seat {
             account,
             number,
             mine: Vec::new(alloc),
-            places: BTreeMap::new(alloc),
+            stages: BTreeMap::new(alloc),
             owed: 0,
         }
     }
@@ -107,6 +105,10 @@ impl Seat {
         ensures kept { OnErr result (self.new ≡ self.old) }
         ensures refused { IfErr result (λ fault. IsRefusal account.old (asked_of op) fault) }
         ensures ungated { result ≢ Err AccountFault.GateClosed }
+        ensures kind { IfOk result (λ reply. IsReplyTo (asked_of op) reply) }
+        ensures range { result ≡ Err AccountFault.OutOfRange → is_in_range (asked_of op) ≡ false }
+        ensures returning { IsReturn (asked_of op) → IsClosing (reverse self.old.mine) (asked_of op)
+            → IfErr result (λ fault. fault ≡ AccountFault.NotOpen) }
         ensures closing { IsClosing (reverse account.old.history) (asked_of op)
             → IsClosing (reverse self.old.mine) (asked_of op) → IsOk result }
         ensures own { IsClosing (reverse account.old.history) (asked_of op)
@@ -114,20 +116,7 @@ impl Seat {
             ≡ of_call (call_of (asked_of op)) self.old.mine
             → IsOk result }
     {
-        accounts_have_no_gate();
-        if let Some(fault) = account.refusal(&op) {
-            return Err(fault);
-        }
-        self.enter(account, op)
-    }
-
-    /// What the seat's own entries say of a call.
-    fn places(&self, call: u64) -> Places
-        ensures { result ≡ places_of (known call (reverse self.now.mine)) }
-    {
-        match self.places.get(&call) {
-            Some(places) => *places,
-            None => Places::NONE,
-        }
+        let admitted = account.admit(op)?;
+        Ok(self.enter(account, admitted)?)
     }
 }

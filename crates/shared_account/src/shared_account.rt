@@ -11,7 +11,6 @@ ghost use Rattle.shared_account.specs.Own.{IsMerged};
 ghost use Rattle.shared_account.specs.Seats.{are_all, fresh_seats};
 ghost use Rattle.shared_account.specs.declared.fault.CloseFault.TheVariants as close;
 
-use crate::asking::ask;
 use crate::board::Start;
 use crate::closing::close_book;
 use crate::{Book, CloseFault, Gate, Seat};
@@ -121,7 +120,7 @@ impl SharedAccount {
         if !gate.inside(self.number) {
             return Err(AccountFault::GateClosed);
         }
-        ask(seat, &mut account, op)
+        seat.apply_to(&mut account, op)
     }
 
     /// Ends the sharing: the account's book, where all of its seats are handed in, in the order of

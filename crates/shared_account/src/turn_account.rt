@@ -15,7 +15,6 @@ ghost use Rattle.shared_account.specs.Sights.{IsSameAccount, fresh_sights};
 ghost use Rattle.shared_account.specs.Views.{IsServing, seeing};
 ghost use Rattle.shared_account.specs.declared.fault.CloseFault.TheVariants as close;
 
-use crate::asking::ask;
 use crate::board::{Board, Chair, Start};
 use crate::opening::{lay_board, make_seats};
 use crate::steps::{append, compare, hear};
@@ -269,7 +268,7 @@ fn enter<G: Gate>(
     if !gate.inside(seat.account()) {
         return Err(AccountFault::GateClosed);
     }
-    let reply = ask(seat, account, op)?;
+    let reply = seat.apply_to(account, op)?;
     let seat = seat.number();
     append(board, chair, &Entry { seat, op, reply });
     Ok(reply)

@@ -3,20 +3,24 @@
 ghost use Rattle.std.specs.Prelude.{◌≡◌, ◌+◌, ◌≤◌, ◌++◌, ◌∷◌, [], None, Some, reverse, vec_capacity, vec_len, IsOk, OnErr, OnOk};
 ghost use Rattle.std.specs.BTreeMap.{IsUnchanged, Updates, get};
 ghost use Rattle.std.specs.Ordering.{nat_cmp};
-ghost use Rattle.account_core.specs.Asked.{IsCredit, IsOfCall};
+ghost use Rattle.account_core.specs.Asked.{IsCredit, IsOfCall, call_of};
 ghost use Rattle.account_core.specs.Events.{asked_of, event_of};
+ghost use Rattle.account_core.specs.Kept.{known_of};
+ghost use Rattle.account_core.specs.Known.{known};
 ghost use Rattle.account_core.specs.Ledger.{answer_of, refusal_of};
 ghost use Rattle.account_core.specs.Places.{IsClosing};
 
-use crate::standing::Standing;
+use crate::call_state::CallState;
 use crate::{Account, Entry, Op};
 use std::alloc::AllocError;
 use std::collections::BTreeMap;
 
 impl Account {
-    /// Enters an answered operation. Room for it, and for all that is owed after it, is made before
-    /// anything changes.
-    pub(super) fn enter(&mut self, entry: Entry) -> Result<(), AllocError>
+    /// Keeps an answered operation, with what was known of its call before. Room for it, and for
+    /// all that is owed after it, is made before anything changes.
+    pub(super) fn keep(&mut self, entry: Entry, before: CallState) -> Result<(), AllocError>
+        requires known { known_of before
+            ≡ known (call_of (asked_of entry.op)) (reverse self.old.history) }
         requires admitted { refusal_of self.old (asked_of entry.op) ≡ None }
         requires answered { entry.reply ≡ answer_of self.old (asked_of entry.op) }
         ensures ok { OnOk result (self.new ≡
@@ -25,15 +29,15 @@ impl Account {
         ensures closing { IsClosing (reverse self.old.history) (asked_of entry.op) → IsOk result }
     {
         match entry.op {
-            Op::Credit { .. } => self.enter_credit(entry),
+            Op::Credit { .. } => self.keep_credit(entry),
             Op::Reserve { call, .. } | Op::Settle { call, .. } | Op::Return { call } => {
-                self.enter_call(call, entry)
+                self.keep_call(call, entry, before)
             }
         }
     }
 
-    /// Enters a Credit.
-    fn enter_credit(&mut self, entry: Entry) -> Result<(), AllocError>
+    /// Keeps a Credit.
+    fn keep_credit(&mut self, entry: Entry) -> Result<(), AllocError>
         requires credit { IsCredit (asked_of entry.op) }
         requires admitted { refusal_of self.old (asked_of entry.op) ≡ None }
         requires answered { entry.reply ≡ answer_of self.old (asked_of entry.op) }
@@ -50,8 +54,9 @@ impl Account {
         Ok(())
     }
 
-    /// Enters an operation of a call.
-    fn enter_call(&mut self, call: u64, entry: Entry) -> Result<(), AllocError>
+    /// Keeps an operation of a call.
+    fn keep_call(&mut self, call: u64, entry: Entry, before: CallState) -> Result<(), AllocError>
+        requires known { known_of before ≡ known call (reverse self.old.history) }
         requires of_call { IsOfCall call (asked_of entry.op) }
         requires admitted { refusal_of self.old (asked_of entry.op) ≡ None }
         requires answered { entry.reply ≡ answer_of self.old (asked_of entry.op) }
@@ -61,10 +66,9 @@ impl Account {
         ensures closing { IsClosing (reverse self.old.history) (asked_of entry.op) → IsOk result }
     {
         self.history_is_sound();
-        let before = self.standing(call);
         make_room(&mut self.entries, self.owed + before.needed(&entry.op))?;
         let after = before.after(entry.op, entry.reply);
-        keep_standing(&mut self.calls, call, after)?;
+        keep_state(&mut self.calls, call, after)?;
         self.entries.push_reserved(entry);
         self.available = entry.reply.available();
         self.owed = self.owed + after.owed() - before.owed();
@@ -83,15 +87,15 @@ fn make_room(entries: &mut Vec<Entry>, places: usize) -> Result<(), AllocError>
 }
 
 /// Keeps what is known of a call. Only a call that is new takes memory.
-fn keep_standing(
-    calls: &mut BTreeMap<u64, Standing>,
+fn keep_state(
+    calls: &mut BTreeMap<u64, CallState>,
     call: u64,
-    standing: Standing,
+    state: CallState,
 ) -> Result<(), AllocError>
-    ensures ok { OnOk result (Updates nat_cmp calls.old calls.new call (Some standing)) }
+    ensures ok { OnOk result (Updates nat_cmp calls.old calls.new call (Some state)) }
     ensures kept { OnErr result (IsUnchanged calls.old calls.new) }
     ensures new { OnErr result (get nat_cmp calls.old call ≡ None) }
 {
-    calls.insert(call, standing)?;
+    calls.insert(call, state)?;
     Ok(())
 }

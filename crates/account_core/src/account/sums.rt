@@ -4,9 +4,9 @@ ghost use Rattle.std.specs.Prelude.{◌≡◌, ◌++◌, OnOk, IfOk, option_to_l
 ghost use Rattle.std.specs.BTreeMap.{IsOrdered};
 ghost use Rattle.std.specs.Ordering.{nat_cmp};
 ghost use Rattle.account_core.specs.Kept.{known_of};
-ghost use Rattle.account_core.specs.Sums.{AreSums, fate_of, sum_of, sums_told};
+ghost use Rattle.account_core.specs.Sums.{AreSums, sum_of, sums_told};
 
-use crate::standing::Standing;
+use crate::call_state::CallState;
 use crate::{Account, CallSum, Fate};
 use std::alloc::{AllocError, Global};
 use std::collections::BTreeMap;
@@ -21,41 +21,41 @@ impl Account {
     }
 }
 
-/// What each standing comes to, by rising number.
-fn list_sums(alloc: Global, calls: &BTreeMap<u64, Standing>) -> Result<Vec<CallSum>, AllocError>
+/// What each state comes to, by rising number.
+fn list_sums(alloc: Global, calls: &BTreeMap<u64, CallState>) -> Result<Vec<CallSum>, AllocError>
     ensures sums { IfOk result (λ sums. sums.items ≡ sums_told calls.now.entries) }
     ensures ordered { IsOrdered nat_cmp calls.now }
 {
     let mut sums = Vec::new(alloc);
-    for (call, standing) in calls.iter() {
-        add_sum(&mut sums, *call, standing)?;
+    for (call, state) in calls.iter() {
+        add_sum(&mut sums, *call, state)?;
     }
     Ok(sums)
 }
 
 /// Adds what a call comes to, where it was granted anything.
-fn add_sum(sums: &mut Vec<CallSum>, call: u64, standing: &Standing) -> Result<(), AllocError>
+fn add_sum(sums: &mut Vec<CallSum>, call: u64, state: &CallState) -> Result<(), AllocError>
     ensures { OnOk result (sums.new.items ≡
-        sums.old.items ++ option_to_list (sum_of call (known_of standing.now))) }
+        sums.old.items ++ option_to_list (sum_of call (known_of state.now))) }
 {
-    if standing.plan.is_none() {
-        return Ok(());
+    if let Some(sum) = sum_of(call, state) {
+        sums.push(sum)?;
     }
-    sums.push(CallSum {
-        call,
-        paid: standing.paid(),
-        fate: fate_of(standing),
-    })?;
     Ok(())
 }
 
-/// How a call stands.
-fn fate_of(standing: &Standing) -> Fate
-    ensures { result ≡ fate_of (known_of standing.now) }
+/// What a call comes to, where it was granted anything.
+fn sum_of(call: u64, state: &CallState) -> Option<CallSum>
+    ensures { result ≡ sum_of call (known_of state.now) }
 {
-    match (standing.forfeited, standing.returned) {
-        (true, _) => Fate::Forfeit,
-        (false, true) => Fate::Returned,
-        (false, false) => Fate::Holding,
-    }
+    let (held, fate) = match state {
+        CallState::Fresh => return None,
+        CallState::Granted(held) | CallState::Reported(held) => (held, Fate::Holding),
+        CallState::Over(held) => (held, Fate::Returned),
+    };
+    Some(CallSum {
+        call,
+        paid: held.paid(),
+        fate: if held.forfeited { Fate::Forfeit } else { fate },
+    })
 }

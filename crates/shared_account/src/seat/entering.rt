@@ -1,99 +1,107 @@
 //! An account's entries, kept in a seat's list too.
 
-ghost use Rattle.std.specs.Prelude.{◌≡◌, ◌≢◌, ◌+◌, ◌≤◌, ◌++◌, ◌∷◌, [], None, Some, reverse, vec_capacity, vec_len, IsOk, IsSome, OnOk, OnErr, IfOk, IfErr};
+ghost use Rattle.std.specs.Prelude.{◌≡◌, ◌+◌, ◌≤◌, ◌++◌, ◌∷◌, [], None, Some, reverse, vec_capacity, vec_len, unwrap_or, IsOk, IsSome, OnOk, OnErr, IfOk};
 ghost use Rattle.std.specs.BTreeMap.{IsUnchanged, Updates, get};
 ghost use Rattle.std.specs.Ordering.{nat_cmp};
+ghost use Rattle.account_core.specs.Admitting.{IsAdmitted};
 ghost use Rattle.account_core.specs.Asked.{IsCredit, IsOfCall};
 ghost use Rattle.account_core.specs.Events.{asked_of};
-ghost use Rattle.account_core.specs.Ledger.{IsRefusal, answer_of, event_by, refusal_of};
+ghost use Rattle.account_core.specs.Ledger.{answer_of, event_by};
 ghost use Rattle.account_core.specs.Places.{IsClosing};
 
 use crate::Seat;
-use crate::places::Places;
-use account_core::{Account, AccountFault, Entry, Op, Reply, places_go_with_entries};
+use account_core::{Account, Admitted, CallStage, Entry, Op, Reply, places_go_with_entries};
 use std::alloc::AllocError;
 use std::collections::BTreeMap;
 
 impl Seat {
-    /// Asks the account what it doesn't refuse. All room that the seat needs is made first.
-    pub(super) fn enter(&mut self, account: &mut Account, op: Op) -> Result<Reply, AccountFault>
-        requires { refusal_of account.old (asked_of op) ≡ None }
-        ensures answered { IfOk result (λ reply. reply ≡ answer_of account.old (asked_of op)) }
+    /// Enters what the account admits, there and in the seat's list. All room that the seat needs is
+    /// made first.
+    pub(super) fn enter(
+        &mut self,
+        account: &mut Account,
+        admitted: Admitted,
+    ) -> Result<Reply, AllocError>
+        requires { IsAdmitted account.old admitted }
+        ensures answered { IfOk result (λ reply. reply ≡ answer_of account.old (asked_of admitted.op)) }
         ensures entered { IfOk result (λ reply. account.new ≡ record account.old {
-          history = account.old.history ++ event_by self.old.number (asked_of op) reply ∷ [];
+          history = account.old.history ++ event_by self.old.number (asked_of admitted.op) reply ∷ [];
         }) }
         ensures mine { IfOk result (λ reply. self.new ≡ record self.old {
-          mine = self.old.mine ++ event_by self.old.number (asked_of op) reply ∷ [];
+          mine = self.old.mine ++ event_by self.old.number (asked_of admitted.op) reply ∷ [];
         }) }
         ensures account_kept { OnErr result (account.new ≡ account.old) }
         ensures kept { OnErr result (self.new ≡ self.old) }
-        ensures refused { IfErr result (λ fault. fault ≡ AccountFault.OutOfMemory) }
-        ensures closing { IsClosing (reverse account.old.history) (asked_of op)
-            → IsClosing (reverse self.old.mine) (asked_of op) → IsOk result }
+        ensures closing { IsClosing (reverse account.old.history) (asked_of admitted.op)
+            → IsClosing (reverse self.old.mine) (asked_of admitted.op) → IsOk result }
     {
-        match op {
-            Op::Credit { .. } => self.enter_credit(account, op),
+        match admitted.op() {
+            Op::Credit { .. } => self.enter_credit(account, admitted),
             Op::Reserve { call, .. } | Op::Settle { call, .. } | Op::Return { call } => {
-                self.enter_call(account, call, op)
+                self.enter_call(account, call, admitted)
             }
         }
     }
 
-    /// Asks for a Credit.
-    fn enter_credit(&mut self, account: &mut Account, op: Op) -> Result<Reply, AccountFault>
-        requires credit { IsCredit (asked_of op) }
-        requires admitted { refusal_of account.old (asked_of op) ≡ None }
-        ensures answered { IfOk result (λ reply. reply ≡ answer_of account.old (asked_of op)) }
+    /// Enters a Credit.
+    fn enter_credit(
+        &mut self,
+        account: &mut Account,
+        admitted: Admitted,
+    ) -> Result<Reply, AllocError>
+        requires credit { IsCredit (asked_of admitted.op) }
+        requires admitted { IsAdmitted account.old admitted }
+        ensures answered { IfOk result (λ reply. reply ≡ answer_of account.old (asked_of admitted.op)) }
         ensures entered { IfOk result (λ reply. account.new ≡ record account.old {
-          history = account.old.history ++ event_by self.old.number (asked_of op) reply ∷ [];
+          history = account.old.history ++ event_by self.old.number (asked_of admitted.op) reply ∷ [];
         }) }
         ensures mine { IfOk result (λ reply. self.new ≡ record self.old {
-          mine = self.old.mine ++ event_by self.old.number (asked_of op) reply ∷ [];
+          mine = self.old.mine ++ event_by self.old.number (asked_of admitted.op) reply ∷ [];
         }) }
         ensures account_kept { OnErr result (account.new ≡ account.old) }
         ensures kept { OnErr result (self.new ≡ self.old) }
-        ensures refused { IfErr result (λ fault. fault ≡ AccountFault.OutOfMemory) }
     {
         places_go_with_entries();
         make_room(&mut self.mine, self.owed + 1)?;
-        let reply = account.apply(self.number, op)?;
         let seat = self.number;
+        let op = admitted.op();
+        let reply = account.enter(seat, admitted)?;
         self.mine.push_reserved(Entry { seat, op, reply });
         Ok(reply)
     }
 
-    /// Asks for an operation of a call.
+    /// Enters an operation of a call.
     fn enter_call(
         &mut self,
         account: &mut Account,
         call: u64,
-        op: Op,
-    ) -> Result<Reply, AccountFault>
-        requires of_call { IsOfCall call (asked_of op) }
-        requires admitted { refusal_of account.old (asked_of op) ≡ None }
-        ensures answered { IfOk result (λ reply. reply ≡ answer_of account.old (asked_of op)) }
+        admitted: Admitted,
+    ) -> Result<Reply, AllocError>
+        requires of_call { IsOfCall call (asked_of admitted.op) }
+        requires admitted { IsAdmitted account.old admitted }
+        ensures answered { IfOk result (λ reply. reply ≡ answer_of account.old (asked_of admitted.op)) }
         ensures entered { IfOk result (λ reply. account.new ≡ record account.old {
-          history = account.old.history ++ event_by self.old.number (asked_of op) reply ∷ [];
+          history = account.old.history ++ event_by self.old.number (asked_of admitted.op) reply ∷ [];
         }) }
         ensures mine { IfOk result (λ reply. self.new ≡ record self.old {
-          mine = self.old.mine ++ event_by self.old.number (asked_of op) reply ∷ [];
+          mine = self.old.mine ++ event_by self.old.number (asked_of admitted.op) reply ∷ [];
         }) }
         ensures account_kept { OnErr result (account.new ≡ account.old) }
         ensures kept { OnErr result (self.new ≡ self.old) }
-        ensures refused { IfErr result (λ fault. fault ≡ AccountFault.OutOfMemory) }
-        ensures closing { IsClosing (reverse account.old.history) (asked_of op)
-            → IsClosing (reverse self.old.mine) (asked_of op) → IsOk result }
+        ensures closing { IsClosing (reverse account.old.history) (asked_of admitted.op)
+            → IsClosing (reverse self.old.mine) (asked_of admitted.op) → IsOk result }
     {
         places_go_with_entries();
-        let before = self.places(call);
-        make_room(&mut self.mine, self.owed + before.needed(&op))?;
-        keep_places(&mut self.places, call, before)?;
-        let reply = account.apply(self.number, op)?;
-        let after = before.after(op, reply);
-        renew_places(&mut self.places, call, after);
         let seat = self.number;
+        let op = admitted.op();
+        let before = keep_stage(&mut self.stages, call)?;
+        make_room(&mut self.mine, self.owed + before.needed(&op))?;
+        let reply = account.enter(seat, admitted)?;
+        let after = before.after(op, reply);
+        renew_stage(&mut self.stages, call, after);
+        let places = self.owed + after.owed() - before.owed();
         self.mine.push_reserved(Entry { seat, op, reply });
-        self.owed = self.owed + after.owed() - before.owed();
+        self.owed = places;
         Ok(reply)
     }
 }
@@ -108,27 +116,23 @@ fn make_room(mine: &mut Vec<Entry>, places: usize) -> Result<(), AllocError>
     mine.try_reserve(places)
 }
 
-/// Keeps what is known of a call. Only a call that is new takes memory.
-fn keep_places(
-    kept: &mut BTreeMap<u64, Places>,
-    call: u64,
-    places: Places,
-) -> Result<(), AllocError>
-    ensures ok { OnOk result (Updates nat_cmp kept.old kept.new call (Some places)) }
-    ensures unchanged { OnErr result (IsUnchanged kept.old kept.new) }
-    ensures new { OnErr result (get nat_cmp kept.old call ≡ None) }
+/// The stage of a call, which is kept from now on. Only a call that is new takes memory.
+fn keep_stage(stages: &mut BTreeMap<u64, CallStage>, call: u64) -> Result<CallStage, AllocError>
+    ensures stage { IfOk result (λ stage.
+        stage ≡ unwrap_or (get nat_cmp stages.old call) CallStage.Fresh) }
+    ensures ok { IfOk result (λ stage. Updates nat_cmp stages.old stages.new call (Some stage)) }
+    ensures unchanged { OnErr result (IsUnchanged stages.old stages.new) }
+    ensures new { OnErr result (get nat_cmp stages.old call ≡ None) }
 {
-    kept.insert(call, places)?;
-    Ok(())
+    Ok(*stages.entry(call)?.or_insert(CallStage::Fresh))
 }
 
-/// Renews what is kept of a call.
-fn renew_places(kept: &mut BTreeMap<u64, Places>, call: u64, places: Places)
-    requires { IsSome (get nat_cmp kept.old call) }
-    ensures { Updates nat_cmp kept.old kept.new call (Some places) }
+/// Renews the stage of a call that is kept.
+fn renew_stage(stages: &mut BTreeMap<u64, CallStage>, call: u64, stage: CallStage)
+    requires { IsSome (get nat_cmp stages.old call) }
+    ensures { Updates nat_cmp stages.old stages.new call (Some stage) }
 {
-    match kept.insert(call, places) {
-        Ok(_) => {}
-        Err(_) => unreachable!(),
+    if let Some(kept) = stages.get_mut(&call) {
+        *kept = stage;
     }
 }

@@ -13,7 +13,7 @@ pub overflow_add-owed : goal.overflow_add-owed
 overflow_add-owed c =
     let xs = c.args.history.now in
     let past = reverse (map event_of xs) in
-    let value = c.owed-owed.ensures.value ∙ ap owed_to (c.standing_in.ensures ∙ ap (λ call. known call past) c.call.ensures) in
+    let value = c.owed-owed.ensures.value ∙ ap owed_to (c.state_in.ensures ∙ ap (λ call. known call past) c.call.ensures) in
     omega (
       arith,
       c.loop-at.invariant,
@@ -29,7 +29,7 @@ loop-at-preserved c =
     let past = reverse (map event_of xs) in
     elim c.if-begins_call.branch [
       | then-begins_call w ↦
-          let value = w.owed-owed.ensures.value ∙ ap owed_to (w.standing_in.ensures ∙ ap (λ call. known call past) w.call.ensures) in
+          let value = w.owed-owed.ensures.value ∙ ap owed_to (w.state_in.ensures ∙ ap (λ call. known call past) w.call.ensures) in
           omega (
             arith,
             c.loop-at.invariant,

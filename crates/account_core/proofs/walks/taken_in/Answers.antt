@@ -13,7 +13,7 @@ pub overflow_add-taken : goal.overflow_add-taken
 overflow_add-taken c =
     let xs = c.args.history.now in
     let past = reverse (map event_of xs) in
-    let value = c.taken-taken.ensures ∙ ap taken_of (c.standing_in.ensures ∙ ap (λ call. known call past) c.call.ensures) in
+    let value = c.taken-taken.ensures ∙ ap taken_of (c.state_in.ensures ∙ ap (λ call. known call past) c.call.ensures) in
     omega (
       arith,
       c.loop-at.invariant,
@@ -29,7 +29,7 @@ loop-at-preserved c =
     let past = reverse (map event_of xs) in
     elim c.if-begins_call.branch [
       | then-begins_call w ↦
-          let value = w.taken-taken.ensures ∙ ap taken_of (w.standing_in.ensures ∙ ap (λ call. known call past) w.call.ensures) in
+          let value = w.taken-taken.ensures ∙ ap taken_of (w.state_in.ensures ∙ ap (λ call. known call past) w.call.ensures) in
           omega (
             arith,
             c.loop-at.invariant,

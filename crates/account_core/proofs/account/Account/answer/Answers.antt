@@ -1,7 +1,6 @@
-use Rattle.std.proofs.Common.{ap, reverse, ◌∙◌}
+use Rattle.std.proofs.Common.{reverse}
 use Rattle.account_core.specs.Events.{asked_of}
 use Rattle.account_core.specs.Kept.{known_of}
-use Rattle.account_core.specs.Known.{known}
 use Rattle.account_core.proofs.Answering.{funds_kept, money_kept, reply_is_answer, sound_call}
 use Rattle.account_core.proofs.Entering.{kept_of}
 use Rattle.account_core.proofs.Verdicts.{in_place}
@@ -12,19 +11,17 @@ reply-requires c =
     let kept = kept_of c.self.inside c.args.self.now c.self.view_is c.self.invariant in
     let past = reverse c.args.self.now.history in
     let sound = c.history_is_sound.ensures.sound in
-    let known_is = c.standing-standing.ensures ∙ ap (λ call. known call past) c.call.ensures in
     record {
-      sound = sound_call c.args.self.now.opening past sound (asked_of c.args.op) (known_of c.standing-standing.result) known_is;
-      money = money_kept c.args.self.now.opening past sound (asked_of c.args.op) (known_of c.standing-standing.result) known_is c.self.inside.available kept.credit_is;
+      sound = sound_call c.args.self.now.opening past sound (asked_of c.args.op) (known_of c.args.call.now) c.requires.known;
+      money = money_kept c.args.self.now.opening past sound (asked_of c.args.op) (known_of c.args.call.now) c.requires.known c.self.inside.available kept.credit_is;
       capped = funds_kept c.args.self.now.opening past sound c.self.inside.funds kept.funds_are;
-      ranged = (in_place past (asked_of c.args.op) c.requires).0;
+      ranged = (in_place past (asked_of c.args.op) c.requires.admissible).0;
     }
 
 pub returns : goal.returns
 returns c =
     let kept = kept_of c.self.inside c.args.self.now c.self.view_is c.self.invariant in
     let past = reverse c.args.self.now.history in
-    let known_is = c.standing-standing.ensures ∙ ap (λ call. known call past) c.call.ensures in
     reply_is_answer c.args.self.now.opening c.args.self.now.until past c.history_is_sound.ensures.sound c.history_is_sound.ensures.fitting (asked_of c.args.op)
-    (known_of c.standing-standing.result) known_is c.self.inside.available c.self.inside.funds c.self.inside.last_moment kept.credit_is kept.funds_are
-    kept.last_is c.requires c.reply.result c.reply.ensures
+    (known_of c.args.call.now) c.requires.known c.self.inside.available c.self.inside.funds c.self.inside.last_moment kept.credit_is kept.funds_are
+    kept.last_is c.requires.admissible c.reply.result c.reply.ensures

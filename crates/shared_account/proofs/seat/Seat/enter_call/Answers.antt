@@ -9,58 +9,54 @@ use Rattle.shared_account.proofs.seat.Seat.enter_call.Goals as goal
 
 pub push_reserved-requires : goal.push_reserved-requires
 push_reserved-requires c =
-    let entered = is_entry c.self.inside c.args.self.now c.self.view_is c.args.account.now.opening c.args.account.now.until (reverse c.args.account.now.history)
-    c.self.inside.number c.args.call (asked_of c.args.op) c.in_ok-reply.reply c.places-before.result c.after-after.result c.requires.of_call
-    c.in_ok-reply.ensures.answered c.places-before.ensures c.after-after.ensures in
+    let entered = is_entry c.self.inside c.self.invariant c.args.account.now.opening c.args.account.now.until (reverse c.args.account.now.history)
+    c.self.inside.number c.args.call (asked_of c.op-op.result) c.in_ok-reply.reply c.in_ok-before.before c.after-after.result c.owed-2.result c.owed.result c.needed.result
+    (rw c.op-op.ensures c.requires.of_call) (rw c.op-op.ensures c.in_ok-reply.ensures.answered) c.in_ok-before.ensures.stage c.after-after.ensures c.owed-2.ensures.value c.owed.ensures.value c.needed.ensures.value in
     omega (
       arith,
       c.in_ok-make_room.ensures.ok,
-      c.needed.ensures.value,
       c.self.invariant.places_are,
       owed_after c.places_go_with_entries.ensures.moves (reverse (map event_of c.self.inside.mine.items))
-          (record { seat = c.self.inside.number; asked = asked_of c.args.op; reply = c.in_ok-reply.reply }) c.places-before.result c.after-after.result entered,
+          (record { seat = c.self.inside.number; asked = asked_of c.op-op.result; reply = c.in_ok-reply.reply }) c.in_ok-before.before c.after-after.result c.owed-2.result c.owed.result c.needed.result entered,
     )
 
-pub overflow_sub-self : goal.overflow_sub-self
-overflow_sub-self c =
-    let entered = is_entry c.self.inside c.args.self.now c.self.view_is c.args.account.now.opening c.args.account.now.until (reverse c.args.account.now.history)
-    c.self.inside.number c.args.call (asked_of c.args.op) c.in_ok-reply.reply c.places-before.result c.after-after.result c.requires.of_call
-    c.in_ok-reply.ensures.answered c.places-before.ensures c.after-after.ensures in
+pub overflow_sub-places : goal.overflow_sub-places
+overflow_sub-places c =
+    let entered = is_entry c.self.inside c.self.invariant c.args.account.now.opening c.args.account.now.until (reverse c.args.account.now.history)
+    c.self.inside.number c.args.call (asked_of c.op-op.result) c.in_ok-reply.reply c.in_ok-before.before c.after-after.result c.owed-2.result c.owed.result c.needed.result
+    (rw c.op-op.ensures c.requires.of_call) (rw c.op-op.ensures c.in_ok-reply.ensures.answered) c.in_ok-before.ensures.stage c.after-after.ensures c.owed-2.ensures.value c.owed.ensures.value c.needed.ensures.value in
     omega (
       arith,
-      c.owed.ensures.value,
-      c.owed-2.ensures.value,
       c.self.invariant.places_are,
       owed_moves c.places_go_with_entries.ensures.moves (reverse (map event_of c.self.inside.mine.items))
-          (record { seat = c.self.inside.number; asked = asked_of c.args.op; reply = c.in_ok-reply.reply }) c.places-before.result c.after-after.result entered,
+          (record { seat = c.self.inside.number; asked = asked_of c.op-op.result; reply = c.in_ok-reply.reply }) c.in_ok-before.before c.after-after.result c.owed-2.result c.owed.result c.needed.result entered,
     )
 
 pub invariant_of-self-2 : goal.invariant_of-self-2
 invariant_of-self-2 c =
     let old = c.self.inside.mine.items in
-    let entry : Entry = record { seat = c.self.inside.number; op = c.args.op; reply = c.in_ok-reply.reply } in
-    let before = c.places-before.result in
+    let entry : Entry = record { seat = c.self.inside.number; op = c.op-op.result; reply = c.in_ok-reply.reply } in
+    let before = c.in_ok-before.before in
     let after = c.after-after.result in
     let places = c.self.inside.owed + c.owed.result - c.owed-2.result in
     let capacity = vec_capacity c.push_reserved.new.self in
-    let entered = is_entry c.self.inside c.args.self.now c.self.view_is c.args.account.now.opening c.args.account.now.until (reverse c.args.account.now.history)
-    c.self.inside.number c.args.call (asked_of c.args.op) c.in_ok-reply.reply before after c.requires.of_call
-    c.in_ok-reply.ensures.answered c.places-before.ensures c.after-after.ensures in
-    let same = of_call c.args.call (asked_of c.args.op) c.requires.of_call in
-    let H : ℕ → Type 0 = λ q. Updates nat_cmp c.self.inside.places c.keep_places.new.kept q (Some before) in
-    let R : ℕ → Type 0 = λ q. Updates nat_cmp c.keep_places.new.kept c.renew_places.new.kept q (Some after) in
-    roomy_pushed old c.push_reserved.new.self.items entry c.renew_places.new.kept places capacity
+    let entered = is_entry c.self.inside c.self.invariant c.args.account.now.opening c.args.account.now.until (reverse c.args.account.now.history)
+    c.self.inside.number c.args.call (asked_of c.op-op.result) c.in_ok-reply.reply c.in_ok-before.before c.after-after.result c.owed-2.result c.owed.result c.needed.result
+    (rw c.op-op.ensures c.requires.of_call) (rw c.op-op.ensures c.in_ok-reply.ensures.answered) c.in_ok-before.ensures.stage c.after-after.ensures c.owed-2.ensures.value c.owed.ensures.value c.needed.ensures.value in
+    let same = of_call c.args.call (asked_of c.op-op.result) (rw c.op-op.ensures c.requires.of_call) in
+    let H : ℕ → Type 0 = λ q. Updates nat_cmp c.self.inside.stages c.keep_stage.new.stages q (Some before) in
+    let R : ℕ → Type 0 = λ q. Updates nat_cmp c.keep_stage.new.stages c.renew_stage.new.stages q (Some after) in
+    roomy_pushed old c.push_reserved.new.self.items entry c.renew_stage.new.stages places capacity
     (c.push_reserved.ensures.items ∙ ap (λ items. items ++ entry ∷ []) c.make_room.ensures.items)
-    (roomy_after c.places_go_with_entries.ensures.moves (reverse (map event_of old)) (event_of entry) before after entered
-    c.self.inside.places c.keep_places.new.kept c.renew_places.new.kept c.self.inside.owed places (vec_capacity c.self.inside.mine) capacity
-    c.self.invariant (subst H (sym same) c.in_ok-keep_places.ensures.ok) (subst R (sym same) c.renew_places.ensures)
-    (omega (arith, c.owed.ensures.value, c.owed-2.ensures.value))
+    (roomy_after c.places_go_with_entries.ensures.moves (reverse (map event_of old)) (event_of entry) before after c.owed-2.result c.owed.result c.needed.result entered
+    c.self.inside.stages c.keep_stage.new.stages c.renew_stage.new.stages c.self.inside.owed places (vec_capacity c.self.inside.mine) capacity
+    c.self.invariant (subst H (sym same) c.in_ok-before.ensures.ok) (subst R (sym same) c.renew_stage.ensures)
+    (omega arith)
     (omega (
       arith,
       c.in_ok-make_room.ensures.ok,
       c.make_room.new.mine.ok.0,
       ap length c.make_room.ensures.items,
       c.push_reserved.ensures.capacity,
-      c.needed.ensures.value,
       length_past old,
     )))

@@ -7,11 +7,11 @@ use Rattle.shared_account.proofs.seat.Seat.enter_credit.Goals as goal
 pub invariant_of-self-2 : goal.invariant_of-self-2
 invariant_of-self-2 c =
     let old = c.self.inside.mine.items in
-    let entry : Entry = record { seat = c.self.inside.number; op = c.args.op; reply = c.in_ok-reply.reply } in
+    let entry : Entry = record { seat = c.self.inside.number; op = c.op-op.result; reply = c.in_ok-reply.reply } in
     let capacity = vec_capacity c.push_reserved.new.self in
     let room : length old + (c.self.inside.owed + 1) ≤ capacity =
     omega (arith, c.in_ok-make_room.ensures.ok, c.make_room.new.mine.ok.0, ap length c.make_room.ensures.items, c.push_reserved.ensures.capacity) in
-    roomy_pushed old c.push_reserved.new.self.items entry c.self.inside.places c.self.inside.owed capacity
+    roomy_pushed old c.push_reserved.new.self.items entry c.self.inside.stages c.self.inside.owed capacity
     (c.push_reserved.ensures.items ∙ ap (λ items. items ++ entry ∷ []) c.make_room.ensures.items)
-    (credit_roomy c.places_go_with_entries.ensures.moves old entry c.self.inside.places c.self.inside.owed (vec_capacity c.self.inside.mine) capacity
-    c.self.invariant c.requires.credit room)
+    (credit_roomy c.places_go_with_entries.ensures.moves old entry c.self.inside.stages c.self.inside.owed (vec_capacity c.self.inside.mine) capacity
+    c.self.invariant (rw c.op-op.ensures c.requires.credit) room)

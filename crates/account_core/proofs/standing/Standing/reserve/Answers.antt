@@ -1,9 +1,0 @@
-use Rattle.std.proofs.Common.{◌+◌}
-use Rattle.tariff_core.specs.RatesOf.{rates_of}
-use Rattle.account_core.proofs.StandingLemmas.{afforded_covered}
-use Rattle.account_core.proofs.standing.Standing.reserve.Goals as goal
-
-pub overflow_sub-result : goal.overflow_sub-result
-overflow_sub-result c =
-    afforded_covered c.afforded_is_greatest.ensures.covered (rates_of c.plan_in_force-plan.result) c.args.self.now.times c.args.wanted
-    (c.args.available + c.taken.result) c.afford-units.result c.ceiling-held.result c.afford-units.ensures.exact c.ceiling-held.ensures.exact c.if-units-eq0.false

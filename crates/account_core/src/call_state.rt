@@ -1,0 +1,255 @@
+//! What an account knows of a call, and what it answers by that.
+
+ghost use Rattle.std.specs.Prelude.{◌≡◌, ◌+◌, ◌≤◌, ℕ, None, false, true};
+ghost use Rattle.account_core.specs.Answers.{accepted_times, misplaced, units_offered};
+ghost use Rattle.account_core.specs.CallStages.{stage_of};
+ghost use Rattle.account_core.specs.Events.{asked_of};
+ghost use Rattle.account_core.specs.Kept.{known_of};
+ghost use Rattle.account_core.specs.Known.{deed_of, is_open, known_after, paid_if_granted, paid_of, plan_in_force, taken_of, Ends, Forfeits, Grants, Reports};
+ghost use Rattle.account_core.specs.Places.{needed_by, owed_to};
+ghost use Rattle.account_core.specs.Replies.{reserve_reply, return_reply, settle_reply};
+ghost use Rattle.account_core.specs.Sound.{HasRoom, IsSound};
+ghost use Rattle.tariff_core.specs.RatesOf.{rates_of};
+
+use crate::held_call::HeldCall;
+use crate::kept_plan::KeptPlan;
+use crate::{CallStage, Op, Reply};
+use tariff_core::{
+    DAY, MAX_MONEY, Plan, TimeInfo, Times, afford, afforded_is_greatest, ceiling,
+    ceiling_is_greatest,
+};
+
+/// What an account knows of a call.
+#[derive(Clone, Copy, Debug)]
+pub(crate) enum CallState {
+    /// It was never granted anything.
+    Fresh,
+    /// It is open, and no report has come since its last grant.
+    Granted(HeldCall),
+    /// It is open, and a report has come since its last grant.
+    Reported(HeldCall),
+    /// It is over.
+    Over(HeldCall),
+}
+
+impl CallState {
+    /// At what stage the call is.
+    pub fn stage(&self) -> CallStage
+        ensures { result ≡ stage_of (known_of self.now) }
+    {
+        match *self {
+            CallState::Fresh => CallStage::Fresh,
+            CallState::Granted(_) => CallStage::Open { awaits: true },
+            CallState::Reported(_) => CallStage::Open { awaits: false },
+            CallState::Over(_) => CallStage::Over,
+        }
+    }
+
+    /// What the call has paid so far, where it was granted anything.
+    pub fn paid_if_granted(&self) -> Option<u64>
+        ensures { result ≡ paid_if_granted (known_of self.now) }
+    {
+        match self {
+            CallState::Fresh => None,
+            CallState::Granted(held) | CallState::Reported(held) | CallState::Over(held) => Some(
+                held.paid(),
+            ),
+        }
+    }
+
+    /// What the call takes of the credit.
+    #[tactic(auto, unfolding(crate::specs::Known::taken_of))]
+    pub fn taken(&self) -> u64
+        ensures { result ≡ taken_of (known_of self.now) }
+    {
+        match self {
+            CallState::Fresh => 0,
+            CallState::Granted(held) | CallState::Reported(held) => held.top,
+            CallState::Over(held) => held.paid(),
+        }
+    }
+
+    /// The reply to a Reserve, which may come late, after the account's last moment, with this much
+    /// credit available.
+    #[tactic(auto, unfolding(crate::specs::Answers::units_offered))]
+    pub fn reserve(&self, plan: Plan, wanted: u32, least: u32, late: bool, available: u64) -> Reply
+        requires sound { IsSound (known_of self.now) }
+        requires money { available + taken_of (known_of self.now) ≤ MAX_MONEY }
+        ensures { result ≡ reserve_reply available (known_of self.now) (rates_of plan) wanted least late
+            (units_offered available (known_of self.now) (rates_of plan) wanted) }
+    {
+        afforded_is_greatest();
+        let plan = self.plan_in_force(plan);
+        let money = available + self.taken();
+        let times = self.times();
+        let units = afford(&plan, times, wanted, money);
+        if units < least || units == 0 || self.is_forfeited() || late {
+            return Reply::Denied { available };
+        }
+        let held = ceiling(&plan, times, units);
+        Reply::Granted {
+            units,
+            last: units < wanted,
+            available: money - held,
+        }
+    }
+
+    /// The reply to a Settle.
+    pub fn settle(&self, info: TimeInfo, available: u64) -> Reply
+        ensures { result ≡ settle_reply available (known_of self.now) (accepted_times (known_of self.now) info) }
+    {
+        match self {
+            CallState::Fresh => Reply::Forfeit { paid: 0, available },
+            CallState::Granted(held) | CallState::Reported(held) | CallState::Over(held) =>
+                held.settle(info, available),
+        }
+    }
+
+    /// The reply to a Return.
+    pub fn give_back(&self, available: u64) -> Reply
+        requires sound { IsSound (known_of self.now) }
+        requires money { available + taken_of (known_of self.now) ≤ MAX_MONEY }
+        ensures { result ≡ return_reply available (known_of self.now) }
+    {
+        ceiling_is_greatest();
+        let paid = self.paid();
+        Reply::Returned {
+            paid,
+            available: available + self.taken() - paid,
+        }
+    }
+
+    /// The places that an operation of the call needs beyond those that are owed.
+    pub fn needed(&self, op: &Op) -> usize
+        ensures value { result ≡ needed_by (known_of self.now) (asked_of op.now) }
+        ensures few { result ≤ 3 }
+    {
+        self.stage().needed(op)
+    }
+
+    /// The places that the call is owed: one for its Return, and one for a Settle while it awaits it.
+    pub fn owed(&self) -> usize
+        ensures value { result ≡ owed_to (known_of self.now) }
+        ensures few { result ≤ 2 }
+    {
+        self.stage().owed()
+    }
+
+    /// What is known after an entry of the call, in its place.
+    pub fn after(self, op: Op, reply: Reply) -> CallState
+        requires sound { IsSound (known_of self) }
+        requires placed { misplaced (known_of self) (asked_of op) ≡ None }
+        requires room { HasRoom (known_of self) (deed_of (asked_of op) reply) }
+        ensures { known_of result ≡ known_after (known_of self) (deed_of (asked_of op) reply) }
+    {
+        match (op, reply) {
+            (Op::Reserve { plan, .. }, Reply::Granted { units, .. }) => self.granted(plan, units),
+            (Op::Settle { info, .. }, Reply::Settled { .. }) => self.reported(info),
+            (Op::Settle { .. }, Reply::Forfeit { .. }) => self.forfeited(),
+            (Op::Return { .. }, Reply::Returned { .. }) => self.ended(),
+            _ => self,
+        }
+    }
+
+    /// What is known after a grant.
+    fn granted(self, plan: Plan, units: u32) -> CallState
+        requires sound { IsSound (known_of self) }
+        requires unreturned { (known_of self).returned ≡ false }
+        requires room { (known_of self).times.before + (known_of self).times.after + units ≤ DAY }
+        ensures { known_of result ≡ known_after (known_of self) (Grants (rates_of plan) units) }
+    {
+        let plan = self.plan_in_force(plan);
+        let times = self.times();
+        CallState::Granted(HeldCall {
+            plan: KeptPlan::of(plan),
+            times,
+            granted: times.total() + units,
+            top: ceiling(&plan, times, units),
+            forfeited: self.is_forfeited(),
+        })
+    }
+
+    /// What is known after a report that was accepted.
+    fn reported(self, info: TimeInfo) -> CallState
+        requires { is_open (known_of self) ≡ true }
+        ensures { known_of result ≡ known_after (known_of self) (Reports info) }
+    {
+        match self {
+            CallState::Granted(held) | CallState::Reported(held) => {
+                CallState::Reported(held.reported(info))
+            }
+            CallState::Fresh | CallState::Over(_) => self,
+        }
+    }
+
+    /// What is known after a report that wasn't.
+    fn forfeited(self) -> CallState
+        requires { is_open (known_of self) ≡ true }
+        ensures { known_of result ≡ known_after (known_of self) Forfeits }
+    {
+        match self {
+            CallState::Granted(held) | CallState::Reported(held) => {
+                CallState::Reported(HeldCall {
+                    forfeited: true,
+                    ..held
+                })
+            }
+            CallState::Fresh | CallState::Over(_) => self,
+        }
+    }
+
+    /// What is known after the Return.
+    fn ended(self) -> CallState
+        requires { is_open (known_of self) ≡ true }
+        ensures { known_of result ≡ record (known_of self) { returned = true; awaits = false } }
+    {
+        match self {
+            CallState::Granted(held) | CallState::Reported(held) => CallState::Over(held),
+            CallState::Fresh | CallState::Over(_) => self,
+        }
+    }
+
+    /// What the call has paid so far, and nothing where it was never granted anything.
+    fn paid(&self) -> u64
+        ensures { result ≡ paid_of (known_of self.now) }
+    {
+        match self {
+            CallState::Fresh => 0,
+            CallState::Granted(held) | CallState::Reported(held) | CallState::Over(held) =>
+                held.paid(),
+        }
+    }
+
+    /// The plan that a grant goes by: the call's first one.
+    fn plan_in_force(&self, plan: Plan) -> Plan
+        ensures { rates_of result ≡ plan_in_force (known_of self.now) (rates_of plan) }
+    {
+        match self {
+            CallState::Fresh => plan,
+            CallState::Granted(held) | CallState::Reported(held) | CallState::Over(held) =>
+                held.rates(),
+        }
+    }
+
+    /// What its last accepted report states, and no time before that.
+    fn times(&self) -> Times
+        ensures { result ≡ (known_of self.now).times }
+    {
+        match self {
+            CallState::Fresh => Times::ZERO,
+            CallState::Granted(held) | CallState::Reported(held) | CallState::Over(held) =>
+                held.times,
+        }
+    }
+
+    /// Whether it has a forfeit.
+    fn is_forfeited(&self) -> bool
+        ensures { result ≡ (known_of self.now).forfeited }
+    {
+        match self {
+            CallState::Fresh => false,
+            CallState::Granted(held) | CallState::Reported(held) | CallState::Over(held) =>
+                held.forfeited,
+        }
+    }
+}

@@ -1,0 +1,103 @@
+//! What an account keeps of a call that was granted something.
+
+ghost use Rattle.std.specs.Prelude.{◌≡◌, ◌+◌, ◌≤◌, Bool, Some, false, unwrap_or};
+ghost use Rattle.account_core.specs.Answers.{accepted_times};
+ghost use Rattle.account_core.specs.Kept.{held_of};
+ghost use Rattle.account_core.specs.KeptPlans.{rates_kept};
+ghost use Rattle.account_core.specs.Known.{paid_of, price_under};
+ghost use Rattle.account_core.specs.Replies.{settle_reply};
+ghost use Rattle.tariff_core.specs.RatesOf.{rates_of};
+ghost use Rattle.tariff_core.specs.Reading.{times_read};
+
+use crate::Reply;
+use crate::kept_plan::KeptPlan;
+use tariff_core::{Plan, TimeInfo, Times, lawful, price, read_times};
+
+/// What an account keeps of a call that was granted something, while it is open and afterwards.
+#[derive(Clone, Copy, Debug)]
+pub(crate) struct HeldCall {
+    /// The plan of its first grant.
+    pub plan: KeptPlan,
+    /// What its last accepted report states.
+    pub times: Times,
+    /// The time granted in all, cumulative as the reports are.
+    pub granted: u32,
+    /// The most that it can come to pay for that.
+    pub top: u64,
+    /// Whether it has a forfeit.
+    pub forfeited: bool,
+}
+
+impl HeldCall {
+    /// The plan of the call's first grant, as it was asked for.
+    pub fn rates(&self) -> Plan
+        ensures { rates_of result ≡ rates_kept self.now.plan }
+    {
+        self.plan.plan()
+    }
+
+    /// What the call has paid so far.
+    pub fn paid(&self) -> u64
+        ensures { result ≡ paid_of (held_of self.now false false) }
+    {
+        if self.forfeited {
+            self.top
+        } else {
+            self.price_of(self.times)
+        }
+    }
+
+    /// The times that a report gives the call, where it is accepted.
+    #[tactic(auto, unfolding(crate::specs::Answers::accepted_times))]
+    pub fn accept(&self, info: TimeInfo) -> Option<Times>
+        ensures { (returned awaits : Bool)
+            → result ≡ accepted_times (held_of self.now returned awaits) info }
+    {
+        if self.forfeited {
+            return None;
+        }
+        let times = read_times(self.times, info)?;
+        if lawful(&self.rates(), self.times, times, self.granted) {
+            Some(times)
+        } else {
+            None
+        }
+    }
+
+    /// The reply to a Settle.
+    pub fn settle(&self, info: TimeInfo, available: u64) -> Reply
+        ensures { (returned awaits : Bool)
+            → result ≡ settle_reply available (held_of self.now returned awaits)
+            (accepted_times (held_of self.now returned awaits) info) }
+    {
+        match self.accept(info) {
+            Some(times) => Reply::Settled {
+                paid: self.price_of(times),
+                available,
+            },
+            None => Reply::Forfeit {
+                paid: self.top,
+                available,
+            },
+        }
+    }
+
+    /// What is kept after a report that was accepted.
+    pub fn reported(self, info: TimeInfo) -> HeldCall
+        ensures { result ≡ record self {
+          times = unwrap_or (times_read self.times info) self.times;
+        } }
+    {
+        match read_times(self.times, info) {
+            Some(times) => HeldCall { times, ..self },
+            None => self,
+        }
+    }
+
+    /// The price of times under the call's plan.
+    fn price_of(&self, times: Times) -> u64
+        ensures { result ≡ price_under (held_of self.now false false).plan times }
+    {
+        price(&self.rates(), times.before(), times.after())
+    }
+}
