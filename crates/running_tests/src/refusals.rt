@@ -14,18 +14,23 @@ use std::test::Fail;
 use std::thread::Threads;
 use workers_core::Body;
 
-/// The limit of the accounts' histories, the number of workers, the posts, one in each round, and
-/// the refusals of each worker's posts.
-type Row<'a> = (u32, u32, &'a [Body], &'a [&'a [Option<AccountFault>]]);
+/// The limit of the accounts' histories, the posts, one in each round, and the refusals of the posts
+/// of worker 0, and of those of worker 1.
+type Row<'a> = (
+    u32,
+    &'a [Body],
+    &'a [Option<AccountFault>],
+    &'a [Option<AccountFault>],
+);
 
-/// Serves posts over accounts 7 and 8 of 1500 each, with a subscriber of account 7, and compares the
-/// refusals in the books.
+/// Serves posts by two workers over accounts 7 and 8 of 1500 each, with a subscriber of account 7,
+/// and compares the refusals in the books.
 fn expect_refusals<R: Abort + Threads + Wait + Sync>(
     rt: &R,
     alloc: Global,
     row: Row<'_>,
 ) -> Result<(), Fail> {
-    let (limit, workers, posts, refusals) = row;
+    let (limit, posts, of_first, of_second) = row;
     let subscribers = [(Number::new("491700001")?, 7)];
     let setup = set_up(alloc, BAND, &[(7, 1500), (8, 1500)], &subscribers, limit)??;
     let mut rounds = Vec::new(alloc);
@@ -33,11 +38,10 @@ fn expect_refusals<R: Abort + Threads + Wait + Sync>(
         rounds.push((*body, None))?;
     }
     let mut driver = Rounds::new(alloc, rounds.as_slice());
-    let books = serve(rt, alloc, &setup, &mut driver, workers, &OpenGate)?;
-    assert_eq!(rt; books.refusals.len(), refusals.len(), "of {posts:?}");
-    for (told, expected) in books.refusals.iter().zip(refusals) {
-        assert_eq!(rt; told.as_slice(), *expected, "of {posts:?}");
-    }
+    let books = serve(rt, alloc, &setup, &mut driver, 2, &OpenGate)?;
+    assert_eq!(rt; books.refusals.len(), 2);
+    assert_eq!(rt; books.refusals[0].as_slice(), of_first, "of {posts:?}");
+    assert_eq!(rt; books.refusals[1].as_slice(), of_second, "of {posts:?}");
     Ok(())
 }
 
@@ -50,25 +54,25 @@ fn refusals_stand_beside_the_posts(rt: HostRuntime) -> Result<(), Fail> {
     let ends = of_call(1, SsfMsg::Ended);
     let range = Some(AccountFault::OutOfRange);
     let full = Some(AccountFault::HistoryFull);
-    // Call 1 and accounts 7 and 9 are worker 1's of two, account 8 is worker 0's.
+    // Call 1 and accounts 7 and 9 are worker 1's, account 8 is worker 0's.
     let rows: [Row<'_>; 7] = [
-        (1000, 2, &[], &[&[], &[]]),
-        (1000, 1, &[begins, last, ends], &[&[None, None, None]]),
-        (1000, 1, &[recharge(7, 0), begins], &[&[range, None]]),
+        (1000, &[], &[], &[]),
+        (1000, &[begins, last, ends], &[], &[None, None, None]),
+        (1000, &[recharge(7, 0), begins], &[], &[range, None]),
         (
             1000,
-            2,
             &[recharge(7, 5), recharge(8, 0), recharge(7, 0)],
-            &[&[range], &[None, range]],
+            &[range],
+            &[None, range],
         ),
         (
             1000,
-            2,
             &[recharge(9, 5), unknown, ends],
-            &[&[], &[None, None, None]],
+            &[],
+            &[None, None, None],
         ),
-        (4, 2, &[begins, minute, ends], &[&[], &[None, full, None]]),
-        (5, 2, &[begins, minute], &[&[], &[None, None]]),
+        (4, &[begins, minute, ends], &[], &[None, full, None]),
+        (5, &[begins, minute], &[], &[None, None]),
     ];
     for row in rows {
         expect_refusals(&rt, rt.alloc(), row)?;

@@ -1,11 +1,11 @@
 -- Items are laid out on piles, time after time: what was laid out first is the first column.
-use Rattle.std.proofs.Common.{◌≡◌, ◌<◌, ◌+◌, ℕ, zero, suc, List, [], ◌∷◌, ◌++◌, length, map, refl, ap, sym, subst, ◌∙◌, arith}
+use Rattle.std.proofs.Common.{◌≡◌, ◌<◌, ◌+◌, ℕ, suc, List, [], ◌∷◌, length, map, refl, ap, sym, subst, ◌∙◌, arith}
 use Rattle.std.specs.Prelude.{IfOk, Result, Ok, Err, replicate, slice_index_or}
 use Rattle.std.proofs.lemmas.List.{get_or_append_left, get_or_push, length-append, length-map, map-append}
 use Rattle.account_core.specs.Events.{Event}
 use Rattle.shared_account.specs.Closed.{Closed}
 use Rattle.runs_core.proofs.Rows.{map_twice}
-use Rattle.runs_core.specs.Closing.{AreLeftFrom, AreListed, AreWorked, AreWorkedFrom, lists_of}
+use Rattle.runs_core.specs.Closing.{AreLeftFrom, AreListed, AreWorked, AreWorkedFrom}
 use Rattle.runs_core.specs.Dealing.{dealt}
 use Rattle.runs_core.specs.Teams.{Reads}
 use Rattle.runs_core.specs.declared.books.Books.{Books}
@@ -124,7 +124,7 @@ pub worked_in_books : {K S T : Type 0} (read : Reads K T) (setup : Setup) (books
     → AreWorked setup books worker (map (λ one. one.posts.items) left) (map (λ one. one.refusals.items) left)
 worked_in_books read setup books worker [] are listed = tt
 worked_in_books read setup books worker (one ∷ left) are listed =
-    (rw (listed.0) are.0, worked_in_books read setup books (worker + 1) left are.1 listed.1)
+    (rw (listed.0) are.0, worked_in_books read setup books (worker + 1) left are.2 listed.1)
 
 -- so too where the run has books, and the fault of the close where it has none
 pub worked_so : {K S T : Type 0} (read : Reads K T) (setup : Setup) (left : List (Left S T)) (result : Result Books RunFault) → AreWorkedFrom read setup 0 left

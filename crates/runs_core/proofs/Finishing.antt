@@ -1,12 +1,13 @@
 -- Workers are started and waited for, one after the other.
 use Rattle.std.proofs.Common.{◌≡◌, ◌≢◌, ℕ, ◌+◌, List, [], ◌∷◌, ◌++◌, length, map, refl, ap, sym, subst, ◌∙◌, arith, suc, Option, Some, None}
 use Rattle.std.specs.Option.{option_or}
+use Rattle.std.specs.Prelude.{All, IfSome}
 use mathlib.Core.Logic.{inl, inr}
 use Rattle.std.proofs.lemmas.List.{append-nil, append_assoc, map-append}
 use Rattle.workers_core.specs.declared.opening_credit.OpeningCredit.{OpeningCredit}
 use Rattle.workers_core.specs.Chains.{IsWorked}
 use Rattle.workers_core.specs.Setups.{Setup}
-use Rattle.runs_core.specs.Sending.{AreLeftBy, ArePromised, IsLeftBy, IsPromised, MayBeShut, promises_of, sent_by}
+use Rattle.runs_core.specs.Sending.{AreLeftBy, ArePromised, IsFirstFault, IsLeftBy, IsPromised, MayBeShut, promises_of, sent_by}
 use Rattle.std.specs.Map.{keys_of}
 use Rattle.shared_account.specs.Terms.{Terms}
 use Rattle.runs_core.specs.Closing.{AreLeftFrom, AreWorkedFrom, IsLeftFrom}
@@ -57,6 +58,7 @@ pub record IsFinishing {K S G T : Type 0} (read : Reads K T) (key : S → K) (ma
   pub left_by : fault ≡ None → AreLeftBy read key (promises_of done) left
   pub shut : fault ≡ Some out.GateClosed → MayBeShut may_shut (promises_of done)
   pub workers : fault ≢ Some out.Workers
+  pub first : IfSome fault (λ why. IsFirstFault read key may_shut (promises_of lines) why)
 
 pub none_finished : {K S G T : Type 0} (read : Reads K T) (key : S → K) (may_shut : G → Type 0) (lines rest : List (Line S G T)) (left : List (Left S T)) → rest ≡ lines → left ≡ []
     → IsFinishing read key may_shut lines rest left None
@@ -67,6 +69,7 @@ none_finished {G = G} read key may_shut lines rest left whole none = record {
   left_by = λ _. subst (AreLeftBy {G = G} read key []) (sym none) tt;
   shut = λ never. absurd (cc);
   workers = λ never. absurd (cc);
+  first = tt;
 }
 
 -- one more has left
@@ -81,6 +84,7 @@ one_finished read key may_shut lines rest left more fault line one before grown 
   left_by = λ none. rw (grown, map-append (λ l. l.child.promise) before.done (line ∷ [])) (left_more read key (promises_of before.done) left line.child.promise one (before.left_by none) is);
   shut = λ closed. rw (map-append (λ l. l.child.promise) before.done (line ∷ [])) (shut_more may_shut (promises_of before.done) line.child.promise (before.shut closed));
   workers = before.workers;
+  first = before.first;
 }
 
 -- one more has failed
@@ -95,6 +99,15 @@ one_failed read key may_shut lines rest left more None line why before shut name
   shut = λ closed. let is : why ≡ out.GateClosed = cc in
       rw (map-append (λ l. l.child.promise) before.done (line ∷ [])) (shut_last may_shut (promises_of before.done) line.child.promise (shut is));
   workers = λ closed. let is : why ≡ out.Workers = cc in named is;
+  first = record {
+    before = promises_of before.done;
+    failed = line.child.promise;
+    after = promises_of rest;
+    split = sym (map-append (λ l. l.child.promise) before.done (line ∷ rest)) ∙ ap promises_of before.split;
+    left = left;
+    have_left = before.left_by refl;
+    shut = shut;
+  };
 }
 one_failed read key may_shut lines rest left more (Some first) line why before shut named = record {
   done = before.done ++ line ∷ [];
@@ -103,6 +116,7 @@ one_failed read key may_shut lines rest left more (Some first) line why before s
   left_by = λ none. absurd (cc);
   shut = λ closed. rw (map-append (λ l. l.child.promise) before.done (line ∷ [])) (shut_more may_shut (promises_of before.done) line.child.promise (before.shut closed));
   workers = before.workers;
+  first = before.first;
 }
 
 -- all have left
@@ -134,8 +148,11 @@ worked_from read key setup accounts gate number [] [] promised by = tt
 worked_from read key setup accounts gate number [] (one ∷ left) promised by = absurd by
 worked_from read key setup accounts gate number (promise ∷ promises) [] promised by = absurd by
 worked_from read key setup accounts gate number (promise ∷ promises) (one ∷ left) promised by =
-    let Its : Setup → ℕ → Type 0 = λ s n. IsWorked s n one.posts.items one.refusals.items (map read.mine one.seats.items) in
-    (subst (λ n. Its setup n) promised.0.number_is (subst (λ s. Its s promise.number) promised.0.setup_is by.0.worked), worked_from read key setup accounts gate (number + 1) promises left promised.1 by.1)
+    let Its : Setup → ℕ → Type 0 = λ s n. IsWorked s n one.posts.items one.refusals.items (map read.mine one.seats.items) in (
+      subst (λ n. Its setup n) promised.0.number_is (subst (λ s. Its s promise.number) promised.0.setup_is by.0.worked),
+      subst (λ n. All (λ seat. read.number seat ≡ n) one.seats.items) promised.0.number_is by.0.numbered,
+      worked_from read key setup accounts gate (number + 1) promises left promised.1 by.1,
+    )
 
 -- the numbers of accounts that were opened are those of the setup
 pub numbers_of : {S : Type 0} (terms : S → Terms) (limit workers : ℕ) (setup : List (ℕ × OpeningCredit)) (accounts : List S) → map terms accounts ≡ terms_of limit workers setup

@@ -11,7 +11,6 @@ use Rattle.workers_core.proofs.Entering.{recharges_are_entered}
 use Rattle.workers_core.proofs.Reserving.{reserves_are_on_terms}
 use Rattle.workers_core.specs.Chains.{IsWorked}
 use Rattle.workers_core.specs.Laws.{IsOnTerms}
-use Rattle.workers_core.specs.Served.{credits_of}
 use Rattle.workers_core.specs.Setups.{Setup}
 use Rattle.workers_core.specs.declared.post.Post.{Post}
 

@@ -4,6 +4,7 @@ pub mod Finishing
 pub mod InBooks
 pub mod Leaving
 pub mod Mailing
+pub mod Numbers
 pub mod Rows
 pub mod Sendings
 pub mod Shifting

@@ -1,8 +1,9 @@
 -- The books of a run, and where their entries come from.
-use Rattle.std.specs.Prelude.{◌≡◌, ◌+◌, ℕ, Option, List, [], ◌∷◌, length, map, All, slice_index_or}
+use Rattle.std.specs.Prelude.{◌≡◌, ◌+◌, ℕ, Option, true, List, [], ◌∷◌, length, map, All, slice_index_or}
 use Rattle.account_core.specs.Events.{Event}
 use Rattle.account_core.specs.declared.fault.AccountFault.{AccountFault}
 use Rattle.shared_account.specs.Closed.{Closed}
+use Rattle.shared_account.specs.Seats.{are_all}
 use Rattle.shared_account.specs.Terms.{Terms}
 use Rattle.workers_core.specs.Chains.{IsWorked}
 use Rattle.workers_core.specs.Served.{AreServed, IsServed}
@@ -21,6 +22,13 @@ AreOf key_of [] [] = Unit {0}
 AreOf key_of [] (row ∷ rows) = ⊥
 AreOf key_of (key ∷ keys) [] = ⊥
 AreOf key_of (key ∷ keys) (row ∷ rows) = All (λ seat. key_of seat ≡ key) row × AreOf key_of keys rows
+
+-- each row of seats' numbers is that of all seats of an account, in order, where the accounts have so many
+abbrev pub AreAllThere : List ℕ → List (List ℕ) → Type 0
+AreAllThere [] [] = Unit {0}
+AreAllThere [] (row ∷ rows) = ⊥
+AreAllThere (seats ∷ counts) [] = ⊥
+AreAllThere (seats ∷ counts) (row ∷ rows) = (are_all seats row ≡ true) × AreAllThere counts rows
 
 -- what workers have left: each a seat of each account, in order, with entries that come from the worker's posts
 pub record IsLeftFrom {K S T : Type 0} (read : Reads K T) (keys : List K) (numbers : List ℕ) (one : Left S T) : Type 0 where
@@ -47,11 +55,17 @@ abbrev pub AreListed : List Closed → ℕ → List (List (List Event)) → Type
 AreListed books worker [] = Unit {0}
 AreListed books worker (lists ∷ others) = (lists_of worker books ≡ lists) × AreListed books (worker + 1) others
 
--- what the workers from this number on have left is what handling their posts comes to
+-- the seats that the workers from this number on have left have each its worker's number
+abbrev pub AreNumberedFrom : {K S T : Type 0} → Reads K T → ℕ → List (Left S T) → Type 0
+AreNumberedFrom read number [] = Unit {0}
+AreNumberedFrom read number (one ∷ left) = All (λ seat. read.number seat ≡ number) one.seats.items × AreNumberedFrom read (number + 1) left
+
+-- what the workers from this number on have left is what handling their posts comes to, in seats of their numbers
 abbrev pub AreWorkedFrom : {K S T : Type 0} → Reads K T → Setup → ℕ → List (Left S T) → Type 0
 AreWorkedFrom read setup number [] = Unit {0}
 AreWorkedFrom read setup number (one ∷ left) =
-    IsWorked setup number one.posts.items one.refusals.items (map read.mine one.seats.items) × AreWorkedFrom read setup (number + 1) left
+    IsWorked setup number one.posts.items one.refusals.items (map read.mine one.seats.items) × All (λ seat. read.number seat ≡ number) one.seats.items
+    × AreWorkedFrom read setup (number + 1) left
 
 -- of each worker, from this number on, the lists in the books are what handling its posts comes to, and these of the posts were refused
 abbrev pub AreWorked : Setup → List Closed → ℕ → List (List Post) → List (List (Option AccountFault)) → Type 0

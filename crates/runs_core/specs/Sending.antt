@@ -1,11 +1,13 @@
 -- The lines of the workers of a run: what was sent by them, and what their threads promise.
-use Rattle.std.specs.Prelude.{◌≡◌, ◌+◌, ◌⊎◌, ℕ, List, [], ◌∷◌, length, map}
+use Rattle.std.specs.Prelude.{◌≡◌, ◌+◌, ◌++◌, ◌⊎◌, ℕ, List, [], ◌∷◌, length, map}
 use Rattle.runs_core.specs.Mails.{posts_in}
 use Rattle.runs_core.specs.Shares.{HaveHandled}
 use Rattle.runs_core.specs.Teams.{IsLeft, Reads}
 use Rattle.runs_core.specs.declared.line.Left.{Left}
 use Rattle.runs_core.specs.declared.line.Line.{Line}
 use Rattle.runs_core.specs.declared.returns.Returns.{Returns}
+use Rattle.runs_core.specs.declared.run_fault.RunFault.{RunFault}
+use Rattle.runs_core.specs.declared.run_fault.RunFault.TheVariants as out
 use Rattle.workers_core.specs.Ends.{sent}
 use Rattle.workers_core.specs.Setups.{Setup}
 use Rattle.workers_core.specs.declared.post.Body.{Body}
@@ -49,3 +51,13 @@ AreLeftBy read key [] [] = Unit {0}
 AreLeftBy read key [] (one ∷ left) = ⊥
 AreLeftBy read key (promise ∷ promises) [] = ⊥
 AreLeftBy read key (promise ∷ promises) (one ∷ left) = IsLeftBy read key promise one × AreLeftBy read key promises left
+
+-- of the workers of these promises, those before one have left, and that one has failed so: it is the first that has
+pub record IsFirstFault {K S G T : Type 0} (read : Reads K T) (key : S → K) (may_shut : G → Type 0) (promises : List (Returns S G T)) (fault : RunFault) : Type 0 where
+  pub before : List (Returns S G T)
+  pub failed : Returns S G T
+  pub after : List (Returns S G T)
+  pub split : before ++ failed ∷ after ≡ promises
+  pub left : List (Left S T)
+  pub have_left : AreLeftBy read key before left
+  pub shut : fault ≡ out.GateClosed → may_shut failed.gate.now

@@ -1,9 +1,10 @@
 //! The accounts of a run are closed.
 
-ghost use Rattle.std.specs.Prelude.{◌≡◌, ◌≢◌, length, map, All, IfOk};
+ghost use Rattle.std.specs.Prelude.{◌≡◌, ◌≢◌, true, length, map, All, IfOk};
 ghost use Rattle.account_core.specs.Answers.{IsLegal};
 ghost use Rattle.shared_account.specs.Own.{IsMerged};
-ghost use Rattle.runs_core.specs.Closing.{AreLeftFrom, AreListed, AreOf, AreServedBy, terms_shown};
+ghost use Rattle.runs_core.specs.Closing.{AreAllThere, AreLeftFrom, AreListed, AreNumberedFrom, AreOf, AreServedBy, terms_shown};
+ghost use Rattle.shared_account.specs.Seats.{are_all};
 ghost use Rattle.runs_core.specs.Teams.{reads};
 
 use crate::dealing::deal;
@@ -21,6 +22,8 @@ pub(crate) fn close_accounts<S: Shared>(
 ) -> Result<Books, RunFault>
     requires left { AreLeftFrom (reads S.key_of S.number_of S.mine_of) (map S.key accounts.items)
         (map (λ account. (S.terms account).number) accounts.items) left.items }
+    requires numbers { AreNumberedFrom (reads S.key_of S.number_of S.mine_of) 0 left.items }
+    requires seats { All (λ account. (S.terms account).seats ≡ length left.items) accounts.items }
     ensures terms { IfOk result
         (λ all. map terms_shown all.books.items ≡ map S.terms accounts.items) }
     ensures legal { IfOk result
@@ -65,6 +68,8 @@ fn close_each<S: Shared>(
     rows: Vec<Vec<S::Seat>>,
 ) -> Result<Vec<Book>, RunFault>
     requires rows { AreOf S.key_of (map S.key accounts.items) (map (λ row. row.items) rows.items) }
+    requires all { AreAllThere (map (λ account. (S.terms account).seats) accounts.items)
+        (map (λ row. map S.number_of row.items) rows.items) }
     ensures terms { IfOk result
         (λ books. map terms_shown books.items ≡ map S.terms accounts.items) }
     ensures own { IfOk result (λ books.
@@ -88,7 +93,8 @@ fn close_each<S: Shared>(
 
 /// Closes an account with its seats.
 fn close<S: Shared>(alloc: Global, account: S, seats: Vec<S::Seat>) -> Result<Book, RunFault>
-    requires { All (λ seat. S.key_of seat ≡ S.key account) seats.items }
+    requires keys { All (λ seat. S.key_of seat ≡ S.key account) seats.items }
+    requires all { are_all (S.terms account).seats (map S.number_of seats.items) ≡ true }
     ensures terms { IfOk result (λ book. terms_shown book ≡ S.terms account) }
     ensures own { IfOk result (λ book. book.own ≡ map S.mine_of seats.items) }
     ensures legal { IfOk result (λ book. IsLegal book.opening book.until book.history) }
@@ -98,6 +104,7 @@ fn close<S: Shared>(alloc: Global, account: S, seats: Vec<S::Seat>) -> Result<Bo
     match account.close(alloc, seats) {
         Ok(book) => Ok(book),
         Err(CloseFault::OutOfMemory) => Err(RunFault::OutOfMemory),
-        Err(_) => Err(RunFault::Mismatch),
+        Err(CloseFault::Mismatch) => Err(RunFault::Mismatch),
+        Err(CloseFault::Seats) => unreachable!(),
     }
 }

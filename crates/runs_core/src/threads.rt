@@ -1,8 +1,8 @@
 //! The workers of a run are started, and waited for.
 
-ghost use Rattle.std.specs.Prelude.{◌≡◌, ◌≢◌, ◌≤◌, ◌+◌, ◌++◌, ◌∷◌, [], length, map, All, IfOk, OnOk};
+ghost use Rattle.std.specs.Prelude.{◌≡◌, ◌≢◌, ◌≤◌, ◌+◌, ◌++◌, ◌∷◌, [], length, map, All, IfErr, IfOk, OnOk};
 ghost use Rattle.std.specs.Map.{keys_of};
-ghost use Rattle.runs_core.specs.Sending.{AreLeftBy, ArePromised, AreSent, IsLeftBy, MayBeShut, promises_of, sent_by};
+ghost use Rattle.runs_core.specs.Sending.{AreLeftBy, ArePromised, AreSent, IsFirstFault, IsLeftBy, MayBeShut, promises_of, sent_by};
 ghost use Rattle.runs_core.specs.Teams.{AreFresh, IsFresh, reads};
 ghost use Rattle.runs_core.specs.declared.line.Left.{Left};
 
@@ -86,6 +86,8 @@ pub(crate) fn finish_all<S: Shared, R: Wait + Threads, G: Gate>(
         (map (λ l. l.posts.items) left.new.items ≡ map sent_by lines.entry.items) }
     ensures left { OnOk result (AreLeftBy (reads S.key_of S.number_of S.mine_of) S.key
         (promises_of lines.entry.items) left.new.items) }
+    ensures first { IfErr result (λ fault. IsFirstFault (reads S.key_of S.number_of S.mine_of) S.key
+        G.may_shut (promises_of lines.entry.items) fault) }
     ensures gate { result ≡ Err RunFault.GateClosed
         → MayBeShut G.may_shut (promises_of lines.entry.items) }
     ensures workers { result ≢ Err RunFault.Workers }

@@ -1,6 +1,5 @@
 use Rattle.std.proofs.Common.{◌∙◌, ◌++◌, ap, map, refl, rules}
 use Rattle.run_command.proofs.PlayLemmas.{given_by}
-use Rattle.dialogue_core.specs.declared.config.ServiceConfig.{ServiceConfig}
 use Rattle.run_options.specs.Options.{ask_of}
 use Rattle.run_texts.specs.Views.{with_digits}
 use Rattle.run_command.proofs.playing.play.Goals as goal
@@ -29,8 +28,8 @@ returns-clause-books g c =
           accounts = c.in_ok-setup.ensures.accounts;
           subscribers = ap with_digits c.in_ok-setup.ensures.subscribers;
           tariff = c.in_ok-setup.ensures.tariff;
-          wanted = ap (λ (s : ServiceConfig). s.wanted) c.in_ok-setup.ensures.service;
-          least = ap (λ (s : ServiceConfig). s.least) c.in_ok-setup.ensures.service;
+          wanted = rw c.in_ok-setup.ensures.service refl;
+          least = rw c.in_ok-setup.ensures.service refl;
           limit = c.in_ok-setup.ensures.limit;
         };
         refusals = map (λ one. one.items) c.in_ok-books.field-0.refusals.items;

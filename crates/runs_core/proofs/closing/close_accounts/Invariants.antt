@@ -1,9 +1,10 @@
-use Rattle.std.proofs.Common.{◌≡◌, ◌++◌, [], length, map}
+use Rattle.std.proofs.Common.{◌≡◌, ◌+◌, ◌++◌, [], length, map}
 use Rattle.std.specs.Prelude.{replicate}
 use Rattle.std.specs.Vec.Iter.{into_iter_items}
 use Rattle.runs_core.proofs.Columns.{laid}
+use Rattle.runs_core.proofs.Numbers.{AreRising}
 use Rattle.runs_core.proofs.Rows.{AreRows}
-use Rattle.runs_core.specs.Closing.{AreLeftFrom}
+use Rattle.runs_core.specs.Closing.{AreLeftFrom, AreNumberedFrom}
 use Rattle.runs_core.specs.Teams.{reads}
 use Rattle.runs_core.proofs.closing.close_accounts.Given as goal
 
@@ -15,3 +16,6 @@ invariant-loop-one g l =
     × (map (λ one. one.items) l.refusals.items ++ map (λ one. one.refusals.items) (into_iter_items l.one-iterator) ≡ map (λ one. one.refusals.items) l.fn.left.items)
     × (laid (map (map g.S.Shared.mine_of) (map (λ row. row.items) l.rows.items)) (map (λ one. map g.S.Shared.mine_of one.seats.items) (into_iter_items l.one-iterator))
     ≡ laid (replicate (length l.accounts.items) []) (map (λ one. map g.S.Shared.mine_of one.seats.items) l.fn.left.items))
+    × AreNumberedFrom (reads g.S.Shared.key_of g.S.Shared.number_of g.S.Shared.mine_of) (length l.handled.items) (into_iter_items l.one-iterator)
+    × AreRising (length l.handled.items) (map (map g.S.Shared.number_of) (map (λ row. row.items) l.rows.items))
+    × (length l.handled.items + length (into_iter_items l.one-iterator) ≡ length l.fn.left.items)

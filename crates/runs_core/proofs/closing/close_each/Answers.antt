@@ -17,6 +17,7 @@ loop-account-preserved g c =
       one_shifted (λ book. book.own) (λ row. map g.S.Shared.mine_of row.items) c.loop-account.books.items c.in_ok-close.field-0 c.in-Some-next.seats (into_iter_items c.next-in-loop-account.new.self) _ before.2 c.in_ok-close.ensures.own,
       All-push (λ book. IsLegal book.opening book.until book.history) c.loop-account.books.items c.in_ok-close.field-0 before.3 c.in_ok-close.ensures.legal,
       All-push (λ book. IsMerged book.history book.own) c.loop-account.books.items c.in_ok-close.field-0 before.4 c.in_ok-close.ensures.merged,
+      before.5.1,
     )
 
 pub returns-clause-own : goal.returns-clause-own

@@ -1,6 +1,8 @@
-use Rattle.std.proofs.Common.{map, sym, subst}
+use Rattle.std.proofs.Common.{length, map, sym, subst, ◌∙◌}
 use Rattle.runs_core.proofs.Columns.{worked_so}
+use Rattle.std.proofs.lemmas.List.{length-map}
 use Rattle.runs_core.proofs.Finishing.{numbers_of}
+use Rattle.runs_core.proofs.Numbers.{numbered_from, seats_each}
 use Rattle.runs_core.specs.Closing.{AreLeftFrom}
 use Rattle.runs_core.specs.Teams.{reads}
 use Rattle.runs_core.proofs.serving.serve_over.Goals as goal
@@ -20,3 +22,13 @@ pub returns-clause-worked : goal.returns-clause-worked
 returns-clause-worked g c =
     worked_so (reads g.S.Shared.key_of g.S.Shared.number_of g.S.Shared.mine_of) c.args.setup.now c.in_ok-left.left.items c.close_accounts.result c.in_ok-left.ensures.worked
     c.close_accounts.ensures.handled c.close_accounts.ensures.refusals c.close_accounts.ensures.lists
+
+pub close_accounts-requires-clause-numbers : goal.close_accounts-requires-clause-numbers
+close_accounts-requires-clause-numbers g c = λ _ _.
+    numbered_from (reads g.S.Shared.key_of g.S.Shared.number_of g.S.Shared.mine_of) c.args.setup.now 0 c.in_ok-left.left.items c.in_ok-left.ensures.worked
+
+pub close_accounts-requires-clause-seats : goal.close_accounts-requires-clause-seats
+close_accounts-requires-clause-seats g c = λ _ _.
+    seats_each g.S.Shared.terms c.args.setup.now.limit c.args.workers (length c.in_ok-left.left.items) c.args.setup.now.accounts c.in_ok-accounts.field-0.accounts.items
+    c.in_ok-accounts.ensures.accounts
+    (sym c.in_ok-accounts.ensures.count ∙ sym c.in_ok-left.ensures.handled.count ∙ length-map c.in_ok-left.left.items (λ one. one.posts.items))

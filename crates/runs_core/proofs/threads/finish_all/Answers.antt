@@ -1,7 +1,8 @@
 use Rattle.std.proofs.Common.{◌≡◌, ◌∙◌, ap, arith, length, map, rules, subst}
 use Rattle.std.specs.Vec.Iter.{into_iter_items}
 use Rattle.runs_core.proofs.Finishing.{all_finished, none_finished, one_failed, one_finished}
-use Rattle.runs_core.specs.Sending.{AreLeftBy, MayBeShut, promises_of, sent_by}
+use Rattle.std.specs.Prelude.{IfSome}
+use Rattle.runs_core.specs.Sending.{AreLeftBy, IsFirstFault, MayBeShut, promises_of, sent_by}
 use Rattle.runs_core.specs.Teams.{reads}
 use Rattle.runs_core.proofs.threads.finish_all.Goals as goal
 
@@ -38,3 +39,8 @@ returns-in-Some-fault-clause-gate g c = λ closed.
 
 pub returns-in-Some-fault-clause-workers : goal.returns-in-Some-fault-clause-workers
 returns-in-Some-fault-clause-workers g c = λ is. c.loop-line.invariant.workers (cc)
+
+pub returns-in-Some-fault-clause-first : goal.returns-in-Some-fault-clause-first
+returns-in-Some-fault-clause-first g c =
+    subst (λ found. IfSome found (λ why. IsFirstFault (reads g.S.Shared.key_of g.S.Shared.number_of g.S.Shared.mine_of) g.S.Shared.key g.G.Gate.may_shut (promises_of c.args.lines.items) why))
+    c.in-Some-fault.is c.loop-line.invariant.first

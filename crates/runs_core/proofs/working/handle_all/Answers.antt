@@ -1,4 +1,4 @@
-use Rattle.std.proofs.Common.{◌≡◌, ◌++◌, ◌∷◌, ◌∙◌, [], ap, map, sym, rules}
+use Rattle.std.proofs.Common.{◌++◌, ◌∷◌, ◌∙◌, [], ap, map, sym, rules}
 use Rattle.std.proofs.lemmas.List.{map-append}
 use Rattle.runs_core.proofs.Leaving.{one_later}
 use Rattle.workers_core.specs.Workers.{posts_of}

@@ -1,7 +1,7 @@
-use Rattle.std.proofs.Common.{map, ap, sym, ◌∙◌}
+use Rattle.std.proofs.Common.{map, ap, ◌∙◌}
 use Rattle.runs_core.specs.Teams.{reads}
 use Rattle.runs_core.proofs.Leaving.{left_by, worked_by}
-use Rattle.workers_core.specs.Workers.{accounts_of, holding, talks_of}
+use Rattle.workers_core.specs.Workers.{accounts_of, holding}
 use Rattle.runs_core.proofs.working.work.Goals as goal
 
 pub returns-clause-left : goal.returns-clause-left
