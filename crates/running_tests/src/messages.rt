@@ -31,9 +31,14 @@ pub(crate) fn notified(event: Event) -> SsfMsg {
 
 /// The calling party hangs up.
 pub(crate) fn hung_up() -> SsfMsg {
+    hung_up_by(Leg::One)
+}
+
+/// The party of a leg hangs up.
+pub(crate) fn hung_up_by(leg: Leg) -> SsfMsg {
     SsfMsg::EventReport {
         event: Event::Disconnect,
-        leg: Some(Leg::One),
+        leg: Some(leg),
         mode: Mode::Interrupted,
     }
 }

@@ -112,6 +112,7 @@ impl Network {
         }
         self.given.reserve(MOST_SENT)?;
         let Begun { ssf, sent } = begin(self.config, now, call, calling, called);
+        // Until the moment of its timer is put down, the network isn't whole.
         let whole = self.whole;
         self.whole = false;
         replace_due(&mut self.dues, call, None, ssf.next_due())?;
@@ -133,6 +134,7 @@ impl Network {
         let Some(fed) = feed(&mut self.calls, now, call, input) else {
             return Ok(());
         };
+        // Until the moment of its timer is put down, the network isn't whole.
         let whole = self.whole;
         self.whole = false;
         post(&mut self.given, call, fed.sent.as_slice());
