@@ -47,9 +47,10 @@ install: bin/prepaid
 	install -D -m 644 completions/prepaid.bash $(DESTDIR)$(PREFIX)/share/bash-completion/completions/prepaid
 	install -D -m 644 completions/_prepaid $(DESTDIR)$(PREFIX)/share/zsh/site-functions/_prepaid
 
-# Times price and audit beside plain programs, a run by its length, and shared accounts beside plain ones.
+# Times price, audit and replay beside plain programs, a run by its length, and shared accounts beside plain ones.
 bench: bin/prepaid
 	bench/price.sh
 	bench/audit.sh
+	bench/replay.sh
 	bench/run.sh
 	bench/shared.sh

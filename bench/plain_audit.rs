@@ -1,81 +1,13 @@
 //! `audit` without proofs, as a baseline: fields are split at commas, and an entry is judged as it
 //! is read. It reads both versions of books: with a column x6, and without it.
+mod plain_call;
+
+use plain_call::{Call, MAX_MONEY};
 use std::collections::{BTreeMap, HashMap};
 use std::io::{Read, Write};
 
-const DAY: u64 = 864_000;
-const MAX_MONEY: u64 = 1_000_000_000_000_000;
-
 /// Where the free units of a reserve stand. The reply stands behind them.
 const X6: usize = 9;
-
-#[derive(Clone, Copy, Default)]
-struct Times {
-    before: u64,
-    after: u64,
-    switched: bool,
-}
-
-#[derive(Clone, Copy)]
-struct Call {
-    fee: u64,
-    first: u64,
-    second: Option<u64>,
-    free: u64,
-    times: Times,
-    granted: u64,
-    top: u64,
-    open: bool,
-    forfeit: bool,
-}
-
-impl Call {
-    fn price(&self, before: u64, after: u64) -> u64 {
-        if before + after == 0 {
-            return 0;
-        }
-        let first = before.saturating_sub(self.free) * self.first;
-        let second = after.saturating_sub(self.free.saturating_sub(before)) * self.second.unwrap_or(0);
-        self.fee + (first + second).div_ceil(600)
-    }
-
-    fn is_lawful(&self, new: Times, granted: u64) -> bool {
-        let old = self.times;
-        new.before >= old.before
-            && new.after >= old.after
-            && (!old.switched || new.switched && new.before == old.before)
-            && (!new.switched || self.second.is_some())
-            && new.before + new.after <= granted
-    }
-
-    /// The greatest price after so many units more.
-    fn ceiling(&self, units: u64) -> u64 {
-        let Times { before, after, switched } = self.times;
-        let first = if switched && units > 0 { 0 } else { self.price(before + units, after) };
-        let second = if self.second.is_some() { self.price(before, after + units) } else { 0 };
-        first.max(second)
-    }
-
-    fn afford(&self, wanted: u64, money: u64) -> u64 {
-        let (mut least, mut most) = (0, wanted.min(DAY - self.times.before - self.times.after));
-        if self.ceiling(most) <= money {
-            return most;
-        }
-        while least < most {
-            let middle = (least + most).div_ceil(2);
-            if self.ceiling(middle) <= money {
-                least = middle;
-            } else {
-                most = middle - 1;
-            }
-        }
-        least
-    }
-
-    fn paid(&self) -> u64 {
-        if self.forfeit { self.top } else { self.price(self.times.before, self.times.after) }
-    }
-}
 
 struct Account {
     funds: u64,
@@ -110,48 +42,27 @@ impl Account {
                     return None;
                 }
                 let second = if row[6].is_empty() { None } else { Some(number(6)) };
-                let new = Call {
-                    fee: number(4),
-                    first: number(5),
-                    second,
-                    free: if row[X6].is_empty() { 0 } else { number(X6) },
-                    times: Times::default(),
-                    granted: 0,
-                    top: 0,
-                    open: true,
-                    forfeit: false,
-                };
+                let free = if row[X6].is_empty() { 0 } else { number(X6) };
+                let new = Call::new(number(4), number(5), second, free);
                 let mut call = self.calls.get(&key).copied().unwrap_or(new);
                 if !call.open {
                     return None;
                 }
-                let money = self.available + call.top;
-                let units = call.afford(wanted, money);
-                if units < least || units == 0 || call.forfeit {
+                let Some(units) = call.reserve(wanted, least, &mut self.available) else {
                     return Some(("denied", None, ""));
-                }
-                call.granted = call.times.before + call.times.after + units;
-                call.top = call.ceiling(units);
-                self.available = money - call.top;
+                };
                 self.calls.insert(key, call);
                 Some(("granted", Some(units), if units < wanted { "last" } else { "more" }))
             }
             "settle" => {
                 let call = self.calls.get_mut(&key).filter(|call| call.open)?;
-                let time = number(6);
-                let times = if row[5] == "n" {
-                    Times { before: time, after: 0, switched: false }
+                let interval = if row[7].is_empty() { None } else { Some(number(7)) };
+                let times = call.read(row[5] == "s", number(6), interval);
+                if call.settle(times) {
+                    Some(("settled", Some(call.paid()), ""))
                 } else {
-                    let known = if call.times.switched { call.times.before } else { 0 };
-                    let before = if row[7].is_empty() { known } else { number(7) };
-                    Times { before, after: time, switched: true }
-                };
-                if call.forfeit || times.before + times.after > DAY || !call.is_lawful(times, call.granted) {
-                    call.forfeit = true;
-                    return Some(("forfeit", Some(call.top), ""));
+                    Some(("forfeit", Some(call.top), ""))
                 }
-                call.times = times;
-                Some(("settled", Some(call.paid()), ""))
             }
             _ => {
                 let call = self.calls.get_mut(&key).filter(|call| call.open)?;

@@ -22,10 +22,11 @@ pub(crate) struct HeldCall {
     pub times: Times,
     /// The time granted in all, cumulative as the reports are.
     pub granted: u32,
-    /// The most that it can come to pay for that.
-    pub top: u64,
     /// Whether it has a forfeit.
     pub forfeited: bool,
+    /// The most that it can come to pay for the time granted. It stands last, where the others leave
+    /// it no gap.
+    pub top: u64,
 }
 
 impl HeldCall {
