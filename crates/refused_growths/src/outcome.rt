@@ -2,9 +2,9 @@
 
 use account_core::AccountFault;
 use cap_values::ValueFault;
+use one_call::DriveFault;
 use runs_core::RunFault;
 use shared_account::CloseFault;
-use one_call::DriveFault;
 use std::alloc::{AllocError, AllocFailed};
 use std::io;
 use table_core::TableFault;

@@ -12,5 +12,5 @@ returns g c =
     if_known (g.I.Read.remaining c.args.input)
     (λ input. IsQuoteOfInput (wish_of c.args.ask.now) input _)
     (λ input known. quoted (wish_of c.args.ask.now) input c.in_ok-bytes.bytes.items (string_bytes c.in_ok-print_quote.field-0) c.in-Ok.tariff (telling_of c.plain.result)
-        (at_known (g.I.Read.remaining c.args.input) (λ text. sized text ≡ Ok c.in_ok-bytes.bytes.items) input known c.in_ok-bytes.ensures)
-        (rw (← c.as_slice.ensures.value) c.in-Ok.ensures) c.in_ok-print_quote.ensures c.plain.ensures)
+    (at_known (g.I.Read.remaining c.args.input) (λ text. sized text ≡ Ok c.in_ok-bytes.bytes.items) input known c.in_ok-bytes.ensures)
+    (rw (← c.as_slice.ensures.value) c.in-Ok.ensures) c.in_ok-print_quote.ensures c.plain.ensures)

@@ -23,9 +23,9 @@ loop-length-preserved c =
 
 pub returns-clause-none : goal.returns-clause-none
 returns-clause-none c = elim c.loop-length-test.branch [
-    else-loop-length-test w ↦ absurd (omega (arith, w.loop-length-test.false))
+  | else-loop-length-test w ↦ absurd (omega (arith, w.loop-length-test.false))
   | then-loop-length-test+else-has+else-length-gt0 w ↦
-    let view : c.self.inside.bands ≡ c.args.self.now = c.self.view_is in
-    no_route c.args.self.now c.args.called.now (digits_of w.new.result) c.loop-length.length w.new.ensures
-    (rw (← view) c.self.invariant) (rw (← view) (sym w.has.ensures.value ∙ w.if-has.false)) (rw view at w.has.ensures.short) c.loop-length.invariant (omega arith)
-  ]
+      let view : c.self.inside.bands ≡ c.args.self.now = c.self.view_is in
+      no_route c.args.self.now c.args.called.now (digits_of w.new.result) c.loop-length.length w.new.ensures
+      (rw (← view) c.self.invariant) (rw (← view) (sym w.has.ensures.value ∙ w.if-has.false)) (rw view at w.has.ensures.short) c.loop-length.invariant (omega arith)
+]
