@@ -12,6 +12,47 @@ const ACCOUNT: &str = "account,7,1500\nsubscriber,491700001,7\n";
 
 const CALL: &str = "0,1,start,491700001,4930\n100,1,answer,,\n400,1,disconnect,1,\n";
 
+/// A call that is answered before a delay of 50 is over, and ends 300 units later by its other leg.
+const EARLY: &str = "0,1,start,491700001,4930\n20,1,answer,,\n320,1,disconnect,2,\n";
+
+/// A call that no party ends.
+const UNENDED: &str = "0,1,start,491700001,4930\n100,1,answer,,\n";
+
+/// Its book, where 300 units are the least that the service takes: 450 pay for 270.
+const DELAYED_BOOK: &str = "\
+account,seat,op,call,x1,x2,x3,x4,x5,x6,x7,reply,y1,y2,y3
+7,,opening,,1500,,,,,,,,,,
+7,1,reserve,1,50,1000,,600,300,0,0,granted,600,more,450
+7,1,settle,1,2,n,600,,,,,settled,1050,,450
+7,1,reserve,1,50,1000,,600,300,0,700,denied,,,450
+7,1,return,1,,,,,,,,returned,1050,,450
+";
+
+/// Two accounts, each with a subscriber.
+const TWO_SUBSCRIBERS: &str = "\
+account,7,1500
+account,8,900
+subscriber,491700001,7
+subscriber,491700002,8
+";
+
+/// A call of each, which start at one moment and talk at the same time.
+const TWO_CALLS: &str = "\
+0,2,start,491700002,4931
+0,1,start,491700001,4930
+100,1,answer,,
+150,2,answer,,
+400,2,disconnect,2,
+500,1,disconnect,1,
+";
+
+const TWO_LINES: &str = "\
+account 7 opening 1500 available 783 entries 3
+account 8 opening 900 available 433 entries 3
+call 1 account 7 paid 717 returned
+call 2 account 8 paid 467 returned
+";
+
 /// The book of that call.
 pub(crate) const BOOK: &str = "\
 account,seat,op,call,x1,x2,x3,x4,x5,x6,x7,reply,y1,y2,y3
@@ -93,7 +134,7 @@ const BOOK_REFUSED: [(&str, &str); 8] = [
 ];
 
 /// Words, the rows of the tariff, the setup and the script, and what is written.
-const PLAYED: [(&str, &str, &str, &str, &str); 7] = [
+const PLAYED: [(&str, &str, &str, &str, &str); 11] = [
     (
         "run",
         BAND,
@@ -123,6 +164,28 @@ const PLAYED: [(&str, &str, &str, &str, &str); 7] = [
         "0,1,start,491700001,4430\n100,1,answer,,\n400,1,disconnect,1,\n",
         "account 7 opening 1500 available 1500 entries 0\n",
     ),
+    (
+        "run",
+        BAND,
+        ACCOUNT,
+        EARLY,
+        "account 7 opening 1500 available 950 entries 3\ncall 1 account 7 paid 550 returned\n",
+    ),
+    (
+        "run --delay 50 --least 300",
+        BAND,
+        ACCOUNT,
+        EARLY,
+        "account 7 opening 1500 available 450 entries 1\ncall 1 account 7 paid 0 holding\n",
+    ),
+    (
+        "run --delay 50 --least 300 --book",
+        BAND,
+        ACCOUNT,
+        UNENDED,
+        DELAYED_BOOK,
+    ),
+    ("run", BAND, TWO_SUBSCRIBERS, TWO_CALLS, TWO_LINES),
     ("run --workers 16", "", "", "", ""),
     (
         "run --book",
