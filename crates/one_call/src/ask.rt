@@ -11,7 +11,7 @@ use dialogue_core::{Dialogue, Turn};
 
 /// Asks the port once, and hands its answer to the dialogue, whose next turn it gives.
 pub(crate) fn ask<P: Port>(port: &mut P, dialogue: &mut Dialogue, tally: &mut Tally, op: Op) -> Turn
-    ensures { IsAsked (P.standing port.old) (P.standing port.new) (asked_of op) tally.old tally.new
+    ensures { IsAsked (P.state port.old) (P.state port.new) (asked_of op) tally.old tally.new
         (phase_of dialogue.old) (phase_of dialogue.new) (says_of result) }
 {
     let answer = port.ask(op);

@@ -23,13 +23,13 @@ pub(crate) fn converse<P: Port>(
 ) -> ArrayVec<ScfOp, 4>
     ensures kept { (call : ℕ) (meter : Meter) (queued : List Paid)
         → IsReady call meter queued
-        (P.standing port.old call) (phase_of dialogue.old) (says_of turn)
+        (P.state port.old call) (phase_of dialogue.old) (says_of turn)
         → tally.new.forfeits ≡ tally.old.forfeits }
     ensures rests { (call : ℕ) (meter : Meter) (queued : List Paid)
         → IsReady call meter queued
-        (P.standing port.old call) (phase_of dialogue.old) (says_of turn)
+        (P.state port.old call) (phase_of dialogue.old) (says_of turn)
         → IsAtRest call meter (queued ++ paid_by (orders_of result.items))
-        (P.standing port.new call) (phase_of dialogue.new) }
+        (P.state port.new call) (phase_of dialogue.new) }
 {
     let mut turn = turn;
     while let Turn::Ask(op) = turn {

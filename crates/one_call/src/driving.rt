@@ -50,7 +50,7 @@ pub fn drive_call<P: Port>(
     requires script { All (λ next. next.0 ≤ LAST_MOMENT) script.now }
     requires route { ForSome route (λ route.
         ForSome route.switch_at (λ at. (start < at) × (at ≤ start + DAY))) }
-    ensures forfeits { P.standing port.old call.0 ≡ Some nothing_known
+    ensures forfeits { P.state port.old call.0 ≡ Some nothing_known
         → IfOk result (λ end. end.forfeits ≡ 0) }
     ensures backwards { IsErrOf result DriveFault.Backwards
         ↔ (are_in_order start script.now ≡ false) }

@@ -29,14 +29,14 @@ fn hear<P: Port>(
     message: SsfMsg,
 ) -> ArrayVec<ScfOp, 4>
     ensures kept { (call now : ℕ) (meter after : Meter) (queued : List Paid)
-        → IsAtRest call meter queued (P.standing port.old call) (phase_of dialogue.old)
+        → IsAtRest call meter queued (P.state port.old call) (phase_of dialogue.old)
         → Sends meter now (sent.Msg message) after
         → tally.new.forfeits ≡ tally.old.forfeits }
     ensures rests { (call now : ℕ) (meter after : Meter) (queued : List Paid)
-        → IsAtRest call meter queued (P.standing port.old call) (phase_of dialogue.old)
+        → IsAtRest call meter queued (P.state port.old call) (phase_of dialogue.old)
         → Sends meter now (sent.Msg message) after
         → IsAtRest call after (queued ++ paid_by (orders_of result.items))
-        (P.standing port.new call) (phase_of dialogue.new) }
+        (P.state port.new call) (phase_of dialogue.new) }
 {
     let number = tally.messages;
     *tally = tally.with_message(&message);
@@ -57,15 +57,15 @@ fn hear_one<P: Port>(
 ) -> Result<(), DriveFault>
     ensures kept { (call now : ℕ) (meter after : Meter) (handed : List Paid)
         → IsAtRest call meter (handed ++ queued_in deliveries.old.items)
-        (P.standing port.old call) (phase_of dialogue.old)
+        (P.state port.old call) (phase_of dialogue.old)
         → Sends meter now out.item after
         → tally.new.forfeits ≡ tally.old.forfeits }
     ensures rests { (call now : ℕ) (meter after : Meter) (handed : List Paid)
         → IsAtRest call meter (handed ++ queued_in deliveries.old.items)
-        (P.standing port.old call) (phase_of dialogue.old)
+        (P.state port.old call) (phase_of dialogue.old)
         → Sends meter now out.item after
         → IfOk result (λ _. IsAtRest call after (handed ++ queued_in deliveries.new.items)
-        (P.standing port.new call) (phase_of dialogue.new)) }
+        (P.state port.new call) (phase_of dialogue.new)) }
     ensures sent { IfOk result (λ _. AreSent due deliveries.old.items deliveries.new.items) }
     ensures fault { IfErr result (λ fault. fault ≡ DriveFault.OutOfMemory) }
 {
@@ -90,15 +90,15 @@ pub(crate) fn hear_all<P: Port>(
 ) -> Result<(), DriveFault>
     ensures kept { (call : ℕ) (meter after : Meter) (handed : List Paid)
         → IsAtRest call meter (handed ++ queued_in deliveries.old.items)
-        (P.standing port.old call) (phase_of dialogue.old)
+        (P.state port.old call) (phase_of dialogue.old)
         → RunsThrough handed meter sent.now after
         → IfOk result (λ _. tally.new.forfeits ≡ tally.old.forfeits) }
     ensures rests { (call : ℕ) (meter after : Meter) (handed : List Paid)
         → IsAtRest call meter (handed ++ queued_in deliveries.old.items)
-        (P.standing port.old call) (phase_of dialogue.old)
+        (P.state port.old call) (phase_of dialogue.old)
         → RunsThrough handed meter sent.now after
         → IfOk result (λ _. IsAtRest call after (queued_in deliveries.new.items)
-        (P.standing port.new call) (phase_of dialogue.new)) }
+        (P.state port.new call) (phase_of dialogue.new)) }
     ensures sent { IfOk result (λ _. AreSent due deliveries.old.items deliveries.new.items) }
     ensures fault { IfErr result (λ fault. fault ≡ DriveFault.OutOfMemory) }
 {

@@ -36,7 +36,7 @@ pub(crate) fn play<P: Port>(
     requires start { start ≤ LAST_MOMENT }
     requires route { ForSome route (λ route.
         ForSome route.switch_at (λ at. (start < at) × (at ≤ start + DAY))) }
-    ensures forfeits { P.standing port.old call.0 ≡ Some nothing_known
+    ensures forfeits { P.state port.old call.0 ≡ Some nothing_known
         → IfOk result (λ end. end.forfeits ≡ 0) }
     ensures fault { IfErr result (λ fault. fault ≡ DriveFault.OutOfMemory) }
 {

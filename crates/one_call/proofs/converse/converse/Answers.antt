@@ -8,19 +8,19 @@ pub loop-turn-smaller : goal.loop-turn-smaller
 loop-turn-smaller g c =
     rw c.in-Ask.is
     (let fewer =
-    asked_fewer (g.P.Port.standing c.loop-turn.port) (g.P.Port.standing c.ask-turn.new.port) (asked_of c.in-Ask.op) c.loop-turn.tally c.ask-turn.new.tally
+    asked_fewer (g.P.Port.state c.loop-turn.port) (g.P.Port.state c.ask-turn.new.port) (asked_of c.in-Ask.op) c.loop-turn.tally c.ask-turn.new.tally
     (phase_of c.loop-turn.dialogue) (phase_of c.ask-turn.new.dialogue) (says_of c.ask-turn.result) c.ask-turn.ensures in
     omega (arith, fewer))
 
 pub loop-turn-preserved : goal.loop-turn-preserved
 loop-turn-preserved g c = record {
   kept = λ call meter queued ready.
-      asked_kept call meter queued (g.P.Port.standing c.loop-turn.port) (g.P.Port.standing c.ask-turn.new.port) (asked_of c.in-Ask.op) c.loop-turn.tally c.ask-turn.new.tally
+      asked_kept call meter queued (g.P.Port.state c.loop-turn.port) (g.P.Port.state c.ask-turn.new.port) (asked_of c.in-Ask.op) c.loop-turn.tally c.ask-turn.new.tally
       (phase_of c.loop-turn.dialogue) (phase_of c.ask-turn.new.dialogue) (says_of c.ask-turn.result) c.ask-turn.ensures
       (rw c.in-Ask.is at (c.loop-turn.invariant.ready call meter queued ready))
       ∙ c.loop-turn.invariant.kept call meter queued ready;
   ready = λ call meter queued ready.
-      asked_ready call meter queued (g.P.Port.standing c.loop-turn.port) (g.P.Port.standing c.ask-turn.new.port) (asked_of c.in-Ask.op) c.loop-turn.tally c.ask-turn.new.tally
+      asked_ready call meter queued (g.P.Port.state c.loop-turn.port) (g.P.Port.state c.ask-turn.new.port) (asked_of c.in-Ask.op) c.loop-turn.tally c.ask-turn.new.tally
       (phase_of c.loop-turn.dialogue) (phase_of c.ask-turn.new.dialogue) (says_of c.ask-turn.result) c.ask-turn.ensures
       (rw c.in-Ask.is at (c.loop-turn.invariant.ready call meter queued ready));
 }

@@ -9,11 +9,11 @@ use Rattle.one_call.proofs.converse.converse.Given as goal
 abbrev pub invariant-loop-turn : goal.invariant-loop-turn
 invariant-loop-turn g l = record {
   kept : (call : ℕ) (meter : Meter) (queued : List Paid)
-      → IsReady call meter queued (g.P.Port.standing l.initial.port call) (phase_of l.initial.dialogue) (says_of l.initial.turn)
+      → IsReady call meter queued (g.P.Port.state l.initial.port call) (phase_of l.initial.dialogue) (says_of l.initial.turn)
       → l.tally.forfeits ≡ l.initial.tally.forfeits;
   ready : (call : ℕ) (meter : Meter) (queued : List Paid)
-      → IsReady call meter queued (g.P.Port.standing l.initial.port call) (phase_of l.initial.dialogue) (says_of l.initial.turn)
-      → IsReady call meter queued (g.P.Port.standing l.port call) (phase_of l.dialogue) (says_of l.turn);
+      → IsReady call meter queued (g.P.Port.state l.initial.port call) (phase_of l.initial.dialogue) (says_of l.initial.turn)
+      → IsReady call meter queued (g.P.Port.state l.port call) (phase_of l.dialogue) (says_of l.turn);
 }
 
 abbrev pub decreases-loop-turn : goal.decreases-loop-turn

@@ -12,7 +12,7 @@ loop-out-preserved g c = record {
       let now = c.loop-out.invariant.rests call meter after handed rest runs in
       let next = run_next handed now.0 after c.args.sent.now c.loop-out.out-index c.out-item.result c.loop-out-test.true c.out-item.is now.1.1 in
       c.in_ok-hear_one.ensures.kept call c.out-item.result.at next.0 next.1.1.0 handed
-      (rest_later call now.0 next.0 (handed ++ queued_in c.loop-out.deliveries.items) (g.P.Port.standing c.loop-out.port call) (phase_of c.loop-out.dialogue) next.1.0 now.1.0)
+      (rest_later call now.0 next.0 (handed ++ queued_in c.loop-out.deliveries.items) (g.P.Port.state c.loop-out.port call) (phase_of c.loop-out.dialogue) next.1.0 now.1.0)
       next.1.1.1.0
       ∙ c.loop-out.invariant.kept call meter after handed rest runs;
   rests = λ call meter after handed rest runs.
@@ -21,7 +21,7 @@ loop-out-preserved g c = record {
         next.1.1.0,
         (
           c.in_ok-hear_one.ensures.rests call c.out-item.result.at next.0 next.1.1.0 handed
-              (rest_later call now.0 next.0 (handed ++ queued_in c.loop-out.deliveries.items) (g.P.Port.standing c.loop-out.port call) (phase_of c.loop-out.dialogue) next.1.0 now.1.0)
+              (rest_later call now.0 next.0 (handed ++ queued_in c.loop-out.deliveries.items) (g.P.Port.state c.loop-out.port call) (phase_of c.loop-out.dialogue) next.1.0 now.1.0)
               next.1.1.1.0,
           next.1.1.1.1,
         ),
@@ -33,5 +33,5 @@ pub returns-clause-rests : goal.returns-clause-rests
 returns-clause-rests g c = λ call meter after handed rest runs.
     let now = c.loop-out.invariant.rests call meter after handed rest runs in
     let ended : c.loop-out.out-index ≡ length c.args.sent.now = omega (arith, c.loop-out-test.false, c.loop-out.auto.out-index-end) in
-    rest_ends call handed (queued_in c.loop-out.deliveries.items) now.0 after (g.P.Port.standing c.loop-out.port call) (phase_of c.loop-out.dialogue)
+    rest_ends call handed (queued_in c.loop-out.deliveries.items) now.0 after (g.P.Port.state c.loop-out.port call) (phase_of c.loop-out.dialogue)
     (rw (ended, drop-length c.args.sent.now) at now.1.1) now.1.0

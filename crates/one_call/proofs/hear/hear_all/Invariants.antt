@@ -9,12 +9,12 @@ use Rattle.one_call.proofs.hear.hear_all.Given as goal
 abbrev pub invariant-loop-out : goal.invariant-loop-out
 invariant-loop-out g l = record {
   kept : (call : ℕ) (meter after : Meter) (handed : List Paid)
-      → IsAtRest call meter (handed ++ queued_in l.initial.deliveries.items) (g.P.Port.standing l.initial.port call) (phase_of l.initial.dialogue)
+      → IsAtRest call meter (handed ++ queued_in l.initial.deliveries.items) (g.P.Port.state l.initial.port call) (phase_of l.initial.dialogue)
       → RunsThrough handed meter l.sent after → l.tally.forfeits ≡ l.initial.tally.forfeits;
   rests : (call : ℕ) (meter after : Meter) (handed : List Paid)
-      → IsAtRest call meter (handed ++ queued_in l.initial.deliveries.items) (g.P.Port.standing l.initial.port call) (phase_of l.initial.dialogue)
+      → IsAtRest call meter (handed ++ queued_in l.initial.deliveries.items) (g.P.Port.state l.initial.port call) (phase_of l.initial.dialogue)
       → RunsThrough handed meter l.sent after
-      → (now : Meter) × (IsAtRest call now (handed ++ queued_in l.deliveries.items) (g.P.Port.standing l.port call) (phase_of l.dialogue)
+      → (now : Meter) × (IsAtRest call now (handed ++ queued_in l.deliveries.items) (g.P.Port.state l.port call) (phase_of l.dialogue)
       × RunsThrough handed now (drop l.out-index l.sent) after);
   sent : AreSent l.due l.initial.deliveries.items l.deliveries.items;
 }

@@ -10,6 +10,6 @@ returns-in-Msg-clause-kept g c = λ call now meter after handed rest sends.
 
 pub returns-in-Msg-clause-rests : goal.returns-in-Msg-clause-rests
 returns-in-Msg-clause-rests g c = λ call now meter after handed rest sends.
-    sent_rests call c.args.due after handed c.args.deliveries.now.items c.send.new.deliveries.items c.hear-ops.result.items (g.P.Port.standing c.hear-ops.new.port call)
+    sent_rests call c.args.due after handed c.args.deliveries.now.items c.send.new.deliveries.items c.hear-ops.result.items (g.P.Port.state c.hear-ops.new.port call)
     (phase_of c.hear-ops.new.dialogue) c.send.result (rw c.as_slice.ensures.value at c.send.ensures.sent)
     (c.hear-ops.ensures.rests call now meter after (handed ++ queued_in c.args.deliveries.now.items) rest (rw c.in-Msg.is at sends))

@@ -9,14 +9,14 @@ use Rattle.one_call.proofs.rounds.play.Goals as goal
 pub inputs-init : goal.inputs-init
 inputs-init g c = λ new.
     let (meter, (shows, unpaid)) = c.started-ssf.ensures.started in
-    let ready = begun_ready c.args.call.0 c.args.start c.args.service.now.wanted c.args.service.now.least c.args.route meter (g.P.Port.standing c.args.port.now c.args.call.0)
+    let ready = begun_ready c.args.call.0 c.args.start c.args.service.now.wanted c.args.service.now.least c.args.route meter (g.P.Port.state c.args.port.now c.args.call.0)
     (phase_of c.begin-turn.result.0) (says_of c.begin-turn.result.1) c.begin-turn.ensures new unpaid in
     record {
       none = c.converse-ops.ensures.kept c.args.call.0 meter [] ready ∙ c.started-ssf.ensures.none;
       meter = meter;
       shows = shows;
       rests = first_rests c.args.call.0 (c.args.start + c.from-delay.result) meter c.new-deliveries.result.items c.send.new.deliveries.items c.converse-ops.result.items
-          (g.P.Port.standing c.converse-ops.new.port c.args.call.0) (phase_of c.converse-ops.new.dialogue) c.new-deliveries.ensures.items (rw c.as_slice.ensures.value at c.in_ok-send.ensures.sent)
+          (g.P.Port.state c.converse-ops.new.port c.args.call.0) (phase_of c.converse-ops.new.dialogue) c.new-deliveries.ensures.items (rw c.as_slice.ensures.value at c.in_ok-send.ensures.sent)
           (c.converse-ops.ensures.rests c.args.call.0 meter [] ready);
     }
 
