@@ -44,7 +44,7 @@ const REPLIES: [Reply; 3] = [
 
 /// The player of the script.
 fn player(alloc: Global) -> Result<ScriptPlayer, Outcome>
-    ensures given { IfOk result (λ player. player.given ≡ []) }
+    ensures given { IfOk result (λ player. player.network.given ≡ []) }
     ensures running { IfOk result (λ player. player.ended ≡ false) }
 {
     let mut directory = Directory::new(alloc);
