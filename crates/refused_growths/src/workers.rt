@@ -21,14 +21,14 @@ use workers_core::{Body, Gone, Mail, OpeningCredit, Post, RunSetup, Worker, mail
 /// Sends two mails, and takes them.
 pub(crate) fn mails<R: Wait>(rt: &R, alloc: Global) -> Course {
     let (mut outbox, mut inbox) = mailbox(alloc, 2)?;
-    let work = Mail::Work(Post {
+    let post = Post {
         number: 0,
         at: 0,
         body: recharge(600),
-    });
-    expect(outbox.send_mail(rt, work) == Ok(()))?;
+    };
+    expect(outbox.send_mail(rt, Mail::Work(post)) == Ok(()))?;
     expect(outbox.send_mail(rt, Mail::Close) == Ok(()))?;
-    expect(inbox.take_mail(rt) == Ok(work))?;
+    expect(inbox.take_mail(rt) == Ok(Mail::Work(post)))?;
     expect(inbox.take_mail(rt) == Ok(Mail::Close))?;
     drop(outbox);
     expect(inbox.take_mail(rt) == Err(Gone))?;

@@ -9,7 +9,7 @@ use Rattle.runs_core.specs.Closing.{AreLeftFrom, AreListed, AreWorked, AreWorked
 use Rattle.runs_core.specs.Dealing.{dealt}
 use Rattle.runs_core.specs.Teams.{Reads}
 use Rattle.runs_core.specs.declared.books.Books.{Books}
-use Rattle.runs_core.specs.declared.line.Left.{Left}
+use Rattle.runs_core.specs.declared.desk.Left.{Left}
 use Rattle.runs_core.specs.declared.run_fault.RunFault.{RunFault}
 use Rattle.workers_core.specs.Setups.{Setup}
 

@@ -1,18 +1,22 @@
 -- Workers are started and waited for, one after the other.
 use Rattle.std.proofs.Common.{◌≡◌, ◌≢◌, ℕ, ◌+◌, List, [], ◌∷◌, ◌++◌, length, map, refl, ap, sym, subst, ◌∙◌, arith, suc, Option, Some, None}
 use Rattle.std.specs.Option.{option_or}
-use Rattle.std.specs.Prelude.{All, IfSome}
+use Rattle.std.specs.Result.{result_err}
+use Rattle.std.specs.Prelude.{All, Err, IfSome, Ok, Result}
 use mathlib.Core.Logic.{inl, inr}
-use Rattle.std.proofs.lemmas.List.{append-nil, append_assoc, map-append}
+use Rattle.std.proofs.lemmas.List.{append-nil, append_assoc, length-map, map-append}
 use Rattle.workers_core.specs.declared.opening_credit.OpeningCredit.{OpeningCredit}
+use Rattle.workers_core.proofs.Chaining.{worked_so}
 use Rattle.workers_core.specs.Chains.{IsWorked}
+use Rattle.workers_core.specs.Handled.{Told, told_of}
+use Rattle.workers_core.specs.declared.answer.Answer.{Answer}
 use Rattle.workers_core.specs.Setups.{Setup}
-use Rattle.runs_core.specs.Sending.{AreLeftBy, ArePromised, IsFirstFault, IsLeftBy, IsPromised, MayBeShut, promises_of, sent_by}
+use Rattle.runs_core.specs.Sending.{AreLeftBy, ArePromised, IsFirstFault, IsLeftBy, IsPromised, MayBeShut, heard_by, promises_of, sent_by}
 use Rattle.std.specs.Map.{keys_of}
 use Rattle.shared_account.specs.Terms.{Terms}
 use Rattle.runs_core.specs.Closing.{AreLeftFrom, AreWorkedFrom, IsLeftFrom}
 use Rattle.runs_core.specs.Teams.{IsLeft, Reads, terms_of, terms_with}
-use Rattle.runs_core.specs.declared.line.Left.{Left}
+use Rattle.runs_core.specs.declared.desk.Left.{Left}
 use Rattle.runs_core.specs.declared.line.Line.{Line}
 use Rattle.runs_core.specs.declared.returns.Returns.{Returns}
 use Rattle.runs_core.specs.declared.run_fault.RunFault.{RunFault}
@@ -27,12 +31,16 @@ promised_more setup accounts gate number (first ∷ promises) promise before one
     let here : number + suc (length promises) ≡ number + 1 + length promises = omega (arith) in
     (before.0, promised_more setup accounts gate (number + 1) promises promise before.1 (subst (λ n. IsPromised setup accounts gate n promise) here one))
 
-left_more : {K S G T : Type 0} (read : Reads K T) (key : S → K) (promises : List (Returns S G T)) (left : List (Left S T)) (promise : Returns S G T) (one : Left S T)
-    → AreLeftBy read key promises left → IsLeftBy read key promise one → AreLeftBy read key (promises ++ promise ∷ []) (left ++ one ∷ [])
-left_more read key [] [] promise one before is = (is, tt)
-left_more read key [] (first ∷ left) promise one before is = absurd before
-left_more read key (first ∷ promises) [] promise one before is = absurd before
-left_more read key (p ∷ promises) (l ∷ left) promise one before is = (before.0, left_more read key promises left promise one before.1 is)
+left_more : {K S G T : Type 0} (read : Reads K T) (key : S → K) (promises : List (Returns S G T)) (heard : List (List Answer)) (left : List (Left S T)) (promise : Returns S G T) (answers : List Answer) (one : Left S T)
+    → length heard ≡ length promises → AreLeftBy read key promises heard left → IsLeftBy read key promise answers one
+    → AreLeftBy read key (promises ++ promise ∷ []) (heard ++ answers ∷ []) (left ++ one ∷ [])
+left_more read key [] [] [] promise answers one many before is = (is, tt)
+left_more read key [] (a ∷ heard) left promise answers one many before is = absurd (omega (arith, many))
+left_more read key [] [] (first ∷ left) promise answers one many before is = absurd before
+left_more read key (first ∷ promises) heard [] promise answers one many before is = absurd before
+left_more read key (p ∷ promises) [] (l ∷ left) promise answers one many before is = absurd before
+left_more read key (p ∷ promises) (a ∷ heard) (l ∷ left) promise answers one many before is =
+    (before.0, left_more read key promises heard left promise answers one (omega (arith, many)) before.1 is)
 
 shut_more : {S G T : Type 0} (may_shut : G → Type 0) (promises : List (Returns S G T)) (promise : Returns S G T) → MayBeShut may_shut promises → MayBeShut may_shut (promises ++ promise ∷ [])
 shut_more may_shut [] promise shut = absurd shut
@@ -55,7 +63,7 @@ pub record IsFinishing {K S G T : Type 0} (read : Reads K T) (key : S → K) (ma
   pub done : List (Line S G T)
   pub split : done ++ rest ≡ lines
   pub posts : fault ≡ None → map (λ l. l.posts.items) left ≡ map sent_by done
-  pub left_by : fault ≡ None → AreLeftBy read key (promises_of done) left
+  pub left_by : fault ≡ None → AreLeftBy read key (promises_of done) (map heard_by done) left
   pub shut : fault ≡ Some out.GateClosed → MayBeShut may_shut (promises_of done)
   pub workers : fault ≢ Some out.Workers
   pub first : IfSome fault (λ why. IsFirstFault read key may_shut (promises_of lines) why)
@@ -66,7 +74,7 @@ none_finished {G = G} read key may_shut lines rest left whole none = record {
   done = [];
   split = whole;
   posts = λ _. ap (map (λ l. l.posts.items)) none;
-  left_by = λ _. subst (AreLeftBy {G = G} read key []) (sym none) tt;
+  left_by = λ _. subst (AreLeftBy {G = G} read key [] []) (sym none) tt;
   shut = λ never. absurd (cc);
   workers = λ never. absurd (cc);
   first = tt;
@@ -74,14 +82,15 @@ none_finished {G = G} read key may_shut lines rest left whole none = record {
 
 -- one more has left
 pub one_finished : {K S G T : Type 0} (read : Reads K T) (key : S → K) (may_shut : G → Type 0) (lines rest : List (Line S G T)) (left more : List (Left S T)) (fault : Option RunFault) (line : Line S G T) (one : Left S T)
-    → IsFinishing read key may_shut lines (line ∷ rest) left fault → more ≡ left ++ one ∷ [] → one.posts.items ≡ sent_by line → IsLeftBy read key line.child.promise one
+    → IsFinishing read key may_shut lines (line ∷ rest) left fault → more ≡ left ++ one ∷ [] → one.posts.items ≡ sent_by line → IsLeftBy read key line.child.promise (heard_by line) one
     → IsFinishing read key may_shut lines rest more fault
 one_finished read key may_shut lines rest left more fault line one before grown posts is = record {
   done = before.done ++ line ∷ [];
   split = append_assoc before.done (line ∷ []) rest ∙ before.split;
   posts = λ none. ap (map (λ l. l.posts.items)) grown ∙ map-append (λ l. l.posts.items) left (one ∷ []) ∙ ap (λ ps. ps ++ one.posts.items ∷ []) (before.posts none)
       ∙ ap (λ p. map sent_by before.done ++ p ∷ []) posts ∙ sym (map-append sent_by before.done (line ∷ []));
-  left_by = λ none. rw (grown, map-append (λ l. l.child.promise) before.done (line ∷ [])) (left_more read key (promises_of before.done) left line.child.promise one (before.left_by none) is);
+  left_by = λ none. rw (grown, map-append (λ l. l.child.promise) before.done (line ∷ []), map-append heard_by before.done (line ∷ []))
+      (left_more read key (promises_of before.done) (map heard_by before.done) left line.child.promise (heard_by line) one (length-map before.done heard_by ∙ sym (length-map before.done (λ l. l.child.promise))) (before.left_by none) is);
   shut = λ closed. rw (map-append (λ l. l.child.promise) before.done (line ∷ [])) (shut_more may_shut (promises_of before.done) line.child.promise (before.shut closed));
   workers = before.workers;
   first = before.first;
@@ -104,6 +113,7 @@ one_failed read key may_shut lines rest left more None line why before shut name
     failed = line.child.promise;
     after = promises_of rest;
     split = sym (map-append (λ l. l.child.promise) before.done (line ∷ rest)) ∙ ap promises_of before.split;
+    heard = map heard_by before.done;
     left = left;
     have_left = before.left_by refl;
     shut = shut;
@@ -119,39 +129,57 @@ one_failed read key may_shut lines rest left more (Some first) line why before s
   first = before.first;
 }
 
+-- the first of faults that are the run's own
+pub own_or : (fault other : Option RunFault) → fault ≢ Some out.GateClosed → fault ≢ Some out.Workers → other ≢ Some out.GateClosed → other ≢ Some out.Workers
+    → (option_or fault other ≢ Some out.GateClosed) × (option_or fault other ≢ Some out.Workers)
+own_or None other closed workers here there = (here, there)
+own_or (Some first) other closed workers here there = (closed, workers)
+
+-- the fault of what was done, if it failed
+pub own_err : (result : Result (Unit {0}) RunFault) → result ≢ Err out.GateClosed → result ≢ Err out.Workers → (result_err result ≢ Some out.GateClosed) × (result_err result ≢ Some out.Workers)
+own_err (Ok done) closed workers = ((λ never. absurd (cc)), λ never. absurd (cc))
+own_err (Err why) closed workers = ((λ is. let same : why ≡ out.GateClosed = cc in closed (ap Err same)), λ is. let same : why ≡ out.Workers = cc in workers (ap Err same))
+
 -- all have left
 pub all_finished : {K S G T : Type 0} (read : Reads K T) (key : S → K) (may_shut : G → Type 0) (lines rest : List (Line S G T)) (left : List (Left S T)) (fault : Option RunFault)
     → length rest ≡ 0 → (finishing : IsFinishing read key may_shut lines rest left fault) → finishing.done ≡ lines
 all_finished read key may_shut lines [] left fault none finishing = sym (append-nil finishing.done) ∙ finishing.split
 all_finished read key may_shut lines (line ∷ rest) left fault none finishing = absurd (cc)
 
-left_as : {K S T : Type 0} (read : Reads K T) (keys : List K) (setup : Setup) (number : ℕ) (one : Left S T) → IsLeft read keys setup number one.posts.items one.refusals.items one.seats.items
+pub left_as : {K S T : Type 0} (read : Reads K T) (keys : List K) (setup : Setup) (number : ℕ) (answers : List Told) (one : Left S T) → IsLeft read keys setup number one.posts.items one.refusals.items answers one.seats.items
     → IsLeftFrom read keys (keys_of setup.accounts) one
-left_as read keys setup number one is = record { of_accounts = is.of_accounts; served = is.served }
+left_as read keys setup number answers one is = record { of_accounts = is.of_accounts; served = is.served }
+
+-- and that is what handling its posts comes to
+pub worked_as : {K S T : Type 0} (read : Reads K T) (keys : List K) (setup : Setup) (number : ℕ) (answers : List Told) (one : Left S T) → IsLeft read keys setup number one.posts.items one.refusals.items answers one.seats.items
+    → IsWorked setup number one.posts.items one.refusals.items (map read.mine one.seats.items)
+worked_as read keys setup number answers one is = rw (is.refused) (worked_so setup number one.posts.items answers (map read.mine one.seats.items) is.answered)
 
 -- what the workers of one run have left
-pub left_from : {K S G T : Type 0} (read : Reads K T) (key : S → K) (setup : Setup) (accounts : List S) (gate : G) (number : ℕ) (promises : List (Returns S G T)) (left : List (Left S T))
-    → ArePromised setup accounts gate number promises → AreLeftBy read key promises left → AreLeftFrom read (map key accounts) (keys_of setup.accounts) left
-left_from read key setup accounts gate number [] [] promised by = tt
-left_from read key setup accounts gate number [] (one ∷ left) promised by = absurd by
-left_from read key setup accounts gate number (promise ∷ promises) [] promised by = absurd by
-left_from read key setup accounts gate number (promise ∷ promises) (one ∷ left) promised by = (
+pub left_from : {K S G T : Type 0} (read : Reads K T) (key : S → K) (setup : Setup) (accounts : List S) (gate : G) (number : ℕ) (promises : List (Returns S G T)) (heard : List (List Answer)) (left : List (Left S T))
+    → ArePromised setup accounts gate number promises → AreLeftBy read key promises heard left → AreLeftFrom read (map key accounts) (keys_of setup.accounts) left
+left_from read key setup accounts gate number [] heard [] promised by = tt
+left_from read key setup accounts gate number [] heard (one ∷ left) promised by = absurd by
+left_from read key setup accounts gate number (promise ∷ promises) heard [] promised by = absurd by
+left_from read key setup accounts gate number (promise ∷ promises) [] (one ∷ left) promised by = absurd by
+left_from read key setup accounts gate number (promise ∷ promises) (answers ∷ heard) (one ∷ left) promised by = (
   rw (sym promised.0.accounts_are, sym promised.0.setup_is)
-      (left_as read (map key promise.accounts.now) promise.setup.now promise.number one by.0),
-  left_from read key setup accounts gate (number + 1) promises left promised.1 by.1,
+      (left_as read (map key promise.accounts.now) promise.setup.now promise.number (map told_of answers) one by.0),
+  left_from read key setup accounts gate (number + 1) promises heard left promised.1 by.1,
 )
 
--- and that is what handling their posts comes to
-pub worked_from : {K S G T : Type 0} (read : Reads K T) (key : S → K) (setup : Setup) (accounts : List S) (gate : G) (number : ℕ) (promises : List (Returns S G T)) (left : List (Left S T))
-    → ArePromised setup accounts gate number promises → AreLeftBy read key promises left → AreWorkedFrom read setup number left
-worked_from read key setup accounts gate number [] [] promised by = tt
-worked_from read key setup accounts gate number [] (one ∷ left) promised by = absurd by
-worked_from read key setup accounts gate number (promise ∷ promises) [] promised by = absurd by
-worked_from read key setup accounts gate number (promise ∷ promises) (one ∷ left) promised by =
-    let Its : Setup → ℕ → Type 0 = λ s n. IsWorked s n one.posts.items one.refusals.items (map read.mine one.seats.items) in (
-      subst (λ n. Its setup n) promised.0.number_is (subst (λ s. Its s promise.number) promised.0.setup_is by.0.worked),
+pub worked_from : {K S G T : Type 0} (read : Reads K T) (key : S → K) (setup : Setup) (accounts : List S) (gate : G) (number : ℕ) (promises : List (Returns S G T)) (heard : List (List Answer)) (left : List (Left S T))
+    → ArePromised setup accounts gate number promises → AreLeftBy read key promises heard left → AreWorkedFrom read setup number left
+worked_from read key setup accounts gate number [] heard [] promised by = tt
+worked_from read key setup accounts gate number [] heard (one ∷ left) promised by = absurd by
+worked_from read key setup accounts gate number (promise ∷ promises) heard [] promised by = absurd by
+worked_from read key setup accounts gate number (promise ∷ promises) [] (one ∷ left) promised by = absurd by
+worked_from read key setup accounts gate number (promise ∷ promises) (answers ∷ heard) (one ∷ left) promised by =
+    let Its : Setup → ℕ → Type 0 = λ s n. IsWorked s n one.posts.items one.refusals.items (map read.mine one.seats.items) in
+    let worked = worked_as read (map key promise.accounts.now) promise.setup.now promise.number (map told_of answers) one by.0 in (
+      subst (λ n. Its setup n) promised.0.number_is (subst (λ s. Its s promise.number) promised.0.setup_is worked),
       subst (λ n. All (λ seat. read.number seat ≡ n) one.seats.items) promised.0.number_is by.0.numbered,
-      worked_from read key setup accounts gate (number + 1) promises left promised.1 by.1,
+      worked_from read key setup accounts gate (number + 1) promises heard left promised.1 by.1,
     )
 
 -- the numbers of accounts that were opened are those of the setup

@@ -1,10 +1,13 @@
+pub mod AtDesks
 pub mod Columns
 pub mod Deals
 pub mod Finishing
 pub mod InBooks
+pub mod Joins
 pub mod Leaving
 pub mod Mailing
 pub mod Numbers
+pub mod Roundings
 pub mod Rows
 pub mod Sendings
 pub mod Shifting

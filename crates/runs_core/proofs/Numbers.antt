@@ -8,7 +8,7 @@ use Rattle.runs_core.proofs.Columns.{map_dealt}
 use Rattle.runs_core.specs.Closing.{AreAllThere, AreNumberedFrom, AreWorkedFrom}
 use Rattle.runs_core.specs.Dealing.{dealt}
 use Rattle.runs_core.specs.Teams.{Reads, terms_of, terms_with}
-use Rattle.runs_core.specs.declared.line.Left.{Left}
+use Rattle.runs_core.specs.declared.desk.Left.{Left}
 use Rattle.shared_account.specs.Seats.{are_numbered}
 use Rattle.shared_account.specs.Terms.{Terms}
 use Rattle.workers_core.specs.Setups.{Setup}

@@ -10,7 +10,7 @@ use Rattle.workers_core.specs.Served.{AreServed, IsServed}
 use Rattle.workers_core.specs.Setups.{Setup}
 use Rattle.workers_core.specs.declared.post.Post.{Post}
 use Rattle.runs_core.specs.Teams.{Reads}
-use Rattle.runs_core.specs.declared.line.Left.{Left}
+use Rattle.runs_core.specs.declared.desk.Left.{Left}
 
 -- what a book shows of its account: its number, the credit that it was opened with and its last moment, how many entries it may have, and how many seats it has
 abbrev pub terms_shown : Closed → Terms

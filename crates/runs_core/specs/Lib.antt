@@ -1,5 +1,7 @@
 pub mod Closing
+pub mod Crews
 pub mod Dealing
+pub mod Desks
 pub mod Entered
 pub mod Headline
 pub mod Mails

@@ -1,19 +1,11 @@
--- The mails of a worker, and the posts in them.
-use Rattle.std.specs.Prelude.{List, [], ◌∷◌, ◌++◌, map}
-use Rattle.workers_core.specs.declared.post.Mail.{Mail}
-use Rattle.workers_core.specs.declared.post.Mail.TheVariants.{Work, Close}
-use Rattle.workers_core.specs.declared.post.Post.{Post}
+-- The mails between the main thread and a worker, and what is in them.
+use Rattle.std.specs.Global.{Vec}
+use Rattle.std.specs.Prelude.{List, [], ◌∷◌, ◌++◌}
+use Rattle.workers_core.specs.declared.mail.Mail.{Mail}
+use Rattle.workers_core.specs.declared.mail.Mail.TheVariants.{Work, Close}
 
--- posts as mails
-abbrev pub works_of : List Post → List Mail
-works_of posts = map Work posts
-
--- all mails of a worker: its posts, and then the last mail
-abbrev pub mails_of : List Post → List Mail
-mails_of posts = works_of posts ++ Close ∷ []
-
--- the posts in mails
-abbrev pub posts_in : List Mail → List Post
-posts_in [] = []
-posts_in (Work post ∷ mails) = post ∷ posts_in mails
-posts_in (Close ∷ mails) = posts_in mails
+-- what mails carry, in order
+abbrev pub items_in : {X : Type 0} → List (Mail (Vec X)) → List X
+items_in [] = []
+items_in (Work list ∷ mails) = list.items ++ items_in mails
+items_in (Close ∷ mails) = items_in mails

@@ -1,25 +1,25 @@
 -- The lines of the workers of a run: what was sent by them, and what their threads promise.
-use Rattle.std.specs.Prelude.{◌≡◌, ◌+◌, ◌++◌, ◌⊎◌, ℕ, List, [], ◌∷◌, length, map}
-use Rattle.runs_core.specs.Mails.{posts_in}
-use Rattle.runs_core.specs.Shares.{HaveHandled}
+use Rattle.std.specs.Prelude.{◌≡◌, ◌+◌, ◌++◌, ◌⊎◌, ℕ, List, [], ◌∷◌, map}
+use Rattle.runs_core.specs.Mails.{items_in}
 use Rattle.runs_core.specs.Teams.{IsLeft, Reads}
-use Rattle.runs_core.specs.declared.line.Left.{Left}
+use Rattle.runs_core.specs.declared.desk.Left.{Left}
 use Rattle.runs_core.specs.declared.line.Line.{Line}
 use Rattle.runs_core.specs.declared.returns.Returns.{Returns}
 use Rattle.runs_core.specs.declared.run_fault.RunFault.{RunFault}
 use Rattle.runs_core.specs.declared.run_fault.RunFault.TheVariants as out
-use Rattle.workers_core.specs.Ends.{sent}
+use Rattle.workers_core.specs.Ends.{sent, taken}
 use Rattle.workers_core.specs.Setups.{Setup}
-use Rattle.workers_core.specs.declared.post.Body.{Body}
+use Rattle.workers_core.specs.Handled.{told_of}
+use Rattle.workers_core.specs.declared.answer.Answer.{Answer}
 use Rattle.workers_core.specs.declared.post.Post.{Post}
 
 -- the posts that were sent by a line
 abbrev pub sent_by : {S G T : Type 0} → Line S G T → List Post
-sent_by line = posts_in (sent line.outbox)
+sent_by line = items_in (sent line.outbox)
 
--- each worker was sent its share of what was given
-abbrev pub AreSent : {S G T : Type 0} → List (ℕ × Body) → List (Line S G T) → Type 0
-AreSent given lines = HaveHandled (length lines) given (map sent_by lines)
+-- the answers that have come by a line
+abbrev pub heard_by : {S G T : Type 0} → Line S G T → List Answer
+heard_by line = items_in (taken line.inbox)
 
 -- what the threads of the workers promise
 abbrev pub promises_of : {S G T : Type 0} → List (Line S G T) → List (Returns S G T)
@@ -41,16 +41,17 @@ abbrev pub MayBeShut : {S G T : Type 0} → (G → Type 0) → List (Returns S G
 MayBeShut may_shut [] = ⊥
 MayBeShut may_shut (promise ∷ promises) = may_shut promise.gate.now ⊎ MayBeShut may_shut promises
 
--- a worker has left what its thread promised
-abbrev pub IsLeftBy : {K S G T : Type 0} → Reads K T → (S → K) → Returns S G T → Left S T → Type 0
-IsLeftBy read key promise left =
-    IsLeft read (map key promise.accounts.now) promise.setup.now promise.number left.posts.items left.refusals.items left.seats.items
+-- a worker has left what its thread promised, and these are its answers
+abbrev pub IsLeftBy : {K S G T : Type 0} → Reads K T → (S → K) → Returns S G T → List Answer → Left S T → Type 0
+IsLeftBy read key promise answers left =
+    IsLeft read (map key promise.accounts.now) promise.setup.now promise.number left.posts.items left.refusals.items (map told_of answers) left.seats.items
 
-abbrev pub AreLeftBy : {K S G T : Type 0} → Reads K T → (S → K) → List (Returns S G T) → List (Left S T) → Type 0
-AreLeftBy read key [] [] = Unit {0}
-AreLeftBy read key [] (one ∷ left) = ⊥
-AreLeftBy read key (promise ∷ promises) [] = ⊥
-AreLeftBy read key (promise ∷ promises) (one ∷ left) = IsLeftBy read key promise one × AreLeftBy read key promises left
+abbrev pub AreLeftBy : {K S G T : Type 0} → Reads K T → (S → K) → List (Returns S G T) → List (List Answer) → List (Left S T) → Type 0
+AreLeftBy read key [] heard [] = Unit {0}
+AreLeftBy read key [] heard (one ∷ left) = ⊥
+AreLeftBy read key (promise ∷ promises) heard [] = ⊥
+AreLeftBy read key (promise ∷ promises) [] (one ∷ left) = ⊥
+AreLeftBy read key (promise ∷ promises) (answers ∷ heard) (one ∷ left) = IsLeftBy read key promise answers one × AreLeftBy read key promises heard left
 
 -- of the workers of these promises, those before one have left, and that one has failed so: it is the first that has
 pub record IsFirstFault {K S G T : Type 0} (read : Reads K T) (key : S → K) (may_shut : G → Type 0) (promises : List (Returns S G T)) (fault : RunFault) : Type 0 where
@@ -58,6 +59,7 @@ pub record IsFirstFault {K S G T : Type 0} (read : Reads K T) (key : S → K) (m
   pub failed : Returns S G T
   pub after : List (Returns S G T)
   pub split : before ++ failed ∷ after ≡ promises
+  pub heard : List (List Answer)
   pub left : List (Left S T)
-  pub have_left : AreLeftBy read key before left
+  pub have_left : AreLeftBy read key before heard left
   pub shut : fault ≡ out.GateClosed → may_shut failed.gate.now

@@ -26,11 +26,19 @@ abbrev pub numbered : ℕ → List (ℕ × Body) → List Item
 numbered number [] = []
 numbered number (next ∷ given) = item_at number next ∷ numbered (number + 1) given
 
--- the share of a worker: the items that go to it, in order
+-- the share of a worker: the items that go to it, in order, where the first has this number
+abbrev pub share_from : ℕ → ℕ → List (ℕ × Body) → ℕ → List Item
+share_from workers first given worker = filter (λ item. worker_of workers item.body == worker) (numbered first given)
+
 abbrev pub share : ℕ → List (ℕ × Body) → ℕ → List Item
-share workers given worker = filter (λ item. worker_of workers item.body == worker) (numbered 0 given)
+share workers given worker = share_from workers 0 given worker
 
 -- each worker has handled its share, in order, and nothing else
 pub record HaveHandled (workers : ℕ) (given : List (ℕ × Body)) (handled : List (List Post)) : Type 0 where
   pub count : length handled ≡ workers
   pub each : (worker : ℕ) → worker < workers → map item_of (slice_index_or handled worker []) ≡ share workers given worker
+
+-- each worker gets its share of a round, whose first item has this number
+pub record AreShares (workers first : ℕ) (given : List (ℕ × Body)) (shares : List (List Post)) : Type 0 where
+  pub count : length shares ≡ workers
+  pub each : (worker : ℕ) → worker < workers → map item_of (slice_index_or shares worker []) ≡ share_from workers first given worker

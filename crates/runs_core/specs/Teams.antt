@@ -5,7 +5,8 @@ use Rattle.account_core.specs.Events.{Event}
 use Rattle.shared_account.specs.Seats.{are_all}
 use Rattle.shared_account.specs.Terms.{Terms}
 use Rattle.account_core.specs.declared.fault.AccountFault.{AccountFault}
-use Rattle.workers_core.specs.Chains.{IsWorked}
+use Rattle.workers_core.specs.Chains.{IsAnswered, refusals_in}
+use Rattle.workers_core.specs.Handled.{Told}
 use Rattle.workers_core.specs.Served.{AreServed}
 use Rattle.workers_core.specs.Setups.{Setup}
 use Rattle.workers_core.specs.declared.opening_credit.OpeningCredit.{OpeningCredit}
@@ -48,9 +49,11 @@ abbrev pub AreFresh : {K T : Type 0} → Reads K T → List K → ℕ → List (
 AreFresh read keys number [] = ⊤
 AreFresh read keys number (team ∷ teams) = IsFresh read keys number team × AreFresh read keys (number + 1) teams
 
--- a worker's seats after its posts, some of which were refused: one of each account, in order, all of its number, with the entries that handling the posts made
-pub record IsLeft {K T : Type 0} (read : Reads K T) (keys : List K) (setup : Setup) (number : ℕ) (posts : List Post) (refusals : List (Option AccountFault)) (team : List T) : Type 0 where
+-- what a worker leaves after its posts, with its answers: its seats, one of each account, in order, all of its number, with the entries that
+-- handling the posts made, and the refusals that the answers tell
+pub record IsLeft {K T : Type 0} (read : Reads K T) (keys : List K) (setup : Setup) (number : ℕ) (posts : List Post) (refusals : List (Option AccountFault)) (answers : List Told) (team : List T) : Type 0 where
   pub of_accounts : map read.key team ≡ keys
   pub numbered : All (λ seat. read.number seat ≡ number) team
   pub served : AreServed (keys_of setup.accounts) posts (map read.mine team)
-  pub worked : IsWorked setup number posts refusals (map read.mine team)
+  pub answered : IsAnswered setup number posts answers (map read.mine team)
+  pub refused : refusals ≡ refusals_in answers

@@ -8,7 +8,7 @@ ghost use Rattle.shared_account.specs.Seats.{are_all};
 ghost use Rattle.runs_core.specs.Teams.{reads};
 
 use crate::dealing::deal;
-use crate::line::Left;
+use crate::desk::Left;
 use crate::opening::empty_piles;
 use crate::{Books, RunFault};
 use shared_account::{Book, CloseFault, Shared};

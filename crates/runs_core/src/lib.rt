@@ -4,7 +4,9 @@
 
 mod books;
 mod closing;
+mod crew;
 mod dealing;
+mod desk;
 mod driver;
 mod laws;
 mod line;

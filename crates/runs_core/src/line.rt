@@ -1,43 +1,39 @@
-//! The main thread's side of a worker.
+//! The main thread's side of a worker in a thread of its own.
 
-ghost use Rattle.std.specs.Prelude.{◌≡◌, ◌≢◌, ◌++◌, ◌∷◌, [], map, IfOk, OnOk};
+ghost use Rattle.std.specs.Prelude.{◌≡◌, ◌≢◌, ◌++◌, ◌∷◌, [], true, map, IfOk, OnOk};
 ghost use Rattle.std.specs.Map.{keys_of};
-ghost use Rattle.runs_core.specs.Mails.{mails_of, posts_in};
+ghost use Rattle.runs_core.specs.Mails.{items_in};
 ghost use Rattle.runs_core.specs.Teams.{IsFresh, IsLeft, reads};
-ghost use Rattle.workers_core.specs.Ends.{ArePaired, IsSameInbox, sent, taken};
+ghost use Rattle.workers_core.specs.Ends.{ArePaired, IsSameInbox, IsSameOutbox, sent, taken};
+ghost use Rattle.workers_core.specs.Handled.{told_of};
+ghost use Rattle.workers_core.specs.Logs.{has_close};
+ghost use Rattle.workers_core.specs.declared.mail.Mail.TheVariants as mail;
 
 use crate::RunFault;
+use crate::desk::Left;
 use crate::returns::{Finished, Returns};
 use crate::working::work;
-use account_core::AccountFault;
-use crossbeam_channel::{Receiver, unbounded};
 use shared_account::{Gate, Shared};
 use std::alloc::Global;
 use std::snapshot::Snapshot;
 use std::sync::Wait;
 use std::thread::{PromisedHandle, Scope, Threads};
-use workers_core::{Answer, Mail, Outbox, Post, RunSetup, compare, mailbox};
+use workers_core::{Answer, Inbox, Mail, Outbox, Post, RunSetup, compare, mailbox};
 
-/// How many mails wait for a worker at most.
-const MAILBOX: u32 = 64;
+/// How many mails wait in a mailbox at most: those of one round, and the last one.
+const MAILBOX: u32 = 2;
 
-/// What a worker leaves: its seats, one of each account, and the posts that it has handled, with the
-/// refusal of each.
-#[derive(Drop)]
-pub(crate) struct Left<S: Shared> {
-    pub seats: Vec<S::Seat>,
-    pub posts: Vec<Post>,
-    pub refusals: Vec<Option<AccountFault>>,
-}
-
-/// A worker's line: its mailbox, its answers and its thread. The worker never waits for its answers
-/// to be taken.
+/// A worker's line: the mailbox of its posts, that of its answers, and its thread. At most one round
+/// is on its way, so neither end ever waits for room.
 #[derive(Drop)]
 pub(crate) struct Line<'s, S: Shared, G: Gate> {
-    pub outbox: Outbox,
-    answers: Receiver<Answer>,
+    pub outbox: Outbox<Vec<Post>>,
+    pub inbox: Inbox<Vec<Answer>>,
+    /// Whether the answers to a round are on their way.
+    pub awaits: bool,
     pub child: PromisedHandle<Result<Finished<S>, RunFault>, Returns<'s, S, G>>,
-    pub ghost paired: { ArePaired outbox child.promise.inbox.value },
+    pub ghost posts_paired: { ArePaired outbox child.promise.inbox.value },
+    pub ghost answers_paired: { ArePaired child.promise.outbox.value inbox },
 }
 
 /// Starts a worker in a thread of its own.
@@ -60,34 +56,44 @@ pub(crate) fn start<'s, E, S: Shared, R: Wait + Threads + Sync, G: Gate + Sync>(
     ensures accounts { IfOk result (λ line. line.child.promise.accounts.now ≡ accounts.now) }
     ensures gate { IfOk result (λ line. line.child.promise.gate.now ≡ gate.now) }
     ensures sent { IfOk result (λ line. sent line.outbox ≡ []) }
+    ensures heard { IfOk result (λ line. taken line.inbox ≡ []) }
     ensures fault { (result ≢ Err RunFault.GateClosed) × (result ≢ Err RunFault.Workers) }
 {
-    let (outbox, inbox) = mailbox(alloc, MAILBOX)?;
-    let (to, answers) = unbounded(alloc)?;
+    let (outbox, posts) = mailbox::<Vec<Post>>(alloc, MAILBOX)?;
+    let (answers, inbox) = mailbox::<Vec<Answer>>(alloc, MAILBOX)?;
     let promise = Returns {
         number,
         setup,
         accounts,
         gate,
-        inbox: Snapshot::of(&inbox),
+        inbox: Snapshot::of(&posts),
+        outbox: Snapshot::of(&answers),
     };
     let serve = move || -> Result<Finished<S>, RunFault>
         requires { (map (λ account. (S.terms account).number) accounts.now
             ≡ keys_of setup.now.accounts)
             × IsFresh (reads S.key_of S.number_of S.mine_of)
             (map S.key accounts.now) number seats.items
-            × (taken inbox ≡ []) }
-        ensures { IfOk result (λ f. IsSameInbox inbox f.inbox
-            × (taken f.inbox ≡ mails_of f.posts.items)
+            × (taken posts ≡ []) × (sent answers ≡ []) }
+        ensures { IfOk result (λ f. IsSameInbox posts f.inbox
+            × IsSameOutbox answers f.outbox
+            × (has_close (taken f.inbox) ≡ true)
+            × (items_in (taken f.inbox) ≡ f.left.posts.items)
             × IsLeft (reads S.key_of S.number_of S.mine_of) (map S.key accounts.entry.now)
-            setup.entry.now number f.posts.items f.refusals.items f.seats.items)
+            setup.entry.now number f.left.posts.items f.left.refusals.items
+            (map told_of (items_in (sent f.outbox))) f.left.seats.items)
             × (result ≡ Err RunFault.GateClosed → G.may_shut gate.entry.now)
             × (result ≢ Err RunFault.Workers) }
-    { work(rt, alloc, number, setup, accounts, seats, inbox, &to, gate) };
+    {
+        work(
+            rt, alloc, number, setup, accounts, seats, posts, answers, gate,
+        )
+    };
     match scope.spawn_with(promise, serve) {
         Ok(child) => Ok(Line {
             outbox,
-            answers,
+            inbox,
+            awaits: false,
             child,
         }),
         Err(_) => Err(RunFault::Thread),
@@ -95,59 +101,81 @@ pub(crate) fn start<'s, E, S: Shared, R: Wait + Threads + Sync, G: Gate + Sync>(
 }
 
 impl<S: Shared, G: Gate> Line<'_, S, G> {
-    /// Sends a post to the worker, and waits while its mailbox is full.
-    pub(crate) fn send<R: Wait>(&mut self, rt: &R, post: Post) -> Result<(), RunFault>
-        ensures posts { OnOk result (posts_in (sent self.new.outbox)
-            ≡ posts_in (sent self.old.outbox) ++ post ∷ []) }
+    /// Sends the posts of a round to the worker, if there are any.
+    pub(crate) fn send<R: Wait>(&mut self, rt: &R, posts: Vec<Post>) -> Result<(), RunFault>
+        ensures posts { OnOk result (items_in (sent self.new.outbox)
+            ≡ items_in (sent self.old.outbox) ++ posts.items) }
+        ensures inbox { self.new.inbox ≡ self.old.inbox }
         ensures child { self.new.child ≡ self.old.child }
         ensures fault { (result ≢ Err RunFault.GateClosed) × (result ≢ Err RunFault.Workers) }
     {
-        match self.outbox.send_mail(rt, Mail::Work(post)) {
-            Ok(()) => Ok(()),
-            Err(_) => Err(RunFault::Channel),
+        if posts.is_empty() {
+            return Ok(());
         }
+        let Ok(()) = self.outbox.send_mail(rt, Mail::Work(posts)) else {
+            return Err(RunFault::Channel);
+        };
+        self.awaits = true;
+        Ok(())
     }
 
-    /// Waits for the answer to a post of this number, which is the worker's next.
-    pub(crate) fn answer<R: Wait>(&self, rt: &R, number: u64) -> Result<Answer, RunFault>
-        ensures number { IfOk result (λ answer. answer.number ≡ number) }
+    /// Waits for the answers to the round, if posts were sent.
+    pub(crate) fn hear<R: Wait>(&mut self, rt: &R, alloc: Global) -> Result<Vec<Answer>, RunFault>
+        ensures answers { IfOk result (λ answers. items_in (taken self.new.inbox)
+            ≡ items_in (taken self.old.inbox) ++ answers.items) }
+        ensures outbox { self.new.outbox ≡ self.old.outbox }
+        ensures child { self.new.child ≡ self.old.child }
         ensures fault { (result ≢ Err RunFault.GateClosed) × (result ≢ Err RunFault.Workers) }
     {
-        match self.answers.recv(rt) {
-            Ok(answer) if answer.number == number => Ok(answer),
-            Ok(_) => Err(RunFault::Channel),
-            Err(_) => Err(RunFault::Channel),
+        if !self.awaits {
+            return Ok(Vec::new(alloc));
+        }
+        self.awaits = false;
+        match self.inbox.take_mail(rt) {
+            Ok(Mail::Work(answers)) => Ok(answers),
+            _ => Err(RunFault::Channel),
         }
     }
 
     /// Sends the last mail, and waits for what the worker leaves.
     pub(crate) fn finish<R: Wait + Threads>(self, rt: &R) -> Result<Left<S>, RunFault>
-        ensures posts { IfOk result (λ left. left.posts.items ≡ posts_in (sent self.entry.outbox)) }
+        ensures posts { IfOk result (λ left. left.posts.items ≡ items_in (sent self.entry.outbox)) }
         ensures left { IfOk result (λ left. IsLeft (reads S.key_of S.number_of S.mine_of)
             (map S.key self.entry.child.promise.accounts.now)
             self.entry.child.promise.setup.now self.entry.child.promise.number
-            left.posts.items left.refusals.items left.seats.items) }
+            left.posts.items left.refusals.items
+            (map told_of (items_in (taken self.entry.inbox))) left.seats.items) }
         ensures gate { result ≡ Err RunFault.GateClosed
             → G.may_shut self.entry.child.promise.gate.now }
         ensures workers { result ≢ Err RunFault.Workers }
     {
         let Line {
             mut outbox,
+            mut inbox,
             child,
             ..
         } = self;
         let _ = outbox.send_mail(rt, Mail::Close);
         let Finished {
-            seats,
-            posts,
-            refusals,
-            inbox,
+            left,
+            inbox: posts,
+            outbox: answers,
         } = child.join(rt)?;
-        compare(outbox, inbox);
-        Ok(Left {
-            seats,
-            posts,
-            refusals,
-        })
+        compare(outbox, posts);
+        take_last(rt, &mut inbox)?;
+        compare(answers, inbox);
+        Ok(left)
+    }
+}
+
+/// Takes the last mail: no answers are left before it.
+fn take_last<R: Wait>(rt: &R, inbox: &mut Inbox<Vec<Answer>>) -> Result<(), RunFault>
+    ensures same { IsSameInbox inbox.old inbox.new }
+    ensures last { OnOk result (taken inbox.new ≡ taken inbox.old ++ mail.Close ∷ []) }
+    ensures fault { (result ≢ Err RunFault.GateClosed) × (result ≢ Err RunFault.Workers) }
+{
+    match inbox.take_mail(rt) {
+        Ok(Mail::Close) => Ok(()),
+        _ => Err(RunFault::Channel),
     }
 }

@@ -1,44 +1,50 @@
 //! What a worker's thread gives back, and what it promises of that.
 
 use crate::RunFault;
-use account_core::AccountFault;
+use crate::desk::Left;
 use shared_account::{Gate, Shared};
 use std::snapshot::Snapshot;
 use std::thread::Promise;
-use workers_core::{Inbox, Post, RunSetup};
+use workers_core::{Answer, Inbox, Outbox, Post, RunSetup};
 
-/// What a worker gives back after its last mail: its seats, the posts that it has handled with the
-/// refusal of each, and the end of its mailbox.
+/// What a worker's thread gives back after its last mail: what the worker leaves, and its ends of
+/// the two mailboxes.
 #[derive(Drop)]
 pub(crate) struct Finished<S: Shared> {
-    pub seats: Vec<S::Seat>,
-    pub posts: Vec<Post>,
-    pub refusals: Vec<Option<AccountFault>>,
-    pub inbox: Inbox,
+    pub left: Left<S>,
+    pub inbox: Inbox<Vec<Post>>,
+    pub outbox: Outbox<Vec<Answer>>,
 }
 
-/// What the thread of a worker promises: it has handled just the mails that it took, the last of
-/// them a Close, and its seats are those that it was given, with the entries that its posts made.
+/// What the thread of a worker promises: it has handled just the posts that it took, up to a Close,
+/// its seats are those that it was given, with the entries that its posts made, and it has sent
+/// their answers.
 #[derive(Drop)]
 pub(crate) struct Returns<'s, S: Shared, G: Gate> {
     pub number: u32,
     pub setup: &'s RunSetup,
     pub accounts: &'s [S],
     pub gate: &'s G,
-    pub inbox: Snapshot<Inbox>,
+    pub inbox: Snapshot<Inbox<Vec<Post>>>,
+    pub outbox: Snapshot<Outbox<Vec<Answer>>>,
 }
 
 impl<'s, S: Shared, G: Gate> Promise<Result<Finished<S>, RunFault>> for Returns<'s, S, G> {
-    ghost use Rattle.std.specs.Prelude.{◌≡◌, ◌≢◌, map, IfOk, Err};
+    ghost use Rattle.std.specs.Prelude.{◌≡◌, ◌≢◌, true, map, IfOk, Err};
     ghost use Rattle.runs_core.specs.Teams.{IsLeft, reads};
-    ghost use Rattle.runs_core.specs.Mails.{mails_of};
+    ghost use Rattle.runs_core.specs.Mails.{items_in};
     ghost use Rattle.runs_core.specs.declared.run_fault.RunFault.TheVariants as out;
-    ghost use Rattle.workers_core.specs.Ends.{IsSameInbox, taken};
+    ghost use Rattle.workers_core.specs.Ends.{IsSameInbox, IsSameOutbox, sent, taken};
+    ghost use Rattle.workers_core.specs.Handled.{told_of};
+    ghost use Rattle.workers_core.specs.Logs.{has_close};
 
     ghost kept_by = { λ p r. IfOk r (λ f. IsSameInbox p.inbox.value f.inbox
-        × (taken f.inbox ≡ mails_of f.posts.items)
+        × IsSameOutbox p.outbox.value f.outbox
+        × (has_close (taken f.inbox) ≡ true)
+        × (items_in (taken f.inbox) ≡ f.left.posts.items)
         × IsLeft (reads S.key_of S.number_of S.mine_of) (map S.key p.accounts.now)
-        p.setup.now p.number f.posts.items f.refusals.items f.seats.items)
+        p.setup.now p.number f.left.posts.items f.left.refusals.items
+        (map told_of (items_in (sent f.outbox))) f.left.seats.items)
         × (r ≡ Err out.GateClosed → G.may_shut p.gate.now)
         × (r ≢ Err out.Workers) };
 }

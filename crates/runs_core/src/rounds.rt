@@ -1,15 +1,21 @@
 //! The rounds of a run: what the driver gives is handed out to the workers, and their answers go
 //! back to it.
 
-ghost use Rattle.std.specs.Prelude.{◌≡◌, ◌≢◌, ◌≤◌, ◌<◌, [], length, not, take, true, All, IfOk, OnOk};
+ghost use Rattle.std.specs.Prelude.{◌≡◌, ◌≢◌, ◌≤◌, ◌<◌, ◌^◌, ◌+◌, ◌++◌, ℕ, [], List, length, map, not, true, false, All, IfOk, OnOk};
 ghost use Rattle.std.specs.List.{HoldsAt};
-ghost use Rattle.runs_core.specs.Shares.{item_at, item_of, worker_of};
-ghost use Rattle.runs_core.specs.Sending.{AreSent, promises_of};
+ghost use Rattle.runs_core.specs.Crews.{HasServed, IsServedRound, count_of};
+ghost use Rattle.runs_core.specs.Sending.{promises_of};
+ghost use Rattle.runs_core.specs.Shares.{AreShares, item_at, item_of, worker_of};
+ghost use Rattle.runs_core.specs.Teams.{reads};
+ghost use Rattle.workers_core.specs.Workers.{IsReady, accounts_of, setup_of};
+ghost use Rattle.workers_core.specs.declared.post.Body.{Body};
 
-use crate::line::Line;
+use crate::crew::{Crew, Replies};
+use crate::opening::empty_piles;
 use crate::{Driver, RunFault};
 use shared_account::{Gate, Shared};
 use std::alloc::Global;
+use std::collections::VecDeque;
 use std::sync::Wait;
 use tariff_core::HORIZON;
 use workers_core::{Answer, Body, Post};
@@ -19,20 +25,27 @@ pub(crate) fn play<D: Driver, S: Shared, R: Wait, G: Gate>(
     rt: &R,
     alloc: Global,
     driver: &mut D,
-    lines: &mut Vec<Line<'_, S, G>>,
+    crew: &mut Crew<'_, S, G>,
+    gate: &G,
 ) -> Result<(), RunFault>
-    requires some { 0 < length lines.old.items }
     requires fresh { D.given driver.old ≡ [] }
-    requires sent { AreSent [] lines.old.items }
+    requires served { HasServed (λ account. (S.terms account).number)
+        S.key (reads S.key_of S.number_of S.mine_of)
+        (setup_of crew.old.desk.worker) (accounts_of crew.old.desk.worker) [] crew.old }
     ensures ended { OnOk result (D.ended driver.new ≡ true) }
     ensures plan { D.plan driver.new ≡ D.plan driver.old }
-    ensures sent { OnOk result (AreSent (D.given driver.new) lines.new.items) }
-    ensures promises { promises_of lines.new.items ≡ promises_of lines.old.items }
-    ensures fault { (result ≢ Err RunFault.GateClosed) × (result ≢ Err RunFault.Workers) }
+    ensures served { OnOk result (HasServed (λ account. (S.terms account).number)
+        S.key (reads S.key_of S.number_of S.mine_of)
+        (setup_of crew.old.desk.worker) (accounts_of crew.old.desk.worker)
+        (D.given driver.new) crew.new) }
+    ensures count { count_of crew.new ≡ count_of crew.old }
+    ensures promises { promises_of crew.new.lines.items ≡ promises_of crew.old.lines.items }
+    ensures gate { result ≡ Err RunFault.GateClosed → G.may_shut gate.now }
+    ensures workers { result ≢ Err RunFault.Workers }
 {
     let mut answers = Vec::new(alloc);
     for _ in rt.forever() {
-        if !play_round(rt, driver, lines, &mut answers)? {
+        if !play_round(rt, alloc, driver, crew, gate, &mut answers)? {
             return Ok(());
         }
     }
@@ -43,60 +56,73 @@ pub(crate) fn play<D: Driver, S: Shared, R: Wait, G: Gate>(
 /// the driver has ended.
 fn play_round<D: Driver, S: Shared, R: Wait, G: Gate>(
     rt: &R,
+    alloc: Global,
     driver: &mut D,
-    lines: &mut Vec<Line<'_, S, G>>,
+    crew: &mut Crew<'_, S, G>,
+    gate: &G,
     answers: &mut Vec<Answer>,
 ) -> Result<bool, RunFault>
-    requires some { 0 < length lines.old.items }
-    requires sent { AreSent (D.given driver.old) lines.old.items }
+    requires ready { IsReady (λ account. (S.terms account).number)
+        S.key S.key_of S.number_of S.mine_of crew.old.desk.worker }
     ensures ended { IfOk result (λ more. D.ended driver.new ≡ not more) }
     ensures plan { D.plan driver.new ≡ D.plan driver.old }
-    ensures sent { OnOk result (AreSent (D.given driver.new) lines.new.items) }
-    ensures promises { promises_of lines.new.items ≡ promises_of lines.old.items }
-    ensures fault { (result ≢ Err RunFault.GateClosed) × (result ≢ Err RunFault.Workers) }
+    ensures more { result ≡ Ok true → (added : List (ℕ × Body))
+        × (D.given driver.new ≡ D.given driver.old ++ added)
+        × IsServedRound (λ account. (S.terms account).number)
+        S.key (reads S.key_of S.number_of S.mine_of)
+        (length (D.given driver.old)) added crew.old crew.new }
+    ensures given { result ≡ Ok false → D.given driver.new ≡ D.given driver.old }
+    ensures crew { result ≡ Ok false → crew.new ≡ crew.old }
+    ensures count { count_of crew.new ≡ count_of crew.old }
+    ensures promises { promises_of crew.new.lines.items ≡ promises_of crew.old.lines.items }
+    ensures gate { result ≡ Err RunFault.GateClosed → G.may_shut gate.now }
+    ensures workers { result ≢ Err RunFault.Workers }
 {
     let first = driver.given().len();
     if !driver.round(answers.as_slice())? {
         return Ok(false);
     }
-    hand_out(rt, driver.given(), first, lines)?;
+    let added = &driver.given()[first..];
+    let shares = share_out(alloc, crew.lines.len() + 1, first, added)?;
+    let replies = crew.answer_round(rt, alloc, shares, gate)?;
     answers.clear();
-    collect(rt, driver.given(), first, lines.as_slice(), answers)?;
+    let mut queues = queues(alloc, replies)?;
+    merge(first, added, &mut queues, answers)?;
     Ok(true)
 }
 
-/// Hands out what was given from a place on, each item to the worker of its call or account.
-fn hand_out<S: Shared, R: Wait, G: Gate>(
-    rt: &R,
-    given: &[(u64, Body)],
+/// Shares out the items of a round, each to the worker of its call or account.
+fn share_out(
+    alloc: Global,
+    workers: usize,
     first: usize,
-    lines: &mut Vec<Line<'_, S, G>>,
-) -> Result<(), RunFault>
-    requires some { 0 < length lines.old.items }
-    requires within { first ≤ length given.now }
-    requires moments { All (λ item. item.0 ≤ HORIZON) given.now }
-    requires sent { AreSent (take first given.now) lines.old.items }
-    ensures sent { OnOk result (AreSent given.now lines.new.items) }
-    ensures promises { promises_of lines.new.items ≡ promises_of lines.old.items }
+    added: &[(u64, Body)],
+) -> Result<Vec<Vec<Post>>, RunFault>
+    requires some { 0 < workers }
+    requires few { first + length added.now < 2 ^ 64 }
+    requires moments { All (λ item. item.0 ≤ HORIZON) added.now }
+    ensures shares { IfOk result (λ shares.
+        AreShares workers first added.now (map (λ share. share.items) shares.items)) }
     ensures fault { (result ≢ Err RunFault.GateClosed) × (result ≢ Err RunFault.Workers) }
 {
-    for place in first..given.len() {
-        let post = post_at(given, place);
-        let worker = worker_of(lines.len(), &post.body);
-        lines[worker].send(rt, post)?;
+    let mut shares = empty_piles(alloc, workers)?;
+    for place in 0..added.len() {
+        let post = post_at(added, place, first + place);
+        let worker = worker_of(workers, &post.body);
+        shares[worker].push(post)?;
     }
-    Ok(())
+    Ok(shares)
 }
 
-/// The item at a place, as a post of that number.
-fn post_at(given: &[(u64, Body)], place: usize) -> Post
-    requires within { place < length given.now }
-    requires moments { All (λ item. item.0 ≤ HORIZON) given.now }
-    ensures { HoldsAt (λ item. item_of result ≡ item_at place item) given.now place }
+/// The item at a place, as a post of this number.
+fn post_at(added: &[(u64, Body)], place: usize, number: usize) -> Post
+    requires within { place < length added.now }
+    requires moments { All (λ item. item.0 ≤ HORIZON) added.now }
+    ensures { HoldsAt (λ item. item_of result ≡ item_at number item) added.now place }
 {
-    let (at, body) = given[place];
+    let (at, body) = added[place];
     Post {
-        number: place as u64,
+        number: number as u64,
         at,
         body,
     }
@@ -115,20 +141,46 @@ fn worker_of(workers: usize, body: &Body) -> usize
     (number % workers as u64) as usize
 }
 
-/// Collects the answers to what was given from a place on, in order.
-fn collect<S: Shared, R: Wait, G: Gate>(
-    rt: &R,
-    given: &[(u64, Body)],
-    first: usize,
-    lines: &[Line<'_, S, G>],
-    answers: &mut Vec<Answer>,
-) -> Result<(), RunFault>
-    requires some { 0 < length lines.now }
+/// The answers of each worker, to be taken one by one.
+fn queues(alloc: Global, replies: Replies) -> Result<Vec<VecDeque<Answer>>, RunFault>
+    ensures count { IfOk result (λ queues. 0 < length queues.items) }
     ensures fault { (result ≢ Err RunFault.GateClosed) × (result ≢ Err RunFault.Workers) }
 {
-    for place in first..given.len() {
-        let worker = worker_of(lines.len(), &given[place].1);
-        answers.push(lines[worker].answer(rt, place as u64)?)?;
+    let Replies { first, others } = replies;
+    let mut queues = Vec::with_capacity(alloc, others.len())?;
+    queues.push(VecDeque::from_vec(first))?;
+    for list in others {
+        queues.push(VecDeque::from_vec(list))?;
+    }
+    Ok(queues)
+}
+
+/// Puts the answers of the workers into the order of the items.
+fn merge(
+    first: usize,
+    added: &[(u64, Body)],
+    queues: &mut Vec<VecDeque<Answer>>,
+    answers: &mut Vec<Answer>,
+) -> Result<(), RunFault>
+    requires some { 0 < length queues.old.items }
+    requires few { first + length added.now < 2 ^ 64 }
+    ensures fault { (result ≢ Err RunFault.GateClosed) × (result ≢ Err RunFault.Workers) }
+{
+    for place in 0..added.len() {
+        let worker = worker_of(queues.len(), &added[place].1);
+        let answer = next_answer(&mut queues[worker], (first + place) as u64)?;
+        answers.push(answer)?;
     }
     Ok(())
+}
+
+/// Takes the answer of this number, which is the worker's next.
+fn next_answer(queue: &mut VecDeque<Answer>, number: u64) -> Result<Answer, RunFault>
+    ensures number { IfOk result (λ answer. answer.number ≡ number) }
+    ensures fault { (result ≢ Err RunFault.GateClosed) × (result ≢ Err RunFault.Workers) }
+{
+    match queue.pop_front() {
+        Some(answer) if answer.number == number => Ok(answer),
+        _ => Err(RunFault::Channel),
+    }
 }

@@ -1,16 +1,20 @@
 //! A run, from its setup to its books.
 
-ghost use Rattle.std.specs.Prelude.{◌≡◌, ◌≢◌, ◌≤◌, ◌↔◌, [], true, false, length, map, All, IfOk, OnOk};
+ghost use Rattle.std.specs.Prelude.{◌≡◌, ◌≢◌, ◌≤◌, ◌<◌, ◌↔◌, [], List, true, false, length, map, All, IfOk, OnOk};
 ghost use Rattle.std.specs.Map.{keys_of};
 ghost use Rattle.account_core.specs.Answers.{IsLegal};
 ghost use Rattle.shared_account.specs.Own.{IsMerged};
 ghost use Rattle.runs_core.specs.Closing.{AreLeftFrom, AreServedBy, AreWorked, AreWorkedFrom, terms_shown};
-ghost use Rattle.runs_core.specs.Sending.{ArePromised, AreSent, promises_of};
+ghost use Rattle.runs_core.specs.Crews.{HasServed, count_of};
+ghost use Rattle.runs_core.specs.Desks.{HasAnswered};
+ghost use Rattle.runs_core.specs.Sending.{ArePromised, promises_of};
 ghost use Rattle.runs_core.specs.Shares.{HaveHandled};
 ghost use Rattle.runs_core.specs.Teams.{AreFresh, are_workers, reads, terms_of};
+ghost use Rattle.std.specs.Vec.Iter.{into_iter_items};
 
 use crate::closing::close_accounts;
-use crate::line::{Left, Line};
+use crate::crew::Crew;
+use crate::desk::{Desk, Left};
 use crate::opening::{Opened, open_accounts};
 use crate::rounds::play;
 use crate::threads::{finish_all, start_all};
@@ -20,6 +24,7 @@ use std::alloc::Global;
 use std::sync::Wait;
 use std::thread;
 use std::thread::{Scope, Threads};
+use std::vec::IntoIter;
 use workers_core::RunSetup;
 
 /// The most workers of a run.
@@ -171,7 +176,8 @@ fn take_back<T>(lent: &mut T)
     ensures { lent.new ≡ lent.old }
 {}
 
-/// Starts the workers in a scope, plays the rounds, and waits for the workers.
+/// Starts the workers but for the first in a scope, plays the rounds, and waits for the workers. The
+/// fault told is that of the failed worker with the least number, else the run's own.
 fn run_in<'s, E, D: Driver, S: Shared, R: Wait + Threads + Sync, G: Gate + Sync>(
     scope: &Scope<'s, E>,
     rt: &'s R,
@@ -200,43 +206,77 @@ fn run_in<'s, E, D: Driver, S: Shared, R: Wait + Threads + Sync, G: Gate + Sync>
     ensures gate { result ≡ Err RunFault.GateClosed → G.may_shut gate.now }
     ensures workers { result ≢ Err RunFault.Workers }
 {
-    let mut lines = Vec::with_capacity(alloc, teams.len())?;
     let mut left = Vec::with_capacity(alloc, teams.len())?;
+    let lines = Vec::with_capacity(alloc, teams.len())?;
+    let mut teams = teams.into_iter();
+    let Some(team) = teams.next() else {
+        unreachable!()
+    };
+    let mut crew = Crew {
+        desk: Desk::new(alloc, 0, setup, accounts, team)?,
+        failed: false,
+        lines,
+    };
     let ran = start_and_play(
-        scope, rt, alloc, setup, accounts, teams, driver, gate, &mut lines,
+        scope, rt, alloc, setup, accounts, teams, driver, gate, &mut crew,
     );
-    finish_all(rt, lines, &mut left)?;
+    let Crew {
+        desk,
+        failed,
+        lines,
+    } = crew;
+    let finished = finish_all(rt, lines, &mut left);
+    if failed {
+        ran?;
+    }
+    finished?;
     ran?;
+    left.insert(0, desk.finish())?;
     Ok(left)
 }
 
-/// Starts the workers, and plays the rounds.
+/// Starts the workers but for the first, and plays the rounds.
 fn start_and_play<'s, E, D: Driver, S: Shared, R: Wait + Threads + Sync, G: Gate + Sync>(
     scope: &Scope<'s, E>,
     rt: &'s R,
     alloc: Global,
     setup: &'s RunSetup,
     accounts: &'s [S],
-    teams: Vec<Vec<S::Seat>>,
+    teams: IntoIter<Vec<S::Seat>>,
     driver: &mut D,
     gate: &'s G,
-    lines: &mut Vec<Line<'s, S, G>>,
+    crew: &mut Crew<'s, S, G>,
 ) -> Result<(), RunFault>
     requires given { D.given driver.old ≡ [] }
-    requires some { 1 ≤ length teams.items }
-    requires few { length teams.items ≤ 16 }
+    requires few { length (into_iter_items teams) < 16 }
     requires numbered { map (λ account. (S.terms account).number) accounts.now
         ≡ keys_of setup.now.accounts }
     requires fresh { AreFresh (reads S.key_of S.number_of S.mine_of)
-        (map S.key accounts.now) 0 (map (λ team. team.items) teams.items) }
-    requires none { lines.old.items ≡ [] }
+        (map S.key accounts.now) 1 (map (λ team. team.items) (into_iter_items teams)) }
+    requires first { HasAnswered (λ account. (S.terms account).number)
+        S.key (reads S.key_of S.number_of S.mine_of) setup.now accounts.now 0 [] []
+        crew.old.desk }
+    requires none { crew.old.lines.items ≡ [] }
     ensures ended { OnOk result (D.ended driver.new ≡ true) }
     ensures plan { D.plan driver.new ≡ D.plan driver.old }
-    ensures count { OnOk result (length lines.new.items ≡ length teams.items) }
-    ensures sent { OnOk result (AreSent (D.given driver.new) lines.new.items) }
-    ensures promised { ArePromised setup.now accounts.now gate.now 0 (promises_of lines.new.items) }
-    ensures fault { (result ≢ Err RunFault.GateClosed) × (result ≢ Err RunFault.Workers) }
+    ensures count { OnOk result (length crew.new.lines.items ≡ length (into_iter_items teams)) }
+    ensures served { OnOk result (HasServed (λ account. (S.terms account).number)
+        S.key (reads S.key_of S.number_of S.mine_of) setup.now accounts.now
+        (D.given driver.new) crew.new) }
+    ensures promised { ArePromised setup.now accounts.now gate.now 1
+        (promises_of crew.new.lines.items) }
+    ensures gate { result ≡ Err RunFault.GateClosed → G.may_shut gate.now }
+    ensures workers { result ≢ Err RunFault.Workers }
 {
-    start_all(scope, rt, alloc, setup, accounts, teams, gate, lines)?;
-    play(rt, alloc, driver, lines)
+    start_all(
+        scope,
+        rt,
+        alloc,
+        setup,
+        accounts,
+        teams,
+        gate,
+        &mut crew.lines,
+    )?;
+    play(rt, alloc, driver, crew, gate)
 }

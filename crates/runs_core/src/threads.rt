@@ -1,43 +1,46 @@
 //! The workers of a run are started, and waited for.
 
-ghost use Rattle.std.specs.Prelude.{◌≡◌, ◌≢◌, ◌≤◌, ◌+◌, ◌++◌, ◌∷◌, [], length, map, All, IfErr, IfOk, OnOk};
+ghost use Rattle.std.specs.Prelude.{◌≡◌, ◌≢◌, ◌<◌, ◌+◌, ◌++◌, ◌∷◌, [], length, map, All, IfErr, IfOk, OnOk};
 ghost use Rattle.std.specs.Map.{keys_of};
-ghost use Rattle.runs_core.specs.Sending.{AreLeftBy, ArePromised, AreSent, IsFirstFault, IsLeftBy, MayBeShut, promises_of, sent_by};
+ghost use Rattle.std.specs.Vec.Iter.{into_iter_items};
+ghost use Rattle.runs_core.specs.Sending.{AreLeftBy, ArePromised, IsFirstFault, IsLeftBy, MayBeShut, heard_by, promises_of, sent_by};
 ghost use Rattle.runs_core.specs.Teams.{AreFresh, IsFresh, reads};
-ghost use Rattle.runs_core.specs.declared.line.Left.{Left};
+ghost use Rattle.runs_core.specs.declared.desk.Left.{Left};
 
 use crate::RunFault;
-use crate::line::{Left, Line, start};
+use crate::desk::Left;
+use crate::line::{Line, start};
 use shared_account::{Gate, Shared};
 use std::alloc::Global;
 use std::sync::Wait;
 use std::thread::{Scope, Threads};
+use std::vec::IntoIter;
 use workers_core::RunSetup;
 
-/// Starts a worker for each team, in order, and puts down its line. After a fault the lines are
-/// those of the workers that were started.
+/// Starts a worker for each team, in order from number 1 on, and puts down its line. After a fault
+/// the lines are those of the workers that were started.
 pub(crate) fn start_all<'s, E, S: Shared, R: Wait + Threads + Sync, G: Gate + Sync>(
     scope: &Scope<'s, E>,
     rt: &'s R,
     alloc: Global,
     setup: &'s RunSetup,
     accounts: &'s [S],
-    teams: Vec<Vec<S::Seat>>,
+    teams: IntoIter<Vec<S::Seat>>,
     gate: &'s G,
     lines: &mut Vec<Line<'s, S, G>>,
 ) -> Result<(), RunFault>
     requires numbered { map (λ account. (S.terms account).number) accounts.now
         ≡ keys_of setup.now.accounts }
     requires fresh { AreFresh (reads S.key_of S.number_of S.mine_of)
-        (map S.key accounts.now) 0 (map (λ team. team.items) teams.items) }
-    requires few { length teams.items ≤ 16 }
+        (map S.key accounts.now) 1 (map (λ team. team.items) (into_iter_items teams)) }
+    requires few { length (into_iter_items teams) < 16 }
     requires none { lines.old.items ≡ [] }
-    ensures count { OnOk result (length lines.new.items ≡ length teams.items) }
-    ensures sent { AreSent [] lines.new.items }
-    ensures promised { ArePromised setup.now accounts.now gate.now 0 (promises_of lines.new.items) }
+    ensures count { OnOk result (length lines.new.items ≡ length (into_iter_items teams)) }
+    ensures silent { All (λ line. sent_by line ≡ []) lines.new.items }
+    ensures promised { ArePromised setup.now accounts.now gate.now 1 (promises_of lines.new.items) }
     ensures fault { (result ≢ Err RunFault.GateClosed) × (result ≢ Err RunFault.Workers) }
 {
-    let mut number = 0;
+    let mut number = 1;
     for team in teams {
         start_one(scope, rt, alloc, number, setup, accounts, team, gate, lines)?;
         number += 1;
@@ -61,12 +64,12 @@ fn start_one<'s, E, S: Shared, R: Wait + Threads + Sync, G: Gate + Sync>(
         ≡ keys_of setup.now.accounts }
     requires fresh { IsFresh (reads S.key_of S.number_of S.mine_of)
         (map S.key accounts.now) number seats.items }
-    requires count { length lines.old.items ≡ number }
+    requires count { length lines.old.items + 1 ≡ number }
     requires silent { All (λ line. sent_by line ≡ []) lines.old.items }
-    requires promised { ArePromised setup.now accounts.now gate.now 0 (promises_of lines.old.items) }
-    ensures count { OnOk result (length lines.new.items ≡ number + 1) }
+    requires promised { ArePromised setup.now accounts.now gate.now 1 (promises_of lines.old.items) }
+    ensures count { OnOk result (length lines.new.items ≡ number) }
     ensures silent { All (λ line. sent_by line ≡ []) lines.new.items }
-    ensures promised { ArePromised setup.now accounts.now gate.now 0 (promises_of lines.new.items) }
+    ensures promised { ArePromised setup.now accounts.now gate.now 1 (promises_of lines.new.items) }
     ensures fault { (result ≢ Err RunFault.GateClosed) × (result ≢ Err RunFault.Workers) }
 {
     let line = start(scope, rt, alloc, number, setup, accounts, seats, gate)?;
@@ -85,7 +88,7 @@ pub(crate) fn finish_all<S: Shared, R: Wait + Threads, G: Gate>(
     ensures posts { OnOk result
         (map (λ l. l.posts.items) left.new.items ≡ map sent_by lines.entry.items) }
     ensures left { OnOk result (AreLeftBy (reads S.key_of S.number_of S.mine_of) S.key
-        (promises_of lines.entry.items) left.new.items) }
+        (promises_of lines.entry.items) (map heard_by lines.entry.items) left.new.items) }
     ensures first { IfErr result (λ fault. IsFirstFault (reads S.key_of S.number_of S.mine_of) S.key
         G.may_shut (promises_of lines.entry.items) fault) }
     ensures gate { result ≡ Err RunFault.GateClosed
@@ -113,7 +116,8 @@ fn finish_one<S: Shared, R: Wait + Threads, G: Gate>(
     ensures left { OnOk result ((one : Left S S.Seat)
         × (left.new.items ≡ left.old.items ++ one ∷ [])
         × (one.posts.items ≡ sent_by line.entry)
-        × IsLeftBy (reads S.key_of S.number_of S.mine_of) S.key line.entry.child.promise one) }
+        × IsLeftBy (reads S.key_of S.number_of S.mine_of) S.key line.entry.child.promise
+        (heard_by line.entry) one) }
     ensures gate { result ≡ Err RunFault.GateClosed → G.may_shut line.entry.child.promise.gate.now }
     ensures workers { result ≢ Err RunFault.Workers }
 {

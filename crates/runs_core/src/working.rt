@@ -1,24 +1,25 @@
 //! The thread of a worker.
 
-ghost use Rattle.std.specs.Prelude.{◌≡◌, ◌≢◌, ◌++◌, ◌∷◌, [], Option, map, All, IfOk, OnOk};
+ghost use Rattle.std.specs.Prelude.{◌≡◌, ◌≢◌, ◌++◌, [], List, true, map, IfOk, OnOk};
 ghost use Rattle.std.specs.Map.{keys_of};
-ghost use Rattle.runs_core.specs.Mails.{mails_of, works_of};
+ghost use Rattle.runs_core.specs.Desks.{GoesOn};
+ghost use Rattle.runs_core.specs.Mails.{items_in};
 ghost use Rattle.runs_core.specs.Teams.{IsFresh, IsLeft, reads};
-ghost use Rattle.account_core.specs.declared.fault.AccountFault.{AccountFault};
-ghost use Rattle.workers_core.specs.Chains.{AreHandled, IsHandledOnce};
-ghost use Rattle.workers_core.specs.Ends.{IsSameInbox, taken};
-ghost use Rattle.workers_core.specs.Workers.{IsReady, accounts_of, holding, number_of, posts_of, seats_of, setup_of};
+ghost use Rattle.workers_core.specs.Ends.{IsSameInbox, IsSameOutbox, sent, taken};
+ghost use Rattle.workers_core.specs.Handled.{told_of};
+ghost use Rattle.workers_core.specs.Logs.{has_close};
+ghost use Rattle.workers_core.specs.Workers.{IsReady};
+ghost use Rattle.workers_core.specs.declared.answer.Answer.{Answer};
 
 use crate::RunFault;
+use crate::desk::Desk;
 use crate::returns::Finished;
-use account_core::AccountFault;
-use crossbeam_channel::{SendError, Sender};
 use shared_account::{Gate, Shared};
 use std::alloc::Global;
 use std::sync::Wait;
-use workers_core::{Answer, Gone, Inbox, Mail, Post, RunSetup, Worker};
+use workers_core::{Answer, Gone, Inbox, Mail, Outbox, Post, RunSetup};
 
-/// Handles the mails of a worker up to the last one, and answers each post.
+/// Handles the posts of a worker, round by round up to the last mail, and answers each round.
 pub(crate) fn work<S: Shared, R: Wait, G: Gate>(
     rt: &R,
     alloc: Global,
@@ -26,8 +27,8 @@ pub(crate) fn work<S: Shared, R: Wait, G: Gate>(
     setup: &RunSetup,
     accounts: &[S],
     seats: Vec<S::Seat>,
-    mut inbox: Inbox,
-    answers: &Sender<Answer>,
+    mut inbox: Inbox<Vec<Post>>,
+    mut outbox: Outbox<Vec<Answer>>,
     gate: &G,
 ) -> Result<Finished<S>, RunFault>
     requires numbered { map (λ account. (S.terms account).number) accounts.now
@@ -35,56 +36,55 @@ pub(crate) fn work<S: Shared, R: Wait, G: Gate>(
     requires fresh { IsFresh (reads S.key_of S.number_of S.mine_of)
         (map S.key accounts.now) number seats.items }
     requires taken { taken inbox ≡ [] }
+    requires sent { sent outbox ≡ [] }
     ensures inbox { IfOk result (λ finished. IsSameInbox inbox finished.inbox) }
-    ensures mails { IfOk result (λ finished. taken finished.inbox ≡ mails_of finished.posts.items) }
+    ensures outbox { IfOk result (λ finished. IsSameOutbox outbox finished.outbox) }
+    ensures closed { IfOk result (λ finished. has_close (taken finished.inbox) ≡ true) }
+    ensures posts { IfOk result
+        (λ finished. items_in (taken finished.inbox) ≡ finished.left.posts.items) }
     ensures left { IfOk result (λ finished. IsLeft (reads S.key_of S.number_of S.mine_of)
-        (map S.key accounts.now) setup.now number
-        finished.posts.items finished.refusals.items finished.seats.items) }
+        (map S.key accounts.now) setup.now number finished.left.posts.items
+        finished.left.refusals.items (map told_of (items_in (sent finished.outbox)))
+        finished.left.seats.items) }
     ensures gate { result ≡ Err RunFault.GateClosed → G.may_shut gate.now }
     ensures workers { result ≢ Err RunFault.Workers }
 {
-    let mut worker = Worker::new(alloc, number, setup, accounts, seats)?;
-    let mut refusals = Vec::new(alloc);
-    handle_all(rt, &mut worker, &mut refusals, &mut inbox, answers, gate)?;
-    let (seats, posts) = worker.finish();
+    let mut desk = Desk::new(alloc, number, setup, accounts, seats)?;
+    answer_rounds(rt, alloc, &mut desk, &mut inbox, &mut outbox, gate)?;
+    let _ = outbox.send_mail(rt, Mail::Close);
+    let left = desk.finish();
     Ok(Finished {
-        seats,
-        posts,
-        refusals,
+        left,
         inbox,
+        outbox,
     })
 }
 
-/// Takes mails and handles them up to the last one, and puts down the refusal of each post, or none.
-fn handle_all<S: Shared, R: Wait, G: Gate>(
+/// Takes the posts of each round and sends their answers, up to the last mail.
+fn answer_rounds<S: Shared, R: Wait, G: Gate>(
     rt: &R,
-    worker: &mut Worker<'_, S>,
-    refusals: &mut Vec<Option<AccountFault>>,
-    inbox: &mut Inbox,
-    answers: &Sender<Answer>,
+    alloc: Global,
+    desk: &mut Desk<'_, S>,
+    inbox: &mut Inbox<Vec<Post>>,
+    outbox: &mut Outbox<Vec<Answer>>,
     gate: &G,
 ) -> Result<(), RunFault>
     requires ready { IsReady (λ account. (S.terms account).number)
-        S.key S.key_of S.number_of S.mine_of worker.old }
-    requires posts { posts_of worker.old ≡ [] }
-    requires none { refusals.old.items ≡ [] }
+        S.key S.key_of S.number_of S.mine_of desk.old.worker }
     requires taken { taken inbox.old ≡ [] }
+    requires sent { sent outbox.old ≡ [] }
     ensures inbox { IsSameInbox inbox.old inbox.new }
-    ensures ready { OnOk result (IsReady (λ account. (S.terms account).number)
-        S.key S.key_of S.number_of S.mine_of worker.new) }
-    ensures mails { OnOk result (taken inbox.new ≡ mails_of (posts_of worker.new)) }
-    ensures in_turn { OnOk result (AreHandled (setup_of worker.old)
-        (map S.number_of (seats_of worker.old)) (posts_of worker.new) refusals.new.items
-        (holding S.mine_of worker.old) (holding S.mine_of worker.new)) }
-    ensures setup { OnOk result (setup_of worker.new ≡ setup_of worker.old) }
-    ensures accounts { OnOk result (accounts_of worker.new ≡ accounts_of worker.old) }
-    ensures number { OnOk result (number_of worker.new ≡ number_of worker.old) }
+    ensures outbox { IsSameOutbox outbox.old outbox.new }
+    ensures closed { OnOk result (has_close (taken inbox.new) ≡ true) }
+    ensures goes_on { OnOk result (GoesOn (λ account. (S.terms account).number)
+        S.key (reads S.key_of S.number_of S.mine_of) desk.old
+        (items_in (taken inbox.new)) (map told_of (items_in (sent outbox.new))) desk.new) }
     ensures gate { result ≡ Err RunFault.GateClosed → G.may_shut gate.now }
     ensures workers { result ≢ Err RunFault.Workers }
 {
     for _ in rt.forever() {
         match inbox.take_mail(rt) {
-            Ok(Mail::Work(post)) => answer(rt, worker, refusals, post, answers, gate)?,
+            Ok(Mail::Work(posts)) => answer_round(rt, alloc, desk, posts, outbox, gate)?,
             Ok(Mail::Close) => return Ok(()),
             Err(Gone) => return Err(RunFault::Channel),
         }
@@ -92,39 +92,29 @@ fn handle_all<S: Shared, R: Wait, G: Gate>(
     unreachable!()
 }
 
-/// Handles a post, puts down its refusal, or none, and answers it. The room for the refusal is made
-/// before an account is asked.
-fn answer<S: Shared, R: Wait, G: Gate>(
+/// Handles the posts of a round, and sends their answers.
+fn answer_round<S: Shared, R: Wait, G: Gate>(
     rt: &R,
-    worker: &mut Worker<'_, S>,
-    refusals: &mut Vec<Option<AccountFault>>,
-    post: Post,
-    answers: &Sender<Answer>,
+    alloc: Global,
+    desk: &mut Desk<'_, S>,
+    posts: Vec<Post>,
+    outbox: &mut Outbox<Vec<Answer>>,
     gate: &G,
 ) -> Result<(), RunFault>
     requires ready { IsReady (λ account. (S.terms account).number)
-        S.key S.key_of S.number_of S.mine_of worker.old }
-    ensures ready { OnOk result (IsReady (λ account. (S.terms account).number)
-        S.key S.key_of S.number_of S.mine_of worker.new) }
-    ensures posts { OnOk result (posts_of worker.new ≡ posts_of worker.old ++ post ∷ []) }
-    ensures numbers { OnOk result
-        (map S.number_of (seats_of worker.new) ≡ map S.number_of (seats_of worker.old)) }
-    ensures handled { OnOk result ((refusal : Option AccountFault)
-        × IsHandledOnce (setup_of worker.old) (map S.number_of (seats_of worker.old)) post refusal
-        (holding S.mine_of worker.old) (holding S.mine_of worker.new)
-        × (refusals.new.items ≡ refusals.old.items ++ refusal ∷ [])) }
-    ensures setup { OnOk result (setup_of worker.new ≡ setup_of worker.old) }
-    ensures accounts { OnOk result (accounts_of worker.new ≡ accounts_of worker.old) }
-    ensures number { OnOk result (number_of worker.new ≡ number_of worker.old) }
+        S.key S.key_of S.number_of S.mine_of desk.old.worker }
+    ensures outbox { IsSameOutbox outbox.old outbox.new }
+    ensures goes_on { OnOk result ((answers : List Answer)
+        × (items_in (sent outbox.new) ≡ items_in (sent outbox.old) ++ answers)
+        × GoesOn (λ account. (S.terms account).number)
+        S.key (reads S.key_of S.number_of S.mine_of)
+        desk.old posts.items (map told_of answers) desk.new) }
     ensures gate { result ≡ Err RunFault.GateClosed → G.may_shut gate.now }
     ensures workers { result ≢ Err RunFault.Workers }
 {
-    refusals.reserve(1)?;
-    let answer = worker.handle(rt, post, gate)?;
-    refusals.push(answer.refused)?;
-    match answers.send(rt, answer) {
-        Ok(()) => Ok(()),
-        Err(SendError::OutOfMemory(_)) => Err(RunFault::OutOfMemory),
-        Err(SendError::Disconnected(_)) => Err(RunFault::Channel),
-    }
+    let answers = desk.answer_all(rt, alloc, posts, gate)?;
+    let Ok(()) = outbox.send_mail(rt, Mail::Work(answers)) else {
+        return Err(RunFault::Channel);
+    };
+    Ok(())
 }

@@ -33,3 +33,22 @@ seat_numbers number setup = map (λ account. number) setup.accounts
 pub record IsWorked (setup : Setup) (number : ℕ) (posts : List Post) (refusals : List (Option AccountFault)) (lists : List (List Event)) : Type 0 where
   pub talks : ℕ → Option Standing
   pub chain : AreHandled setup (seat_numbers number setup) posts refusals (at_first setup) (record { lists = lists; talks = talks })
+
+-- ---- with all that the answers tell
+
+-- posts, in order, lead from what a worker holds to what it holds then, with these answers, one for each
+abbrev pub AreAnswered : Setup → List ℕ → List Post → List Told → Holding → Holding → Type 0
+AreAnswered setup numbers [] [] old new = old ≡ new
+AreAnswered setup numbers [] (told ∷ answers) old new = ⊥
+AreAnswered setup numbers (post ∷ posts) [] old new = ⊥
+AreAnswered setup numbers (post ∷ posts) (told ∷ answers) old new =
+    (between : Holding) × IsHandled setup numbers post old between told × AreAnswered setup numbers posts answers between new
+
+-- which posts were refused, as their answers tell
+abbrev pub refusals_in : List Told → List (Option AccountFault)
+refusals_in answers = map (λ told. told.refused) answers
+
+-- the lists of a worker's seats are what its posts made of empty ones, and these are its answers
+pub record IsAnswered (setup : Setup) (number : ℕ) (posts : List Post) (answers : List Told) (lists : List (List Event)) : Type 0 where
+  pub talks : ℕ → Option Standing
+  pub chain : AreAnswered setup (seat_numbers number setup) posts answers (at_first setup) (record { lists = lists; talks = talks })

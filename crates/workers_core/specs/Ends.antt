@@ -4,23 +4,23 @@ use Rattle.crossbeam_channel.specs.Claims.{view}
 use Rattle.crossbeam_channel.specs.Ends.{receives_on, sends_on}
 use Rattle.workers_core.specs.declared.inbox.Inbox.{Inbox}
 use Rattle.workers_core.specs.declared.outbox.Outbox.{Outbox}
-use Rattle.workers_core.specs.declared.post.Mail.{Mail}
+use Rattle.workers_core.specs.declared.mail.Mail.{Mail}
 
 -- all that was sent, in order
-abbrev pub sent : Outbox → List Mail
+abbrev pub sent : {T : Type 0} → Outbox T → List (Mail T)
 sent outbox = (view outbox.pass).sent
 
 -- all that was taken, in order
-abbrev pub taken : Inbox → List Mail
+abbrev pub taken : {T : Type 0} → Inbox T → List (Mail T)
 taken inbox = (view inbox.pass).taken
 
 -- the two ends of one mailbox
-abbrev pub ArePaired : Outbox → Inbox → Type 0
+abbrev pub ArePaired : {T : Type 0} → Outbox T → Inbox T → Type 0
 ArePaired outbox inbox = receives_on inbox.receiver ≡ sends_on outbox.sender
 
 -- an end of the same mailbox
-abbrev pub IsSameOutbox : Outbox → Outbox → Type 0
+abbrev pub IsSameOutbox : {T : Type 0} → Outbox T → Outbox T → Type 0
 IsSameOutbox old new = sends_on new.sender ≡ sends_on old.sender
 
-abbrev pub IsSameInbox : Inbox → Inbox → Type 0
+abbrev pub IsSameInbox : {T : Type 0} → Inbox T → Inbox T → Type 0
 IsSameInbox old new = receives_on new.receiver ≡ receives_on old.receiver

@@ -3,39 +3,39 @@ use Rattle.std.specs.Prelude.{◌≡◌, ◌++◌, ◌∷◌, ℕ, Bool, true, f
 use mathlib.Core.Option.{some}
 use lib.ListN.{get_elem?}
 use Rattle.workers_core.specs.declared.log.Log.{Log}
-use Rattle.workers_core.specs.declared.post.Mail.{Mail}
-use Rattle.workers_core.specs.declared.post.Mail.TheVariants.{Work, Close}
+use Rattle.workers_core.specs.declared.mail.Mail.{Mail}
+use Rattle.workers_core.specs.declared.mail.Mail.TheVariants.{Work, Close}
 
-abbrev pub log : Bool → Bool → List Mail → List Mail → Log
+abbrev pub log : {T : Type 0} → Bool → Bool → List (Mail T) → List (Mail T) → Log T
 log sends takes sent taken = record { sends = sends; takes = takes; sent = sent; taken = taken }
 
 -- whether a Close is among mails
-abbrev pub has_close : List Mail → Bool
+abbrev pub has_close : {T : Type 0} → List (Mail T) → Bool
 has_close [] = false
-has_close (Work post ∷ mails) = has_close mails
+has_close (Work content ∷ mails) = has_close mails
 has_close (Close ∷ mails) = true
 
-abbrev pub is_empty : List Mail → Bool
+abbrev pub is_empty : {T : Type 0} → List (Mail T) → Bool
 is_empty [] = true
 is_empty (mail ∷ mails) = false
 
 -- whether nothing follows a Close
-abbrev pub ends_at_close : List Mail → Bool
+abbrev pub ends_at_close : {T : Type 0} → List (Mail T) → Bool
 ends_at_close [] = true
-ends_at_close (Work post ∷ mails) = ends_at_close mails
+ends_at_close (Work content ∷ mails) = ends_at_close mails
 ends_at_close (Close ∷ mails) = is_empty mails
 
 -- what one end knows is true: the sender has the list of what was sent, the taker that of what was taken
-abbrev pub Fits : ℕ → ℕ → List Mail → List Mail → ℕ → Log → Type 0
+abbrev pub Fits : {T : Type 0} → ℕ → ℕ → List (Mail T) → List (Mail T) → ℕ → Log T → Type 0
 Fits sender taker sent taken pass v =
     (v.sends ≡ true → (pass ≡ sender) × (v.sent ≡ sent)) × (v.takes ≡ true → (pass ≡ taker) × (v.taken ≡ taken))
 
 -- one end at most sends and one at most takes, what was sent is what was taken and then what waits, and nothing follows a Close
-pub record Delivered (waiting : List Mail) (views : List Log) : Type 0 where
+pub record Delivered {T : Type 0} (waiting : List (Mail T)) (views : List (Log T)) : Type 0 where
   pub sender : ℕ
   pub taker : ℕ
-  pub sent : List Mail
-  pub taken : List Mail
+  pub sent : List (Mail T)
+  pub taken : List (Mail T)
   pub in_order : sent ≡ taken ++ waiting
   pub closes : ends_at_close sent ≡ true
-  pub each : (pass : ℕ) (v : Log) → get_elem? views pass ≡ some v → Fits sender taker sent taken pass v
+  pub each : (pass : ℕ) (v : Log T) → get_elem? views pass ≡ some v → Fits sender taker sent taken pass v

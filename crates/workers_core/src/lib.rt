@@ -9,6 +9,7 @@ mod directory;
 mod inbox;
 mod laws;
 mod log;
+mod mail;
 mod opening;
 mod opening_credit;
 mod outbox;
@@ -26,10 +27,11 @@ pub use laws::{
     calls_are_reserved, calls_are_returned, posts_are_handled, recharges_are_entered,
     reports_are_settled, reserves_are_on_terms, what_is_said_is_sent,
 };
+pub use mail::Mail;
 pub use opening::{compare, mailbox};
 pub use opening_credit::OpeningCredit;
 pub use outbox::Outbox;
-pub use post::{Body, Mail, Post};
+pub use post::{Body, Post};
 pub use setup::{MAX_ACCOUNTS, MAX_SUBSCRIBERS, RunSetup};
 pub use setup_fault::SetupFault;
 pub use worker::Worker;

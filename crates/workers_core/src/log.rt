@@ -6,17 +6,17 @@ use std::collections::LinkedList;
 
 /// What an end knows: whether it sends, whether it takes, and all that it has sent and taken. It
 /// stands in contracts alone; no value of it is made.
-pub struct Log {
+pub struct Log<T> {
     pub sends: bool,
     pub takes: bool,
-    pub sent: LinkedList<Mail>,
-    pub taken: LinkedList<Mail>,
+    pub sent: LinkedList<Mail<T>>,
+    pub taken: LinkedList<Mail<T>>,
 }
 
 /// The rule over what waits and what the ends know.
 pub struct InOrder;
 
-impl Protocol<Mail, Log> for InOrder {
+impl<T> Protocol<Mail<T>, Log<T>> for InOrder {
     ghost use Rattle.std.specs.Prelude.{true, []};
     ghost use Rattle.workers_core.specs.Logs.{Delivered, log};
 
@@ -28,7 +28,7 @@ impl Protocol<Mail, Log> for InOrder {
 /// One end sends and the other takes.
 pub struct Ends;
 
-impl Split<Log> for Ends {
+impl<T> Split<Log<T>> for Ends {
     ghost use Rattle.std.specs.Prelude.{true, false, []};
     ghost use Rattle.workers_core.specs.Logs.{log};
 
@@ -37,7 +37,7 @@ impl Split<Log> for Ends {
     ghost right = { λ v. log false true [] v.taken };
 }
 
-impl Join<Log> for Ends {
+impl<T> Join<Log<T>> for Ends {
     ghost use Rattle.std.specs.Prelude.{true, false, []};
     ghost use Rattle.workers_core.specs.Logs.{log};
 
@@ -49,14 +49,14 @@ impl Join<Log> for Ends {
 /// A mail was sent: it is the last one now.
 pub struct Sent;
 
-impl Outcome<Mail, Log> for Sent {
+impl<T> Outcome<Mail<T>, Log<T>> for Sent {
     ghost use Rattle.std.specs.Prelude.{◌≡◌, ◌++◌, ◌∷◌, []};
     ghost use Rattle.workers_core.specs.Logs.{log};
 
     ghost then = { λ v mail w. w ≡ log v.sends v.takes (v.sent ++ mail ∷ []) v.taken };
 }
 
-impl Lesson<Mail, Log> for Sent {
+impl<T> Lesson<Mail<T>, Log<T>> for Sent {
     ghost use Rattle.std.specs.Prelude.{⊤};
 
     ghost fact = { λ v waiting. ⊤ };
@@ -65,14 +65,14 @@ impl Lesson<Mail, Log> for Sent {
 /// A mail was taken: the first of those that waited. No Close was taken before it.
 pub struct Taken;
 
-impl Outcome<Mail, Log> for Taken {
+impl<T> Outcome<Mail<T>, Log<T>> for Taken {
     ghost use Rattle.std.specs.Prelude.{◌≡◌, ◌++◌, ◌∷◌, [], false};
     ghost use Rattle.workers_core.specs.Logs.{has_close, log};
 
     ghost then = { λ v mail w. (w ≡ log v.sends v.takes v.sent (v.taken ++ mail ∷ [])) × (has_close v.taken ≡ false) };
 }
 
-impl Lesson<Mail, Log> for Taken {
+impl<T> Lesson<Mail<T>, Log<T>> for Taken {
     ghost use Rattle.std.specs.Prelude.{⊤};
 
     ghost fact = { λ v waiting. ⊤ };
@@ -82,7 +82,7 @@ impl Lesson<Mail, Log> for Taken {
 /// follows a Close.
 pub struct Whole;
 
-impl Lesson<Mail, Log> for Whole {
+impl<T> Lesson<Mail<T>, Log<T>> for Whole {
     ghost use Rattle.std.specs.Prelude.{◌≡◌, ◌++◌, true};
     ghost use Rattle.workers_core.specs.Logs.{ends_at_close};
 

@@ -37,12 +37,3 @@ pub struct Post {
     pub body: Body,
     pub ghost in_range: { at ≤ HORIZON },
 }
-
-/// What a mailbox carries.
-#[derive(Clone, Copy, Debug, PartialEq, Eq)]
-pub enum Mail {
-    /// A post to be handled.
-    Work(Post),
-    /// The last mail: nothing follows it.
-    Close,
-}

@@ -1,8 +1,11 @@
-use Rattle.std.proofs.Common.{◌≡◌, length}
-use Rattle.runs_core.specs.Sending.{AreSent, promises_of}
+use Rattle.std.proofs.Common.{◌≡◌}
+use Rattle.runs_core.specs.Crews.{HasServed, count_of}
+use Rattle.runs_core.specs.Sending.{promises_of}
+use Rattle.runs_core.specs.Teams.{reads}
+use Rattle.workers_core.specs.Workers.{accounts_of, setup_of}
 use Rattle.runs_core.proofs.rounds.play.Given as goal
 
 abbrev pub invariant-loop : goal.invariant-loop
 invariant-loop g l =
-    (length l.lines.items ≡ length l.fn.lines.items) × AreSent (g.D.Driver.given l.driver) l.lines.items × (promises_of l.lines.items ≡ promises_of l.fn.lines.items)
-    × (g.D.Driver.plan l.driver ≡ g.D.Driver.plan l.fn.driver)
+    HasServed (λ account. (g.S.Shared.terms account).number) g.S.Shared.key (reads g.S.Shared.key_of g.S.Shared.number_of g.S.Shared.mine_of) (setup_of l.fn.crew.desk.worker) (accounts_of l.fn.crew.desk.worker) (g.D.Driver.given l.driver) l.crew
+    × (count_of l.crew ≡ count_of l.fn.crew) × (promises_of l.crew.lines.items ≡ promises_of l.fn.crew.lines.items) × (g.D.Driver.plan l.driver ≡ g.D.Driver.plan l.fn.driver)

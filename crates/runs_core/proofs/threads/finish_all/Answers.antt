@@ -2,7 +2,7 @@ use Rattle.std.proofs.Common.{◌≡◌, ◌∙◌, ap, arith, length, map, rule
 use Rattle.std.specs.Vec.Iter.{into_iter_items}
 use Rattle.runs_core.proofs.Finishing.{all_finished, none_finished, one_failed, one_finished}
 use Rattle.std.specs.Prelude.{IfSome}
-use Rattle.runs_core.specs.Sending.{AreLeftBy, IsFirstFault, MayBeShut, promises_of, sent_by}
+use Rattle.runs_core.specs.Sending.{AreLeftBy, IsFirstFault, MayBeShut, heard_by, promises_of, sent_by}
 use Rattle.runs_core.specs.Teams.{reads}
 use Rattle.runs_core.proofs.threads.finish_all.Goals as goal
 
@@ -29,7 +29,7 @@ returns-in-None-fault-clause-posts g c =
 pub returns-in-None-fault-clause-left : goal.returns-in-None-fault-clause-left
 returns-in-None-fault-clause-left g c =
     let none : length (into_iter_items c.loop-line.line-iterator) ≡ 0 = omega (arith, c.in-None.ensures.steps.0, c.loop-line.line-iterator.rest.ok) in
-    subst (λ lines. AreLeftBy (reads g.S.Shared.key_of g.S.Shared.number_of g.S.Shared.mine_of) g.S.Shared.key (promises_of lines) c.loop-line.left.items)
+    subst (λ lines. AreLeftBy (reads g.S.Shared.key_of g.S.Shared.number_of g.S.Shared.mine_of) g.S.Shared.key (promises_of lines) (map heard_by lines) c.loop-line.left.items)
     (all_finished _ _ _ _ _ _ _ none c.loop-line.invariant) (c.loop-line.invariant.left_by c.in-None-fault.is)
 
 pub returns-in-Some-fault-clause-gate : goal.returns-in-Some-fault-clause-gate

@@ -7,8 +7,8 @@ use Rattle.runs_core.proofs.threads.start_all.Given as goal
 
 abbrev pub invariant-loop-team : goal.invariant-loop-team
 invariant-loop-team g l =
-    (length l.lines.items ≡ l.number)
-    × (l.number + length (into_iter_items l.team-iterator) ≡ length l.fn.teams.items)
+    (length l.lines.items + 1 ≡ l.number)
+    × (l.number + length (into_iter_items l.team-iterator) ≡ length (into_iter_items l.fn.teams) + 1)
     × AreFresh (reads g.S.Shared.key_of g.S.Shared.number_of g.S.Shared.mine_of) (map g.S.Shared.key l.accounts) l.number (map (λ team. team.items) (into_iter_items l.team-iterator))
     × All (λ line. sent_by line ≡ []) l.lines.items
-    × ArePromised l.setup l.accounts l.gate 0 (promises_of l.lines.items)
+    × ArePromised l.setup l.accounts l.gate 1 (promises_of l.lines.items)

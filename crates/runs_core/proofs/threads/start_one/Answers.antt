@@ -2,7 +2,7 @@ use Rattle.std.proofs.Common.{arith, ◌≡◌, ◌∷◌, ◌+◌, [], length, 
 use Rattle.std.proofs.lemmas.List.{length-append, length-map, map-append}
 use Rattle.std.proofs.lemmas.List.Elements.{All-push}
 use Rattle.runs_core.proofs.Finishing.{promised_more}
-use Rattle.runs_core.specs.Mails.{posts_in}
+use Rattle.runs_core.specs.Mails.{items_in}
 use Rattle.runs_core.specs.Sending.{promises_of, sent_by}
 use Rattle.runs_core.proofs.threads.start_one.Goals as goal
 
@@ -15,20 +15,20 @@ returns-in_err-push-clause-promised g c = rw (c.in_err-push.ensures.items) c.req
 pub returns-clause-count : goal.returns-clause-count
 returns-clause-count g c =
     let lines = c.args.lines.now.items in
-    rw (c.in_ok-push.ensures.items) (length-append lines (c.in_ok-line.line ∷ []) ∙ ap (λ n. n + 1) c.requires.count)
+    rw (c.in_ok-push.ensures.items) (length-append lines (c.in_ok-line.line ∷ []) ∙ c.requires.count)
 
 pub returns-clause-silent : goal.returns-clause-silent
 returns-clause-silent g c =
     rw (c.in_ok-push.ensures.items)
-    (All-push (λ line. sent_by line ≡ []) c.args.lines.now.items c.in_ok-line.line c.requires.silent (ap posts_in c.in_ok-line.ensures.sent))
+    (All-push (λ line. sent_by line ≡ []) c.args.lines.now.items c.in_ok-line.line c.requires.silent (ap items_in c.in_ok-line.ensures.sent))
 
 pub returns-clause-promised : goal.returns-clause-promised
 returns-clause-promised g c =
     let lines = c.args.lines.now.items in
     let line = c.in_ok-line.line in
-    let number : c.args.number ≡ 0 + length (promises_of lines) = omega (arith, c.requires.count, length-map lines (λ line. line.child.promise)) in
+    let number : c.args.number ≡ 1 + length (promises_of lines) = omega (arith, c.requires.count, length-map lines (λ line. line.child.promise)) in
     rw (c.in_ok-push.ensures.items, map-append (λ line. line.child.promise) lines (line ∷ []))
-    (promised_more c.args.setup.now c.args.accounts.now c.args.gate.now 0 (promises_of lines) line.child.promise c.requires.promised
+    (promised_more c.args.setup.now c.args.accounts.now c.args.gate.now 1 (promises_of lines) line.child.promise c.requires.promised
     (record {
       setup_is = c.in_ok-line.ensures.setup;
       accounts_are = c.in_ok-line.ensures.accounts;

@@ -1,19 +1,24 @@
-use Rattle.std.proofs.Common.{map, ap, ◌∙◌}
+use Rattle.std.proofs.Common.{◌++◌, [], map, ap, sym, ◌∙◌}
+use Rattle.workers_core.specs.Ends.{sent, taken}
+use Rattle.workers_core.specs.Handled.{told_of}
+use Rattle.workers_core.specs.Workers.{posts_of}
+use Rattle.runs_core.specs.Mails.{items_in}
 use Rattle.runs_core.specs.Teams.{reads}
-use Rattle.runs_core.proofs.Leaving.{left_by, worked_by}
-use Rattle.workers_core.specs.Workers.{accounts_of, holding}
+use Rattle.runs_core.proofs.AtDesks.{answered_more, left_by}
+use Rattle.runs_core.proofs.Mailing.{same_items}
 use Rattle.runs_core.proofs.working.work.Goals as goal
+
+pub returns-clause-posts : goal.returns-clause-posts
+returns-clause-posts g c =
+    sym (c.finish-left.ensures.posts ∙ c.in_ok-answer_rounds.ensures.goes_on.handled ∙ ap (λ ps. ps ++ items_in (taken c.answer_rounds.new.inbox)) c.in_ok-desk.ensures.begins.posts_are)
 
 pub returns-clause-left : goal.returns-clause-left
 returns-clause-left g c =
-    let ready = c.in_ok-handle_all.ensures.ready in
-    let read = reads g.S.Shared.key_of g.S.Shared.number_of g.S.Shared.mine_of in
-    rw (c.finish-seats.ensures.seats, c.finish-seats.ensures.posts)
-    (left_by read (map g.S.Shared.key c.args.accounts.now) (map g.S.Shared.key (accounts_of c.handle_all.new.worker)) _ _ c.args.number _ _ _ _
-    (c.in_ok-handle_all.ensures.setup ∙ c.in_ok-worker.ensures.setup)
-    (ap (map g.S.Shared.key) (c.in_ok-handle_all.ensures.accounts ∙ c.in_ok-worker.ensures.accounts))
-    (c.in_ok-handle_all.ensures.number ∙ c.in_ok-worker.ensures.number)
-    ready.keys ready.numbers (rw (c.finish-seats.ensures.seats, c.finish-seats.ensures.posts) at c.finish-seats.ensures.served)
-    (worked_by read g.S.Shared.key (λ account. (g.S.Shared.terms account).number) c.args.setup.now _ c.args.accounts.now c.args.number _ _ c.args.seats.items _ _
-    (holding g.S.Shared.mine_of c.handle_all.new.worker) c.requires.numbered c.requires.fresh c.in_ok-worker.ensures.setup c.in_ok-worker.ensures.seats
-    c.in_ok-worker.ensures.talks c.in_ok-handle_all.ensures.in_turn))
+    let read = (reads g.S.Shared.key_of g.S.Shared.number_of g.S.Shared.mine_of) in
+    let desk = c.answer_rounds.new.desk in
+    let told = map told_of (items_in (sent c.answer_rounds.new.outbox)) in
+    let has = answered_more (λ account. (g.S.Shared.terms account).number) g.S.Shared.key read c.args.setup.now c.args.accounts.now c.args.number [] _ _ [] told c.in_ok-desk.desk desk
+    (c.in_ok-answer_rounds.ensures.goes_on.handled ∙ ap (λ ps. ps ++ items_in (taken c.answer_rounds.new.inbox)) c.in_ok-desk.ensures.begins.posts_are)
+    c.in_ok-desk.ensures.begins c.in_ok-answer_rounds.ensures.goes_on in
+    rw (c.finish-left.ensures.seats, c.finish-left.ensures.posts, c.finish-left.ensures.refusals, same_items c.send_mail.result _ _ c.send_mail.ensures.sent)
+    (left_by (λ account. (g.S.Shared.terms account).number) g.S.Shared.key read c.args.setup.now c.args.accounts.now c.args.number (posts_of desk.worker) told desk has)

@@ -9,17 +9,17 @@ use Rattle.workers_core.proofs.Orders.{rejoins}
 use Rattle.workers_core.proofs.opening.compare.Goals as goal
 
 pub absorb-requires-clause-rule : goal.absorb-requires-clause-rule
-absorb-requires-clause-rule c =
+absorb-requires-clause-rule g c =
     rejoins c.args.outbox.pass.id (view c.args.outbox.pass) c.args.inbox.pass.id (view c.args.inbox.pass) c.args.outbox.may_send c.args.inbox.may_take
 
 pub returns-clause-whole : goal.returns-clause-whole
-returns-clause-whole c = λ closed.
+returns-clause-whole g c = λ closed.
     let all = sent c.args.outbox in
     let first = taken c.args.inbox in
     let both = c.absorb.ensures.rule in
     let waiting = c.learn_as.ensures.rule.0 in
     let order : all ≡ first ++ waiting =
-    sym (ap (λ (v : Log). v.sent) both) ∙ c.learn_as.ensures.rule.1.0 ∙ ap (λ (v : Log). v.taken ++ waiting) both in
-    let ends : ends_at_close all ≡ true = subst (λ (v : Log). ends_at_close v.sent ≡ true) both c.learn_as.ensures.rule.1.1 in
+    sym (ap (λ (v : Log g.row.T.Denot). v.sent) both) ∙ c.learn_as.ensures.rule.1.0 ∙ ap (λ (v : Log g.row.T.Denot). v.taken ++ waiting) both in
+    let ends : ends_at_close all ≡ true = subst (λ (v : Log g.row.T.Denot). ends_at_close v.sent ≡ true) both c.learn_as.ensures.rule.1.1 in
     let none : waiting ≡ [] = nothing_waits first waiting (subst (λ mails. ends_at_close mails ≡ true) order ends) closed in
     sym (order ∙ ap (λ mails. first ++ mails) none ∙ append-nil first)

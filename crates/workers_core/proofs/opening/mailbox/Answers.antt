@@ -5,9 +5,9 @@ use Rattle.workers_core.proofs.Orders.{begins, parts}
 use Rattle.workers_core.proofs.opening.mailbox.Goals as goal
 
 pub bounded_with-requires-clause-rule : goal.bounded_with-requires-clause-rule
-bounded_with-requires-clause-rule c = begins
+bounded_with-requires-clause-rule g c = begins
 
 pub another-taking-requires-clause-rule : goal.another-taking-requires-clause-rule
-another-taking-requires-clause-rule c =
+another-taking-requires-clause-rule g c =
     let first = c.in_ok-sender.ensures.3 in
-    parts c.in_ok-sender.sending.id (view c.in_ok-sender.sending) (ap (λ (v : Log). v.sends) first) (ap (λ (v : Log). v.takes) first)
+    parts c.in_ok-sender.sending.id (view c.in_ok-sender.sending) (ap (λ (v : Log g.row.T.Denot). v.sends) first) (ap (λ (v : Log g.row.T.Denot). v.takes) first)

@@ -18,13 +18,13 @@ send_as-requires-clause-rule g c =
 pub invariant_of-self : goal.invariant_of-self
 invariant_of-self g c =
     let outbox = c.args.self.now in
-    let before : Log = view outbox.pass in
+    let before : Log g.row.T.Denot = view outbox.pass in
     let told = outbox.closed_is in
     let open_yet = c.if-self.false in
     let none : has_close before.sent ≡ false = cc in
     let grown = c.in-Ok.ensures.rule in
     record {
       seated = c.in-Ok.ensures.channel.0;
-      may_send = ap (λ (v : Log). v.sends) grown ∙ outbox.may_send;
-      closed_is = ap (λ (v : Log). has_close v.sent) grown ∙ closed_by before.sent c.args.mail none ∙ sym c.is_close-self.ensures;
+      may_send = ap (λ (v : Log g.row.T.Denot). v.sends) grown ∙ outbox.may_send;
+      closed_is = ap (λ (v : Log g.row.T.Denot). has_close v.sent) grown ∙ closed_by before.sent c.args.mail none ∙ sym c.is_close-last.ensures;
     }

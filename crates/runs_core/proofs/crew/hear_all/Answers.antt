@@ -1,0 +1,19 @@
+use Rattle.std.proofs.Common.{rules, ◌∙◌}
+use Rattle.std.proofs.Math.Seq.{map-set_same}
+use Rattle.std.proofs.lemmas.List.{length-set}
+use Rattle.std.specs.Result.{result_err}
+use Rattle.runs_core.specs.Sending.{sent_by}
+use Rattle.runs_core.proofs.Finishing.{own_err, own_or}
+use Rattle.runs_core.proofs.crew.hear_all.Goals as goal
+
+pub loop-at-preserved : goal.loop-at-preserved
+loop-at-preserved g c =
+    let before = c.loop-at.invariant in
+    let err = own_err c.hear_one.result c.hear_one.ensures.fault.0 c.hear_one.ensures.fault.1 in
+    let fault = own_or c.loop-at.fault (result_err c.hear_one.result) before.3 before.4 err.0 err.1 in (
+      length-set c.loop-at.lines.items c.loop-at.at c.hear_one.new.line ∙ before.0,
+      map-set_same sent_by c.loop-at.lines.items c.loop-at.at c.hear_one.new.line c.index_mut.result.now (search rules) ∙ before.1,
+      map-set_same (λ line. line.child.promise) c.loop-at.lines.items c.loop-at.at c.hear_one.new.line c.index_mut.result.now (search rules) ∙ before.2,
+      rw (c.or-fault.ensures, c.err.ensures.value) fault.0,
+      rw (c.or-fault.ensures, c.err.ensures.value) fault.1,
+    )

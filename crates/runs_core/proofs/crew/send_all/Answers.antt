@@ -1,0 +1,34 @@
+use Rattle.std.proofs.Common.{◌≡◌, [], arith, map, ap, sym, rules, ◌∙◌}
+use Rattle.std.proofs.Math.Seq.{map-set_same}
+use Rattle.std.proofs.lemmas.List.{length-map}
+use Rattle.std.specs.Vec.Iter.{into_iter_items}
+use Rattle.runs_core.specs.Sending.{sent_by}
+use Rattle.runs_core.proofs.Joins.{all_joined, has_list, none_joined, one_joined}
+use Rattle.runs_core.proofs.Shifting.{empty_by}
+use Rattle.runs_core.proofs.crew.send_all.Goals as goal
+
+pub loop-share-init : goal.loop-share-init
+loop-share-init g c = (none_joined _ _ _ (ap (map (λ share. share.items)) (ap into_iter_items c.into_iter-share-iterator.ensures.into_iter_gives)), search rules)
+
+pub index_mut-requires : goal.index_mut-requires
+index_mut-requires g c =
+    let many = length-map (into_iter_items c.args.shares) (λ share. share.items) ∙ c.requires.count ∙ sym (length-map c.args.lines.now.items sent_by) in
+    let below = has_list sent_by _ _ c.in-Some.share.items (map (λ share. share.items) (into_iter_items c.next.new.self)) _ c.loop-share.lines.items many (rw c.in-Some.ensures.steps.0 at c.loop-share.invariant.0) in
+    omega (arith, below, c.loop-share.lines.ok)
+
+pub returns-in_err-send-clause-promises : goal.returns-in_err-send-clause-promises
+returns-in_err-send-clause-promises g c =
+    map-set_same (λ line. line.child.promise) c.loop-share.lines.items c.loop-share.at c.send.new.self c.index_mut.result.now (search rules) ∙ c.loop-share.invariant.1
+
+pub loop-share-preserved : goal.loop-share-preserved
+loop-share-preserved g c =
+    let many = length-map (into_iter_items c.args.shares) (λ share. share.items) ∙ c.requires.count ∙ sym (length-map c.args.lines.now.items sent_by) in (
+      one_joined sent_by _ _ c.in-Some.share.items (map (λ share. share.items) (into_iter_items c.next.new.self)) _ c.loop-share.lines.items c.index_mut.result.now c.send.new.self many
+          (rw c.in-Some.ensures.steps.0 at c.loop-share.invariant.0) (search rules) c.in_ok-send.ensures.posts,
+      map-set_same (λ line. line.child.promise) c.loop-share.lines.items c.loop-share.at c.send.new.self c.index_mut.result.now (search rules) ∙ c.loop-share.invariant.1,
+    )
+
+pub returns-clause-posts : goal.returns-clause-posts
+returns-clause-posts g c =
+    let none : into_iter_items c.loop-share.share-iterator ≡ [] = empty_by _ (omega (arith, c.in-None.ensures.steps.0, c.loop-share.share-iterator.rest.ok)) in
+    all_joined _ _ _ _ _ (ap (map (λ share. share.items)) none) c.loop-share.invariant.0

@@ -1,0 +1,7 @@
+use Rattle.runs_core.proofs.Mailing.{items_more}
+use Rattle.workers_core.specs.Ends.{taken}
+use Rattle.runs_core.proofs.line.Line.hear.Goals as goal
+
+pub returns-in-Ok-Work-clause-answers : goal.returns-in-Ok-Work-clause-answers
+returns-in-Ok-Work-clause-answers g c =
+    items_more (taken c.args.self.now.inbox) _ c.in-Ok-Work.answers (rw c.in-Ok-Work.field-0-is at c.in-Ok-Work.ensures.taken)

@@ -1,0 +1,161 @@
+//! The workers of a run.
+
+ghost use Rattle.std.specs.Prelude.{◌≡◌, ◌≢◌, ◌++◌, ◌∷◌, [], List, length, map, IfOk, OnOk};
+ghost use Rattle.std.specs.Vec.Iter.{into_iter_items};
+ghost use Rattle.runs_core.specs.Crews.{count_of, joined, posts_by};
+ghost use Rattle.runs_core.specs.Desks.{GoesOn};
+ghost use Rattle.runs_core.specs.Sending.{promises_of, sent_by};
+ghost use Rattle.runs_core.specs.Teams.{reads};
+ghost use Rattle.workers_core.specs.Handled.{told_of};
+ghost use Rattle.workers_core.specs.Workers.{IsReady};
+ghost use Rattle.workers_core.specs.declared.post.Post.{Post};
+
+use crate::RunFault;
+use crate::desk::Desk;
+use crate::line::Line;
+use shared_account::{Gate, Shared};
+use std::alloc::Global;
+use std::sync::Wait;
+use std::vec::IntoIter;
+use workers_core::{Answer, Post};
+
+/// The workers of a run: the main thread serves the first itself, and each other has a thread.
+#[derive(Drop)]
+pub(crate) struct Crew<'s, S: Shared, G: Gate> {
+    /// The first worker.
+    pub desk: Desk<'s, S>,
+    /// Whether the first worker has failed.
+    pub failed: bool,
+    /// The lines of the others, in order.
+    pub lines: Vec<Line<'s, S, G>>,
+}
+
+/// The answers to a round: those of the first worker, and those of the others, in their order.
+#[derive(Drop)]
+pub(crate) struct Replies {
+    pub first: Vec<Answer>,
+    pub others: Vec<Vec<Answer>>,
+}
+
+impl<S: Shared, G: Gate> Crew<'_, S, G> {
+    /// Hands out the posts of a round, a share to each worker, and gives the answers. The others get
+    /// theirs before the first worker begins. After a fault no answers are left on their way but
+    /// those of workers that have failed.
+    pub(crate) fn answer_round<R: Wait>(
+        &mut self,
+        rt: &R,
+        alloc: Global,
+        shares: Vec<Vec<Post>>,
+        gate: &G,
+    ) -> Result<Replies, RunFault>
+        requires ready { IsReady (λ account. (S.terms account).number)
+            S.key S.key_of S.number_of S.mine_of self.old.desk.worker }
+        requires count { length shares.items ≡ count_of self.old }
+        ensures posts { OnOk result (posts_by self.new
+            ≡ joined (posts_by self.old) (map (λ share. share.items) shares.items)) }
+        ensures goes_on { IfOk result (λ replies. (posts : List Post)
+            × GoesOn (λ account. (S.terms account).number)
+            S.key (reads S.key_of S.number_of S.mine_of)
+            self.old.desk posts (map told_of replies.first.items) self.new.desk) }
+        ensures count { count_of self.new ≡ count_of self.old }
+        ensures promises { promises_of self.new.lines.items ≡ promises_of self.old.lines.items }
+        ensures gate { result ≡ Err RunFault.GateClosed → G.may_shut gate.now }
+        ensures workers { result ≢ Err RunFault.Workers }
+    {
+        let mut others = Vec::with_capacity(alloc, self.lines.len())?;
+        let mut shares = shares.into_iter();
+        let Some(mine) = shares.next() else {
+            unreachable!()
+        };
+        let first = self.send_and_answer(rt, alloc, mine, shares, gate);
+        let heard = hear_all(rt, alloc, &mut self.lines, &mut others);
+        let first = first?;
+        heard?;
+        Ok(Replies { first, others })
+    }
+
+    /// Sends the others their posts, and handles those of the first worker.
+    fn send_and_answer<R: Wait>(
+        &mut self,
+        rt: &R,
+        alloc: Global,
+        mine: Vec<Post>,
+        shares: IntoIter<Vec<Post>>,
+        gate: &G,
+    ) -> Result<Vec<Answer>, RunFault>
+        requires ready { IsReady (λ account. (S.terms account).number)
+            S.key S.key_of S.number_of S.mine_of self.old.desk.worker }
+        requires count { length (into_iter_items shares) ≡ length self.old.lines.items }
+        ensures posts { OnOk result (map sent_by self.new.lines.items
+            ≡ joined (map sent_by self.old.lines.items)
+            (map (λ share. share.items) (into_iter_items shares))) }
+        ensures goes_on { IfOk result (λ answers. GoesOn (λ account. (S.terms account).number)
+            S.key (reads S.key_of S.number_of S.mine_of)
+            self.old.desk mine.items (map told_of answers.items) self.new.desk) }
+        ensures promises { promises_of self.new.lines.items ≡ promises_of self.old.lines.items }
+        ensures gate { result ≡ Err RunFault.GateClosed → G.may_shut gate.now }
+        ensures workers { result ≢ Err RunFault.Workers }
+    {
+        send_all(rt, &mut self.lines, shares)?;
+        let answers = self.desk.answer_all(rt, alloc, mine, gate);
+        self.failed = answers.is_err();
+        answers
+    }
+}
+
+/// Sends each of these workers its share.
+fn send_all<S: Shared, R: Wait, G: Gate>(
+    rt: &R,
+    lines: &mut Vec<Line<'_, S, G>>,
+    shares: IntoIter<Vec<Post>>,
+) -> Result<(), RunFault>
+    requires count { length (into_iter_items shares) ≡ length lines.old.items }
+    ensures posts { OnOk result (map sent_by lines.new.items ≡ joined (map sent_by lines.old.items)
+        (map (λ share. share.items) (into_iter_items shares))) }
+    ensures promises { promises_of lines.new.items ≡ promises_of lines.old.items }
+    ensures fault { (result ≢ Err RunFault.GateClosed) × (result ≢ Err RunFault.Workers) }
+{
+    let mut at = 0;
+    for share in shares {
+        lines[at].send(rt, share)?;
+        at += 1;
+    }
+    Ok(())
+}
+
+/// Waits for the answers of each of these workers, also where one has failed.
+fn hear_all<S: Shared, R: Wait, G: Gate>(
+    rt: &R,
+    alloc: Global,
+    lines: &mut Vec<Line<'_, S, G>>,
+    lists: &mut Vec<Vec<Answer>>,
+) -> Result<(), RunFault>
+    ensures posts { map sent_by lines.new.items ≡ map sent_by lines.old.items }
+    ensures promises { promises_of lines.new.items ≡ promises_of lines.old.items }
+    ensures fault { (result ≢ Err RunFault.GateClosed) × (result ≢ Err RunFault.Workers) }
+{
+    let mut fault = None;
+    for at in 0..lines.len() {
+        fault = fault.or(hear_one(rt, alloc, &mut lines[at], lists).err());
+    }
+    match fault {
+        None => Ok(()),
+        Some(why) => Err(why),
+    }
+}
+
+/// Waits for the answers of a worker, and puts them down.
+fn hear_one<S: Shared, R: Wait, G: Gate>(
+    rt: &R,
+    alloc: Global,
+    line: &mut Line<'_, S, G>,
+    lists: &mut Vec<Vec<Answer>>,
+) -> Result<(), RunFault>
+    ensures outbox { line.new.outbox ≡ line.old.outbox }
+    ensures child { line.new.child ≡ line.old.child }
+    ensures fault { (result ≢ Err RunFault.GateClosed) × (result ≢ Err RunFault.Workers) }
+{
+    let answers = line.hear(rt, alloc)?;
+    lists.push(answers)?;
+    Ok(())
+}
