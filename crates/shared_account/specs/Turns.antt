@@ -103,3 +103,10 @@ pub record Kept (start : Start) (s : State (Option Ledger) View) : Type 0 where
   pub each : AllKnow now s.views
   pub apart : AllApart s.views
   pub lies : Lies now.account s.homes s.views now.holder
+
+-- a ticket is out: the one that is drawn next isn't the one that is served
+pub record HasTicketOut : Type 0 where
+  pub start : Start
+  pub board : State (Option Ledger) View
+  pub kept : Kept start board
+  pub unserved : slice_index board.words 0 ≢ slice_index board.words 1

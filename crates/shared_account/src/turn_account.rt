@@ -6,12 +6,14 @@ ghost use Rattle.account_core.specs.Asked.{call_of, is_in_range};
 ghost use Rattle.account_core.specs.Events.{asked_of};
 ghost use Rattle.account_core.specs.Ledger.{IsRefusal, event_by};
 ghost use Rattle.account_core.specs.Places.{IsClosing};
+ghost use Rattle.shared_account.specs.Closed.{IsMismatch};
 ghost use Rattle.shared_account.specs.Kinds.{IsReplyTo, IsReturn};
 ghost use Rattle.shared_account.specs.Own.{IsMerged, of_call, own};
 ghost use Rattle.shared_account.specs.Seats.{are_all};
 ghost use Rattle.shared_account.specs.Plays.{with_entry};
 ghost use Rattle.shared_account.specs.Prefixes.{EndsWith, IsPrefix};
 ghost use Rattle.shared_account.specs.Sights.{IsSameAccount, fresh_sights};
+ghost use Rattle.shared_account.specs.Turns.{HasTicketOut};
 ghost use Rattle.shared_account.specs.Views.{IsServing, seeing};
 ghost use Rattle.shared_account.specs.declared.fault.CloseFault.TheVariants as close;
 
@@ -209,6 +211,9 @@ impl TurnAccount {
         ensures merged { IfOk result (λ book. IsMerged book.history book.own) }
         ensures seats { (result ≡ Err close.Seats)
             ↔ (are_all self.terms.seats (map (λ seat. seat.place.number) seats.items) ≡ false) }
+        ensures mismatch { result ≡ Err close.Mismatch → HasTicketOut
+            ⊎ IsMismatch self.terms.opening self.terms.until self.terms.limit
+            (map (λ seat. seat.place.mine) seats.items) }
     {
         let TurnAccount {
             number,
