@@ -1,13 +1,11 @@
 -- What a seat of a turn account keeps through a call, and through a meeting.
-use Rattle.std.proofs.Common.{◌≡◌, ◌⊎◌, ℕ, List, [], ◌∷◌, ◌++◌, Result, Ok, Err, length, map, refl, sym, ap, ◌∙◌, arith, subst, inl, inr}
+use Rattle.std.proofs.Common.{◌≡◌, ◌⊎◌, ℕ, List, [], ◌∷◌, ◌++◌, Result, Ok, Err, length, refl, sym, ap, ◌∙◌, arith, subst, inl, inr}
 use Rattle.std.specs.Prelude.{All, IfOk, OnErr, max, slice_index_or}
-use Rattle.std.proofs.lemmas.List.{length-map}
 use Rattle.std.proofs.lemmas.List.Elements.{All-push}
 use Rattle.account_core.specs.Answers.{IsLegal}
 use Rattle.account_core.specs.Asked.{Asked}
-use Rattle.account_core.specs.Events.{Event, event_of}
+use Rattle.account_core.specs.Events.{Event}
 use Rattle.account_core.specs.Ledger.{Ledger, event_by}
-use Rattle.account_core.specs.declared.entry.Entry.{Entry}
 use Rattle.account_core.specs.declared.entry.Reply.{Reply}
 use Rattle.account_core.specs.declared.fault.AccountFault.{AccountFault}
 use Rattle.shared_account.specs.Own.{own}
@@ -52,17 +50,10 @@ module _ (before here : View) (seat : Place) (account : Ledger) (asked : Asked) 
   gone after place (Ok reply) seen mine unseen kept = subst (λ (x : View × Place). HasGone before x.0 x.1) (λ i. (sym seen i, sym mine i)) (entered reply)
   gone after place (Err why) seen mine unseen kept = subst (λ (x : View × Place). HasGone before x.0 x.1) (λ i. (sym unseen i, sym kept i)) unentered
 
-pub sits : (me : Sitter) (before after : View) (seat : Place) (account : Ledger) (entries : List Entry) → me ≡ (at_stage after Idles, []) → HasGone before after seat
-    → account ≡ after.seen → map event_of entries ≡ account.history → IsLegal account.opening account.until account.history → IsSitting me seat (length entries)
-sits me before after seat account entries rests gone held listed legal =
-    subst (λ (m : Sitter). IsSitting m seat (length entries)) (sym rests) (record {
-      idle = refl;
-      hands = refl;
-      number = gone.number;
-      count = sym (length-map entries event_of) ∙ (ap length listed ∙ ap (λ (a : Ledger). length a.history) held);
-      own = gone.own;
-      legal = subst (λ (a : Ledger). IsLegal a.opening a.until a.history) held legal;
-    })
+pub sits : (me : Sitter) (before after : View) (seat : Place) (entries : ℕ) → me ≡ (at_stage after Idles, []) → HasGone before after seat
+    → entries ≡ length after.seen.history → IsLegal after.seen.opening after.seen.until after.seen.history → IsSitting me seat entries
+sits me before after seat entries rests gone count legal =
+    subst (λ (m : Sitter). IsSitting m seat entries) (sym rests) (record { idle = refl; hands = refl; number = gone.number; count = count; own = gone.own; legal = legal })
 
 -- the same of what it has seen alone, once it rests
 pub rests_after : (me : Sitter) (before after : View) (seat : Place) → me ≡ (at_stage after Idles, []) → HasGone before after seat

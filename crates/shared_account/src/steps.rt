@@ -9,9 +9,9 @@ ghost use Rattle.shared_account.specs.Prefixes.{IsPrefix};
 ghost use Rattle.shared_account.specs.Views.{IsServing, at_stage, hearing, its_ticket, next_seat, one_more, seeing};
 ghost use Rattle.shared_account.specs.declared.board.Stage.TheVariants.{Idles, Waits};
 
-use crate::board::{Board, COUNT, Chair, SERVING, SLOT, TICKET};
+use crate::board::{Board, COUNT, Chair, SERVING, TICKET};
 use crate::plays::{Append, Appended, Compare, Draw, HandOn, Hear, Look, Number, TakeNote};
-use account_core::{Account, Entry, places_go_with_entries};
+use account_core::{Entry, places_go_with_entries};
 use std::marker::Brand;
 
 /// Makes the chair of the next seat, from that of the first.
@@ -53,21 +53,6 @@ pub(crate) fn look(board: &Board, chair: &mut Chair) -> u64
     board.shared.load::<Look>(chair, SERVING)
 }
 
-/// Takes the account out of the slot, or puts it there.
-pub(crate) fn exchange(
-    board: &Board,
-    chair: &mut Chair,
-    account: Option<Account>,
-) -> Option<Account>
-    requires table { chair.old.table_id ≡ board.now.shared.table_id }
-    requires hands { (old : _) × (chair.old.me.1 ≡ (0, old) ∷ []) }
-    ensures table { chair.new.table_id ≡ chair.old.table_id }
-    ensures found { chair.old.me.1 ≡ (0, result) ∷ [] }
-    ensures left { chair.new.me ≡ (chair.old.me.0, (0, account) ∷ []) }
-{
-    board.shared.exchange(chair, SLOT, account)
-}
-
 /// Counts an entry.
 pub(crate) fn append(board: &Board, chair: &mut Chair, entry: &Entry)
     requires table { chair.old.table_id ≡ board.now.shared.table_id }
@@ -101,8 +86,7 @@ fn append_as<E: Appended>(board: &Board, chair: &mut Chair, entry: &Entry)
     board.shared.fetch_add::<Append<E>>(chair, COUNT, 1);
 }
 
-/// Passes the turn on, with the account in the slot, and wakes those who wait for it, if any do. Who
-/// draws a ticket only after that looks at the one that is served, and so needs no waking.
+/// Passes the turn on, with the account in the slot.
 pub(crate) fn hand_on(board: &Board, chair: &mut Chair)
     requires table { chair.old.table_id ≡ board.now.shared.table_id }
     requires words { board.now.shared.table_id.words ≡ 3 }
@@ -111,10 +95,7 @@ pub(crate) fn hand_on(board: &Board, chair: &mut Chair)
     ensures table { chair.new.table_id ≡ chair.old.table_id }
     ensures idle { chair.new.me ≡ (at_stage chair.old.me.0 Idles, []) }
 {
-    let served = board.shared.fetch_add::<HandOn>(chair, SERVING, 1);
-    if board.shared.peek(TICKET) != served.wrapping_add(1) {
-        board.shared.wake_all(SERVING);
-    }
+    board.shared.fetch_add::<HandOn>(chair, SERVING, 1);
 }
 
 /// Makes a note of what the first chair has seen, and the second chair hears it.
