@@ -16,6 +16,10 @@ pub record IsSitting (chair : Sitter) (seat : Place) (seen : ℕ) : Type 0 where
   pub own : own seat.number chair.0.seen.history ≡ seat.mine
   pub legal : IsLegal chair.0.seen.opening chair.0.seen.until chair.0.seen.history
 
+-- a chair is at a board, which has three words
+abbrev pub IsAt : TableId → TableId → Type 0
+IsAt board chair = (chair ≡ board) × (board.words ≡ 3)
+
 -- a board has three words and a slot, and there is a seat at least
 pub record IsBoard (table : TableId) (seats : ℕ) : Type 0 where
   pub words : table.words ≡ 3

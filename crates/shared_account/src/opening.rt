@@ -2,6 +2,7 @@
 
 ghost use Rattle.std.specs.Prelude.{◌≡◌, ◌≤◌, [], IfOk, IfErr};
 ghost use Rattle.shared_account.specs.Sights.{fresh_sights};
+ghost use Rattle.shared_account.specs.Sitting.{IsAt};
 ghost use Rattle.shared_account.specs.Views.{first_view};
 
 use crate::TurnSeat;
@@ -39,8 +40,7 @@ pub(crate) fn make_seats(
     account: u32,
     count: u32,
 ) -> Result<Vec<TurnSeat>, AllocError>
-    requires words { board.now.shared.table_id.words ≡ 3 }
-    requires table { first.table_id ≡ board.now.shared.table_id }
+    requires at { IsAt board.now.shared.table_id first.table_id }
     requires first { first.me ≡ (
       first_view first.me.0.seen.opening
           first.me.0.seen.until first.me.0.seen.limit,

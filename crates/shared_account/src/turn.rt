@@ -9,6 +9,7 @@ ghost use Rattle.account_core.specs.Places.{IsClosing};
 ghost use Rattle.shared_account.specs.Kinds.{IsReplyTo, IsReturn};
 ghost use Rattle.shared_account.specs.Own.{of_call};
 ghost use Rattle.shared_account.specs.Plays.{HasCome, IsLater, with_entry};
+ghost use Rattle.shared_account.specs.Sitting.{IsAt};
 ghost use Rattle.shared_account.specs.Views.{IsServing, its_ticket};
 ghost use Rattle.shared_account.specs.declared.board.Stage.TheVariants.{Idles, Waits};
 
@@ -24,8 +25,7 @@ use std::thread::yield_now;
 
 /// Draws a ticket and waits until it is served. The account in the slot is the chair's then.
 pub(crate) fn take_turn<R: Wait>(rt: &R, board: &Board, chair: &mut Chair)
-    requires table { chair.old.table_id ≡ board.now.shared.table_id }
-    requires words { board.now.shared.table_id.words ≡ 3 }
+    requires at { IsAt board.now.shared.table_id chair.old.table_id }
     requires idle { chair.old.me.0.stage ≡ Idles }
     requires hands { chair.old.me.1 ≡ [] }
     ensures table { chair.new.table_id ≡ chair.old.table_id }
@@ -39,8 +39,7 @@ pub(crate) fn take_turn<R: Wait>(rt: &R, board: &Board, chair: &mut Chair)
 
 /// Looks until a ticket is served. Behind the door the first look finds it so.
 fn wait<R: Wait>(rt: &R, board: &Board, chair: &mut Chair, ticket: u64)
-    requires table { chair.old.table_id ≡ board.now.shared.table_id }
-    requires words { board.now.shared.table_id.words ≡ 3 }
+    requires at { IsAt board.now.shared.table_id chair.old.table_id }
     requires waits { chair.old.me.0.stage ≡ Waits (its_ticket chair.old.me.0.stage) }
     requires ticket { ticket ≡ its_ticket chair.old.me.0.stage % 2 ^ 64 }
     ensures table { chair.new.table_id ≡ chair.old.table_id }

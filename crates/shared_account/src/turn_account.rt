@@ -13,6 +13,7 @@ ghost use Rattle.shared_account.specs.Seats.{are_all};
 ghost use Rattle.shared_account.specs.Plays.{with_entry};
 ghost use Rattle.shared_account.specs.Prefixes.{EndsWith, IsPrefix};
 ghost use Rattle.shared_account.specs.Sights.{IsSameAccount, fresh_sights};
+ghost use Rattle.shared_account.specs.Sitting.{IsAt};
 ghost use Rattle.shared_account.specs.Turns.{HasTicketOut};
 ghost use Rattle.shared_account.specs.Views.{IsServing, seeing};
 ghost use Rattle.shared_account.specs.declared.fault.CloseFault.TheVariants as close;
@@ -234,8 +235,7 @@ fn enter<G: Gate>(
     op: Op,
     gate: &G,
 ) -> Result<Reply, AccountFault>
-    requires table { chair.old.table_id ≡ board.now.shared.table_id }
-    requires words { board.now.shared.table_id.words ≡ 3 }
+    requires at { IsAt board.now.shared.table_id chair.old.table_id }
     requires serving { IsServing chair.old.me.0.stage }
     requires number { chair.old.me.0.number ≡ seat.old.number }
     requires hands { chair.old.me.1 ≡ (0, Some chair.old.me.0.seen) ∷ [] }

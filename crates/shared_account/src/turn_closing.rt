@@ -6,7 +6,7 @@ ghost use Rattle.shared_account.specs.Closed.{IsMismatch};
 ghost use Rattle.shared_account.specs.Own.{IsMerged};
 ghost use Rattle.shared_account.specs.Prefixes.{IsPrefix};
 ghost use Rattle.shared_account.specs.Seats.{are_all, are_numbered};
-ghost use Rattle.shared_account.specs.Sitting.{IsBoard};
+ghost use Rattle.shared_account.specs.Sitting.{IsAt, IsBoard};
 ghost use Rattle.shared_account.specs.Turns.{HasTicketOut};
 ghost use Rattle.shared_account.specs.declared.board.Stage.TheVariants.{Idles};
 ghost use Rattle.shared_account.specs.declared.fault.CloseFault.TheVariants as close;
@@ -129,8 +129,7 @@ fn hear_all(
     chair: &mut Chair,
     seats: Vec<TurnSeat>,
 ) -> Result<Vec<Seat>, AllocError>
-    requires words { board.now.shared.table_id.words ≡ 3 }
-    requires table { chair.old.table_id ≡ board.now.shared.table_id }
+    requires at { IsAt board.now.shared.table_id chair.old.table_id }
     requires idle { chair.old.me.0.stage ≡ Idles }
     requires tables { All (λ seat. seat.table ≡ board.now.shared.table_id) seats.items }
     ensures table { chair.new.table_id ≡ chair.old.table_id }
@@ -149,8 +148,7 @@ fn hear_all(
 
 /// Lets a chair hear what a seat has seen, and keeps the seat's place.
 fn hear_one(board: &Board, chair: &mut Chair, seat: TurnSeat) -> Seat
-    requires words { board.now.shared.table_id.words ≡ 3 }
-    requires table { chair.old.table_id ≡ board.now.shared.table_id }
+    requires at { IsAt board.now.shared.table_id chair.old.table_id }
     requires idle { chair.old.me.0.stage ≡ Idles }
     requires same { seat.table ≡ board.now.shared.table_id }
     ensures table { chair.new.table_id ≡ chair.old.table_id }
@@ -171,9 +169,8 @@ fn hear_one(board: &Board, chair: &mut Chair, seat: TurnSeat) -> Seat
 
 /// The account that a board had in its slot, where each ticket that was drawn was served.
 fn clear(board: Board, chair: Chair) -> Option<Account>
-    requires words { board.shared.table_id.words ≡ 3 }
+    requires at { IsAt board.shared.table_id chair.table_id }
     requires slots { board.shared.table_id.slots ≡ 1 }
-    requires table { chair.table_id ≡ board.shared.table_id }
     ensures seen { IfSome result (λ account. IsPrefix chair.me.0.seen.history account.history) }
     ensures out { IsNone result → HasTicketOut }
 {
