@@ -7,13 +7,13 @@ use Rattle.std.proofs.lemmas.List.Elements.{All-map, filter-append}
 use Rattle.account_core.specs.Events.{Event, event_of}
 use Rattle.account_core.specs.declared.entry.Entry.{Entry}
 use Rattle.shared_account.specs.Own.{IsMerged, own}
-use Rattle.shared_account.specs.Seats.{Place, are_numbered}
+use Rattle.shared_account.specs.Seats.{SeatView, are_numbered}
 
 pub first_by : (here rest : Bool) → here && rest ≡ true → (here ≡ true) × (rest ≡ true)
 first_by true rest is = (refl, is)
 first_by false rest is = cc
 
-numbered_at : (first : ℕ) (seats : List Place) (k : ℕ) (d : Place) → are_numbered first (map (λ seat. seat.number) seats) ≡ true → k < length seats
+numbered_at : (first : ℕ) (seats : List SeatView) (k : ℕ) (d : SeatView) → are_numbered first (map (λ seat. seat.number) seats) ≡ true → k < length seats
     → (slice_index_or seats k d).number ≡ first + k
 numbered_at first [] k d are within = absurd (omega (arith, within))
 numbered_at first (seat ∷ seats) zero d are within =
@@ -23,36 +23,36 @@ numbered_at first (seat ∷ seats) (suc k) d are within =
     let rest : (slice_index_or seats k d).number ≡ first + 1 + k = numbered_at (first + 1) seats k d (first_by (seat.number == first) (are_numbered (first + 1) (map (λ s. s.number) seats)) are).1 (omega (arith, within)) in
     omega (arith, rest)
 
-nobody : Place
+nobody : SeatView
 nobody = record { account = 0; number = 0; mine = [] }
 
-pub merged : (history : List Entry) (seats : List Place) → are_numbered 0 (map (λ seat. seat.number) seats) ≡ true
+pub merged : (history : List Entry) (seats : List SeatView) → are_numbered 0 (map (λ seat. seat.number) seats) ≡ true
     → All (λ seat. own seat.number (map event_of history) ≡ seat.mine) seats → All (λ entry. entry.seat < length seats) history
     → IsMerged (map event_of history) (map (λ seat. seat.mine) seats)
 merged history seats numbered each others =
-    let count : length (map (λ (seat : Place). seat.mine) seats) ≡ length seats = length-map seats (λ (seat : Place). seat.mine) in
+    let count : length (map (λ (seat : SeatView). seat.mine) seats) ≡ length seats = length-map seats (λ (seat : SeatView). seat.mine) in
     let O : ℕ → Type 0 = λ n. All (λ event. event.seat < n) (map event_of history) in
     record {
       each = λ seat within.
           let here : seat < length seats = omega (arith, count, within) in
           let number : (slice_index_or seats seat nobody).number ≡ seat = omega (arith, numbered_at 0 seats seat nobody numbered here) in
           ap (λ n. own n (map event_of history)) (sym number) ∙ (each seat nobody here
-          ∙ sym (get_or-map (λ (place : Place). place.mine) seats seat nobody [] here));
+          ∙ sym (get_or-map (λ (place : SeatView). place.mine) seats seat nobody [] here));
       no_others = subst O (sym count) (All-map (λ event. event.seat < length seats) event_of history others);
     }
 
-module _ (history : List Entry) (seats : List Place) (is : IsMerged (map event_of history) (map (λ seat. seat.mine) seats)) where
+module _ (history : List Entry) (seats : List SeatView) (is : IsMerged (map event_of history) (map (λ seat. seat.mine) seats)) where
   pub merged_each : are_numbered 0 (map (λ seat. seat.number) seats) ≡ true → All (λ seat. own seat.number (map event_of history) ≡ seat.mine) seats
   merged_each numbered k d within =
-      let there : k < length (map (λ (seat : Place). seat.mine) seats) = omega (arith, length-map seats (λ (seat : Place). seat.mine), within) in
+      let there : k < length (map (λ (seat : SeatView). seat.mine) seats) = omega (arith, length-map seats (λ (seat : SeatView). seat.mine), within) in
       let number : (slice_index_or seats k d).number ≡ k = omega (arith, numbered_at 0 seats k d numbered within) in
-      ap (λ n. own n (map event_of history)) number ∙ (is.each k there ∙ get_or-map (λ (place : Place). place.mine) seats k d [] within)
+      ap (λ n. own n (map event_of history)) number ∙ (is.each k there ∙ get_or-map (λ (place : SeatView). place.mine) seats k d [] within)
 
   pub merged_others : All (λ entry. entry.seat < length seats) history
   merged_others k d within =
       let there : k < length (map event_of history) = omega (arith, length-map history event_of, within) in
       let less = is.no_others k (event_of d) there in
-      omega (arith, less, ap (λ (event : Event). event.seat) (get_or-map event_of history k d (event_of d) within), length-map seats (λ (seat : Place). seat.mine))
+      omega (arith, less, ap (λ (event : Event). event.seat) (get_or-map event_of history k d (event_of d) within), length-map seats (λ (seat : SeatView). seat.mine))
 
 first_of : {X : Type 0} (here : Bool) (x : X) (xs : List X) → here ≡ true → (if here then x ∷ xs else xs) ≡ x ∷ xs
 first_of true x xs is = refl

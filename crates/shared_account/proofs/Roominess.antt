@@ -24,7 +24,7 @@ use Rattle.account_core.specs.declared.entry.Reply.{Reply}
 use Rattle.account_core.specs.declared.entry.Reply.TheVariants as reply
 use Rattle.shared_account.specs.Kinds.{IsReplyTo}
 use Rattle.shared_account.specs.Room.{IsRoomy, TellsStages}
-use Rattle.shared_account.specs.Seats.{Place}
+use Rattle.shared_account.specs.Seats.{SeatView}
 use Rattle.shared_account.specs.declared.seat.Seat.TheInside.{Inside}
 use Rattle.shared_account.proofs.Answering.{answer_fits}
 use Rattle.shared_account.proofs.Knowing.{its_call, its_deed, known_apart, known_here, known_resting}
@@ -168,7 +168,7 @@ pub length_past : (old : List Entry) → length (reverse (map event_of old)) ≡
 length_past old = length-reverse (map event_of old) ∙ length-map old event_of
 
 -- its list in the words of its callers
-pub past_seen : (s : Inside) (place : Place) → record { account = s.account; number = s.number; mine = map event_of s.mine.items } ≡ place
+pub past_seen : (s : Inside) (place : SeatView) → record { account = s.account; number = s.number; mine = map event_of s.mine.items } ≡ place
     → reverse place.mine ≡ reverse (map event_of s.mine.items)
 past_seen s place view_is = ap (λ p. reverse p.mine) (sym view_is)
 

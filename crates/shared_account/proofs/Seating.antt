@@ -10,7 +10,7 @@ use Rattle.account_core.specs.Events.{Event}
 use Rattle.account_core.specs.Ledger.{Ledger}
 use Rattle.shared_account.specs.Own.{own}
 use Rattle.shared_account.specs.Prefixes.{IsPrefix}
-use Rattle.shared_account.specs.Turns.{Affairs, AllKnow, AreApart, HasTicketOut, Kept, Knows, Lies}
+use Rattle.shared_account.specs.Turns.{BoardState, AllKnow, AreApart, HasTicketOut, Kept, Knows, AccountLiesAt}
 use Rattle.shared_account.specs.Views.{IsSeat, first_view, next_seat, one_more, seats_at, ticket_of, tickets_at}
 use Rattle.shared_account.specs.declared.board.Stage.TheVariants.{Idles}
 use Rattle.shared_account.specs.declared.board.Start.{Start}
@@ -26,7 +26,7 @@ module _ (start : Start) where
       → Kept start (opening (0 ∷ 0 ∷ 0 ∷ []) (Some (record { opening = start.opening; until = start.until; limit = start.limit; history = [] }) ∷ []) (first_view start.opening start.until start.limit))
   starts bounded =
       let account : Ledger = record { opening = start.opening; until = start.until; limit = start.limit; history = [] } in
-      let now : Affairs = record { account = account; made = 1; served = 0; out = 0; holder = None } in
+      let now : BoardState = record { account = account; made = 1; served = 0; out = 0; holder = None } in
       let first : View = first_view start.opening start.until start.limit in
       record {
         now = now;
@@ -53,7 +53,7 @@ module _ (start : Start) where
   pub numbers : (id : ℕ) (v : View) → v.stage ≡ Idles → v.number ≡ 0 → v.made < 16 → Splits (Kept start) id v (one_more v) (next_seat v)
   numbers id v idle is_first few s kept there =
       let now = kept.now in
-      let after : Affairs = record now { made = now.made + 1 } in
+      let after : BoardState = record now { made = now.made + 1 } in
       let w : View = one_more v in
       let next : View = next_seat v in
       let mid : List View = set s.views id w in
@@ -124,8 +124,8 @@ module _ (start : Start) where
 
   -- ---- the close
 
-  nobody_left : (now : Affairs) (homes : List (maybe.Option (Option Ledger))) (views : List View) (holder : Option ℕ) → AllKnow now views → now.out ≡ 0
-      → Lies now.account homes views holder → homes ≡ some (Some now.account) ∷ []
+  nobody_left : (now : BoardState) (homes : List (maybe.Option (Option Ledger))) (views : List View) (holder : Option ℕ) → AllKnow now views → now.out ≡ 0
+      → AccountLiesAt now.account homes views holder → homes ≡ some (Some now.account) ∷ []
   nobody_left now homes views None each all_in lies = lies
   nobody_left now homes views (Some at) each all_in lies =
       let out = (each at lies.view lies.there).ticket lies.ticket (ap ticket_of lies.serves) in

@@ -1,7 +1,7 @@
 //! The board of a new turn account, and the seats at it.
 
 ghost use Rattle.std.specs.Prelude.{◌≡◌, ◌≤◌, [], IfOk, IfErr};
-ghost use Rattle.shared_account.specs.Sights.{fresh_sights};
+ghost use Rattle.shared_account.specs.TurnViews.{fresh_turn_seats};
 ghost use Rattle.shared_account.specs.Sitting.{IsAt};
 ghost use Rattle.shared_account.specs.Views.{first_view};
 
@@ -48,7 +48,7 @@ pub(crate) fn make_seats(
     ) }
     requires some_seats { 1 ≤ count }
     requires few_seats { count ≤ 16 }
-    ensures { IfOk result (λ made. made.items ≡ fresh_sights board.now.shared.table_id record {
+    ensures { IfOk result (λ made. made.items ≡ fresh_turn_seats board.now.shared.table_id record {
       number = account;
       opening = first.me.0.seen.opening;
       until = first.me.0.seen.until;

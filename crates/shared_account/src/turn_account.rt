@@ -12,7 +12,7 @@ ghost use Rattle.shared_account.specs.Own.{IsMerged, of_call, own};
 ghost use Rattle.shared_account.specs.Seats.{are_all};
 ghost use Rattle.shared_account.specs.Plays.{with_entry};
 ghost use Rattle.shared_account.specs.Prefixes.{EndsWith, IsPrefix};
-ghost use Rattle.shared_account.specs.Sights.{IsSameAccount, fresh_sights};
+ghost use Rattle.shared_account.specs.TurnViews.{IsSameAccount, fresh_turn_seats};
 ghost use Rattle.shared_account.specs.Sitting.{IsAt};
 ghost use Rattle.shared_account.specs.Turns.{HasTicketOut};
 ghost use Rattle.shared_account.specs.Views.{IsServing, seeing};
@@ -48,10 +48,10 @@ pub struct TurnAccount {
 }
 
 impl Model for TurnAccount {
-    ghost use Rattle.shared_account.specs.Sights.{Held};
+    ghost use Rattle.shared_account.specs.TurnViews.{TurnView};
     ghost use Rattle.shared_account.specs.Sitting.{IsBoard};
 
-    ghost Value = { Held };
+    ghost Value = { TurnView };
 
     ghost view = { λ a. record {
       table = a.board.shared.table_id;
@@ -93,7 +93,7 @@ impl TurnAccount {
           seats = seats;
         }) }
         ensures seats { IfOk result (λ made.
-            made.1.items ≡ fresh_sights made.0.table made.0.terms seats) }
+            made.1.items ≡ fresh_turn_seats made.0.table made.0.terms seats) }
         ensures refused { IfErr result (λ fault. fault ≡ AccountFault.OutOfMemory) }
     {
         let start = Start {

@@ -3,7 +3,7 @@ use Rattle.account_core.specs.Events.{asked_of}
 use Rattle.shared_account.specs.Own.{own}
 use Rattle.shared_account.specs.Plays.{Sitter}
 use Rattle.shared_account.specs.Prefixes.{IsPrefix}
-use Rattle.shared_account.specs.Sights.{Sight}
+use Rattle.shared_account.specs.TurnViews.{TurnSeatView}
 use Rattle.shared_account.specs.Views.{at_stage}
 use Rattle.shared_account.specs.declared.board.Stage.TheVariants.{Idles}
 use Rattle.shared_account.proofs.Calls.{HasGone, gone, rests_after, sits}
@@ -31,7 +31,7 @@ invariant_of-seat g c =
 
 pub returns-clause-begins : goal.returns-clause-begins
 returns-clause-begins g c =
-    let I : Sight → Type 0 = λ s. IsPrefix s.view.history c.hand_on.new.chair.me.0.seen.history in
+    let I : TurnSeatView → Type 0 = λ s. IsPrefix s.view.history c.hand_on.new.chair.me.0.seen.history in
     subst I c.seat.view_is (rested g c).0
 
 pub returns-clause-own : goal.returns-clause-own
