@@ -1,110 +1,40 @@
-//! `contend` without proofs, as a baseline: `plain_contend FORM THREADS ACCOUNTS EACH`. FORM is
+//! `contend` without proofs, as a baseline: `plain_contend FORM MIX THREADS ACCOUNTS EACH`. FORM is
 //! `mutex`, a `std::sync::Mutex` round each account, or `ticket`, a lock that is handed on in the
 //! order of its tickets and whose waiters sleep.
+mod plain_account;
+#[allow(dead_code)]
+mod plain_call;
+
+use plain_account::{Account, Op, Plan, Seat, TimeInfo};
 use std::cell::UnsafeCell;
-use std::collections::BTreeMap;
 use std::hint::black_box;
 use std::sync::atomic::{AtomicU64, Ordering::SeqCst};
 use std::sync::{Arc, Condvar, Mutex};
 use std::time::Instant;
 
 const LIMIT: usize = 1_000_000;
-const MAX_MONEY: u64 = 1_000_000_000_000_000;
-
-/// What the account is asked and what it answers, of which only credits are played here: a
-/// reservation is there for its room in an entry.
-#[derive(Clone, Copy)]
-#[allow(dead_code)]
-enum Op {
-    Credit {
-        amount: u64,
-    },
-    Reserve {
-        call: u64,
-        plan: (u64, u64, Option<u64>),
-        wanted: u32,
-        least: u32,
-    },
-}
-
-#[derive(Clone, Copy)]
-#[allow(dead_code)]
-enum Reply {
-    Credited {
-        available: u64,
-    },
-    Granted {
-        units: u32,
-        last: bool,
-        available: u64,
-    },
-}
-
-#[derive(Clone, Copy)]
-#[allow(dead_code)]
-struct Entry {
-    seat: u32,
-    op: Op,
-    reply: Reply,
-}
-
-#[derive(Clone, Copy)]
-struct Standing {
-    places: usize,
-}
-
-#[derive(Default)]
-struct Account {
-    entries: Vec<Entry>,
-    calls: BTreeMap<u64, Standing>,
-    funds: u64,
-    available: u64,
-    owed: usize,
-}
-
-impl Account {
-    fn apply(&mut self, seat: u32, op: Op) -> Option<Entry> {
-        let (call, amount) = match op {
-            Op::Credit { amount } => (0, amount),
-            Op::Reserve { call, .. } => (call, 0),
-        };
-        let needed = self.calls.get(&call).map_or(1, |standing| standing.places);
-        if amount < 1 || amount > MAX_MONEY || self.funds + amount > MAX_MONEY {
-            return None;
-        }
-        if self.entries.len() + self.owed + needed > LIMIT {
-            return None;
-        }
-        self.entries.try_reserve(self.owed + 1).ok()?;
-        self.funds += amount;
-        self.available += amount;
-        let entry = Entry {
-            seat,
-            op,
-            reply: Reply::Credited {
-                available: self.available,
-            },
-        };
-        self.entries.push(entry);
-        Some(entry)
-    }
-}
+const OPENING: u64 = 500_000_000_000_000;
 
 /// What an account is shared by.
-trait Shared: Send + Sync + Default + 'static {
-    fn call(&self, seat: u32, op: Op) -> Option<Entry>;
+trait Shared: Send + Sync + 'static {
+    fn new(account: Account) -> Self;
+
+    fn call(&self, seat: &mut Seat, op: Op);
 }
 
 impl Shared for Mutex<Account> {
-    fn call(&self, seat: u32, op: Op) -> Option<Entry> {
-        self.lock().unwrap().apply(seat, op)
+    fn new(account: Account) -> Self {
+        Mutex::new(account)
+    }
+
+    fn call(&self, seat: &mut Seat, op: Op) {
+        self.lock().unwrap().apply(seat, op).unwrap();
     }
 }
 
 /// How often a thread looks whether its turn has come before it sleeps.
 const LOOKS: u32 = 64;
 
-#[derive(Default)]
 struct Ticket {
     next: AtomicU64,
     serving: AtomicU64,
@@ -132,73 +62,90 @@ impl Ticket {
 }
 
 impl Shared for Ticket {
-    fn call(&self, seat: u32, op: Op) -> Option<Entry> {
+    fn new(account: Account) -> Self {
+        Ticket {
+            next: AtomicU64::new(0),
+            serving: AtomicU64::new(0),
+            asleep: Mutex::new(()),
+            passed_on: Condvar::new(),
+            account: UnsafeCell::new(account),
+        }
+    }
+
+    fn call(&self, seat: &mut Seat, op: Op) {
         let ticket = self.next.fetch_add(1, SeqCst);
         self.wait(ticket);
         // SAFETY: this thread's ticket is served.
-        let entry = unsafe { &mut *self.account.get() }.apply(seat, op);
+        unsafe { &mut *self.account.get() }.apply(seat, op).unwrap();
         self.serving.store(ticket + 1, SeqCst);
         if self.next.load(SeqCst) != ticket + 1 {
             drop(self.asleep.lock().unwrap());
             self.passed_on.notify_all();
         }
-        entry
     }
+}
+
+/// What a seat asks at its turn so many, and on which of so many accounts.
+fn asked(calls: bool, seat: u32, turn: usize, accounts: usize) -> (usize, Op) {
+    if !calls {
+        return (turn % accounts, Op::Credit { amount: 1, until: None });
+    }
+    let round = turn / 3;
+    let call = round as u64 * 16 + u64::from(seat);
+    let plan = Plan { fee: 50, before: 1000, after: Some(400), free: 0 };
+    let op = match turn % 3 {
+        0 => Op::Reserve { call, plan, wanted: 600, least: 50, at: 0 },
+        1 => Op::Settle { call, number: 7, info: TimeInfo::NoSwitch { t: 300 } },
+        _ => Op::Return { call },
+    };
+    (round % accounts, op)
 }
 
 struct Chair<S> {
     account: Arc<S>,
-    seat: u32,
-    mine: Vec<Entry>,
+    seat: Seat,
 }
 
-fn contend<S: Shared>(threads: u32, accounts: usize, each: usize) -> u128 {
-    let accounts: Vec<Arc<S>> = (0..accounts).map(|_| Arc::default()).collect();
-    let chair = |seat, account: &Arc<S>| Chair {
-        account: account.clone(),
-        seat,
-        mine: Vec::new(),
-    };
+fn contend<S: Shared>(calls: bool, threads: u32, accounts: usize, each: usize) -> u128 {
+    let all: Vec<Arc<S>> = (0..accounts)
+        .map(|_| Arc::new(S::new(Account::new(OPENING, LIMIT))))
+        .collect();
     let teams: Vec<Vec<Chair<S>>> = (0..threads)
-        .map(|seat| {
-            accounts
-                .iter()
-                .map(|account| chair(seat, account))
+        .map(|number| {
+            all.iter()
+                .map(|account| Chair { account: account.clone(), seat: Seat::new(number) })
                 .collect()
         })
         .collect();
     let start = Instant::now();
     let threads: Vec<_> = teams
         .into_iter()
-        .map(|mut chairs| {
+        .zip(0..)
+        .map(|(mut chairs, number)| {
             std::thread::spawn(move || {
                 for turn in 0..each {
-                    let count = chairs.len();
-                    let chair = &mut chairs[turn % count];
-                    chair.mine.try_reserve(1).unwrap();
-                    let entry = chair
-                        .account
-                        .call(chair.seat, Op::Credit { amount: 1 })
-                        .unwrap();
-                    chair.mine.push(entry);
+                    let (at, op) = asked(calls, number, turn, accounts);
+                    let chair = &mut chairs[at];
+                    chair.account.call(&mut chair.seat, op);
                 }
-                black_box(chairs);
+                chairs
             })
         })
         .collect();
-    threads
-        .into_iter()
-        .for_each(|thread| thread.join().unwrap());
-    start.elapsed().as_nanos()
+    let ends: Vec<_> = threads.into_iter().map(|thread| thread.join().unwrap()).collect();
+    let took = start.elapsed().as_nanos();
+    black_box(ends);
+    took
 }
 
 fn main() {
     let words: Vec<String> = std::env::args().skip(1).collect();
     let number = |at: usize| words[at].parse::<usize>().unwrap();
-    let (threads, accounts, each) = (number(1) as u32, number(2), number(3));
+    let calls = words[1] == "calls";
+    let (threads, accounts, each) = (number(2) as u32, number(3), number(4));
     let nanoseconds = match words[0].as_str() {
-        "mutex" => contend::<Mutex<Account>>(threads, accounts, each),
-        "ticket" => contend::<Ticket>(threads, accounts, each),
+        "mutex" => contend::<Mutex<Account>>(calls, threads, accounts, each),
+        "ticket" => contend::<Ticket>(calls, threads, accounts, each),
         form => panic!("no form {form}"),
     };
     println!("{nanoseconds}");

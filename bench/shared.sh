@@ -1,7 +1,9 @@
 #!/usr/bin/env bash
 # How many operations a second shared accounts take, from 1 to 16 threads, on 1 account and on 100:
 # the account under its lock and the one that is handed on by turns, beside a plain std::sync::Mutex
-# and a plain ticket whose waiters sleep, all in one run, in turn, the median of 3 runs of each.
+# and a plain ticket whose waiters sleep, all in one run, in turn, the median of 3 runs of each. All
+# four judge and keep the same. The operations are credits, or calls that each are granted time,
+# settled and returned, and that all stay in the maps.
 set -eu
 cd "$(dirname "$0")/.."
 work=$(mktemp -d)
@@ -22,7 +24,7 @@ for crate in $below; do
     cp -a "crates/$crate" "$repository/crates"
     grep "^$crate:" crates.txt >> "$repository/crates.txt"
 done
-echo "contend: account_core shared_account" >> "$repository/crates.txt"
+echo "contend: tariff_core account_core shared_account" >> "$repository/crates.txt"
 cp bench/contend.rattle "$program/src/main.rt"
 cat > "$program/proofs/seat_all/Invariants.antt" <<'PROOF'
 use Rattle.std.proofs.Common.{◌≡◌}
@@ -30,16 +32,16 @@ use Rattle.std.specs.Prelude.{All}
 use Rattle.contend.proofs.seat_all.Given as goal
 
 -- the seats that are left are of the account
-abbrev pub invariant-loop-team : goal.invariant-loop-team
-invariant-loop-team g l = All (λ seat. g.S.Shared.key_of seat ≡ g.S.Shared.key l.account.value) l.seats.items
+abbrev pub invariant-loop-number : goal.invariant-loop-number
+invariant-loop-number g l = All (λ seat. g.S.Shared.key_of seat ≡ g.S.Shared.key l.account.value) l.seats.items
 PROOF
 echo "proving the program of the bench, which takes some minutes"
-(cd "$program" && rt run -- lock 1 1 1 > "$work/built" 2>&1) || { tail "$work/built"; exit 1; }
+(cd "$program" && rt run -- lock calls 1 1 3 > "$work/built" 2>&1) || { tail "$work/built"; exit 1; }
 
-rate() { # FORM THREADS ACCOUNTS : operations a second, of one run
+rate() { # FORM MIX THREADS ACCOUNTS : operations a second, of one run
     local binary="$program/out/contend"
     case $1 in mutex | ticket) binary="$work/plain" ;; esac
-    echo $((operations * 1000000000 / $("$binary" "$1" "$2" "$3" $((operations / $2)))))
+    echo $((operations * 1000000000 / $("$binary" "$1" "$2" "$3" "$4" $((operations / $3)))))
 }
 
 median() { # NUMBER NUMBER NUMBER
@@ -47,20 +49,22 @@ median() { # NUMBER NUMBER NUMBER
 }
 
 echo "operations a second, the median of 3 runs, on $(nproc) processors"
-printf '%8s %8s' accounts threads
+printf '%8s %8s %8s' operations accounts threads
 printf ' %10s' $forms
 echo
-for accounts in 1 100; do
-    for threads in 1 2 4 8 16; do
-        for run in 1 2 3; do
-            for form in $forms; do
-                rate "$form" "$threads" "$accounts" >> "$work/$form.$accounts.$threads"
+for mix in credits calls; do
+    for accounts in 1 100; do
+        for threads in 1 2 4 8 16; do
+            for run in 1 2 3; do
+                for form in $forms; do
+                    rate "$form" "$mix" "$threads" "$accounts" >> "$work/$form.$mix.$accounts.$threads"
+                done
             done
+            printf '%8s %8s %8s' "$mix" "$accounts" "$threads"
+            for form in $forms; do
+                printf ' %10s' "$(median $(cat "$work/$form.$mix.$accounts.$threads"))"
+            done
+            echo
         done
-        printf '%8s %8s' "$accounts" "$threads"
-        for form in $forms; do
-            printf ' %10s' "$(median $(cat "$work/$form.$accounts.$threads"))"
-        done
-        echo
     done
 done

@@ -29,6 +29,6 @@ pub record IsRight (book : Closed) : Type 0 where
   pub paid : PaysTheTariff book
   pub times : ReportsItsTimes book
 
--- a book whose history is legal is right; each book of a run has one, and the opening credit of its account
+-- a book whose opening is money and whose history is legal is right; every book is so
 abbrev pub BooksAreRight : Type 0
 BooksAreRight = (book : Closed) → book.opening ≤ MAX_MONEY → IsLegal book.opening book.until book.history → IsRight book

@@ -84,7 +84,7 @@ fn close_each<S: Shared>(
     let mut rows_left = rows.into_iter();
     for account in accounts {
         let Some(seats) = rows_left.next() else {
-            return Err(RunFault::Mismatch);
+            unreachable!()
         };
         books.push(close(alloc, account, seats)?)?;
     }

@@ -8,8 +8,8 @@ use account_core::{closed_calls_pay_the_tariff, no_balance_is_negative};
 /// In a book of a run no balance is negative, and every call that was closed within its grants has
 /// paid exactly the tariff of the times that its last report states.
 ///
-/// The premises are clauses of `serve`: a book's history is legal (`legal`), and its opening credit
-/// is its account's in the setup (`books`), which is at most `MAX_MONEY`.
+/// Both premises are clauses of `Book::history`, so they hold of every book: its opening credit is at
+/// most `MAX_MONEY` (`small`), and its history is legal (`legal`).
 pub fn books_are_right()
     ensures { BooksAreRight }
 {

@@ -7,7 +7,7 @@ use lib.Seq.{set-get_or}
 use Rattle.atomic_table.specs.Table.{State}
 use Rattle.atomic_table.proofs.Lists.{set_again}
 use Rattle.account_core.specs.Ledger.{Ledger}
-use Rattle.shared_account.specs.Turns.{Affairs, AreWords, IsNumbered, Kept, Knows}
+use Rattle.shared_account.specs.Turns.{BoardState, AreWords, IsNumbered, Kept, Knows}
 use Rattle.shared_account.specs.Views.{IsSeat, IsServing, its_ticket, seats_at, ticket_of, tickets_at}
 use Rattle.shared_account.specs.declared.board.Stage.{Stage}
 use Rattle.shared_account.specs.declared.board.Stage.TheVariants.{Idles, Notes, Serves, Waits}
@@ -24,7 +24,7 @@ serving_is Idles serving = absurd serving
 serving_is (Waits t) serving = absurd serving
 serving_is (Serves t) serving = refl
 
-pub numbered_so : (now : Affairs) (served out : ℕ) (holder : Option ℕ) (v : View) (stage : Stage) (heard : Ledger) → IsNumbered now v
+pub numbered_so : (now : BoardState) (served out : ℕ) (holder : Option ℕ) (v : View) (stage : Stage) (heard : Ledger) → IsNumbered now v
     → IsNumbered (record { account = now.account; made = now.made; served = served; out = out; holder = holder }) (record v { stage = stage; heard = heard })
 numbered_so now served out holder v stage heard numbered = record {
   opening = numbered.opening;
@@ -37,7 +37,7 @@ numbered_so now served out holder v stage heard numbered = record {
 
 -- ---- words
 
-pub words_draw : (now : Affairs) (words : List ℕ) → AreWords now words
+pub words_draw : (now : BoardState) (words : List ℕ) → AreWords now words
     → AreWords (record now { out = now.out + 1 }) (set words 0 ((get_or words 0 0 + 1) % 2 ^ 64))
 words_draw now words are =
     let next : ℕ = (get_or words 0 0 + 1) % 2 ^ 64 in
@@ -51,7 +51,7 @@ words_draw now words are =
       count = get_or-set_other words 0 2 next 0 (λ e. omega (arith, e)) ∙ are.count;
     }
 
-pub words_hand : (now : Affairs) (words : List ℕ) → AreWords now words → 1 ≤ now.out
+pub words_hand : (now : BoardState) (words : List ℕ) → AreWords now words → 1 ≤ now.out
     → AreWords (record now { served = now.served + 1; out = now.out - 1; holder = None }) (set words 1 ((get_or words 1 0 + 1) % 2 ^ 64))
 words_hand now words are some_out =
     let next : ℕ = (get_or words 1 0 + 1) % 2 ^ 64 in
@@ -64,7 +64,7 @@ words_hand now words are some_out =
       count = get_or-set_other words 1 2 next 0 (λ e. omega (arith, e)) ∙ are.count;
     }
 
-pub words_count : (now : Affairs) (words : List ℕ) (account : Ledger) → AreWords now words → length account.history ≡ length now.account.history + 1
+pub words_count : (now : BoardState) (words : List ℕ) (account : Ledger) → AreWords now words → length account.history ≡ length now.account.history + 1
     → length account.history < 2 ^ 64 → AreWords (record now { account = account }) (set words 2 ((get_or words 2 0 + 1) % 2 ^ 64))
 words_count now words account are longer fits =
     let next : ℕ = (get_or words 2 0 + 1) % 2 ^ 64 in

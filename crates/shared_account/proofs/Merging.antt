@@ -1,19 +1,19 @@
 -- A history whose seats' lists were compared with it merges them.
-use Rattle.std.proofs.Common.{◌≡◌, ℕ, ◌+◌, ◌<◌, Bool, true, false, List, [], ◌∷◌, length, map, refl, sym, ap, ◌∙◌, arith, subst, zero, suc}
-use Rattle.std.specs.Prelude.{◌==◌, ◌&&◌, All, slice_index_or}
-use Rattle.std.proofs.lemmas.Bool.{eqb-true}
-use Rattle.std.proofs.lemmas.List.{get_or-map, length-map}
-use Rattle.std.proofs.lemmas.List.Elements.{All-map}
-use Rattle.account_core.specs.Events.{event_of}
+use Rattle.std.proofs.Common.{◌≡◌, ◌≤◌, ℕ, ◌+◌, ◌++◌, ◌<◌, Bool, true, false, List, [], ◌∷◌, length, map, take, drop, refl, sym, ap, ◌∙◌, arith, subst, zero, suc}
+use Rattle.std.specs.Prelude.{◌==◌, ◌&&◌, if◌then◌else◌, All, slice_index_or}
+use Rattle.std.proofs.lemmas.Bool.{eq-eqb, eqb-true}
+use Rattle.std.proofs.lemmas.List.{drop_more, get_or-map, get_or_at, length-append, length-map, length-take-le, map-append, take-append-drop, take-map}
+use Rattle.std.proofs.lemmas.List.Elements.{All-map, filter-append}
+use Rattle.account_core.specs.Events.{Event, event_of}
 use Rattle.account_core.specs.declared.entry.Entry.{Entry}
 use Rattle.shared_account.specs.Own.{IsMerged, own}
-use Rattle.shared_account.specs.Seats.{Place, are_numbered}
+use Rattle.shared_account.specs.Seats.{SeatView, are_numbered}
 
 pub first_by : (here rest : Bool) → here && rest ≡ true → (here ≡ true) × (rest ≡ true)
 first_by true rest is = (refl, is)
 first_by false rest is = cc
 
-numbered_at : (first : ℕ) (seats : List Place) (k : ℕ) (d : Place) → are_numbered first (map (λ seat. seat.number) seats) ≡ true → k < length seats
+numbered_at : (first : ℕ) (seats : List SeatView) (k : ℕ) (d : SeatView) → are_numbered first (map (λ seat. seat.number) seats) ≡ true → k < length seats
     → (slice_index_or seats k d).number ≡ first + k
 numbered_at first [] k d are within = absurd (omega (arith, within))
 numbered_at first (seat ∷ seats) zero d are within =
@@ -23,20 +23,74 @@ numbered_at first (seat ∷ seats) (suc k) d are within =
     let rest : (slice_index_or seats k d).number ≡ first + 1 + k = numbered_at (first + 1) seats k d (first_by (seat.number == first) (are_numbered (first + 1) (map (λ s. s.number) seats)) are).1 (omega (arith, within)) in
     omega (arith, rest)
 
-nobody : Place
+nobody : SeatView
 nobody = record { account = 0; number = 0; mine = [] }
 
-pub merged : (history : List Entry) (seats : List Place) → are_numbered 0 (map (λ seat. seat.number) seats) ≡ true
+pub merged : (history : List Entry) (seats : List SeatView) → are_numbered 0 (map (λ seat. seat.number) seats) ≡ true
     → All (λ seat. own seat.number (map event_of history) ≡ seat.mine) seats → All (λ entry. entry.seat < length seats) history
     → IsMerged (map event_of history) (map (λ seat. seat.mine) seats)
 merged history seats numbered each others =
-    let count : length (map (λ (seat : Place). seat.mine) seats) ≡ length seats = length-map seats (λ (seat : Place). seat.mine) in
+    let count : length (map (λ (seat : SeatView). seat.mine) seats) ≡ length seats = length-map seats (λ (seat : SeatView). seat.mine) in
     let O : ℕ → Type 0 = λ n. All (λ event. event.seat < n) (map event_of history) in
     record {
       each = λ seat within.
           let here : seat < length seats = omega (arith, count, within) in
           let number : (slice_index_or seats seat nobody).number ≡ seat = omega (arith, numbered_at 0 seats seat nobody numbered here) in
           ap (λ n. own n (map event_of history)) (sym number) ∙ (each seat nobody here
-          ∙ sym (get_or-map (λ (place : Place). place.mine) seats seat nobody [] here));
+          ∙ sym (get_or-map (λ (place : SeatView). place.mine) seats seat nobody [] here));
       no_others = subst O (sym count) (All-map (λ event. event.seat < length seats) event_of history others);
     }
+
+module _ (history : List Entry) (seats : List SeatView) (is : IsMerged (map event_of history) (map (λ seat. seat.mine) seats)) where
+  pub merged_each : are_numbered 0 (map (λ seat. seat.number) seats) ≡ true → All (λ seat. own seat.number (map event_of history) ≡ seat.mine) seats
+  merged_each numbered k d within =
+      let there : k < length (map (λ (seat : SeatView). seat.mine) seats) = omega (arith, length-map seats (λ (seat : SeatView). seat.mine), within) in
+      let number : (slice_index_or seats k d).number ≡ k = omega (arith, numbered_at 0 seats k d numbered within) in
+      ap (λ n. own n (map event_of history)) number ∙ (is.each k there ∙ get_or-map (λ (place : SeatView). place.mine) seats k d [] within)
+
+  pub merged_others : All (λ entry. entry.seat < length seats) history
+  merged_others k d within =
+      let there : k < length (map event_of history) = omega (arith, length-map history event_of, within) in
+      let less = is.no_others k (event_of d) there in
+      omega (arith, less, ap (λ (event : Event). event.seat) (get_or-map event_of history k d (event_of d) within), length-map seats (λ (seat : SeatView). seat.mine))
+
+first_of : {X : Type 0} (here : Bool) (x : X) (xs : List X) → here ≡ true → (if here then x ∷ xs else xs) ≡ x ∷ xs
+first_of true x xs is = refl
+first_of false x xs is = absurd (cc is)
+
+-- where a seat's list is its entries in a history, it goes on with the next of them
+module _ (seat : ℕ) (before after : List Event) (event : Event) (mine : List Event) (at : ℕ) (its : event.seat ≡ seat) (begins : own seat before ≡ take at mine) (within : at ≤ length mine)
+    (all : own seat (before ++ event ∷ after) ≡ mine) where
+  goes_on : mine ≡ take at mine ++ event ∷ own seat after
+  goes_on =
+      sym all ∙ (filter-append (λ e. e.seat == seat) before (event ∷ after)
+      ∙ (ap (λ h. h ++ own seat (event ∷ after)) begins ∙ ap (λ h. take at mine ++ h) (first_of (event.seat == seat) event (own seat after) (eq-eqb event.seat seat its))))
+
+  more_own : at < length mine
+  more_own = omega (arith, ap length goes_on, length-append (take at mine) (event ∷ own seat after), length-take-le at mine within)
+
+  goes_next : (d : Event) → slice_index_or mine at d ≡ event
+  goes_next d = ap (λ h. slice_index_or h at d) goes_on ∙ get_or_at (take at mine) event (own seat after) d at (length-take-le at mine within)
+
+-- a history by one of its entries
+parted : (history : List Entry) (k : ℕ) (d : Entry) → k < length history
+    → map event_of history ≡ map event_of (take k history) ++ event_of (slice_index_or history k d) ∷ map event_of (drop (k + 1) history)
+parted history k d within =
+    ap (map event_of) (sym (take-append-drop k history) ∙ ap (λ h. take k history ++ h) (drop_more history k d within))
+    ∙ map-append event_of (take k history) (slice_index_or history k d ∷ drop (k + 1) history)
+
+-- the same of lists of the code: the entry at a place of the history is the next of the list
+pub next_own : (seat : ℕ) (history mine : List Entry) (k at : ℕ) (entry : Entry) → entry ≡ slice_index_or history k entry → k < length history → entry.seat ≡ seat → at ≤ length mine
+    → own seat (map event_of (take k history)) ≡ map event_of (take at mine) → own seat (map event_of history) ≡ map event_of mine
+    → (at < length mine) × ((d : Entry) → event_of (slice_index_or mine at d) ≡ event_of entry)
+next_own seat history mine k at entry is within its short begins all =
+    let M : List Event = map event_of mine in
+    let before = map event_of (take k history) in
+    let after = map event_of (drop (k + 1) history) in
+    let long : at ≤ length M = omega (arith, short, length-map mine event_of) in
+    let taken : own seat before ≡ take at M = begins ∙ sym (take-map event_of at mine) in
+    let parts : map event_of history ≡ before ++ event_of entry ∷ after = parted history k entry within ∙ ap (λ e. before ++ event_of e ∷ after) (sym is) in
+    let whole : own seat (before ++ event_of entry ∷ after) ≡ M = ap (own seat) (sym parts) ∙ all in
+    let less : at < length M = more_own seat before after (event_of entry) M at its taken long whole in
+    let there : at < length mine = omega (arith, less, length-map mine event_of) in
+    (there, λ d. sym (get_or-map event_of mine at d (event_of entry) there) ∙ goes_next seat before after (event_of entry) M at its taken long whole (event_of entry))

@@ -4,7 +4,7 @@ use Rattle.std.specs.Prelude.{◌==◌, ◌&&◌, All, Err, IfOk, Ok, Result}
 use Rattle.std.proofs.lemmas.Bool.{eq-eqb}
 use Rattle.std.proofs.lemmas.List.{length-map, map-append}
 use Rattle.std.proofs.lemmas.List.Elements.{All-nil, All-push}
-use Rattle.shared_account.specs.Seats.{Place, are_all, are_numbered, fresh_seats}
+use Rattle.shared_account.specs.Seats.{SeatView, are_all, are_numbered, fresh_seats}
 use Rattle.shared_account.proofs.Merging.{first_by}
 
 both : (here rest : Bool) → here ≡ true → rest ≡ true → here && rest ≡ true
@@ -29,8 +29,8 @@ fresh_length account (suc seats) =
 fresh_numbered : (account seats : ℕ) → are_numbered 0 (map (λ seat. seat.number) (fresh_seats account seats)) ≡ true
 fresh_numbered account zero = refl
 fresh_numbered account (suc seats) =
-    let seat : Place = record { account = account; number = seats; mine = [] } in
-    let number = λ (place : Place). place.number in
+    let seat : SeatView = record { account = account; number = seats; mine = [] } in
+    let number = λ (place : SeatView). place.number in
     let count : seats ≡ 0 + length (map number (fresh_seats account seats)) =
     omega (arith, length-map (fresh_seats account seats) number, fresh_length account seats) in
     ap (are_numbered 0) (map-append number (fresh_seats account seats) (seat ∷ []))
@@ -38,12 +38,12 @@ fresh_numbered account (suc seats) =
 
 pub fresh_are_all : (account seats : ℕ) → are_all seats (map (λ seat. seat.number) (fresh_seats account seats)) ≡ true
 fresh_are_all account seats =
-    let number = λ (place : Place). place.number in
+    let number = λ (place : SeatView). place.number in
     let count : length (map number (fresh_seats account seats)) ≡ seats = length-map (fresh_seats account seats) number ∙ fresh_length account seats in
     both (length (map number (fresh_seats account seats)) == seats) (are_numbered 0 (map number (fresh_seats account seats))) (eq-eqb _ seats count) (fresh_numbered account seats)
 
 -- what is true of each of them
-pub fresh_each : (P : Place → Type 0) (account : ℕ) → ((seat : ℕ) → P (record { account = account; number = seat; mine = [] })) → (seats : ℕ)
+pub fresh_each : (P : SeatView → Type 0) (account : ℕ) → ((seat : ℕ) → P (record { account = account; number = seat; mine = [] })) → (seats : ℕ)
     → All P (fresh_seats account seats)
 fresh_each P account each zero = All-nil P
 fresh_each P account each (suc seats) =

@@ -24,7 +24,7 @@ use Rattle.account_core.specs.declared.entry.Reply.{Reply}
 use Rattle.account_core.specs.declared.entry.Reply.TheVariants as reply
 use Rattle.shared_account.specs.Kinds.{IsReplyTo}
 use Rattle.shared_account.specs.Room.{IsRoomy, TellsStages}
-use Rattle.shared_account.specs.Seats.{Place}
+use Rattle.shared_account.specs.Seats.{SeatView}
 use Rattle.shared_account.specs.declared.seat.Seat.TheInside.{Inside}
 use Rattle.shared_account.proofs.Answering.{answer_fits}
 use Rattle.shared_account.proofs.Knowing.{its_call, its_deed, known_apart, known_here, known_resting}
@@ -87,15 +87,14 @@ credit_rests (Returns call) told is = absurd is
 apart_at : (call other : ℕ) → (call == other) ≡ false → is_at (nat_cmp call) other ≡ false
 apart_at call other apart = grind (arith, nat_tests)
 
-tells_by : (here : Bool) (old held new : BTreeMap ℕ CallStage) (h : List Event) (event : Event) (before after : CallStage) (call : ℕ) → (its_call event == call) ≡ here
-    → Updates nat_cmp old held (its_call event) (Some before) → Updates nat_cmp held new (its_call event) (Some after)
-    → TellsStages old h → after ≡ stage_of (known (its_call event) (event ∷ h)) → unwrap_or (get nat_cmp new call) Fresh ≡ stage_of (known call (event ∷ h))
-tells_by true old held new h event before after call is holds renews tells after_is =
+tells_by : (here : Bool) (old new : BTreeMap ℕ CallStage) (h : List Event) (event : Event) (after : CallStage) (call : ℕ) → (its_call event == call) ≡ here
+    → Updates nat_cmp old new (its_call event) (Some after) → TellsStages old h → after ≡ stage_of (known (its_call event) (event ∷ h))
+    → unwrap_or (get nat_cmp new call) Fresh ≡ stage_of (known call (event ∷ h))
+tells_by true old new h event after call is updates tells after_is =
     let P : ℕ → Type 0 = λ c. unwrap_or (get nat_cmp new c) Fresh ≡ stage_of (known c (event ∷ h)) in
-    subst P (eqb-true (its_call event) call is) (rw renews.1 after_is)
-tells_by false old held new h event before after call is holds renews tells after_is =
-    rw (renews.2 call (apart_at (its_call event) call is), holds.2 call (apart_at (its_call event) call is))
-    (tells call ∙ ap stage_of (sym (known_apart h event call is)))
+    subst P (eqb-true (its_call event) call is) (rw updates.1 after_is)
+tells_by false old new h event after call is updates tells after_is =
+    rw (updates.2 call (apart_at (its_call event) call is)) (tells call ∙ ap stage_of (sym (known_apart h event call is)))
 
 -- ---- the whole
 
@@ -121,14 +120,15 @@ module _ (moves : EntriesOweToTheirCalls) (h : List Event) (event : Event) (befo
       let now : owed_now ≡ owed_to (known_after (known (its_call event) h) (its_deed event)) = entry.now_owed (sym after_known) ∙ ap owed_to (known_here h event) in
       omega (arith, owed_moves, takes, now, entry.before_owed, entry.needs_are)
 
-  pub roomy_after : (old held new : BTreeMap ℕ CallStage) (places places' capacity capacity' : ℕ) → IsRoomy h old places capacity
-      → Updates nat_cmp old held (its_call event) (Some before) → Updates nat_cmp held new (its_call event) (Some after)
-      → places' ≡ places + owed_now - owed_before → length h + (places + needs) ≤ capacity' → IsRoomy (event ∷ h) new places' capacity'
-  roomy_after old held new places places' capacity capacity' roomy holds renews places'_are room =
+  pub roomy_after : (call : ℕ) (old new : BTreeMap ℕ CallStage) (places places' capacity capacity' : ℕ) → its_call event ≡ call → IsRoomy h old places capacity
+      → Updates nat_cmp old new call (Some after) → places' ≡ places + owed_now - owed_before → length h + (places + needs) ≤ capacity'
+      → IsRoomy (event ∷ h) new places' capacity'
+  roomy_after call old new places places' capacity capacity' its roomy updates places'_are room =
+      let U : ℕ → Type 0 = λ q. Updates nat_cmp old new q (Some after) in
       let now_owed : places' ≡ owed (event ∷ h) = omega (arith, owed_moves, places'_are, roomy.places_are) in
       record {
         room = omega (arith, room, owed_after, roomy.places_are, now_owed);
-        tells = λ call. tells_by _ old held new h event before after call refl holds renews roomy.tells after_known;
+        tells = λ other. tells_by _ old new h event after other refl (subst U (sym its) updates) roomy.tells after_known;
         places_are = now_owed;
       }
 
@@ -168,7 +168,7 @@ pub length_past : (old : List Entry) → length (reverse (map event_of old)) ≡
 length_past old = length-reverse (map event_of old) ∙ length-map old event_of
 
 -- its list in the words of its callers
-pub past_seen : (s : Inside) (place : Place) → record { account = s.account; number = s.number; mine = map event_of s.mine.items } ≡ place
+pub past_seen : (s : Inside) (place : SeatView) → record { account = s.account; number = s.number; mine = map event_of s.mine.items } ≡ place
     → reverse place.mine ≡ reverse (map event_of s.mine.items)
 past_seen s place view_is = ap (λ p. reverse p.mine) (sym view_is)
 

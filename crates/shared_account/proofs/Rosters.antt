@@ -7,7 +7,7 @@ use lib.ListN.{get_elem?}
 use Rattle.atomic_table.proofs.Lists.{at_longer, at_set, set_else, set_here}
 use Rattle.account_core.specs.Ledger.{Ledger}
 use Rattle.shared_account.specs.Prefixes.{IsPrefix}
-use Rattle.shared_account.specs.Turns.{Affairs, AllApart, AreApart, HasTurn, IsNumbered, IsOut, IsTaken, Knows, Lies}
+use Rattle.shared_account.specs.Turns.{BoardState, AllApart, AreApart, HasTurn, IsNumbered, IsOut, IsTaken, Knows, AccountLiesAt}
 use Rattle.shared_account.specs.Views.{IsSeat, seats_at, ticket_of, tickets_at, total}
 use Rattle.shared_account.specs.declared.board.Stage.{Stage}
 use Rattle.shared_account.specs.declared.board.Stage.TheVariants.{Idles, Notes, Serves, Waits}
@@ -37,7 +37,7 @@ pub views_grow : (P : ℕ → View → Type 0) (views : List View) (w : View) �
 views_grow P views w mine others at v e =
     ⊎_elim (λ (t : get_elem? views at ≡ some v). others at v t) (λ (t : (at ≡ length views) × (w ≡ v)). subst (P at) t.1 (mine at)) (at_end views w v at e)
 
-pub knows_again : (now after : Affairs) (at : ℕ) (v : View) → Knows now at v → IsPrefix v.seen.history after.account.history → IsPrefix v.heard.history after.account.history
+pub knows_again : (now after : BoardState) (at : ℕ) (v : View) → Knows now at v → IsPrefix v.seen.history after.account.history → IsPrefix v.heard.history after.account.history
     → (IsSeat v.stage → IsNumbered now v → IsNumbered after v) → ((t : ℕ) → ticket_of v.stage ≡ Some t → IsOut now t → IsOut after t)
     → ((t : ℕ) → v.stage ≡ Serves t → HasTurn now at v t → HasTurn after at v t) → Knows after at v
 knows_again now after at v knows seen heard numbered out turn = record {
@@ -143,12 +143,12 @@ lies_there homes views id at v w e kept taken (no other) = record {
 }
 
 pub lies_set : (account : Ledger) (homes : List (maybe.Option (Option Ledger))) (views : List View) (id : ℕ) (v w : View) (holder : Option ℕ) → get_elem? views id ≡ some v
-    → ((t : ℕ) → v.stage ≡ Serves t → w.stage ≡ Serves t) → Lies account homes views holder → Lies account homes (set views id w) holder
+    → ((t : ℕ) → v.stage ≡ Serves t → w.stage ≡ Serves t) → AccountLiesAt account homes views holder → AccountLiesAt account homes (set views id w) holder
 lies_set account homes views id v w None e kept lies = lies
 lies_set account homes views id v w (Some at) e kept lies = lies_there homes views id at v w e kept lies (ℕ_discrete at id)
 
 pub lies_end : (account : Ledger) (homes : List (maybe.Option (Option Ledger))) (views : List View) (w : View) (holder : Option ℕ)
-    → Lies account homes views holder → Lies account homes (views ++ w ∷ []) holder
+    → AccountLiesAt account homes views holder → AccountLiesAt account homes (views ++ w ∷ []) holder
 lies_end account homes views w None lies = lies
 lies_end account homes views w (Some at) lies = record {
   empty = lies.empty;

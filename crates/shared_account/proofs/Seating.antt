@@ -1,5 +1,5 @@
 -- The seats of a turn account, from its opening to its close.
-use Rattle.std.specs.Prelude.{IfSome}
+use Rattle.std.specs.Prelude.{◌≢◌, IfSome, IsNone}
 use Rattle.std.proofs.Common.{zero, suc, ◌≡◌, ◌≤◌, ◌<◌, ◌+◌, ◌%◌, ◌^◌, ℕ, Option, Some, None, List, [], ◌∷◌, length, get_or, set, refl, sym, ap, ◌∙◌, arith, subst}
 use mathlib.Core.Option.{none, some, some-injective, some-ne-none}
 use mathlib.Core.Option as maybe
@@ -10,7 +10,7 @@ use Rattle.account_core.specs.Events.{Event}
 use Rattle.account_core.specs.Ledger.{Ledger}
 use Rattle.shared_account.specs.Own.{own}
 use Rattle.shared_account.specs.Prefixes.{IsPrefix}
-use Rattle.shared_account.specs.Turns.{Affairs, AllKnow, AreApart, Kept, Knows, Lies}
+use Rattle.shared_account.specs.Turns.{BoardState, AllKnow, AreApart, HasTicketOut, Kept, Knows, AccountLiesAt}
 use Rattle.shared_account.specs.Views.{IsSeat, first_view, next_seat, one_more, seats_at, ticket_of, tickets_at}
 use Rattle.shared_account.specs.declared.board.Stage.TheVariants.{Idles}
 use Rattle.shared_account.specs.declared.board.Start.{Start}
@@ -26,7 +26,7 @@ module _ (start : Start) where
       → Kept start (opening (0 ∷ 0 ∷ 0 ∷ []) (Some (record { opening = start.opening; until = start.until; limit = start.limit; history = [] }) ∷ []) (first_view start.opening start.until start.limit))
   starts bounded =
       let account : Ledger = record { opening = start.opening; until = start.until; limit = start.limit; history = [] } in
-      let now : Affairs = record { account = account; made = 1; served = 0; out = 0; holder = None } in
+      let now : BoardState = record { account = account; made = 1; served = 0; out = 0; holder = None } in
       let first : View = first_view start.opening start.until start.limit in
       record {
         now = now;
@@ -53,7 +53,7 @@ module _ (start : Start) where
   pub numbers : (id : ℕ) (v : View) → v.stage ≡ Idles → v.number ≡ 0 → v.made < 16 → Splits (Kept start) id v (one_more v) (next_seat v)
   numbers id v idle is_first few s kept there =
       let now = kept.now in
-      let after : Affairs = record now { made = now.made + 1 } in
+      let after : BoardState = record now { made = now.made + 1 } in
       let w : View = one_more v in
       let next : View = next_seat v in
       let mid : List View = set s.views id w in
@@ -124,8 +124,8 @@ module _ (start : Start) where
 
   -- ---- the close
 
-  nobody_left : (now : Affairs) (homes : List (maybe.Option (Option Ledger))) (views : List View) (holder : Option ℕ) → AllKnow now views → now.out ≡ 0
-      → Lies now.account homes views holder → homes ≡ some (Some now.account) ∷ []
+  nobody_left : (now : BoardState) (homes : List (maybe.Option (Option Ledger))) (views : List View) (holder : Option ℕ) → AllKnow now views → now.out ≡ 0
+      → AccountLiesAt now.account homes views holder → homes ≡ some (Some now.account) ∷ []
   nobody_left now homes views None each all_in lies = lies
   nobody_left now homes views (Some at) each all_in lies =
       let out = (each at lies.view lies.there).ticket lies.ticket (ap ticket_of lies.serves) in
@@ -148,7 +148,7 @@ module _ (start : Start) where
   -- where all tickets were served, the account is in the slot, and its history begins with what any seat has seen
   pub closes : (id : ℕ) (v : View) (words : List ℕ) (slots : List (Option Ledger)) (ticket serving : ℕ) (left : Option Ledger) → Final (Seen (Kept start) id v) words slots
       → get_elem? words 0 ≡ some ticket → get_elem? words 1 ≡ some serving → ticket ≡ serving → get_elem? slots 0 ≡ some left
-      → IfSome left (λ account. IsPrefix v.seen.history account.history)
+      → IfSome left (λ account. IsPrefix v.seen.history account.history) × (IsNone left → HasTicketOut)
   closes id v words slots ticket serving left final ticket_is serving_is same left_is =
       let s = final.0 in
       let kept = final.1.0 in
@@ -158,4 +158,13 @@ module _ (start : Start) where
       let home : s.homes ≡ some (Some now.account) ∷ [] = nobody_left now s.homes s.views now.holder kept.each (none_out s kept words_same) kept.lies in
       let there : get_elem? slots 0 ≡ some (Some now.account) = final.4 0 (Some now.account) (ap (λ hs. get_elem? hs 0) home) in
       let is : Some now.account ≡ left = some-injective (Some now.account) left (sym there ∙ left_is) in
-      subst (λ (x : Option Ledger). IfSome x (λ account. IsPrefix v.seen.history account.history)) is (kept.each id v final.1.1).seen
+      let B : Option Ledger → Type 0 = λ x. IfSome x (λ account. IsPrefix v.seen.history account.history) × (IsNone x → HasTicketOut) in
+      subst B is ((kept.each id v final.1.1).seen, λ none. absurd (cc none))
+
+  -- where the words differ, a ticket is out
+  pub waits : (id : ℕ) (v : View) (words : List ℕ) (slots : List (Option Ledger)) (ticket serving : ℕ) → Final (Seen (Kept start) id v) words slots
+      → get_elem? words 0 ≡ some ticket → get_elem? words 1 ≡ some serving → ticket ≢ serving → HasTicketOut
+  waits id v words slots ticket serving final ticket_is serving_is other =
+      let W : List ℕ → Type 0 = λ ws. get_or ws 0 0 ≡ get_or ws 1 0 → ⊥ in
+      let words_other : get_or words 0 0 ≡ get_or words 1 0 → ⊥ = λ same. other (sym (word_at words 0 ticket ticket_is) ∙ (same ∙ word_at words 1 serving serving_is)) in
+      record { start = start; board = final.0; kept = final.1.0; unserved = subst W (sym final.2) words_other }

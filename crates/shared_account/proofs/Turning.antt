@@ -14,7 +14,7 @@ use Rattle.account_core.specs.SharingLaws.{EachIsOwedItsShare}
 use Rattle.shared_account.specs.Own.{own}
 use Rattle.shared_account.specs.Plays.{IsLater, Sitter, appended, drawn, handed, looked, with_entry}
 use Rattle.shared_account.specs.Prefixes.{IsPrefix}
-use Rattle.shared_account.specs.Turns.{Affairs, AllApart, AllKnow, AreWords, IsOut, IsTaken, Kept, Knows, Lies}
+use Rattle.shared_account.specs.Turns.{BoardState, AllApart, AllKnow, AreWords, IsOut, IsTaken, Kept, Knows, AccountLiesAt}
 use Rattle.shared_account.specs.Views.{IsSeat, IsServing, at_stage, its_ticket, seats_at, seeing, ticket_of, tickets_at}
 use Rattle.shared_account.specs.declared.board.Stage.TheVariants.{Idles, Serves, Waits}
 use Rattle.shared_account.specs.declared.board.Start.{Start}
@@ -26,8 +26,8 @@ use Rattle.shared_account.proofs.Keeping.{Table, numbered_so, serving_is, unchan
 
 -- ---- nobody has the turn where a ticket that waits is served
 
-home_if : (now : Affairs) (homes : List (maybe.Option (Option Ledger))) (views : List View) (id t : ℕ) (v : View) (holder : Option ℕ) → AllKnow now views → AllApart views
-    → get_elem? views id ≡ some v → v.stage ≡ Waits t → t ≡ now.served → Lies now.account homes views holder → holder ≡ None
+home_if : (now : BoardState) (homes : List (maybe.Option (Option Ledger))) (views : List View) (id t : ℕ) (v : View) (holder : Option ℕ) → AllKnow now views → AllApart views
+    → get_elem? views id ≡ some v → v.stage ≡ Waits t → t ≡ now.served → AccountLiesAt now.account homes views holder → holder ≡ None
 home_if now homes views id t v None each apart there waits served lies = refl
 home_if now homes views id t v (Some by) each apart there waits served lies =
     let turn = (each by lies.view lies.there).turn lies.ticket lies.serves in
@@ -47,7 +47,7 @@ module _ (start : Start) where
   draws slots id m idle s kept count there fits =
       let now = kept.now in
       let t : ℕ = now.served + now.out in
-      let after : Affairs = record now { out = now.out + 1 } in
+      let after : BoardState = record now { out = now.out + 1 } in
       let w : View = at_stage m.0 (Waits t) in
       let knew = kept.each id m.0 there in
       let seat : IsSeat m.0.stage = subst IsSeat (sym idle) tt in (
@@ -97,12 +97,12 @@ module _ (start : Start) where
       Kept start (record { words = set s.words 1 (get_or s.words 1 0); homes = set s.homes 0 none; views = set s.views id w })
   comes slots id m t waits s kept there served nobody =
       let now = kept.now in
-      let after : Affairs = record now { holder = Some id } in
+      let after : BoardState = record now { holder = Some id } in
       let w : View = record m.0 { stage = Serves t; seen = now.account } in
       let knew = kept.each id m.0 there in
       let seat : IsSeat m.0.stage = subst IsSeat (sym waits) tt in
       let seated = knew.seated seat in
-      let home : s.homes ≡ some (Some now.account) ∷ [] = subst (Lies now.account s.homes s.views) nobody kept.lies in
+      let home : s.homes ≡ some (Some now.account) ∷ [] = subst (AccountLiesAt now.account s.homes s.views) nobody kept.lies in
       let out = knew.ticket t (ap ticket_of waits) in
       let words : AreWords after s.words = record { wide = kept.words.wide; ticket = kept.words.ticket; serving = kept.words.serving; count = kept.words.count } in
       record {
@@ -145,7 +145,7 @@ module _ (start : Start) where
       (λ (found : get_or s.words 1 0 ≡ t % 2 ^ 64).
       let served : t ≡ now.served = served_is s kept t (knew.ticket t (ap ticket_of waits)) found in
       let nobody : now.holder ≡ None = home_if now s.homes s.views id t m.0 now.holder kept.each kept.apart there waits served kept.lies in
-      let home : s.homes ≡ some (Some now.account) ∷ [] = subst (Lies now.account s.homes s.views) nobody kept.lies in
+      let home : s.homes ≡ some (Some now.account) ∷ [] = subst (AccountLiesAt now.account s.homes s.views) nobody kept.lies in
       let later : IsLater m.0 (record m.0 { stage = Serves t; seen = now.account }) = record {
         number = refl;
         opening = sym seated.opening;
@@ -174,7 +174,7 @@ module _ (start : Start) where
       let t : ℕ = its_ticket m.0.stage in
       let is : m.0.stage ≡ Serves t = serving_is m.0.stage serving in
       let account : Ledger = with_entry m.0.seen event in
-      let after : Affairs = record now { account = account } in
+      let after : BoardState = record now { account = account } in
       let w : View = seeing m.0 account in
       let knew = kept.each id m.0 there in
       let seat : IsSeat m.0.stage = subst IsSeat (sym is) tt in
@@ -231,9 +231,9 @@ module _ (start : Start) where
           apart = apart_set s.views id w kept.apart (λ by u other here. apart_alike m.0 w u (λ _. refl) (λ x. x) (λ t' has. has)
               (kept.apart id by m.0 u (λ e. other (sym e)) there here));
           lies =
-              let there_still : Lies now.account s.homes (set s.views id w) (Some id) = lies_set now.account s.homes s.views id m.0 w (Some id) there (λ t' has. has)
-              (subst (Lies now.account s.homes s.views) turn.holder kept.lies) in
-              subst (Lies account s.homes (set s.views id w)) (sym turn.holder) there_still;
+              let there_still : AccountLiesAt now.account s.homes (set s.views id w) (Some id) = lies_set now.account s.homes s.views id m.0 w (Some id) there (λ t' has. has)
+              (subst (AccountLiesAt now.account s.homes s.views) turn.holder kept.lies) in
+              subst (AccountLiesAt account s.homes (set s.views id w)) (sym turn.holder) there_still;
         },
         (refl, refl),
       )
@@ -254,14 +254,14 @@ module _ (start : Start) where
       let now = kept.now in
       let t : ℕ = its_ticket m.0.stage in
       let is : m.0.stage ≡ Serves t = serving_is m.0.stage serving in
-      let after : Affairs = record now { served = now.served + 1; out = now.out - 1; holder = None } in
+      let after : BoardState = record now { served = now.served + 1; out = now.out - 1; holder = None } in
       let w : View = at_stage m.0 Idles in
       let knew = kept.each id m.0 there in
       let seat : IsSeat m.0.stage = subst IsSeat (sym is) tt in
       let turn = knew.turn t is in
       let out = knew.ticket t (ap ticket_of is) in
       let some_out : 1 ≤ now.out = omega (arith, out.unserved, turn.served) in
-      let taken : IsTaken s.homes s.views id = subst (Lies now.account s.homes s.views) turn.holder kept.lies in (
+      let taken : IsTaken s.homes s.views id = subst (AccountLiesAt now.account s.homes s.views) turn.holder kept.lies in (
         w,
         gives,
         tt,

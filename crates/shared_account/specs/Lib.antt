@@ -6,8 +6,8 @@ pub mod Plays
 pub mod Prefixes
 pub mod Room
 pub mod Seats
-pub mod Sights
 pub mod Sitting
 pub mod Terms
+pub mod TurnViews
 pub mod Turns
 pub mod Views

@@ -4,13 +4,13 @@ use Rattle.std.proofs.Common.{zero, suc}
 use Rattle.account_core.specs.Events.{Event}
 
 -- the account that a seat is of, its number there, and its own entries, oldest first
-pub record Place : Type 0 where
+pub record SeatView : Type 0 where
   pub account : ℕ
   pub number : ℕ
   pub mine : List Event
 
 -- the first seats of an account: numbered from 0, without entries
-abbrev pub fresh_seats : ℕ → ℕ → List Place
+abbrev pub fresh_seats : ℕ → ℕ → List SeatView
 fresh_seats account zero = []
 fresh_seats account (suc seats) = fresh_seats account seats ++ record { account = account; number = seats; mine = [] } ∷ []
 

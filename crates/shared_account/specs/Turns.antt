@@ -14,7 +14,7 @@ use Rattle.shared_account.specs.declared.board.Start.{Start}
 use Rattle.shared_account.specs.declared.board.View.{View}
 
 -- the account with its history so far; how many seats were made; how many tickets were served, and how many are out; and who has the turn, by its place among the views
-pub record Affairs : Type 0 where
+pub record BoardState : Type 0 where
   pub account : Ledger
   pub made : ℕ
   pub served : ℕ
@@ -22,7 +22,7 @@ pub record Affairs : Type 0 where
   pub holder : Option ℕ
 
 -- the words: the ticket that is drawn next, the one that is served, and the number of entries
-pub record AreWords (now : Affairs) (words : List ℕ) : Type 0 where
+pub record AreWords (now : BoardState) (words : List ℕ) : Type 0 where
   pub wide : length words ≡ 3
   pub ticket : slice_index words 0 ≡ (now.served + now.out) % 2 ^ 64
   pub serving : slice_index words 1 ≡ now.served % 2 ^ 64
@@ -40,12 +40,12 @@ pub record IsPast (start : Start) (account : Ledger) (made : ℕ) : Type 0 where
   pub unmade : (number : ℕ) → made ≤ number → own number account.history ≡ []
 
 -- each seat that was made has a view, and each ticket that is out is with a view
-pub record AreTotals (now : Affairs) (views : List View) : Type 0 where
+pub record AreTotals (now : BoardState) (views : List View) : Type 0 where
   pub seats : total seats_at views ≡ now.made
   pub tickets : total tickets_at views ≡ now.out
 
 -- a seat has seen all entries of its own
-pub record IsNumbered (now : Affairs) (view : View) : Type 0 where
+pub record IsNumbered (now : BoardState) (view : View) : Type 0 where
   pub opening : view.seen.opening ≡ now.account.opening
   pub until : view.seen.until ≡ now.account.until
   pub limit : view.seen.limit ≡ now.account.limit
@@ -53,18 +53,18 @@ pub record IsNumbered (now : Affairs) (view : View) : Type 0 where
   pub first : view.number ≡ 0 → view.made ≡ now.made
   pub own : own view.number view.seen.history ≡ own view.number now.account.history
 
-pub record IsOut (now : Affairs) (ticket : ℕ) : Type 0 where
+pub record IsOut (now : BoardState) (ticket : ℕ) : Type 0 where
   pub drawn : now.served ≤ ticket
   pub unserved : ticket < now.served + now.out
 
 -- who has the turn has the ticket that is served, and has seen the whole history
-pub record HasTurn (now : Affairs) (at : ℕ) (view : View) (ticket : ℕ) : Type 0 where
+pub record HasTurn (now : BoardState) (at : ℕ) (view : View) (ticket : ℕ) : Type 0 where
   pub served : ticket ≡ now.served
   pub holder : now.holder ≡ Some at
   pub seen : view.seen ≡ now.account
 
 -- what a view says is so. What was seen and what was heard begin the history
-pub record Knows (now : Affairs) (at : ℕ) (view : View) : Type 0 where
+pub record Knows (now : BoardState) (at : ℕ) (view : View) : Type 0 where
   pub seen : IsPrefix view.seen.history now.account.history
   pub heard : IsPrefix view.heard.history now.account.history
   pub seated : IsSeat view.stage → IsNumbered now view
@@ -76,7 +76,7 @@ pub record AreApart (view other : View) : Type 0 where
   pub numbers : IsSeat view.stage → IsSeat other.stage → view.number ≢ other.number
   pub tickets : (ticket : ℕ) → ticket_of view.stage ≡ Some ticket → ticket_of other.stage ≡ Some ticket → ⊥
 
-abbrev pub AllKnow : Affairs → List View → Type 0
+abbrev pub AllKnow : BoardState → List View → Type 0
 AllKnow now views = (at : ℕ) (view : View) → get_elem? views at ≡ some view → Knows now at view
 
 abbrev pub AllApart : List View → Type 0
@@ -91,15 +91,22 @@ pub record IsTaken (homes : List (maybe.Option (Option Ledger))) (views : List V
   pub serves : view.stage ≡ Serves ticket
 
 -- where nobody has the turn, it is at home
-abbrev pub Lies : Ledger → List (maybe.Option (Option Ledger)) → List View → Option ℕ → Type 0
-Lies account homes views None = homes ≡ some (Some account) ∷ []
-Lies account homes views (Some at) = IsTaken homes views at
+abbrev pub AccountLiesAt : Ledger → List (maybe.Option (Option Ledger)) → List View → Option ℕ → Type 0
+AccountLiesAt account homes views None = homes ≡ some (Some account) ∷ []
+AccountLiesAt account homes views (Some at) = IsTaken homes views at
 
 pub record Kept (start : Start) (s : State (Option Ledger) View) : Type 0 where
-  pub now : Affairs
+  pub now : BoardState
   pub words : AreWords now s.words
   pub past : IsPast start now.account now.made
   pub totals : AreTotals now s.views
   pub each : AllKnow now s.views
   pub apart : AllApart s.views
-  pub lies : Lies now.account s.homes s.views now.holder
+  pub lies : AccountLiesAt now.account s.homes s.views now.holder
+
+-- a ticket is out: the one that is drawn next isn't the one that is served
+pub record HasTicketOut : Type 0 where
+  pub start : Start
+  pub board : State (Option Ledger) View
+  pub kept : Kept start board
+  pub unserved : slice_index board.words 0 ≢ slice_index board.words 1

@@ -1,6 +1,6 @@
 //! Books of accounts that were closed.
 
-ghost use Rattle.std.specs.Prelude.{◌≡◌, map, reverse, length, IfOk};
+ghost use Rattle.std.specs.Prelude.{◌≡◌, ◌≤◌, map, reverse, length, IfOk};
 ghost use Rattle.account_core.specs.Answers.{IsLegal};
 ghost use Rattle.account_core.specs.Available.{available};
 ghost use Rattle.account_core.specs.Events.{event_of};
@@ -9,19 +9,19 @@ ghost use Rattle.account_core.specs.Sums.{AreSums};
 use account_core::{Account, CallSum, Entry};
 use std::alloc::{AllocError, Global};
 use std::marker::Model;
+use tariff_core::MAX_MONEY;
 
 /// The book of an account that was closed: its history, which is legal, and what each of its seats
 /// has entered. Only closing makes one.
 #[derive(Drop)]
 pub struct Book {
     number: u32,
-    limit: u32,
     account: Account,
     own: Vec<Vec<Entry>>,
 }
 
 impl Model for Book {
-    ghost use Rattle.std.specs.Prelude.{map};
+    ghost use Rattle.std.specs.Prelude.{◌≤◌, length, map};
     ghost use Rattle.account_core.specs.Events.{event_of};
     ghost use Rattle.shared_account.specs.Closed.{Closed};
 
@@ -31,27 +31,29 @@ impl Model for Book {
       account = b.number;
       opening = b.account.opening;
       until = b.account.until;
-      limit = b.limit;
+      limit = b.account.limit;
       history = b.account.history;
       own = map (λ list. map event_of list.items) b.own.items;
     } };
+
+    ghost invariant = { λ b. length b.account.history ≤ b.account.limit };
 }
 
 impl Book {
     /// The book of an account, with what each of its seats has entered.
-    pub(crate) fn new(number: u32, limit: u32, account: Account, own: Vec<Vec<Entry>>) -> Book
+    pub(crate) fn new(number: u32, account: Account, own: Vec<Vec<Entry>>) -> Book
+        requires { length account.history ≤ account.limit }
         ensures { result ≡ record {
           account = number;
           opening = account.opening;
           until = account.until;
-          limit = limit;
+          limit = account.limit;
           history = account.history;
           own = map (λ list. map event_of list.items) own.items;
         } }
     {
         Book {
             number,
-            limit,
             account,
             own,
         }
@@ -78,17 +80,20 @@ impl Book {
         self.account.until()
     }
 
-    /// How many entries its history might have grown to.
+    /// How many entries its history might have grown to. It never has more.
     pub fn limit(&self) -> u32
         ensures { result ≡ self.now.limit }
     {
-        self.limit
+        self.account.limit()
     }
 
-    /// The entries, oldest first. They are a legal history.
+    /// The entries, oldest first. They are a legal history of an account that was opened with at
+    /// most `MAX_MONEY`, and no more than its limit.
     pub fn history(&self) -> &[Entry]
         ensures value { map event_of result.now ≡ self.now.history }
         ensures legal { IsLegal self.now.opening self.now.until self.now.history }
+        ensures small { self.now.opening ≤ MAX_MONEY }
+        ensures within_limit { length self.now.history ≤ self.now.limit }
     {
         self.account.history()
     }

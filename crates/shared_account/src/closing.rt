@@ -1,6 +1,7 @@
 //! What is compared before a shared account ends with its book.
 
 ghost use Rattle.std.specs.Prelude.{◌≡◌, ◌↔◌, ◌<◌, true, false, map, All, IfOk, IsTrue};
+ghost use Rattle.shared_account.specs.Closed.{IsClosable};
 ghost use Rattle.account_core.specs.Answers.{IsLegal};
 ghost use Rattle.account_core.specs.Events.{event_of};
 ghost use Rattle.shared_account.specs.Own.{IsMerged, own};
@@ -33,18 +34,32 @@ pub(crate) fn close_book(
     ensures merged { IfOk result (λ book. IsMerged book.history book.own) }
     ensures seats { (result ≡ Err close.Seats)
         ↔ (are_all count (map (λ seat. seat.number) seats.items) ≡ false) }
+    ensures mismatch { (result ≡ Err close.Mismatch)
+        ↔ ((are_all count (map (λ seat. seat.number) seats.items) ≡ true)
+        × (¬ IsClosable start.opening start.until start.limit account
+        (map (λ seat. seat.mine) seats.items))) }
 {
     if !are_all(count, seats.as_slice()) {
         return Err(CloseFault::Seats);
     }
-    if account.opening() != start.opening || account.until() != start.until {
-        return Err(CloseFault::Mismatch);
-    }
-    if !are_merged(account.history(), seats.as_slice()) {
+    if !is_closable(&start, &account, seats.as_slice()) {
         return Err(CloseFault::Mismatch);
     }
     let own = lists_of(alloc, seats)?;
-    Ok(Book::new(number, start.limit, account, own))
+    Ok(Book::new(number, account, own))
+}
+
+/// Whether an account is what it was opened as, and its history what its seats have entered.
+fn is_closable(start: &Start, account: &Account, seats: &[Seat]) -> bool
+    requires { are_numbered 0 (map (λ seat. seat.number) seats.now) ≡ true }
+    ensures { IsTrue result ↔ IsClosable start.now.opening start.now.until start.now.limit
+        account.now (map (λ seat. seat.mine) seats.now) }
+{
+    account.opening() == start.opening
+        && account.until() == start.until
+        && account.limit() == start.limit
+        && account.history().len() <= start.limit as usize
+        && are_merged(account.history(), seats)
 }
 
 /// Whether these are all seats of an account, in the order of their numbers.
@@ -69,14 +84,16 @@ fn are_numbered(seats: &[Seat]) -> bool
 /// Whether a history merges the lists of all seats of its account.
 fn are_merged(history: &[Entry], seats: &[Seat]) -> bool
     requires { are_numbered 0 (map (λ seat. seat.number) seats.now) ≡ true }
-    ensures { IsTrue result → IsMerged (map event_of history.now) (map (λ seat. seat.mine) seats.now) }
+    ensures { IsTrue result
+        ↔ IsMerged (map event_of history.now) (map (λ seat. seat.mine) seats.now) }
 {
     have_own(history, seats) && are_of_seats(history, seats.len())
 }
 
 /// Whether each seat's list is the seat's own entries in the history.
 fn have_own(history: &[Entry], seats: &[Seat]) -> bool
-    ensures { IsTrue result → All (λ seat. own seat.number (map event_of history.now) ≡ seat.mine) seats.now }
+    ensures { IsTrue result
+        ↔ All (λ seat. own seat.number (map event_of history.now) ≡ seat.mine) seats.now }
 {
     for seat in seats {
         if !is_own(history, seat.number(), seat.mine()) {
@@ -88,7 +105,7 @@ fn have_own(history: &[Entry], seats: &[Seat]) -> bool
 
 /// Whether a list is a seat's own entries in the history.
 fn is_own(history: &[Entry], seat: u32, mine: &[Entry]) -> bool
-    ensures { IsTrue result → own seat (map event_of history.now) ≡ map event_of mine.now }
+    ensures { IsTrue result ↔ (own seat (map event_of history.now) ≡ map event_of mine.now) }
 {
     let mut at = 0;
     for entry in history {
@@ -104,7 +121,7 @@ fn is_own(history: &[Entry], seat: u32, mine: &[Entry]) -> bool
 
 /// Whether each entry is of one of so many seats.
 fn are_of_seats(history: &[Entry], seats: usize) -> bool
-    ensures { IsTrue result → All (λ entry. entry.seat < seats) history.now }
+    ensures { IsTrue result ↔ All (λ entry. entry.seat < seats) history.now }
 {
     for entry in history {
         if entry.seat as usize >= seats {

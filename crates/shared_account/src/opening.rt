@@ -1,7 +1,8 @@
 //! The board of a new turn account, and the seats at it.
 
 ghost use Rattle.std.specs.Prelude.{◌≡◌, ◌≤◌, [], IfOk, IfErr};
-ghost use Rattle.shared_account.specs.Sights.{fresh_sights};
+ghost use Rattle.shared_account.specs.TurnViews.{fresh_turn_seats};
+ghost use Rattle.shared_account.specs.Sitting.{IsAt};
 ghost use Rattle.shared_account.specs.Views.{first_view};
 
 use crate::TurnSeat;
@@ -39,8 +40,7 @@ pub(crate) fn make_seats(
     account: u32,
     count: u32,
 ) -> Result<Vec<TurnSeat>, AllocError>
-    requires words { board.now.shared.table_id.words ≡ 3 }
-    requires table { first.table_id ≡ board.now.shared.table_id }
+    requires at { IsAt board.now.shared.table_id first.table_id }
     requires first { first.me ≡ (
       first_view first.me.0.seen.opening
           first.me.0.seen.until first.me.0.seen.limit,
@@ -48,7 +48,7 @@ pub(crate) fn make_seats(
     ) }
     requires some_seats { 1 ≤ count }
     requires few_seats { count ≤ 16 }
-    ensures { IfOk result (λ made. made.items ≡ fresh_sights board.now.shared.table_id record {
+    ensures { IfOk result (λ made. made.items ≡ fresh_turn_seats board.now.shared.table_id record {
       number = account;
       opening = first.me.0.seen.opening;
       until = first.me.0.seen.until;

@@ -1,6 +1,6 @@
 //! Whether two entries say the same.
 
-ghost use Rattle.std.specs.Prelude.{◌≡◌, IsTrue};
+ghost use Rattle.std.specs.Prelude.{◌≡◌, ◌↔◌, IsTrue};
 ghost use Rattle.account_core.specs.Events.{asked_of, event_of};
 ghost use Rattle.tariff_core.specs.RatesOf.{rates_of};
 
@@ -9,14 +9,14 @@ use tariff_core::Plan;
 
 /// Whether two entries are of the same seat, operation and reply.
 pub(crate) fn same_entry(first: &Entry, second: &Entry) -> bool
-    ensures { IsTrue result → event_of first.now ≡ event_of second.now }
+    ensures { IsTrue result ↔ (event_of first.now ≡ event_of second.now) }
 {
     first.seat == second.seat && same_op(&first.op, &second.op) && first.reply == second.reply
 }
 
 /// Whether two operations ask the same.
 fn same_op(first: &Op, second: &Op) -> bool
-    ensures { IsTrue result → asked_of first.now ≡ asked_of second.now }
+    ensures { IsTrue result ↔ (asked_of first.now ≡ asked_of second.now) }
 {
     match *first {
         Op::Credit { amount, until } => match *second {
@@ -65,7 +65,7 @@ fn same_op(first: &Op, second: &Op) -> bool
 
 /// Whether two plans have the same fee, rates and free units.
 fn same_plan(first: &Plan, second: &Plan) -> bool
-    ensures { IsTrue result → rates_of first.now ≡ rates_of second.now }
+    ensures { IsTrue result ↔ (rates_of first.now ≡ rates_of second.now) }
 {
     first.fee == second.fee
         && first.before == second.before

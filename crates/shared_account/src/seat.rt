@@ -34,9 +34,9 @@ impl Model for Seat {
     ghost use Rattle.std.specs.Vec.{vec_capacity};
     ghost use Rattle.account_core.specs.Events.{event_of};
     ghost use Rattle.shared_account.specs.Room.{IsRoomy};
-    ghost use Rattle.shared_account.specs.Seats.{Place};
+    ghost use Rattle.shared_account.specs.Seats.{SeatView};
 
-    ghost Value = { Place };
+    ghost Value = { SeatView };
 
     ghost view = { λ s. record { account = s.account; number = s.number; mine = map event_of s.mine.items } };
 

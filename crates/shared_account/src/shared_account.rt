@@ -6,6 +6,7 @@ ghost use Rattle.account_core.specs.Asked.{is_in_range};
 ghost use Rattle.account_core.specs.Events.{asked_of};
 ghost use Rattle.account_core.specs.Ledger.{event_by};
 ghost use Rattle.account_core.specs.Places.{IsClosing};
+ghost use Rattle.shared_account.specs.Closed.{IsMismatch};
 ghost use Rattle.shared_account.specs.Kinds.{IsReplyTo, IsReturn};
 ghost use Rattle.shared_account.specs.Own.{IsMerged};
 ghost use Rattle.shared_account.specs.Seats.{are_all, fresh_seats};
@@ -136,6 +137,8 @@ impl SharedAccount {
         ensures merged { IfOk result (λ book. IsMerged book.history book.own) }
         ensures seats { (result ≡ Err close.Seats)
             ↔ (are_all self.seats (map (λ seat. seat.number) seats.items) ≡ false) }
+        ensures mismatch { result ≡ Err close.Mismatch
+            → IsMismatch self.opening self.until self.limit (map (λ seat. seat.mine) seats.items) }
     {
         let SharedAccount {
             number,

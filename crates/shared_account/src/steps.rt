@@ -6,12 +6,13 @@ ghost use Rattle.account_core.specs.Ledger.{answer_of, refusal_of};
 ghost use Rattle.shared_account.specs.Own.{own};
 ghost use Rattle.shared_account.specs.Plays.{HasCome, HasMet, IsLater, with_entry};
 ghost use Rattle.shared_account.specs.Prefixes.{IsPrefix};
+ghost use Rattle.shared_account.specs.Sitting.{IsAt};
 ghost use Rattle.shared_account.specs.Views.{IsServing, at_stage, hearing, its_ticket, next_seat, one_more, seeing};
 ghost use Rattle.shared_account.specs.declared.board.Stage.TheVariants.{Idles, Waits};
 
-use crate::board::{Board, COUNT, Chair, SERVING, SLOT, TICKET};
+use crate::board::{Board, COUNT, Chair, SERVING, TICKET};
 use crate::plays::{Append, Appended, Compare, Draw, HandOn, Hear, Look, Number, TakeNote};
-use account_core::{Account, Entry, places_go_with_entries};
+use account_core::{Entry, places_go_with_entries};
 use std::marker::Brand;
 
 /// Makes the chair of the next seat, from that of the first.
@@ -30,8 +31,7 @@ pub(crate) fn next_chair(board: &Board, first: &mut Chair) -> Chair
 
 /// Draws a ticket.
 pub(crate) fn draw(board: &Board, chair: &mut Chair) -> u64
-    requires table { chair.old.table_id ≡ board.now.shared.table_id }
-    requires words { board.now.shared.table_id.words ≡ 3 }
+    requires at { IsAt board.now.shared.table_id chair.old.table_id }
     requires idle { chair.old.me.0.stage ≡ Idles }
     ensures table { chair.new.table_id ≡ chair.old.table_id }
     ensures ticket { result ≡ its_ticket chair.new.me.0.stage % 2 ^ 64 }
@@ -43,8 +43,7 @@ pub(crate) fn draw(board: &Board, chair: &mut Chair) -> u64
 
 /// Looks which ticket is served. Where it is the chair's own, the account passes to the chair.
 pub(crate) fn look(board: &Board, chair: &mut Chair) -> u64
-    requires table { chair.old.table_id ≡ board.now.shared.table_id }
-    requires words { board.now.shared.table_id.words ≡ 3 }
+    requires at { IsAt board.now.shared.table_id chair.old.table_id }
     requires waits { chair.old.me.0.stage ≡ Waits (its_ticket chair.old.me.0.stage) }
     ensures table { chair.new.table_id ≡ chair.old.table_id }
     ensures come { result ≡ its_ticket chair.old.me.0.stage % 2 ^ 64 → HasCome chair.old.me chair.new.me }
@@ -53,25 +52,9 @@ pub(crate) fn look(board: &Board, chair: &mut Chair) -> u64
     board.shared.load::<Look>(chair, SERVING)
 }
 
-/// Takes the account out of the slot, or puts it there.
-pub(crate) fn exchange(
-    board: &Board,
-    chair: &mut Chair,
-    account: Option<Account>,
-) -> Option<Account>
-    requires table { chair.old.table_id ≡ board.now.shared.table_id }
-    requires hands { (old : _) × (chair.old.me.1 ≡ (0, old) ∷ []) }
-    ensures table { chair.new.table_id ≡ chair.old.table_id }
-    ensures found { chair.old.me.1 ≡ (0, result) ∷ [] }
-    ensures left { chair.new.me ≡ (chair.old.me.0, (0, account) ∷ []) }
-{
-    board.shared.exchange(chair, SLOT, account)
-}
-
 /// Counts an entry.
 pub(crate) fn append(board: &Board, chair: &mut Chair, entry: &Entry)
-    requires table { chair.old.table_id ≡ board.now.shared.table_id }
-    requires words { board.now.shared.table_id.words ≡ 3 }
+    requires at { IsAt board.now.shared.table_id chair.old.table_id }
     requires serving { IsServing chair.old.me.0.stage }
     requires seat { entry.now.seat ≡ chair.old.me.0.number }
     requires admitted { refusal_of chair.old.me.0.seen (event_of entry.now).asked ≡ None }
@@ -86,8 +69,7 @@ pub(crate) fn append(board: &Board, chair: &mut Chair, entry: &Entry)
 /// The same, of an entry that the proof can name.
 fn append_as<E: Appended>(board: &Board, chair: &mut Chair, entry: &Entry)
     requires entry { E.entry ≡ event_of entry.now }
-    requires table { chair.old.table_id ≡ board.now.shared.table_id }
-    requires words { board.now.shared.table_id.words ≡ 3 }
+    requires at { IsAt board.now.shared.table_id chair.old.table_id }
     requires serving { IsServing chair.old.me.0.stage }
     requires seat { entry.now.seat ≡ chair.old.me.0.number }
     requires admitted { refusal_of chair.old.me.0.seen (event_of entry.now).asked ≡ None }
@@ -101,20 +83,15 @@ fn append_as<E: Appended>(board: &Board, chair: &mut Chair, entry: &Entry)
     board.shared.fetch_add::<Append<E>>(chair, COUNT, 1);
 }
 
-/// Passes the turn on, with the account in the slot, and wakes those who wait for it, if any do. Who
-/// draws a ticket only after that looks at the one that is served, and so needs no waking.
+/// Passes the turn on, with the account in the slot.
 pub(crate) fn hand_on(board: &Board, chair: &mut Chair)
-    requires table { chair.old.table_id ≡ board.now.shared.table_id }
-    requires words { board.now.shared.table_id.words ≡ 3 }
+    requires at { IsAt board.now.shared.table_id chair.old.table_id }
     requires serving { IsServing chair.old.me.0.stage }
     requires hands { chair.old.me.1 ≡ (0, Some chair.old.me.0.seen) ∷ [] }
     ensures table { chair.new.table_id ≡ chair.old.table_id }
     ensures idle { chair.new.me ≡ (at_stage chair.old.me.0 Idles, []) }
 {
-    let served = board.shared.fetch_add::<HandOn>(chair, SERVING, 1);
-    if board.shared.peek(TICKET) != served.wrapping_add(1) {
-        board.shared.wake_all(SERVING);
-    }
+    board.shared.fetch_add::<HandOn>(chair, SERVING, 1);
 }
 
 /// Makes a note of what the first chair has seen, and the second chair hears it.
@@ -132,8 +109,7 @@ pub(crate) fn hear(board: &Board, first: &mut Chair, second: &mut Chair)
 
 /// Compares what a chair has heard with what it has seen: the longer of the two is what it has seen.
 pub(crate) fn compare(board: &Board, chair: &mut Chair)
-    requires table { chair.old.table_id ≡ board.now.shared.table_id }
-    requires words { board.now.shared.table_id.words ≡ 3 }
+    requires at { IsAt board.now.shared.table_id chair.old.table_id }
     requires idle { chair.old.me.0.stage ≡ Idles }
     ensures table { chair.new.table_id ≡ chair.old.table_id }
     ensures met { HasMet chair.old.me.0.seen.history chair.old.me.0.heard.history chair.old.me.0 chair.new.me.0 }

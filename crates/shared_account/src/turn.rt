@@ -1,94 +1,111 @@
-//! A turn of an account: it is waited for, and passed on.
+//! A turn of an account: it is waited for, and the account is asked where it lies.
 
-ghost use Rattle.std.specs.Prelude.{◌≡◌, ◌%◌, ◌^◌, [], ◌∷◌, None, false, IsTrue};
-ghost use Rattle.shared_account.specs.Plays.{HasCome, IsLater};
-ghost use Rattle.shared_account.specs.Views.{IsServing, at_stage, its_ticket};
+ghost use Rattle.std.specs.Prelude.{◌≡◌, ◌≢◌, ◌%◌, ◌^◌, ◌++◌, ◌∷◌, [], None, Some, false, length, reverse, OnOk, OnErr, IfOk, IfErr};
+ghost use Rattle.account_core.specs.Answers.{IsLegal};
+ghost use Rattle.account_core.specs.Asked.{call_of, is_in_range};
+ghost use Rattle.account_core.specs.Events.{asked_of};
+ghost use Rattle.account_core.specs.Ledger.{IsRefusal, answer_of, event_by, refusal_of};
+ghost use Rattle.account_core.specs.Places.{IsClosing};
+ghost use Rattle.shared_account.specs.Kinds.{IsReplyTo, IsReturn};
+ghost use Rattle.shared_account.specs.Own.{of_call};
+ghost use Rattle.shared_account.specs.Plays.{HasCome, IsLater, with_entry};
+ghost use Rattle.shared_account.specs.Sitting.{IsAt};
+ghost use Rattle.shared_account.specs.Views.{IsServing, its_ticket};
 ghost use Rattle.shared_account.specs.declared.board.Stage.TheVariants.{Idles, Waits};
 
-use crate::board::{Board, Chair, SERVING};
-use crate::steps::{draw, exchange, hand_on, look};
-use account_core::Account;
+#[cfg(test)]
+mod tests;
+
+use crate::Seat;
+use crate::board::{Board, Chair, SLOT};
+use crate::steps::{draw, look};
+use account_core::{AccountFault, Op, Reply};
 use std::sync::Wait;
 use std::thread::yield_now;
 
-/// How often a thread looks whether its turn has come before it sleeps.
-const LOOKS: u32 = 64;
-
-/// A thread sleeps on the low half of a word, which is the rest of it by this.
-const HALF: u64 = 1 << 32;
-
-/// Draws a ticket, waits until it is served, and takes the account out of its slot.
-pub(crate) fn take_turn<R: Wait>(rt: &R, board: &Board, chair: &mut Chair) -> Account
-    requires table { chair.old.table_id ≡ board.now.shared.table_id }
-    requires words { board.now.shared.table_id.words ≡ 3 }
+/// Draws a ticket and waits until it is served. The account in the slot is the chair's then.
+pub(crate) fn take_turn<R: Wait>(rt: &R, board: &Board, chair: &mut Chair)
+    requires at { IsAt board.now.shared.table_id chair.old.table_id }
     requires idle { chair.old.me.0.stage ≡ Idles }
     requires hands { chair.old.me.1 ≡ [] }
     ensures table { chair.new.table_id ≡ chair.old.table_id }
     ensures later { IsLater chair.old.me.0 chair.new.me.0 }
     ensures serving { IsServing chair.new.me.0.stage }
-    ensures account { result ≡ chair.new.me.0.seen }
-    ensures hands { chair.new.me.1 ≡ (0, None) ∷ [] }
+    ensures hands { chair.new.me.1 ≡ (0, Some chair.new.me.0.seen) ∷ [] }
 {
     let ticket = draw(board, chair);
     wait(rt, board, chair, ticket);
-    match exchange(board, chair, None) {
-        Some(account) => account,
-        None => unreachable!(),
-    }
 }
 
-/// Puts the account back into its slot, and passes the turn on.
-pub(crate) fn give_turn(board: &Board, chair: &mut Chair, account: Account)
-    requires table { chair.old.table_id ≡ board.now.shared.table_id }
-    requires words { board.now.shared.table_id.words ≡ 3 }
-    requires serving { IsServing chair.old.me.0.stage }
-    requires account { account ≡ chair.old.me.0.seen }
-    requires hands { chair.old.me.1 ≡ (0, None) ∷ [] }
-    ensures table { chair.new.table_id ≡ chair.old.table_id }
-    ensures idle { chair.new.me ≡ (at_stage chair.old.me.0 Idles, []) }
-{
-    exchange(board, chair, Some(account));
-    hand_on(board, chair);
-}
-
-/// Waits until a ticket is served. A thread that has looked some times sleeps until the turn is
-/// passed on.
+/// Looks until a ticket is served. Behind the door the first look finds it so.
 fn wait<R: Wait>(rt: &R, board: &Board, chair: &mut Chair, ticket: u64)
-    requires table { chair.old.table_id ≡ board.now.shared.table_id }
-    requires words { board.now.shared.table_id.words ≡ 3 }
+    requires at { IsAt board.now.shared.table_id chair.old.table_id }
     requires waits { chair.old.me.0.stage ≡ Waits (its_ticket chair.old.me.0.stage) }
     requires ticket { ticket ≡ its_ticket chair.old.me.0.stage % 2 ^ 64 }
     ensures table { chair.new.table_id ≡ chair.old.table_id }
     ensures come { HasCome chair.old.me chair.new.me }
 {
     for _ in rt.forever() {
-        if comes_soon(board, chair, ticket) {
+        if look(board, chair) == ticket {
             return;
         }
-        let serving = look(board, chair);
-        if serving == ticket {
-            return;
-        }
-        board.shared.park(rt, SERVING, (serving % HALF) as u32);
+        yield_now();
     }
     unreachable!()
 }
 
-/// Whether a ticket is served soon.
-fn comes_soon(board: &Board, chair: &mut Chair, ticket: u64) -> bool
+/// Asks the account of a chair that has the turn, where it lies.
+pub(crate) fn ask_in_turn(
+    board: &Board,
+    chair: &mut Chair,
+    seat: &mut Seat,
+    op: Op,
+) -> Result<Reply, AccountFault>
     requires table { chair.old.table_id ≡ board.now.shared.table_id }
-    requires words { board.now.shared.table_id.words ≡ 3 }
-    requires waits { chair.old.me.0.stage ≡ Waits (its_ticket chair.old.me.0.stage) }
-    requires ticket { ticket ≡ its_ticket chair.old.me.0.stage % 2 ^ 64 }
+    requires hands { chair.old.me.1 ≡ (0, Some chair.old.me.0.seen) ∷ [] }
     ensures table { chair.new.table_id ≡ chair.old.table_id }
-    ensures come { IsTrue result → HasCome chair.old.me chair.new.me }
-    ensures waits { result ≡ false → chair.new.me ≡ chair.old.me }
+    ensures view { chair.new.me.0 ≡ chair.old.me.0 }
+    ensures answered { IfOk result (λ reply. reply ≡ answer_of chair.old.me.0.seen (asked_of op)) }
+    ensures entered { IfOk result (λ reply. chair.new.me.1 ≡ (
+      0,
+      Some (with_entry
+          chair.old.me.0.seen (event_by seat.old.number (asked_of op) reply)),
+    ) ∷ []) }
+    ensures mine { IfOk result (λ reply. seat.new ≡ record seat.old {
+      mine = seat.old.mine ++ event_by seat.old.number (asked_of op) reply ∷ [];
+    }) }
+    ensures admitted { OnOk result (refusal_of chair.old.me.0.seen (asked_of op) ≡ None) }
+    ensures left { OnErr result (chair.new.me ≡ chair.old.me) }
+    ensures kept { OnErr result (seat.new ≡ seat.old) }
+    ensures refused { IfErr result (λ fault. IsRefusal chair.old.me.0.seen (asked_of op) fault) }
+    ensures ungated { result ≢ Err AccountFault.GateClosed }
+    ensures kind { IfOk result (λ reply. IsReplyTo (asked_of op) reply) }
+    ensures range { result ≡ Err AccountFault.OutOfRange → is_in_range (asked_of op) ≡ false }
+    ensures closing { IsClosing (reverse chair.old.me.0.seen.history) (asked_of op)
+        → of_call (call_of (asked_of op)) chair.old.me.0.seen.history
+        ≡ of_call (call_of (asked_of op)) seat.old.mine
+        → OnErr result ⊥ }
+    ensures returning { IsReturn (asked_of op) → IsClosing (reverse seat.old.mine) (asked_of op)
+        → IfErr result (λ fault. fault ≡ AccountFault.NotOpen) }
 {
-    for _ in 0..LOOKS {
-        if look(board, chair) == ticket {
-            return true;
-        }
-        yield_now();
+    match chair.slot_mut(&board.shared, SLOT) {
+        Some(account) => seat.apply_to(account, op),
+        None => unreachable!(),
     }
-    false
+}
+
+/// How many entries the account has, of a chair that has the turn.
+pub(crate) fn entries_in_turn(board: &Board, chair: &mut Chair) -> u64
+    requires table { chair.old.table_id ≡ board.now.shared.table_id }
+    requires hands { chair.old.me.1 ≡ (0, Some chair.old.me.0.seen) ∷ [] }
+    ensures table { chair.new.table_id ≡ chair.old.table_id }
+    ensures same { chair.new.me ≡ chair.old.me }
+    ensures count { result ≡ length chair.old.me.0.seen.history }
+    ensures legal { IsLegal chair.old.me.0.seen.opening chair.old.me.0.seen.until
+        chair.old.me.0.seen.history }
+{
+    match chair.slot_mut(&board.shared, SLOT) {
+        Some(account) => account.history().len() as u64,
+        None => unreachable!(),
+    }
 }

@@ -1,37 +1,40 @@
 //! The account that is handed on by turns.
 
-ghost use Rattle.std.specs.Prelude.{◌≡◌, ◌≤◌, ◌↔◌, ◌⊎◌, ◌++◌, ◌∷◌, [], false, length, map, reverse, All, OnErr, IfOk, IfErr};
+ghost use Rattle.std.specs.Prelude.{◌≡◌, ◌≤◌, ◌↔◌, ◌⊎◌, ◌++◌, ◌∷◌, [], Some, false, length, map, reverse, All, OnErr, IfOk, IfErr};
 ghost use Rattle.account_core.specs.Answers.{IsLegal};
 ghost use Rattle.account_core.specs.Asked.{call_of, is_in_range};
 ghost use Rattle.account_core.specs.Events.{asked_of};
 ghost use Rattle.account_core.specs.Ledger.{IsRefusal, event_by};
 ghost use Rattle.account_core.specs.Places.{IsClosing};
+ghost use Rattle.shared_account.specs.Closed.{IsMismatch};
 ghost use Rattle.shared_account.specs.Kinds.{IsReplyTo, IsReturn};
 ghost use Rattle.shared_account.specs.Own.{IsMerged, of_call, own};
 ghost use Rattle.shared_account.specs.Seats.{are_all};
 ghost use Rattle.shared_account.specs.Plays.{with_entry};
 ghost use Rattle.shared_account.specs.Prefixes.{EndsWith, IsPrefix};
-ghost use Rattle.shared_account.specs.Sights.{IsSameAccount, fresh_sights};
+ghost use Rattle.shared_account.specs.TurnViews.{IsSameAccount, fresh_turn_seats};
+ghost use Rattle.shared_account.specs.Sitting.{IsAt};
+ghost use Rattle.shared_account.specs.Turns.{HasTicketOut};
 ghost use Rattle.shared_account.specs.Views.{IsServing, seeing};
 ghost use Rattle.shared_account.specs.declared.fault.CloseFault.TheVariants as close;
 
 use crate::board::{Board, Chair, Start};
 use crate::opening::{lay_board, make_seats};
-use crate::steps::{append, compare, hear};
-use crate::turn::{give_turn, take_turn};
+use crate::steps::{append, compare, hand_on, hear};
+use crate::turn::{ask_in_turn, entries_in_turn, take_turn};
 use crate::turn_closing::close_board;
 use crate::{Book, CloseFault, Gate, Seat, TurnSeat};
-use account_core::{Account, AccountFault, Entry, Op, Reply};
+use account_core::{AccountFault, Entry, Op, Reply};
 use std::alloc::Global;
 use std::marker::Model;
 use std::sync::{Mutex, Wait};
 use tariff_core::MAX_MONEY;
 
-/// An account that its seats hand on by turns.
+/// An account that its seats hand on by turns: a ticket lock.
 ///
-/// Who asks takes the door, draws a ticket and waits until it is served. Then the account is its
-/// own: it asks, counts the entry, puts the account back and serves the next ticket. So what a seat
-/// has seen begins what it sees next, at each step, and no comparison is needed to know it.
+/// Who asks takes the door, draws a ticket and looks until it is served. Then the account is its
+/// own: it asks, counts the entry and serves the next ticket. So what a seat has seen begins what it
+/// sees next, at each step, and no comparison is needed to know it.
 #[derive(Drop)]
 pub struct TurnAccount {
     number: u32,
@@ -40,15 +43,15 @@ pub struct TurnAccount {
     limit: u32,
     seats: u32,
     board: Board,
-    /// Lets one thread in at a time, so that a turn mostly passes to a thread that runs.
+    /// Lets one thread in at a time. It is held for the whole turn, so no ticket waits behind it.
     door: Mutex<()>,
 }
 
 impl Model for TurnAccount {
-    ghost use Rattle.shared_account.specs.Sights.{Held};
+    ghost use Rattle.shared_account.specs.TurnViews.{TurnView};
     ghost use Rattle.shared_account.specs.Sitting.{IsBoard};
 
-    ghost Value = { Held };
+    ghost Value = { TurnView };
 
     ghost view = { λ a. record {
       table = a.board.shared.table_id;
@@ -90,7 +93,7 @@ impl TurnAccount {
           seats = seats;
         }) }
         ensures seats { IfOk result (λ made.
-            made.1.items ≡ fresh_sights made.0.table made.0.terms seats) }
+            made.1.items ≡ fresh_turn_seats made.0.table made.0.terms seats) }
         ensures refused { IfErr result (λ fault. fault ≡ AccountFault.OutOfMemory) }
     {
         let start = Start {
@@ -154,17 +157,10 @@ impl TurnAccount {
             (fault ≡ AccountFault.NotOpen) ⊎ (fault ≡ AccountFault.GateClosed)) }
     {
         let _door = self.door.lock(rt);
-        let mut account = take_turn(rt, &self.board, &mut seat.chair);
-        let result = enter(
-            &self.board,
-            &mut seat.chair,
-            &mut seat.seat,
-            &mut account,
-            op,
-            gate,
-        );
-        seat.seen = account.history().len() as u64;
-        give_turn(&self.board, &mut seat.chair, account);
+        take_turn(rt, &self.board, &mut seat.chair);
+        let result = enter(&self.board, &mut seat.chair, &mut seat.seat, op, gate);
+        seat.seen = entries_in_turn(&self.board, &mut seat.chair);
+        hand_on(&self.board, &mut seat.chair);
         result
     }
 
@@ -209,6 +205,9 @@ impl TurnAccount {
         ensures merged { IfOk result (λ book. IsMerged book.history book.own) }
         ensures seats { (result ≡ Err close.Seats)
             ↔ (are_all self.terms.seats (map (λ seat. seat.place.number) seats.items) ≡ false) }
+        ensures mismatch { result ≡ Err close.Mismatch → HasTicketOut
+            ⊎ IsMismatch self.terms.opening self.terms.until self.terms.limit
+            (map (λ seat. seat.place.mine) seats.items) }
     {
         let TurnAccount {
             number,
@@ -228,37 +227,34 @@ impl TurnAccount {
     }
 }
 
-/// Asks an account that is held in a turn, where the gate lets it, and counts the entry.
+/// Asks the account of a chair that has the turn, where the gate lets it, and counts the entry.
 fn enter<G: Gate>(
     board: &Board,
     chair: &mut Chair,
     seat: &mut Seat,
-    account: &mut Account,
     op: Op,
     gate: &G,
 ) -> Result<Reply, AccountFault>
-    requires table { chair.old.table_id ≡ board.now.shared.table_id }
-    requires words { board.now.shared.table_id.words ≡ 3 }
+    requires at { IsAt board.now.shared.table_id chair.old.table_id }
     requires serving { IsServing chair.old.me.0.stage }
     requires number { chair.old.me.0.number ≡ seat.old.number }
-    requires account { account.old ≡ chair.old.me.0.seen }
+    requires hands { chair.old.me.1 ≡ (0, Some chair.old.me.0.seen) ∷ [] }
     ensures table { chair.new.table_id ≡ chair.old.table_id }
-    ensures hands { chair.new.me.1 ≡ chair.old.me.1 }
-    ensures account { account.new ≡ chair.new.me.0.seen }
+    ensures hands { chair.new.me.1 ≡ (0, Some chair.new.me.0.seen) ∷ [] }
     ensures entered { IfOk result (λ reply. chair.new.me.0 ≡ seeing chair.old.me.0
-        (with_entry account.old (event_by seat.old.number (asked_of op) reply))) }
+        (with_entry chair.old.me.0.seen (event_by seat.old.number (asked_of op) reply))) }
     ensures mine { IfOk result (λ reply. seat.new ≡ record seat.old {
       mine = seat.old.mine ++ event_by seat.old.number (asked_of op) reply ∷ [];
     }) }
     ensures kind { IfOk result (λ reply. IsReplyTo (asked_of op) reply) }
     ensures unseen { OnErr result (chair.new.me.0 ≡ chair.old.me.0) }
     ensures kept { OnErr result (seat.new ≡ seat.old) }
-    ensures refused { IfErr result (λ fault.
-        (fault ≡ AccountFault.GateClosed) ⊎ IsRefusal account.old (asked_of op) fault) }
+    ensures refused { IfErr result (λ fault. (fault ≡ AccountFault.GateClosed)
+        ⊎ IsRefusal chair.old.me.0.seen (asked_of op) fault) }
     ensures range { result ≡ Err AccountFault.OutOfRange → is_in_range (asked_of op) ≡ false }
     ensures gate { result ≡ Err AccountFault.GateClosed → G.may_shut gate.now }
-    ensures closing { IsClosing (reverse account.old.history) (asked_of op)
-        → of_call (call_of (asked_of op)) account.old.history
+    ensures closing { IsClosing (reverse chair.old.me.0.seen.history) (asked_of op)
+        → of_call (call_of (asked_of op)) chair.old.me.0.seen.history
         ≡ of_call (call_of (asked_of op)) seat.old.mine
         → IfErr result (λ fault. fault ≡ AccountFault.GateClosed) }
     ensures returning { IsReturn (asked_of op) → IsClosing (reverse seat.old.mine) (asked_of op)
@@ -268,7 +264,7 @@ fn enter<G: Gate>(
     if !gate.inside(seat.account()) {
         return Err(AccountFault::GateClosed);
     }
-    let reply = seat.apply_to(account, op)?;
+    let reply = ask_in_turn(board, chair, seat, op)?;
     let seat = seat.number();
     append(board, chair, &Entry { seat, op, reply });
     Ok(reply)

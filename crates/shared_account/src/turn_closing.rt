@@ -1,11 +1,13 @@
 //! The close of a turn account.
 
-ghost use Rattle.std.specs.Prelude.{◌≡◌, ◌≢◌, ◌↔◌, ◌≤◌, false, length, map, All, IfOk, IfSome, OnOk};
+ghost use Rattle.std.specs.Prelude.{◌≡◌, ◌≢◌, ◌↔◌, ◌≤◌, false, length, map, ◌⊎◌, All, IfOk, IfSome, IsNone, OnOk};
 ghost use Rattle.account_core.specs.Answers.{IsLegal};
+ghost use Rattle.shared_account.specs.Closed.{IsMismatch};
 ghost use Rattle.shared_account.specs.Own.{IsMerged};
 ghost use Rattle.shared_account.specs.Prefixes.{IsPrefix};
 ghost use Rattle.shared_account.specs.Seats.{are_all, are_numbered};
-ghost use Rattle.shared_account.specs.Sitting.{IsBoard};
+ghost use Rattle.shared_account.specs.Sitting.{IsAt, IsBoard};
+ghost use Rattle.shared_account.specs.Turns.{HasTicketOut};
 ghost use Rattle.shared_account.specs.declared.board.Stage.TheVariants.{Idles};
 ghost use Rattle.shared_account.specs.declared.fault.CloseFault.TheVariants as close;
 
@@ -39,6 +41,9 @@ pub(crate) fn close_board(
     ensures merged { IfOk result (λ book. IsMerged book.history book.own) }
     ensures seats { (result ≡ Err close.Seats)
         ↔ (are_all count (map (λ seat. seat.place.number) seats.items) ≡ false) }
+    ensures mismatch { result ≡ Err close.Mismatch → HasTicketOut
+        ⊎ IsMismatch start.opening start.until start.limit
+        (map (λ seat. seat.place.mine) seats.items) }
 {
     if !are_all(count, seats.as_slice()) {
         return Err(CloseFault::Seats);
@@ -62,6 +67,7 @@ fn unseat(
         All (λ seat. IsPrefix seat.view.history made.0.history) seats.items) }
     ensures places { IfOk result (λ made. made.1.items ≡ map (λ seat. seat.place) seats.items) }
     ensures fault { result ≢ Err close.Seats }
+    ensures mismatch { result ≡ Err close.Mismatch → HasTicketOut }
 {
     let (chair, places) = gather(alloc, &board, seats)?;
     match clear(board, chair) {
@@ -123,8 +129,7 @@ fn hear_all(
     chair: &mut Chair,
     seats: Vec<TurnSeat>,
 ) -> Result<Vec<Seat>, AllocError>
-    requires words { board.now.shared.table_id.words ≡ 3 }
-    requires table { chair.old.table_id ≡ board.now.shared.table_id }
+    requires at { IsAt board.now.shared.table_id chair.old.table_id }
     requires idle { chair.old.me.0.stage ≡ Idles }
     requires tables { All (λ seat. seat.table ≡ board.now.shared.table_id) seats.items }
     ensures table { chair.new.table_id ≡ chair.old.table_id }
@@ -143,8 +148,7 @@ fn hear_all(
 
 /// Lets a chair hear what a seat has seen, and keeps the seat's place.
 fn hear_one(board: &Board, chair: &mut Chair, seat: TurnSeat) -> Seat
-    requires words { board.now.shared.table_id.words ≡ 3 }
-    requires table { chair.old.table_id ≡ board.now.shared.table_id }
+    requires at { IsAt board.now.shared.table_id chair.old.table_id }
     requires idle { chair.old.me.0.stage ≡ Idles }
     requires same { seat.table ≡ board.now.shared.table_id }
     ensures table { chair.new.table_id ≡ chair.old.table_id }
@@ -165,10 +169,10 @@ fn hear_one(board: &Board, chair: &mut Chair, seat: TurnSeat) -> Seat
 
 /// The account that a board had in its slot, where each ticket that was drawn was served.
 fn clear(board: Board, chair: Chair) -> Option<Account>
-    requires words { board.shared.table_id.words ≡ 3 }
+    requires at { IsAt board.shared.table_id chair.table_id }
     requires slots { board.shared.table_id.slots ≡ 1 }
-    requires table { chair.table_id ≡ board.shared.table_id }
-    ensures { IfSome result (λ account. IsPrefix chair.me.0.seen.history account.history) }
+    ensures seen { IfSome result (λ account. IsPrefix chair.me.0.seen.history account.history) }
+    ensures out { IsNone result → HasTicketOut }
 {
     let mut closed = board.close_with(chair);
     let is_over = closed.word(TICKET) == closed.word(SERVING);

@@ -23,10 +23,10 @@ pub struct TurnSeat {
 }
 
 impl Model for TurnSeat {
-    ghost use Rattle.shared_account.specs.Sights.{Sight};
+    ghost use Rattle.shared_account.specs.TurnViews.{TurnSeatView};
     ghost use Rattle.shared_account.specs.Sitting.{IsSitting};
 
-    ghost Value = { Sight };
+    ghost Value = { TurnSeatView };
 
     ghost view = { λ s. record { table = s.chair.table_id; place = s.seat; view = s.chair.me.0.seen } };
 

@@ -4,7 +4,7 @@ ghost use Rattle.std.specs.Prelude.{◌≡◌, ◌≤◌};
 
 use crate::forms::{
     Answer, Form, close, credit, credit_until, credited, granted, plan, reserve, reserve_at,
-    returned, settled, two_seats,
+    returned, settled, two_seats, two_seats_within,
 };
 use account_core::{Account, AccountFault, CallSum, Fate, Op, Port, Reply};
 use shared_account::{Book, CloseFault, Gate, OpenGate, SharedAccount, SharedPort, TurnAccount};
@@ -91,12 +91,15 @@ fn book_of<S: Form, R: Abort + Wait>(
     alloc: Global,
     opening: u64,
     until: Option<u64>,
+    limit: u32,
     rows: &[Row],
     made: (usize, usize),
 ) -> Result<Book, Fail>
     requires { opening ≤ MAX_MONEY }
 {
-    let (account, mut first, mut second) = two_seats::<S, R>(rt, alloc, 1, opening, until)?;
+    let (account, mut first, mut second) = two_seats_within::<S, R>(
+        rt, alloc, 1, opening, until, limit,
+    )?;
     for (seat, gate, op, want) in rows {
         let answer = ask_one(rt, &account, &mut first, &mut second, *seat, *op, *gate);
         assert_eq!(rt; answer, *want, "at {op:?}");
@@ -121,6 +124,18 @@ fn return_of(call: u64) -> Op {
 fn sum(call: u64, paid: u64, fate: Fate) -> CallSum {
     CallSum { call, paid, fate }
 }
+
+/// An opening, a last moment and a limit; what is asked, how many entries each seat makes, the credit
+/// that is left, and what the calls come to.
+type Run<'a> = (
+    u64,
+    Option<u64>,
+    u32,
+    &'a [Row],
+    (usize, usize),
+    u64,
+    &'a [CallSum],
+);
 
 /// Asks accounts of a form in turn, and compares the books and what they sum up to.
 fn sums_up<S: Form, R: Abort + Wait>(rt: &R, alloc: Global) -> Result<(), Fail> {
@@ -153,6 +168,28 @@ fn sums_up<S: Form, R: Abort + Wait>(rt: &R, alloc: Global) -> Result<(), Fail> 
         (1, open, return_of(1), Err(AccountFault::NotOpen)),
         (1, open, credit(0), Err(AccountFault::OutOfRange)),
         (1, open, credit(1), credited(101)),
+        (
+            1,
+            open,
+            credit(MAX_MONEY),
+            Ok(Reply::CreditOver { available: 101 }),
+        ),
+        (0, open, credit(1), credited(102)),
+    ];
+    let full = Err(AccountFault::HistoryFull);
+    let filled = [
+        (0, open, reserve(1, x), granted(600, false, 450)),
+        (1, open, settle(2, 300), Err(AccountFault::NotOpen)),
+        (1, open, reserve(2, x), full),
+        (1, open, credit(1), credited(451)),
+        (0, open, settle(1, 300), settled(550, 451)),
+        (1, open, credit(1), credited(452)),
+        (1, open, credit(1), full),
+        (1, open, return_of(1), returned(550, 952)),
+        (0, open, reserve(1, x), Err(AccountFault::CallUsed)),
+        (0, open, return_of(1), Err(AccountFault::NotOpen)),
+        (0, open, credit(0), Err(AccountFault::OutOfRange)),
+        (0, open, reserve(3, x), full),
     ];
     let expired = [
         (0, open, reserve_at(1, x, 1000), granted(600, false, 450)),
@@ -170,18 +207,20 @@ fn sums_up<S: Form, R: Abort + Wait>(rt: &R, alloc: Global) -> Result<(), Fail> 
     let held = [sum(1, 0, Fate::Holding), sum(2, 0, Fate::Holding)];
     let over = [sum(5, 950, Fate::Forfeit), sum(7, 550, Fate::Returned)];
     let kept = [sum(1, 550, Fate::Returned), sum(2, 0, Fate::Holding)];
-    let runs: [(u64, Option<u64>, &[Row], (usize, usize), u64, &[CallSum]); 4] = [
-        (1500, None, &holding, (1, 1), 0, &held),
-        (1500, None, &ended, (4, 3), 0, &over),
-        (100, None, &refused, (0, 1), 101, &[]),
-        (1500, Some(1000), &expired, (3, 3), 501, &kept),
+    let one = [sum(1, 550, Fate::Returned)];
+    let runs: [Run; 5] = [
+        (1500, None, 100, &holding, (1, 1), 0, &held),
+        (1500, None, 100, &ended, (4, 3), 0, &over),
+        (100, None, 100, &refused, (1, 2), 102, &[]),
+        (1500, None, 5, &filled, (2, 3), 952, &one),
+        (1500, Some(1000), 100, &expired, (3, 3), 501, &kept),
     ];
-    for (opening, until, rows, made, available, calls) in runs {
+    for (opening, until, limit, rows, made, available, calls) in runs {
         assert!(rt; opening <= MAX_MONEY);
-        let book = book_of::<S, R>(rt, alloc, opening, until, rows, made)?;
+        let book = book_of::<S, R>(rt, alloc, opening, until, limit, rows, made)?;
         assert_eq!(rt;
             (book.account(), book.opening(), book.until(), book.limit()),
-            (1, opening, until, 100)
+            (1, opening, until, limit)
         );
         assert_eq!(rt; book.own().len(), 2);
         let summary = book.summary(alloc)?;

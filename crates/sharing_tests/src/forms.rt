@@ -29,7 +29,7 @@ impl Form for TurnAccount {
     }
 }
 
-/// An account with two seats.
+/// An account with two seats, and room for 100 entries.
 pub(crate) fn two_seats<S: Form, R: Abort>(
     rt: &R,
     alloc: Global,
@@ -41,7 +41,23 @@ pub(crate) fn two_seats<S: Form, R: Abort>(
     ensures first { IfOk result (λ made. S.key_of made.1 ≡ S.key made.0) }
     ensures second { IfOk result (λ made. S.key_of made.2 ≡ S.key made.0) }
 {
-    let (account, mut seats) = S::new(rt, alloc, number, opening, until, 100, 2)?;
+    two_seats_within(rt, alloc, number, opening, until, 100)
+}
+
+/// An account with two seats, and room for so many entries.
+pub(crate) fn two_seats_within<S: Form, R: Abort>(
+    rt: &R,
+    alloc: Global,
+    number: u32,
+    opening: u64,
+    until: Option<u64>,
+    limit: u32,
+) -> Result<(S, S::Seat, S::Seat), Fail>
+    requires { opening ≤ MAX_MONEY }
+    ensures first { IfOk result (λ made. S.key_of made.1 ≡ S.key made.0) }
+    ensures second { IfOk result (λ made. S.key_of made.2 ≡ S.key made.0) }
+{
+    let (account, mut seats) = S::new(rt, alloc, number, opening, until, limit, 2)?;
     let second = seats.pop().expect(rt, "two seats");
     let first = seats.pop().expect(rt, "two seats");
     assert_eq!(rt; S::told(&first), (number, 0, 0));

@@ -1,4 +1,4 @@
-//! Accounts that are handed on by turns: seats that meet, and seats that wait.
+//! Accounts that are handed on by turns: seats that meet, and seats that wait at the door.
 
 ghost use Rattle.std.specs.Prelude.{◌≡◌};
 
@@ -122,7 +122,7 @@ fn credit_both<R: Threads + Wait + Sync, G: Gate + Sync>(
 }
 
 #[test]
-fn wakes_who_waits_for_a_turn(rt: HostRuntime) -> Result<(), Fail> {
+fn lets_one_thread_in_at_a_time(rt: HostRuntime) -> Result<(), Fail> {
     let (account, first, second) = two_seats::<TurnAccount, _>(&rt, rt.alloc(), 1, 0, None)?;
     let (first, second) = credit_both(&rt, &account, first, second, 50, &SlowGate);
     assert_eq!(rt; (first.mine().len(), second.mine().len()), (50, 50));

@@ -94,11 +94,12 @@ impl Seat {
         places_go_with_entries();
         let seat = self.number;
         let op = admitted.op();
-        let before = keep_stage(&mut self.stages, call)?;
+        let stage = self.stages.entry(call)?.or_insert(CallStage::Fresh);
+        let before = *stage;
         make_room(&mut self.mine, self.owed + before.needed(&op))?;
         let reply = account.enter(seat, admitted)?;
         let after = before.after(op, reply);
-        renew_stage(&mut self.stages, call, after);
+        *stage = after;
         let places = self.owed + after.owed() - before.owed();
         self.mine.push_reserved(Entry { seat, op, reply });
         self.owed = places;
@@ -114,25 +115,4 @@ fn make_room(mine: &mut Vec<Entry>, places: usize) -> Result<(), AllocError>
     ensures enough { vec_len mine.old + places ≤ vec_capacity mine.old → IsOk result }
 {
     mine.try_reserve(places)
-}
-
-/// The stage of a call, which is kept from now on. Only a call that is new takes memory.
-fn keep_stage(stages: &mut BTreeMap<u64, CallStage>, call: u64) -> Result<CallStage, AllocError>
-    ensures stage { IfOk result (λ stage.
-        stage ≡ unwrap_or (get nat_cmp stages.old call) CallStage.Fresh) }
-    ensures ok { IfOk result (λ stage. Updates nat_cmp stages.old stages.new call (Some stage)) }
-    ensures unchanged { OnErr result (IsUnchanged stages.old stages.new) }
-    ensures new { OnErr result (get nat_cmp stages.old call ≡ None) }
-{
-    Ok(*stages.entry(call)?.or_insert(CallStage::Fresh))
-}
-
-/// Renews the stage of a call that is kept.
-fn renew_stage(stages: &mut BTreeMap<u64, CallStage>, call: u64, stage: CallStage)
-    requires { IsSome (get nat_cmp stages.old call) }
-    ensures { Updates nat_cmp stages.old stages.new call (Some stage) }
-{
-    if let Some(kept) = stages.get_mut(&call) {
-        *kept = stage;
-    }
 }

@@ -1,5 +1,5 @@
 use Rattle.std.proofs.Common.{◌≡◌, ◌∷◌, []}
-use Rattle.shared_account.specs.Sights.{fresh_sights}
+use Rattle.shared_account.specs.TurnViews.{fresh_turn_seats}
 use Rattle.shared_account.specs.Views.{first_view}
 use Rattle.shared_account.proofs.opening.make_seats.Given as goal
 
@@ -14,5 +14,5 @@ invariant-loop-number l =
         place = record { account = l.account; number = 0; mine = [] };
         view = record { opening = start.opening; until = start.until; limit = start.limit; history = [] };
       } ∷ l.made.items
-          ≡ fresh_sights l.initial.first.table_id (record { number = l.account; opening = start.opening; until = start.until; limit = start.limit; seats = l.count }) l.number;
+          ≡ fresh_turn_seats l.initial.first.table_id (record { number = l.account; opening = start.opening; until = start.until; limit = start.limit; seats = l.count }) l.number;
     }

@@ -1,7 +1,7 @@
 use Rattle.std.proofs.Common.{◌≡◌, [], List, map, true, refl, sym, ap, subst}
 use Rattle.std.proofs.lemmas.List.Elements.{All-same}
 use Rattle.std.proofs.lemmas.Result.{IfOk-weaker}
-use Rattle.shared_account.specs.Seats.{Place, are_all}
+use Rattle.shared_account.specs.Seats.{SeatView, are_all}
 use Rattle.shared_account.proofs.Numbering.{both_ok, fresh_are_all, fresh_each}
 use Rattle.shared_account.proofs.sharing.SharedAccountShared.new.Goals as goal
 
@@ -14,7 +14,7 @@ returns-clause-keys g c =
 
 pub returns-clause-numbers : goal.returns-clause-numbers
 returns-clause-numbers g c =
-    let P : List Place → Type 0 = λ places. are_all c.args.seats (map (λ place. place.number) places) ≡ true in
+    let P : List SeatView → Type 0 = λ places. are_all c.args.seats (map (λ place. place.number) places) ≡ true in
     IfOk-weaker c.new.result _ _ (λ made items. subst P (sym items) (fresh_are_all c.args.number c.args.seats)) c.new.ensures.seats
 
 pub returns-clause-empty : goal.returns-clause-empty
