@@ -1,5 +1,5 @@
 -- What a seat of a turn account keeps through a call, and through a meeting.
-use Rattle.std.proofs.Common.{◌≡◌, ◌⊎◌, ℕ, List, [], ◌∷◌, ◌++◌, Result, Ok, Err, length, map, refl, sym, ap, ◌∙◌, arith, subst, inl, inr}
+use Rattle.std.proofs.Common.{◌≡◌, ◌⊎◌, ℕ, List, [], ◌∷◌, ◌++◌, Result, Ok, Err, length, map, refl, sym, ap, ◌∙◌, append_assoc, arith, subst, inl, inr}
 use Rattle.std.specs.Prelude.{All, IfOk, OnErr, max, slice_index_or}
 use Rattle.std.proofs.lemmas.List.{length-map}
 use Rattle.std.proofs.lemmas.List.Elements.{All-push}
@@ -12,7 +12,7 @@ use Rattle.account_core.specs.declared.entry.Reply.{Reply}
 use Rattle.account_core.specs.declared.fault.AccountFault.{AccountFault}
 use Rattle.shared_account.specs.Own.{own}
 use Rattle.shared_account.specs.Plays.{HasMet, IsLater, Sitter, with_entry}
-use Rattle.shared_account.specs.Prefixes.{IsPrefix}
+use Rattle.shared_account.specs.Prefixes.{EndsWith, IsPrefix}
 use Rattle.shared_account.specs.Seats.{Place}
 use Rattle.shared_account.specs.Sights.{Sight}
 use Rattle.shared_account.specs.Sitting.{IsSitting}
@@ -69,6 +69,19 @@ pub rests_after : (me : Sitter) (before after : View) (seat : Place) → me ≡ 
     → IsPrefix before.seen.history me.0.seen.history × (own seat.number me.0.seen.history ≡ seat.mine)
 rests_after me before after seat rests gone =
     subst (λ (m : Sitter). IsPrefix before.seen.history m.0.seen.history × (own seat.number m.0.seen.history ≡ seat.mine)) (sym rests) (gone.begins, gone.own)
+
+-- after a call with a reply it sees what it saw, perhaps more, and then the call's entry
+pub ended : (before here after : View) (account : Ledger) (me : Sitter) (number : ℕ) (asked : Asked) (told : Result Reply AccountFault) → IsLater before here → account ≡ here.seen
+    → IfOk told (λ reply. after ≡ seeing here (with_entry account (event_by number asked reply))) → me ≡ (at_stage after Idles, [])
+    → IfOk told (λ reply. EndsWith before.seen.history (event_by number asked reply) me.0.seen.history)
+ended before here after account me number asked (Err why) later held entered rests = tt
+ended before here after account me number asked (Ok reply) later held entered rests =
+    let last : List Event = event_by number asked reply ∷ [] in
+    record {
+      between = later.begins.rest;
+      is = ap (λ (m : Sitter). m.0.seen.history) rests ∙ (ap (λ (v : View). v.seen.history) entered ∙ (ap (λ (a : Ledger). a.history ++ last) held
+          ∙ (ap (λ (h : List Event). h ++ last) later.begins.is ∙ append_assoc before.seen.history later.begins.rest last)));
+    }
 
 -- ---- a meeting
 

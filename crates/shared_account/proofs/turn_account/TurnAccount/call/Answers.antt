@@ -1,9 +1,11 @@
 use Rattle.std.proofs.Common.{◌≡◌, subst}
+use Rattle.std.specs.Prelude.{IfOk}
 use Rattle.account_core.specs.Events.{asked_of}
+use Rattle.account_core.specs.Ledger.{event_by}
 use Rattle.shared_account.specs.Own.{own}
-use Rattle.shared_account.specs.Prefixes.{IsPrefix}
+use Rattle.shared_account.specs.Prefixes.{EndsWith, IsPrefix}
 use Rattle.shared_account.specs.Sights.{Sight}
-use Rattle.shared_account.proofs.Calls.{HasGone, gone, rests_after, sits}
+use Rattle.shared_account.proofs.Calls.{HasGone, ended, gone, rests_after, sits}
 use Rattle.shared_account.proofs.turn_account.TurnAccount.call.Given.{Over}
 use Rattle.shared_account.proofs.turn_account.TurnAccount.call.Goals as goal
 
@@ -31,3 +33,12 @@ returns-clause-begins g c =
 
 pub returns-clause-own : goal.returns-clause-own
 returns-clause-own g c = (rested g c).1
+
+pub returns-clause-ends : goal.returns-clause-ends
+returns-clause-ends g c =
+    let turn = c.take_turn-account in
+    let E : Sight → Type 0 = λ s. IfOk c.enter-result.result
+    (λ reply. EndsWith s.view.history (event_by s.place.number (asked_of c.args.op) reply) c.give_turn.new.chair.me.0.seen.history) in
+    subst E c.seat.view_is
+    (ended c.seat.inside.chair.me.0 turn.new.chair.me.0 c.enter-result.new.chair.me.0 turn.result c.give_turn.new.chair.me c.seat.inside.seat.number (asked_of c.args.op)
+    c.enter-result.result turn.ensures.later turn.ensures.account c.enter-result.ensures.entered c.give_turn.ensures.idle)
