@@ -1,7 +1,6 @@
 -- What an account keeps beside its entries.
-use Rattle.std.specs.Prelude.{◌≡◌, ◌+◌, ◌≤◌, ℕ, Option, List, Bool, Some, false, true, length, unwrap_or}
-use Rattle.std.specs.BTreeMap.{BTreeMap, get}
-use Rattle.std.specs.Ordering.{nat_cmp}
+use Rattle.std.specs.Prelude.{◌≡◌, ◌+◌, ◌≤◌, ℕ, Option, List, Bool, Some, false, true, length, nat_eq, unwrap_or}
+use Rattle.std.specs.HashMap.{HashMap, get}
 use Rattle.account_core.specs.Answers.{IsLegalPast}
 use Rattle.account_core.specs.Available.{available, credits}
 use Rattle.account_core.specs.Events.{Event}
@@ -34,11 +33,11 @@ known_of (Reported held) = held_of held false false
 known_of (Over held) = held_of held true false
 
 -- the map has for each call what the history says of it
-abbrev pub TellsEach : BTreeMap ℕ CallState → List Event → Type 0
-TellsEach states h = (call : ℕ) → known_of (unwrap_or (get nat_cmp states call) Fresh) ≡ known call h
+abbrev pub TellsEach : {S : Type 0} → HashMap ℕ CallState S → List Event → Type 0
+TellsEach states h = (call : ℕ) → known_of (unwrap_or (get nat_eq states call) Fresh) ≡ known call h
 
 -- the history is legal and within its limit, with a place for each that is owed, in memory too, and the map, the totals and the last moment are those of the history
-pub record IsKept (opening : ℕ) (until : Option ℕ) (limit : ℕ) (h : List Event) (states : BTreeMap ℕ CallState) (funds credit : ℕ) (last : Option ℕ) (places capacity : ℕ) : Type 0 where
+pub record IsKept {S : Type 0} (opening : ℕ) (until : Option ℕ) (limit : ℕ) (h : List Event) (states : HashMap ℕ CallState S) (funds credit : ℕ) (last : Option ℕ) (places capacity : ℕ) : Type 0 where
   pub small : opening ≤ MAX_MONEY
   pub legal : IsLegalPast opening until h
   pub within_limit : length h + places ≤ limit

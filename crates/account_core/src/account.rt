@@ -21,7 +21,7 @@ use crate::judging::{judge, reply};
 use crate::laws::legal_pasts_are_sound;
 use crate::{AccountFault, Admitted, Entry, Op, Reply};
 use std::alloc::{AllocError, Global};
-use std::collections::BTreeMap;
+use std::collections::HashMap;
 use std::marker::Model;
 use tariff_core::MAX_MONEY;
 
@@ -34,7 +34,7 @@ use tariff_core::MAX_MONEY;
 #[derive(Drop)]
 pub struct Account {
     entries: Vec<Entry>,
-    calls: BTreeMap<u64, CallState>,
+    calls: HashMap<u64, CallState>,
     opening: u64,
     until: Option<u64>,
     limit: u32,
@@ -73,7 +73,7 @@ impl Account {
     {
         Account {
             entries: Vec::new(alloc),
-            calls: BTreeMap::new(alloc),
+            calls: HashMap::new(alloc),
             opening,
             until,
             limit,

@@ -45,7 +45,9 @@ fn short_decimal(text: &[u8]) -> Option<u64>
     Some(number)
 }
 
-/// What `decimal` gives of any text.
+/// What `decimal` gives of any text. It stands apart, so that a short text needs no registers for it.
+#[cold]
+#[inline(never)]
 #[tactic(auto, unfolding(crate::specs::Decimals::decimal_of))]
 fn long_decimal(text: &[u8], most: u64) -> Option<u64>
     ensures value { result ≡ decimal_of most text.now }

@@ -1,8 +1,7 @@
 //! Entries, and what is kept beside them.
 
-ghost use Rattle.std.specs.Prelude.{◌≡◌, ◌+◌, ◌≤◌, ◌++◌, ◌∷◌, [], None, Some, reverse, vec_capacity, vec_len, IsOk, OnErr, OnOk};
-ghost use Rattle.std.specs.BTreeMap.{IsUnchanged, Updates, get};
-ghost use Rattle.std.specs.Ordering.{nat_cmp};
+ghost use Rattle.std.specs.Prelude.{◌≡◌, ◌+◌, ◌≤◌, ◌++◌, ◌∷◌, [], None, Some, nat_eq, reverse, vec_capacity, vec_len, IsOk, OnErr, OnOk};
+ghost use Rattle.std.specs.HashMap.{IsUnchanged, Updates, get};
 ghost use Rattle.account_core.specs.Asked.{IsCredit, IsOfCall, call_of};
 ghost use Rattle.account_core.specs.Events.{asked_of, event_of};
 ghost use Rattle.account_core.specs.Kept.{known_of};
@@ -13,7 +12,7 @@ ghost use Rattle.account_core.specs.Places.{IsClosing};
 use crate::call_state::CallState;
 use crate::{Account, Entry, Op};
 use std::alloc::AllocError;
-use std::collections::BTreeMap;
+use std::collections::HashMap;
 
 impl Account {
     /// Keeps an answered operation, with what was known of its call before. Room for it, and for
@@ -88,13 +87,13 @@ fn make_room(entries: &mut Vec<Entry>, places: usize) -> Result<(), AllocError>
 
 /// Keeps what is known of a call. Only a call that is new takes memory.
 fn keep_state(
-    calls: &mut BTreeMap<u64, CallState>,
+    calls: &mut HashMap<u64, CallState>,
     call: u64,
     state: CallState,
 ) -> Result<(), AllocError>
-    ensures ok { OnOk result (Updates nat_cmp calls.old calls.new call (Some state)) }
+    ensures ok { OnOk result (Updates nat_eq calls.old calls.new call (Some state)) }
     ensures kept { OnErr result (IsUnchanged calls.old calls.new) }
-    ensures new { OnErr result (get nat_cmp calls.old call ≡ None) }
+    ensures new { OnErr result (get nat_eq calls.old call ≡ None) }
 {
     calls.insert(call, state)?;
     Ok(())

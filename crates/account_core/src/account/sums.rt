@@ -4,21 +4,35 @@ ghost use Rattle.std.specs.Prelude.{◌≡◌, ◌++◌, OnOk, IfOk, option_to_l
 ghost use Rattle.std.specs.BTreeMap.{IsOrdered};
 ghost use Rattle.std.specs.Ordering.{nat_cmp};
 ghost use Rattle.account_core.specs.Kept.{known_of};
-ghost use Rattle.account_core.specs.Sums.{AreSums, sum_of, sums_told};
+ghost use Rattle.account_core.specs.Sums.{AreSums, HasStates, sum_of, sums_told};
 
 use crate::call_state::CallState;
 use crate::{Account, CallSum, Fate};
 use std::alloc::{AllocError, Global};
-use std::collections::BTreeMap;
+use std::collections::{BTreeMap, HashMap};
 
 impl Account {
     /// The calls that were granted anything, by rising number, with what each has paid so far and
-    /// how it stands. The calls are listed in the time that it takes to read them.
+    /// how it stands. The calls are sorted first.
     pub fn sums(&self, alloc: Global) -> Result<Vec<CallSum>, AllocError>
         ensures { IfOk result (λ sums. AreSums (reverse self.now.history) sums.items) }
     {
-        list_sums(alloc, &self.calls)
+        let calls = in_order(alloc, &self.calls)?;
+        list_sums(alloc, &calls)
     }
+}
+
+/// The states by rising number of their calls.
+fn in_order(
+    alloc: Global,
+    calls: &HashMap<u64, CallState>,
+) -> Result<BTreeMap<u64, CallState>, AllocError>
+    ensures { IfOk result (HasStates calls.now) }
+{
+    calls
+        .iter()
+        .map(|(call, state)| (*call, *state))
+        .collect(alloc)
 }
 
 /// What each state comes to, by rising number.
