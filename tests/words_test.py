@@ -2,8 +2,9 @@
 """Holds the words together: the man page, the completions and the help against docs/FORMATS.md.
 
 tests/words_test.py [--program FILE] compares commands, options, ranges, what is left out, and the lines and kinds of
-faults, and runs the examples of the man page. The version that is printed is the day of the changelog's newest section,
-with the kit that `rt version` names where that is at hand.
+faults, and runs the examples of the man page. It tries each number at the ends of its range and one past them, and each
+option that may be left out beside what it is then. The version that is printed is the day of the changelog's newest
+section, with the kit that `rt version` names where that is at hand.
 """
 import argparse
 import os
@@ -18,6 +19,36 @@ VERSION = {"-V", "--version"}
 # Kinds of a tariff's faults that the program tells as those of a run.
 OF_RUN = {"Device", "OutOfMemory"}
 PARTS = r"(reports|ops|setup|script|book) row"
+
+TARIFF = "prefix,from,fee,rate\n49,00:00,50,1000\n"
+
+
+def call(answer):
+    """The input of a run with one call, which is answered at this moment."""
+    return (f"{TARIFF}%%\nkind,key,value\naccount,7,5000\nsubscriber,491700001,7\n%%\nmoment,call,what,x,y\n"
+            f"0,1,start,491700001,4930\n{answer},1,answer,,\n900,1,disconnect,1,\n")
+
+
+# Of each command the words that it needs, and an input.
+NEEDS = {
+    "price": ({"--fee": "50", "--before": "1000"}, "before,after\n600,0\n"),
+    "replay": ({"--opening": "5000"}, "seat,op,call,x1,x2,x3,x4,x5\n" + "0,reserve,1,50,1000,,600,50\n0,settle,1,0,n,600,,\n" * 2),
+    "quote": ({"--called": "4930", "--at": "0"}, TARIFF),
+    "run": ({}, call(10)),
+}
+# Options that may be left out: words beside one, an input, and a word that gives another answer than what the option is
+# then.
+LEFT_OUT = [
+    ("price", "--free", [], NEEDS["price"][1], "1"),
+    ("replay", "--limit", [], NEEDS["replay"][1], "3"),
+    ("run", "--wanted", ["--book"], call(10), "601"),
+    ("run", "--least", ["--book"], call(10), "51"),
+    ("run", "--tssf", ["--delay", "100", "--tccd", "100", "--least", "100"], call(200), "101"),
+    ("run", "--tssf", ["--delay", "99", "--tccd", "99", "--least", "99"], call(200), "99"),
+    ("run", "--tccd", ["--least", "49"], call(10), "49"),
+    ("run", "--delay", [], call(2), "3"),
+    ("run", "--delay", [], call(1), "1"),
+]
 
 
 def cells(line):
@@ -184,6 +215,47 @@ def version_faults(program):
     return [] if told == wanted else [f"version: {told!r} in place of {wanted!r}"]
 
 
+def answer(program, name, words, text, option=None, value=None):
+    """What a command with the words that it needs says to an input: its status, what it prints, and its fault."""
+    needed = [it for pair in NEEDS[name][0].items() if pair[0] != option for it in pair]
+    given = [option, value] if value is not None else []
+    ran = subprocess.run([program, name, *needed, *words, *given], input=text, capture_output=True, text=True)
+    return ran.returncode, ran.stdout, ran.stderr
+
+
+def ends_of(allowed, defaults):
+    """The least and the greatest number of a range; the name of an option stands for what that is where it is left out."""
+    least, most = re.search(r"(\S+) to (\S+)$", allowed.replace("`", "")).groups()
+
+    def number(word):
+        base, _, power = defaults.get(("run", "--" + word), word).partition("^")
+        return int(base) ** int(power or 1)
+
+    return number(least), number(most)
+
+
+def range_faults(program, values):
+    """Where the program takes other numbers than the formats say, or takes an option that is left out for another."""
+    faults, defaults = [], {it: left for it, (_, left) in values.items() if left}
+    for (name, option), (allowed, _) in values.items():
+        if option in ("--called", "--default"):
+            continue
+        least, most = ends_of(allowed, defaults)
+        for value in [least - 1, least, most, most + 1][least == 0 :]:
+            status, _, fault = answer(program, name, [], NEEDS[name][1], option, str(value))
+            if (status != 0) != (value < least or value > most):
+                faults.append(f"{name} {option} {value}: status {status} {fault!r}")
+    # how many workers there are, and what becomes of a call without orders, change no answer
+    tried = {(name, option) for name, option, *_ in LEFT_OUT} | {("run", "--workers"), ("run", "--default")}
+    faults += [f"{it}: not tried" for it in defaults if it not in tried]
+    for name, option, words, text, other in LEFT_OUT:
+        is_left = defaults[name, option]
+        left, same, changed = (answer(program, name, words, text, option, value) for value in (None, is_left, other))
+        if left != same or left == changed:
+            faults.append(f"{name} {option}: left out it isn't {is_left}, or is {other} as well")
+    return faults
+
+
 def examples_of(text):
     """Each example of the man page: its command line, and what it prints."""
     found = []
@@ -208,7 +280,7 @@ def main():
     of_bash, of_zsh = said_in_bash("completions/prepaid.bash", set(commands)), said_in_zsh("completions/_prepaid")
     defaults = {it: left for it, (_, left) in values.items() if left}
     words = {("run", "--default"): values["run", "--default"][0]}
-    faults = version_faults(program)
+    faults = version_faults(program) + range_faults(program, values)
 
     def same(where, what, found, wanted):
         if found != wanted:

@@ -58,11 +58,12 @@ fn tells_a_failed_input(rt: HostRuntime) -> Result<(), Fail> {
     Ok(())
 }
 
-/// A writer that takes some bytes and then fails.
+/// A writer that takes some bytes and then fails, and that may fail to pass them on.
 #[derive(Drop)]
 pub(crate) struct Full {
     pub room: usize,
     pub taken: usize,
+    pub flushes: bool,
 }
 
 impl Write for Full {
@@ -77,7 +78,11 @@ impl Write for Full {
     }
 
     fn flush(&mut self) -> io::Result<()> {
-        Ok(())
+        if self.flushes {
+            Ok(())
+        } else {
+            Err(io::Error::from(ErrorKind::Other))
+        }
     }
 }
 
@@ -85,20 +90,28 @@ impl Write for Full {
 fn tells_a_failed_output_by_its_status_alone(rt: HostRuntime) -> Result<(), Fail> {
     let reports: &[u8] = b"before,after\n3,0\n";
     let whole = b"debit 55 total 55\ntotal 55\n".len();
-    for room in 0..=whole {
-        let mut output = Full { room, taken: 0 };
+    for (room, flushes) in (0..=whole).map(|room| (room, true)).chain([(whole, false)]) {
+        let mut output = Full {
+            room,
+            taken: 0,
+            flushes,
+        };
         let mut faults = Vec::new(rt.alloc());
         let status = run(&rt, PRICE, reports, &mut output, &mut faults)?;
         assert_eq!(rt;
             status,
-            if room < whole { 2 } else { 0 },
-            "with room for {room}"
+            if room < whole || !flushes { 2 } else { 0 },
+            "with room for {room}, which it passes on: {flushes}"
         );
         assert_eq!(rt; (output.taken, faults.len()), (room, 0));
     }
     for room in 0..10 {
         let mut output = Vec::new(rt.alloc());
-        let mut faults = Full { room, taken: 0 };
+        let mut faults = Full {
+            room,
+            taken: 0,
+            flushes: true,
+        };
         let nothing: &[u8] = b"";
         let status = run(&rt, PRICE, nothing, &mut output, &mut faults)?;
         assert_eq!(rt; (status, output.len()), (1, 0), "with room for {room}");
