@@ -49,7 +49,7 @@ median() { # NUMBER NUMBER NUMBER
 }
 
 echo "operations a second, the median of 3 runs, on $(nproc) processors"
-printf '%8s %8s %8s' operations accounts threads
+printf '%10s %8s %8s' operations accounts threads
 printf ' %10s' $forms
 echo
 for mix in credits calls; do
@@ -60,7 +60,7 @@ for mix in credits calls; do
                     rate "$form" "$mix" "$threads" "$accounts" >> "$work/$form.$mix.$accounts.$threads"
                 done
             done
-            printf '%8s %8s %8s' "$mix" "$accounts" "$threads"
+            printf '%10s %8s %8s' "$mix" "$accounts" "$threads"
             for form in $forms; do
                 printf ' %10s' "$(median $(cat "$work/$form.$mix.$accounts.$threads"))"
             done
