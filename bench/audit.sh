@@ -15,24 +15,24 @@ function row(text) {
     print text
 }
 BEGIN {
-    row("account,seat,op,call,x1,x2,x3,x4,x5,reply,y1,y2,y3")
+    row("account,seat,op,call,x1,x2,x3,x4,x5,x6,x7,reply,y1,y2,y3")
     for (a = 0; a < accounts; a++) {
-        row(a ",,opening,,100000,,,,,,,,")
+        row(a ",,opening,,100000,,,,,,,,,,")
         left[a] = 100000
     }
     for (first = 1; ; first += accounts) {
         for (a = 0; a < accounts; a++) {
             left[a] -= 1050
-            row(a "," a % 16 ",reserve," first + a ",50,1000,400,600,50,granted,600,more," left[a])
+            row(a "," a % 16 ",reserve," first + a ",50,1000,400,600,50,0," first ",granted,600,more," left[a])
         }
         for (a = 0; a < accounts; a++) {
             time = 1 + (first + a) * 7 % 600
             paid[a] = 50 + int((time * 1000 + 599) / 600)
-            row(a "," a % 16 ",settle," first + a "," first ",n," time ",,,settled," paid[a] ",," left[a])
+            row(a "," a % 16 ",settle," first + a "," first ",n," time ",,,,,settled," paid[a] ",," left[a])
         }
         for (a = 0; a < accounts; a++) {
             left[a] += 1050 - paid[a]
-            row(a "," a % 16 ",return," first + a ",,,,,,returned," paid[a] ",," left[a])
+            row(a "," a % 16 ",return," first + a ",,,,,,,,returned," paid[a] ",," left[a])
         }
     }
 }' > "$work/book.csv"

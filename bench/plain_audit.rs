@@ -1,17 +1,19 @@
 //! `audit` without proofs, as a baseline: fields are split at commas, and an entry is judged as it
-//! is read. It reads both versions of books: with a column x6, and without it.
+//! is read. It reads all versions of books: with columns x6 and x7, with x6 alone, and without both.
 mod plain_call;
 
 use plain_call::{Call, MAX_MONEY};
 use std::collections::{BTreeMap, HashMap};
 use std::io::{Read, Write};
 
-/// Where the free units of a reserve stand. The reply stands behind them.
+/// Where the free units of a reserve stand, and its moment. The reply stands behind them.
 const X6: usize = 9;
+const X7: usize = 10;
 
 struct Account {
     funds: u64,
     available: u64,
+    last_moment: Option<u64>,
     calls: HashMap<u64, Call>,
     legal: bool,
 }
@@ -22,6 +24,7 @@ type Reply = (&'static str, Option<u64>, &'static str);
 impl Account {
     fn answer(&mut self, row: &[&str]) -> Option<Reply> {
         let number = |place: usize| row[place].parse::<u64>().unwrap();
+        let maybe = |place: usize| if row[place].is_empty() { None } else { Some(number(place)) };
         if row[2] == "credit" {
             let amount = number(4);
             if amount == 0 {
@@ -32,6 +35,7 @@ impl Account {
             }
             self.funds += amount;
             self.available += amount;
+            self.last_moment = maybe(5).or(self.last_moment);
             return Some(("credited", None, ""));
         }
         let key = number(3);
@@ -41,14 +45,13 @@ impl Account {
                 if wanted == 0 {
                     return None;
                 }
-                let second = if row[6].is_empty() { None } else { Some(number(6)) };
-                let free = if row[X6].is_empty() { 0 } else { number(X6) };
-                let new = Call::new(number(4), number(5), second, free);
+                let late = self.last_moment.is_some_and(|last| maybe(X7).unwrap_or(0) > last);
+                let new = Call::new(number(4), number(5), maybe(6), maybe(X6).unwrap_or(0));
                 let mut call = self.calls.get(&key).copied().unwrap_or(new);
                 if !call.open {
                     return None;
                 }
-                let Some(units) = call.reserve(wanted, least, &mut self.available) else {
+                let Some(units) = call.reserve(wanted, least, late, &mut self.available) else {
                     return Some(("denied", None, ""));
                 };
                 self.calls.insert(key, call);
@@ -56,8 +59,7 @@ impl Account {
             }
             "settle" => {
                 let call = self.calls.get_mut(&key).filter(|call| call.open)?;
-                let interval = if row[7].is_empty() { None } else { Some(number(7)) };
-                let times = call.read(row[5] == "s", number(6), interval);
+                let times = call.read(row[5] == "s", number(6), maybe(7));
                 if call.settle(times) {
                     Some(("settled", Some(call.paid()), ""))
                 } else {
@@ -79,8 +81,8 @@ impl Account {
         }
         let said = self.answer(row);
         let number = |text: &str| text.parse::<u64>().ok();
-        let told = said.is_some_and(|(word, paid, last)| row[10] == word && number(row[11]) == paid && row[12] == last);
-        self.legal = told && number(row[13]) == Some(self.available);
+        let told = said.is_some_and(|(word, paid, last)| row[11] == word && number(row[12]) == paid && row[13] == last);
+        self.legal = told && number(row[14]) == Some(self.available);
     }
 }
 
@@ -89,16 +91,19 @@ fn main() {
     std::io::stdin().read_to_string(&mut input).unwrap();
     let mut accounts: BTreeMap<u32, Account> = BTreeMap::new();
     let mut lines = input.lines();
-    let has_x6 = lines.next().is_some_and(|header| header.contains(",x6,"));
+    let header = lines.next().unwrap_or("");
+    let (x6, x7) = (header.contains(",x6,"), header.contains(",x7,"));
     for line in lines {
-        let mut row = [""; 14];
+        let mut row = [""; 15];
         for (place, field) in line.split(',').enumerate() {
-            row[if place < X6 || has_x6 { place } else { place + 1 }] = field;
+            let left_out = usize::from(place >= X6 && !x6) + usize::from(place >= X6 + usize::from(x6) && !x7);
+            row[place + left_out] = field;
         }
         let number: u32 = row[0].parse().unwrap();
         if row[2] == "opening" {
             let funds = row[4].parse().unwrap();
-            let account = Account { funds, available: funds, calls: HashMap::new(), legal: true };
+            let last_moment = row[5].parse().ok();
+            let account = Account { funds, available: funds, last_moment, calls: HashMap::new(), legal: true };
             accounts.insert(number, account);
         } else {
             accounts.get_mut(&number).unwrap().hear(&row);

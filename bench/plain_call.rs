@@ -51,11 +51,12 @@ impl Call {
         !self.forfeit
     }
 
-    /// Grants units where the money with what it holds covers the least of them; gives the units, or none.
-    pub fn reserve(&mut self, wanted: u64, least: u64, available: &mut u64) -> Option<u64> {
+    /// Grants units where the money with what it holds covers the least of them, and the account's last
+    /// moment isn't over; gives the units, or none.
+    pub fn reserve(&mut self, wanted: u64, least: u64, late: bool, available: &mut u64) -> Option<u64> {
         let money = *available + self.top;
         let units = self.afford(wanted, money);
-        if units < least || units == 0 || self.forfeit {
+        if units < least || units == 0 || self.forfeit || late {
             return None;
         }
         self.granted = self.times.before + self.times.after + units;

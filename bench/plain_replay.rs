@@ -1,5 +1,5 @@
 //! `replay` without proofs, as a baseline: fields are split at commas, and a row is answered as it
-//! is read. It takes the opening as its only word, and a table of ops without the column x7.
+//! is read. It takes the opening as its only word, and a table of ops of any version.
 mod plain_call;
 
 use plain_call::{Call, DAY, MAX_MONEY};
@@ -10,6 +10,7 @@ use std::io::{Read, Write};
 struct Account {
     funds: u64,
     available: u64,
+    last_moment: Option<u64>,
     calls: HashMap<u64, Call>,
 }
 
@@ -32,6 +33,7 @@ impl Account {
             } else {
                 self.funds += amount;
                 self.available += amount;
+                self.last_moment = maybe(4).or(self.last_moment);
                 "credited"
             };
             writeln!(text, "{word} available {}", self.available).unwrap();
@@ -44,12 +46,13 @@ impl Account {
                 if wanted == 0 || wanted > DAY || least > DAY {
                     return Err("OutOfRange");
                 }
+                let late = self.last_moment.is_some_and(|last| maybe(9).unwrap_or(0) > last);
                 let new = Call::new(number(3), number(4), maybe(5), maybe(8).unwrap_or(0));
                 let mut call = self.calls.get(&key).copied().unwrap_or(new);
                 if !call.open {
                     return Err("CallUsed");
                 }
-                match call.reserve(wanted, least, &mut self.available) {
+                match call.reserve(wanted, least, late, &mut self.available) {
                     Some(units) => {
                         self.calls.insert(key, call);
                         let word = if units < wanted { "last" } else { "more" };
@@ -82,10 +85,10 @@ fn main() {
     let opening = std::env::args().nth(1).unwrap().parse().unwrap();
     let mut input = String::new();
     std::io::stdin().read_to_string(&mut input).unwrap();
-    let mut account = Account { funds: opening, available: opening, calls: HashMap::new() };
+    let mut account = Account { funds: opening, available: opening, last_moment: None, calls: HashMap::new() };
     let mut text = String::new();
     for line in input.lines().skip(1) {
-        let mut row = [""; 9];
+        let mut row = [""; 10];
         for (place, field) in line.split(',').enumerate() {
             row[place] = field;
         }

@@ -14,11 +14,11 @@ function row(text) {
     print text
 }
 BEGIN {
-    print "seat,op,call,x1,x2,x3,x4,x5"
+    print "seat,op,call,x1,x2,x3,x4,x5,x6,x7"
     for (first = 1; ; first += calls) {
-        for (c = first; c < first + calls; c++) row(c % 16 ",reserve," c ",50,1000,400,600,50")
-        for (c = first; c < first + calls; c++) row(c % 16 ",settle," c "," c ",n," 1 + c * 7 % 600 ",,")
-        for (c = first; c < first + calls; c++) row(c % 16 ",return," c ",,,,,")
+        for (c = first; c < first + calls; c++) row(c % 16 ",reserve," c ",50,1000,400,600,50,0," first)
+        for (c = first; c < first + calls; c++) row(c % 16 ",settle," c "," c ",n," 1 + c * 7 % 600 ",,,,")
+        for (c = first; c < first + calls; c++) row(c % 16 ",return," c ",,,,,,,")
     }
 }' > "$work/ops.csv"
 
