@@ -90,6 +90,7 @@ impl Account {
     /// `CallUsed`, in that order; then `HistoryFull` where its entry, the places owed and those that
     /// it needs pass the limit; then `OutOfMemory`. A Return of an open call, and its first Settle
     /// since its last grant, always succeed.
+    #[inline(always)]
     pub fn apply(&mut self, seat: u32, op: Op) -> Result<Reply, AccountFault>
         ensures answered { IfOk result (λ reply. reply ≡ answer_of self.old (asked_of op)) }
         ensures entered { IfOk result (λ reply. self.new ≡
@@ -106,6 +107,7 @@ impl Account {
 
     /// Judges an operation: the first half of `apply`, for a caller that has its own room to make
     /// before the second. A fault is as in `apply`, but for want of memory.
+    #[inline(always)]
     pub fn admit(&self, op: Op) -> Result<Admitted, AccountFault>
         ensures admitted { IfOk result (λ admitted.
             (admitted.op ≡ op) × IsAdmitted self.now admitted) }
@@ -123,6 +125,7 @@ impl Account {
     /// Answers an operation that the account admits as it is, and enters it for a seat: the second
     /// half of `apply`. The only error is want of memory, which changes nothing, and which a Return
     /// of an open call, and its first Settle since its last grant, never meet.
+    #[inline(always)]
     pub fn enter(&mut self, seat: u32, admitted: Admitted) -> Result<Reply, AllocError>
         requires { IsAdmitted self.old admitted }
         ensures answered { IfOk result (λ reply. reply ≡ answer_of self.old (asked_of admitted.op)) }
@@ -171,6 +174,7 @@ impl Account {
     }
 
     /// What the account knows of a call.
+    #[inline(always)]
     fn state(&self, call: u64) -> CallState
         ensures { known_of result ≡ known call (reverse self.now.history) }
     {
@@ -182,6 +186,7 @@ impl Account {
 
     /// Why an operation would be refused, by what is known of its call.
     #[tactic(auto, unfolding(crate::specs::Places::refusal))]
+    #[inline(always)]
     fn judge(&self, op: &Op, call: &CallState) -> Option<AccountFault>
         requires { known_of call.now
             ≡ known (call_of (asked_of op.now)) (reverse self.now.history) }
@@ -192,6 +197,7 @@ impl Account {
     }
 
     /// The answer to an admissible operation, by what is known of its call.
+    #[inline(always)]
     fn answer(&self, op: Op, call: &CallState) -> Reply
         requires known { known_of call.now
             ≡ known (call_of (asked_of op)) (reverse self.now.history) }

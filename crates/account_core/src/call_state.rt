@@ -72,6 +72,7 @@ impl CallState {
     /// The reply to a Reserve, which may come late, after the account's last moment, with this much
     /// credit available.
     #[tactic(auto, unfolding(crate::specs::Answers::units_offered))]
+    #[inline(always)]
     pub fn reserve(&self, plan: Plan, wanted: u32, least: u32, late: bool, available: u64) -> Reply
         requires sound { IsSound (known_of self.now) }
         requires money { available + taken_of (known_of self.now) ≤ MAX_MONEY }
@@ -95,6 +96,7 @@ impl CallState {
     }
 
     /// The reply to a Settle.
+    #[inline(always)]
     pub fn settle(&self, info: TimeInfo, available: u64) -> Reply
         ensures { result ≡ settle_reply available (known_of self.now) (accepted_times (known_of self.now) info) }
     {
@@ -106,6 +108,7 @@ impl CallState {
     }
 
     /// The reply to a Return.
+    #[inline(always)]
     pub fn give_back(&self, available: u64) -> Reply
         requires sound { IsSound (known_of self.now) }
         requires money { available + taken_of (known_of self.now) ≤ MAX_MONEY }
@@ -136,6 +139,7 @@ impl CallState {
     }
 
     /// What is known after an entry of the call, in its place.
+    #[inline(always)]
     pub fn after(self, op: Op, reply: Reply) -> CallState
         requires sound { IsSound (known_of self) }
         requires placed { misplaced (known_of self) (asked_of op) ≡ None }
@@ -152,6 +156,7 @@ impl CallState {
     }
 
     /// What is known after a grant.
+    #[inline(always)]
     fn granted(self, plan: Plan, units: u32) -> CallState
         requires sound { IsSound (known_of self) }
         requires unreturned { (known_of self).returned ≡ false }
@@ -170,6 +175,7 @@ impl CallState {
     }
 
     /// What is known after a report that was accepted.
+    #[inline(always)]
     fn reported(self, info: TimeInfo) -> CallState
         requires { is_open (known_of self) ≡ true }
         ensures { known_of result ≡ known_after (known_of self) (Reports info) }

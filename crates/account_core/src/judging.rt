@@ -16,6 +16,7 @@ use crate::{AccountFault, Op, Reply};
 use tariff_core::{DAY, MAX_MONEY};
 
 /// Why an operation is refused, if it is: out of range, else out of place, else over the limit.
+#[inline(always)]
 pub(crate) fn judge(
     op: &Op,
     state: &CallState,
@@ -37,6 +38,7 @@ pub(crate) fn judge(
 }
 
 /// Whether an operation is out of range, or out of place.
+#[inline(always)]
 pub(crate) fn inadmissible(op: &Op, state: &CallState) -> Option<AccountFault>
     ensures { result ≡ inadmissible_for (known_of state.now) (asked_of op.now) }
 {
@@ -65,6 +67,7 @@ fn is_in_range(op: &Op) -> bool
 
 /// The reply to an operation that isn't refused, where the funds are the opening and the accepted
 /// credits, so much of them is available, and the account has this last moment, if any.
+#[inline(always)]
 pub(crate) fn reply(
     op: Op,
     state: &CallState,

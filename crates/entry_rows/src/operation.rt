@@ -20,6 +20,7 @@ use tariff_core::{DAY, HORIZON, MAX_MONEY, MAX_RATE, Plan, TimeInfo};
 
 /// The operation of this word whose columns begin at `at`; else `Number`. The columns that must be
 /// empty aren't judged.
+#[inline(always)]
 pub fn read_op(row: &ByteRecord, at: usize, version: Version, word: OpWord) -> Result<Op, RowKind>
     requires table { at ≤ 16 }
     requires fields { HasOperation version (fields_of row.now) at }
@@ -60,6 +61,7 @@ pub fn read_until(row: &ByteRecord, at: usize, version: Version) -> Result<Optio
 }
 
 #[tactic(auto, unfolding(crate::specs::Operations::reserve_in))]
+#[inline(always)]
 fn read_reserve(row: &ByteRecord, at: usize, version: Version) -> Result<Op, RowKind>
     requires table { at ≤ 16 }
     requires fields { HasOperation version (fields_of row.now) at }
@@ -81,6 +83,7 @@ fn read_reserve(row: &ByteRecord, at: usize, version: Version) -> Result<Op, Row
 }
 
 #[tactic(auto, unfolding(crate::specs::Operations::plan_in))]
+#[inline(always)]
 fn read_plan(row: &ByteRecord, at: usize, version: Version) -> Result<Plan, RowKind>
     requires table { at ≤ 16 }
     requires fields { HasOperation version (fields_of row.now) at }
@@ -100,6 +103,7 @@ fn read_plan(row: &ByteRecord, at: usize, version: Version) -> Result<Plan, RowK
 }
 
 /// The moment of a reserve: 0 before version 3, and given there.
+#[inline(always)]
 fn read_moment(row: &ByteRecord, at: usize, version: Version) -> Result<u64, RowKind>
     requires table { at ≤ 16 }
     requires fields { HasOperation version (fields_of row.now) at }
@@ -124,6 +128,7 @@ fn read_free(row: &ByteRecord, at: usize, version: Version) -> Result<u32, RowKi
     }
 }
 
+#[inline(always)]
 fn read_settle(row: &ByteRecord, at: usize, info: TimeInfo) -> Result<Op, RowKind>
     requires table { at ≤ 16 }
     requires fields { at + 6 < length (fields_of row.now) }
@@ -187,6 +192,7 @@ fn read_interval(row: &ByteRecord, place: usize) -> Result<Option<u32>, RowKind>
 }
 
 /// Whether the columns are empty that this operation, whose columns begin at `at`, doesn't use.
+#[inline(always)]
 pub fn is_op_blank(row: &ByteRecord, at: usize, version: Version, word: OpWord) -> bool
     requires table { at ≤ 16 }
     requires fields { HasOperation version (fields_of row.now) at }

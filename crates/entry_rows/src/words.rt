@@ -47,6 +47,7 @@ pub enum ReplyWord {
 }
 
 /// The word of the operation whose columns begin at `at`; else `What`.
+#[inline(always)]
 pub fn read_op_word(row: &ByteRecord, at: usize) -> Result<OpWord, RowKind>
     requires table { at ≤ 16 }
     requires fields { at + 6 < length (fields_of row.now) }

@@ -45,6 +45,7 @@ impl<R: Read + Drop> Rows<R> {
     }
 
     /// Takes the next row, which is then `row`, or answers false where none is left.
+    #[inline(always)]
     pub fn next_row(&mut self) -> Result<bool, TableFault>
         ensures takes { IfOk result (TakesRow R.remaining self.old self.new) }
         ensures fault { IfErr result IsOfReading }

@@ -81,6 +81,7 @@ impl<R: Read + Drop> Table<R> {
     ///
     /// A row has the fault `Csv` where it has another number of fields than the header, and then
     /// `TooManyRows` where the table has more rows than it may have.
+    #[inline(always)]
     pub fn next_row(&mut self) -> Result<bool, TableFault>
         ensures steps { Steps R.remaining self.old self.new result }
         ensures moves { Moves self.old self.new result }
@@ -95,6 +96,7 @@ impl<R: Read + Drop> Table<R> {
         found
     }
 
+    #[inline(always)]
     fn take_row(&mut self) -> Result<bool, TableFault>
         ensures steps { Steps R.remaining self.old self.new result }
         ensures moves { Moves self.old self.new result }

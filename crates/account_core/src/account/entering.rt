@@ -17,6 +17,7 @@ use std::collections::HashMap;
 impl Account {
     /// Keeps an answered operation, with what was known of its call before. Room for it, and for
     /// all that is owed after it, is made before anything changes.
+    #[inline(always)]
     pub(super) fn keep(&mut self, entry: Entry, before: CallState) -> Result<(), AllocError>
         requires known { known_of before
             ≡ known (call_of (asked_of entry.op)) (reverse self.old.history) }
@@ -54,6 +55,7 @@ impl Account {
     }
 
     /// Keeps an operation of a call.
+    #[inline(always)]
     fn keep_call(&mut self, call: u64, entry: Entry, before: CallState) -> Result<(), AllocError>
         requires known { known_of before ≡ known call (reverse self.old.history) }
         requires of_call { IsOfCall call (asked_of entry.op) }
@@ -76,6 +78,7 @@ impl Account {
 }
 
 /// Makes room for so many more entries.
+#[inline(always)]
 fn make_room(entries: &mut Vec<Entry>, places: usize) -> Result<(), AllocError>
     ensures items { entries.new.items ≡ entries.old.items }
     ensures ok { OnOk result (vec_len entries.new + places ≤ vec_capacity entries.new) }
@@ -86,6 +89,7 @@ fn make_room(entries: &mut Vec<Entry>, places: usize) -> Result<(), AllocError>
 }
 
 /// Keeps what is known of a call. Only a call that is new takes memory.
+#[inline(always)]
 fn keep_state(
     calls: &mut HashMap<u64, CallState>,
     call: u64,
