@@ -30,8 +30,10 @@ use workers_core::RunSetup;
 /// The most workers of a run.
 const MOST_WORKERS: u32 = 16;
 
-/// Serves what the driver gives by so many workers, 1 to 16, each in a thread of its own, until the
-/// driver has ended, and gives the books.
+/// Serves what the driver gives by so many workers, 1 to 16, until the driver has ended, and gives
+/// the books. The first worker is the thread that calls; each other has a thread of its own. In a
+/// round the others get their posts before the first begins, so a gate that holds one of its posts
+/// holds up no other worker in that round.
 ///
 /// `Workers` where there can't be so many workers: then nothing is started. After any other fault
 /// all workers are waited for; the fault told is that of the failed worker with the least number,
