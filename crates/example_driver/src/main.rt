@@ -13,7 +13,7 @@ use shared_account::OpenGate;
 use std::alloc::Global;
 use switch::Switch;
 use tariff_core::Tariff;
-use workers_core::{OpeningCredit, RunSetup};
+use run_values::{OpeningCredit, RunSetup};
 
 const TARIFF: &[u8] = b"prefix,from,fee,rate\n49,00:00,50,1000\n";
 

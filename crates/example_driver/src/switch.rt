@@ -2,13 +2,13 @@
 
 ghost use Rattle.std.specs.Prelude.{◌≡◌, ◌≤◌, ◌++◌, ◌∷◌, [], false, All, OnOk};
 ghost use Rattle.tariff_core.specs.declared.times.TheConstants.{HORIZON};
-ghost use Rattle.workers_core.specs.declared.post.Body.TheVariants as body;
+ghost use Rattle.run_values.specs.declared.post.Body.TheVariants as body;
 
 use cap_values::{Charge, Event, Leg, Mode, Number, ScfOp, SsfMsg};
 use runs_core::Driver;
 use std::alloc::{AllocError, Global};
 use tariff_core::{DAY, HORIZON, TimeInfo};
-use workers_core::{Answer, Body};
+use run_values::{Answer, Body};
 
 /// What comes next of the call.
 #[derive(Clone, Copy)]

@@ -9,7 +9,8 @@ use std::alloc::{AllocError, AllocFailed};
 use std::io;
 use table_core::TableFault;
 use tariff_core::{TariffFault, TariffKind};
-use workers_core::{SetupFault, WorkerFault};
+use workers_core::WorkerFault;
+use run_values::SetupFault;
 
 /// How a call went. It is the program's exit status.
 #[derive(Clone, Copy, Debug, PartialEq, Eq)]

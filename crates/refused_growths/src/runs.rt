@@ -16,7 +16,7 @@ use shared_account::OpenGate;
 use std::alloc::Global;
 use std::sync::Wait;
 use std::thread::Threads;
-use workers_core::{Answer, Body, Directory};
+use run_values::{Answer, Body, Directory};
 
 /// A call that is answered after ten seconds, and ends after forty.
 const SCRIPT: &[u8] = b"moment,call,what,x,y

@@ -6,7 +6,7 @@ use cap_values::{Arming, Arms, Charge, Event, Leg, Mode, Number, ScfOp, SsfMsg};
 use dialogue_core::ServiceConfig;
 use ssf_core::{DefaultHandling, SsfConfig};
 use tariff_core::TimeInfo;
-use workers_core::Body;
+use run_values::Body;
 
 /// What the service asks an account for.
 pub(crate) const SERVICE: ServiceConfig = ServiceConfig {

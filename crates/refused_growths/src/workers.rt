@@ -16,7 +16,8 @@ use shared_account::{OpenGate, Seat, SharedAccount};
 use std::alloc::Global;
 use std::sync::Wait;
 use tariff_core::Tariff;
-use workers_core::{Body, Gone, Mail, OpeningCredit, Post, RunSetup, Worker, mailbox};
+use workers_core::{Gone, Mail, Worker, mailbox};
+use run_values::{Body, OpeningCredit, Post, RunSetup};
 
 /// Sends two mails, and takes them.
 pub(crate) fn mails<R: Wait>(rt: &R, alloc: Global) -> Course {

@@ -9,7 +9,7 @@ use Rattle.script_player.specs.Plays.{IsPlayed, Play}
 use Rattle.script_player.specs.Posts.{Begins, items_of, opening_of, recharges_in, recharges_of}
 use Rattle.script_player.specs.Runs.{IsReached, LivesByItsDeeds}
 use Rattle.ssf_core.specs.declared.config.SsfConfig.{SsfConfig}
-use Rattle.workers_core.specs.declared.post.Body.{Body}
+use Rattle.run_values.specs.declared.post.Body.{Body}
 
 pub play_of : (config : SsfConfig) (delay : ℕ) (taken left rows : List ScriptRow) (given : List (ℕ × Body)) (play : Play) → left ≡ [] → taken ++ left ≡ rows
     → IsReached config delay (taken ++ left) play → LivesByItsDeeds config delay (taken ++ left) play → play.ended ≡ true → play.network.given ≡ given

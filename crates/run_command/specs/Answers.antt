@@ -14,7 +14,7 @@ use Rattle.runs_core.specs.Teams.{are_workers}
 use Rattle.runs_core.specs.declared.run_fault.RunFault.{RunFault}
 use Rattle.runs_core.specs.declared.run_fault.RunFault.TheVariants as run
 use Rattle.shared_account.specs.Closed.{Closed}
-use Rattle.workers_core.specs.declared.post.Body.{Body}
+use Rattle.run_values.specs.declared.post.Body.{Body}
 
 -- the text of books: the table of them where that is asked for, else the lines of their accounts and calls
 abbrev pub IsTextOf : Bool → List Closed → List ℕ → Type 0

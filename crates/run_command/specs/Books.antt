@@ -11,9 +11,9 @@ use Rattle.runs_core.specs.Shares.{HaveHandled}
 use Rattle.runs_core.specs.Teams.{terms_of}
 use Rattle.shared_account.specs.Closed.{Closed}
 use Rattle.shared_account.specs.Own.{IsMerged}
-use Rattle.workers_core.specs.Setups.{Setup}
-use Rattle.workers_core.specs.declared.post.Body.{Body}
-use Rattle.workers_core.specs.declared.post.Post.{Post}
+use Rattle.run_values.specs.Setups.{Setup}
+use Rattle.run_values.specs.declared.post.Body.{Body}
+use Rattle.run_values.specs.declared.post.Post.{Post}
 
 -- what a run is set up with: the accounts, the subscribers and the tariff of the input, and a service that asks for as much as was asked for
 pub record IsSetupOf (ask : RunAsk) (said : RunInput) (setup : Setup) : Type 0 where

@@ -8,7 +8,7 @@ use Rattle.script_player.specs.Plays.{IsPlayed, Play}
 use Rattle.script_player.specs.Posts.{Begins, items_of, opening_of, recharges_in, recharges_of}
 use Rattle.script_player.specs.Runs.{IsReached, LivesByItsDeeds}
 use Rattle.ssf_core.specs.declared.config.SsfConfig.{SsfConfig}
-use Rattle.workers_core.specs.declared.post.Body.{Body}
+use Rattle.run_values.specs.declared.post.Body.{Body}
 
 -- the play of these rows with gsmSSFs of this configuration, to which operations come after this delay
 pub record IsPlayOf (config : SsfConfig) (delay : ℕ) (rows : List ScriptRow) (given : List (ℕ × Body)) : Type 0 where

@@ -9,8 +9,8 @@ ghost use Rattle.run_texts.specs.Inputs.{input_in};
 ghost use Rattle.runs_core.specs.Teams.{are_workers};
 ghost use Rattle.run_texts.specs.Views.{are_in_order, event_of};
 ghost use Rattle.run_texts.specs.declared.script_row.ScriptRow.{ScriptRow};
-ghost use Rattle.workers_core.specs.Setups.{IsWithin};
-ghost use Rattle.workers_core.specs.declared.post.Body.{Body};
+ghost use Rattle.run_values.specs.Setups.{IsWithin};
+ghost use Rattle.run_values.specs.declared.post.Body.{Body};
 
 use crate::RunError;
 use account_core::MAX_LIMIT;
@@ -23,7 +23,7 @@ use std::alloc::Global;
 use std::sync::Wait;
 use std::thread::Threads;
 use tariff_core::LAST_MOMENT;
-use workers_core::RunSetup;
+use run_values::RunSetup;
 
 /// Plays a script over its accounts, and gives their books.
 pub(crate) fn play<R: Wait + Threads + Sync>(

@@ -10,9 +10,9 @@ use Rattle.std.specs.declared.cmp.Ordering.TheVariants.{Less, Equal, Greater}
 use Rattle.cap_values.specs.NumberDigits.{by_digits, digits_of}
 use Rattle.cap_values.specs.declared.number.Number.{Number}
 use Rattle.table_core.specs.declared.fault.RowKind.TheVariants as kind
-use Rattle.workers_core.specs.Setups.{Listing, account_of, has_account, subscriber_fault, with_subscriber}
-use Rattle.workers_core.specs.declared.setup_fault.SetupFault.{SetupFault}
-use Rattle.workers_core.specs.declared.setup_fault.SetupFault.TheVariants as fault
+use Rattle.run_values.specs.Setups.{Listing, account_of, has_account, subscriber_fault, with_subscriber}
+use Rattle.run_values.specs.declared.setup_fault.SetupFault.{SetupFault}
+use Rattle.run_values.specs.declared.setup_fault.SetupFault.TheVariants as fault
 use Rattle.run_texts.specs.Entries.{Refuses, told_of}
 use Rattle.run_texts.specs.Setups.{Setup, has_subscriber, name_subscriber}
 use Rattle.run_texts.specs.Views.{setup_in, with_digits}

@@ -5,8 +5,8 @@ use Rattle.run_texts.specs.declared.entry_fault.EntryFault.{EntryFault}
 use Rattle.run_texts.specs.declared.entry_fault.EntryFault.TheVariants as entry
 use Rattle.table_core.specs.declared.fault.RowKind.{RowKind}
 use Rattle.table_core.specs.declared.fault.RowKind.TheVariants as kind
-use Rattle.workers_core.specs.declared.setup_fault.SetupFault.{SetupFault}
-use Rattle.workers_core.specs.declared.setup_fault.SetupFault.TheVariants as fault
+use Rattle.run_values.specs.declared.setup_fault.SetupFault.{SetupFault}
+use Rattle.run_values.specs.declared.setup_fault.SetupFault.TheVariants as fault
 
 -- how a fault of a directory is told at a row; an opening credit out of range is no number that may stand there
 abbrev pub told_of : SetupFault → EntryFault

@@ -14,8 +14,8 @@ use Rattle.run_texts.specs.Happenings.{Event, Happens, Meets, Recharges, Starts}
 use Rattle.run_texts.specs.Setups.{account_in, amount_in, party_in, until_in}
 use Rattle.run_texts.specs.declared.word.Word.{Word}
 use Rattle.run_texts.specs.declared.word.Word.TheVariants as word
-use Rattle.workers_core.specs.Setups.{has_account}
-use Rattle.workers_core.specs.declared.opening_credit.OpeningCredit.{OpeningCredit}
+use Rattle.run_values.specs.Setups.{has_account}
+use Rattle.run_values.specs.declared.opening_credit.OpeningCredit.{OpeningCredit}
 use Rattle.tariff_core.specs.declared.times.TheConstants.{LAST_MOMENT}
 
 -- ---- words

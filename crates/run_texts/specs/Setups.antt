@@ -13,8 +13,8 @@ use Rattle.table_core.specs.Tables.{TableForm, table_form, table_of}
 use Rattle.table_core.specs.declared.fault.RowFault.{RowFault}
 use Rattle.table_core.specs.declared.fault.RowKind.{RowKind}
 use Rattle.table_core.specs.declared.fault.RowKind.TheVariants as kind
-use Rattle.workers_core.specs.Setups.{has_account}
-use Rattle.workers_core.specs.declared.opening_credit.OpeningCredit.{OpeningCredit}
+use Rattle.run_values.specs.Setups.{has_account}
+use Rattle.run_values.specs.declared.opening_credit.OpeningCredit.{OpeningCredit}
 use Rattle.tariff_core.specs.declared.money.TheConstants.{MAX_MONEY}
 use Rattle.tariff_core.specs.declared.times.TheConstants.{LAST_MOMENT}
 

@@ -9,7 +9,7 @@ use Rattle.run_texts.specs.declared.parts.Parts.{Parts}
 use Rattle.run_texts.specs.declared.script_row.Happening.{Happening}
 use Rattle.run_texts.specs.declared.script_row.Happening.TheVariants as happening
 use Rattle.run_texts.specs.declared.script_row.ScriptRow.{ScriptRow}
-use Rattle.workers_core.specs.Setups.{Listing}
+use Rattle.run_values.specs.Setups.{Listing}
 
 -- the texts of an input
 abbrev pub texts_of_parts : Parts → Texts

@@ -5,7 +5,7 @@ ghost use Rattle.run_texts.specs.Entries.{told_of};
 ghost use Rattle.run_texts.specs.declared.entry_fault.EntryFault.TheVariants as out;
 
 use table_core::RowKind;
-use workers_core::SetupFault;
+use run_values::SetupFault;
 
 /// Why a row of a setup isn't entered.
 #[derive(Clone, Copy, Debug)]

@@ -6,7 +6,7 @@ ghost use Rattle.cap_values.specs.NumberDigits.{digits_of};
 ghost use Rattle.csv.specs.Records.{fields_of};
 ghost use Rattle.run_texts.specs.Setups.{account_in, amount_in, party_in, until_in};
 ghost use Rattle.table_core.specs.Fields.{is_blank};
-ghost use Rattle.workers_core.specs.Openings.{expires_in_time};
+ghost use Rattle.run_values.specs.Openings.{expires_in_time};
 
 use cap_values::Number;
 use csv::ByteRecord;

@@ -8,12 +8,12 @@ ghost use Rattle.run_texts.specs.Scripts.{script_of};
 ghost use Rattle.run_texts.specs.Setups.{setup_of};
 ghost use Rattle.run_texts.specs.Views.{are_in_order, event_of, setup_in};
 ghost use Rattle.table_core.specs.Rows.{rows_of};
-ghost use Rattle.workers_core.specs.Setups.{IsWithin};
+ghost use Rattle.run_values.specs.Setups.{IsWithin};
 
 use crate::{InputFault, Parts, ScriptRow, divide, script, setup};
 use std::alloc::Global;
 use tariff_core::{LAST_MOMENT, Tariff};
-use workers_core::Directory;
+use run_values::Directory;
 
 /// What the input of a run says.
 #[derive(Drop)]

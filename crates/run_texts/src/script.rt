@@ -18,7 +18,7 @@ use std::collections::BTreeSet;
 use std::io::Read;
 use table_core::{RowKind, Table, TableFault};
 use tariff_core::LAST_MOMENT;
-use workers_core::Directory;
+use run_values::Directory;
 
 /// The most rows of a script, its header not counted.
 const MAX_ROWS: u32 = 1_000_000;

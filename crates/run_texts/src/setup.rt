@@ -7,7 +7,7 @@ ghost use Rattle.run_texts.specs.Setups.{account_row, row_at, setup_of, subscrib
 ghost use Rattle.run_texts.specs.Views.{setup_in};
 ghost use Rattle.table_core.specs.Faults.{Gives};
 ghost use Rattle.table_core.specs.Rows.{rows_of};
-ghost use Rattle.workers_core.specs.Setups.{IsWithin};
+ghost use Rattle.run_values.specs.Setups.{IsWithin};
 
 use crate::entry_fault::EntryFault;
 use crate::fields::{account, amount, is_left_out, party, until};
@@ -15,7 +15,7 @@ use csv::ByteRecord;
 use std::alloc::Global;
 use std::io::Read;
 use table_core::{RowKind, Table, TableFault, is_word};
-use workers_core::{Directory, MAX_ACCOUNTS, OpeningCredit};
+use run_values::{Directory, MAX_ACCOUNTS, OpeningCredit};
 
 /// The most rows of a setup, its header not counted.
 const MAX_ROWS: u32 = 10_000;

@@ -14,7 +14,7 @@ use std::process::Abort;
 use std::sync::Wait;
 use std::test::Fail;
 use std::thread::Threads;
-use workers_core::Body;
+use run_values::Body;
 
 /// An answer to a post that has a place, with this operation, if any.
 fn sent(last: Option<ScfOp>) -> Heard {

@@ -2,7 +2,8 @@
 
 use crate::messages::recharge;
 use std::test::Fail;
-use workers_core::{Gone, Mail, Post, compare, mailbox};
+use workers_core::{Gone, Mail, compare, mailbox};
+use run_values::Post;
 
 fn work(number: u64) -> Mail<Post> {
     Mail::Work(Post {

@@ -3,7 +3,7 @@
 use cap_values::{Arming, Arms, Charge, Event, Leg, Mode, Number, ScfOp, SsfMsg};
 use std::test::Fail;
 use tariff_core::TimeInfo;
-use workers_core::Body;
+use run_values::Body;
 
 /// A message of a call.
 pub(crate) fn of_call(call: u64, msg: SsfMsg) -> Body {

@@ -13,7 +13,7 @@ use ssf_core::{DefaultHandling, SsfConfig};
 use std::alloc::Global;
 use std::process::Abort;
 use std::test::Fail;
-use workers_core::{Answer, Body};
+use run_values::{Answer, Body};
 
 /// What the service says to an item: it grants calls 1 and 2 one period, and no further one, clears
 /// call 3, and has nothing to say to the start of another call.

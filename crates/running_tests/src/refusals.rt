@@ -12,7 +12,7 @@ use std::process::Abort;
 use std::sync::Wait;
 use std::test::Fail;
 use std::thread::Threads;
-use workers_core::Body;
+use run_values::Body;
 
 /// The limit of the accounts' histories, the posts, one in each round, and the refusals of the posts
 /// of worker 0, and of those of worker 1.

@@ -8,7 +8,7 @@ use cap_values::ScfOp;
 use runs_core::Driver;
 use std::alloc::{AllocError, Global};
 use tariff_core::HORIZON;
-use workers_core::{Answer, Body};
+use run_values::{Answer, Body};
 
 /// What an answer says.
 #[derive(Clone, Copy, Debug, PartialEq, Eq)]

@@ -7,7 +7,7 @@ use run_texts::read_setup;
 use std::alloc::Global;
 use std::test::Fail;
 use tariff_core::{LAST_MOMENT, Tariff};
-use workers_core::{Directory, OpeningCredit, RunSetup, SetupFault};
+use run_values::{Directory, OpeningCredit, RunSetup, SetupFault};
 
 /// One band for called numbers that begin with 49.
 pub(crate) const BAND: &[u8] = b"prefix,from,fee,rate\n49,00:00,50,1000\n";

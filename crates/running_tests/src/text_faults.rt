@@ -6,7 +6,7 @@ use std::alloc::{AllocError, Global};
 use std::process::Abort;
 use std::test::Fail;
 use table_core::{RowFault, RowKind, TableFault};
-use workers_core::Directory;
+use run_values::Directory;
 
 /// A row's number and its fault, if there is one.
 type Told = Option<(u32, RowKind)>;

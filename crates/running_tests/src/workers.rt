@@ -14,7 +14,8 @@ use std::alloc::Global;
 use std::process::Abort;
 use std::sync::Wait;
 use std::test::Fail;
-use workers_core::{Body, Post, RunSetup, Worker, WorkerFault};
+use workers_core::{Worker, WorkerFault};
+use run_values::{Body, Post, RunSetup};
 
 /// Account 7, whose history has this limit, and subscriber 491700001 of it.
 fn set_up_seven(alloc: Global, limit: u32) -> Result<RunSetup, Fail> {

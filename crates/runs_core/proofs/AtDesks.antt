@@ -5,11 +5,11 @@ use Rattle.std.proofs.lemmas.List.{append-nil, append_assoc, map-append}
 use Rattle.workers_core.proofs.Chaining.{more_after}
 use Rattle.workers_core.specs.Chains.{AreAnswered, at_first, refusals_in, seat_numbers}
 use Rattle.workers_core.specs.Handled.{Told, told_of}
-use Rattle.workers_core.specs.declared.answer.Answer.{Answer}
+use Rattle.run_values.specs.declared.answer.Answer.{Answer}
 use Rattle.workers_core.specs.Served.{AreServed}
-use Rattle.workers_core.specs.Setups.{Setup}
+use Rattle.run_values.specs.Setups.{Setup}
 use Rattle.workers_core.specs.Workers.{IsReady, accounts_of, holding, number_of, posts_of, seats_of, setup_of, talks_of}
-use Rattle.workers_core.specs.declared.post.Post.{Post}
+use Rattle.run_values.specs.declared.post.Post.{Post}
 use Rattle.runs_core.proofs.Leaving.{fresh_worker, numbered_each}
 use Rattle.runs_core.specs.Desks.{GoesOn, HasAnswered}
 use Rattle.runs_core.specs.Teams.{IsFresh, IsLeft, Reads}

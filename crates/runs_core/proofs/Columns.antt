@@ -11,7 +11,7 @@ use Rattle.runs_core.specs.Teams.{Reads}
 use Rattle.runs_core.specs.declared.books.Books.{Books}
 use Rattle.runs_core.specs.declared.desk.Left.{Left}
 use Rattle.runs_core.specs.declared.run_fault.RunFault.{RunFault}
-use Rattle.workers_core.specs.Setups.{Setup}
+use Rattle.run_values.specs.Setups.{Setup}
 
 -- piles onto which several lists are laid out, one after the other
 abbrev pub laid : {X : Type 0} → List (List X) → List (List X) → List (List X)

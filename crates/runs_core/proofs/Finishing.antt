@@ -5,12 +5,12 @@ use Rattle.std.specs.Result.{result_err}
 use Rattle.std.specs.Prelude.{All, Err, IfSome, Ok, Result}
 use mathlib.Core.Logic.{inl, inr}
 use Rattle.std.proofs.lemmas.List.{append-nil, append_assoc, length-map, map-append}
-use Rattle.workers_core.specs.declared.opening_credit.OpeningCredit.{OpeningCredit}
+use Rattle.run_values.specs.declared.opening_credit.OpeningCredit.{OpeningCredit}
 use Rattle.workers_core.proofs.Chaining.{worked_so}
 use Rattle.workers_core.specs.Chains.{IsWorked}
 use Rattle.workers_core.specs.Handled.{Told, told_of}
-use Rattle.workers_core.specs.declared.answer.Answer.{Answer}
-use Rattle.workers_core.specs.Setups.{Setup}
+use Rattle.run_values.specs.declared.answer.Answer.{Answer}
+use Rattle.run_values.specs.Setups.{Setup}
 use Rattle.runs_core.specs.Sending.{AreLeftBy, ArePromised, IsFirstFault, IsLeftBy, IsPromised, MayBeShut, heard_by, promises_of, sent_by}
 use Rattle.std.specs.Map.{keys_of}
 use Rattle.shared_account.specs.Terms.{Terms}

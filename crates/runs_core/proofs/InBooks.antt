@@ -11,8 +11,8 @@ use Rattle.workers_core.proofs.Entering.{recharges_are_entered}
 use Rattle.workers_core.proofs.Reserving.{reserves_are_on_terms}
 use Rattle.workers_core.specs.Chains.{IsWorked}
 use Rattle.workers_core.specs.Laws.{IsOnTerms}
-use Rattle.workers_core.specs.Setups.{Setup}
-use Rattle.workers_core.specs.declared.post.Post.{Post}
+use Rattle.run_values.specs.Setups.{Setup}
+use Rattle.run_values.specs.declared.post.Post.{Post}
 
 -- one of the workers from a number on
 worked_at : (setup : Setup) (books : List Closed) (first worker : ℕ) (handled : List (List Post)) (refusals : List (List (Option AccountFault))) → AreWorked setup books first handled refusals

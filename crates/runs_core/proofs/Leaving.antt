@@ -6,9 +6,9 @@ use Rattle.std.proofs.lemmas.List.Elements.{All-cons, All-head, All-nil, All-tai
 use Rattle.std.proofs.lemmas.List.{length-map}
 use Rattle.account_core.specs.Events.{Event}
 use Rattle.workers_core.specs.Chains.{at_first, seat_numbers}
-use Rattle.workers_core.specs.Setups.{Setup}
+use Rattle.run_values.specs.Setups.{Setup}
 use Rattle.workers_core.specs.Verdicts.{Standing}
-use Rattle.workers_core.specs.declared.opening_credit.OpeningCredit.{OpeningCredit}
+use Rattle.run_values.specs.declared.opening_credit.OpeningCredit.{OpeningCredit}
 use Rattle.runs_core.specs.Teams.{IsFresh, Reads}
 
 pub numbered_each : {T : Type 0} (number_of : T → ℕ) (n number : ℕ) (team : List T) → n ≡ number → All (λ m. m ≡ n) (map number_of team) → All (λ seat. number_of seat ≡ number) team

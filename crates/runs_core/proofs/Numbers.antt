@@ -11,8 +11,8 @@ use Rattle.runs_core.specs.Teams.{Reads, terms_of, terms_with}
 use Rattle.runs_core.specs.declared.desk.Left.{Left}
 use Rattle.shared_account.specs.Seats.{are_numbered}
 use Rattle.shared_account.specs.Terms.{Terms}
-use Rattle.workers_core.specs.Setups.{Setup}
-use Rattle.workers_core.specs.declared.opening_credit.OpeningCredit.{OpeningCredit}
+use Rattle.run_values.specs.Setups.{Setup}
+use Rattle.run_values.specs.declared.opening_credit.OpeningCredit.{OpeningCredit}
 
 -- each row has the numbers from 0 up to this one
 abbrev pub AreRising : ℕ → List (List ℕ) → Type 0

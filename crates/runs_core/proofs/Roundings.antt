@@ -3,11 +3,11 @@ use Rattle.std.proofs.Common.{◌≡◌, ◌+◌, ◌++◌, ℕ, List, [], ◌�
 use Rattle.std.specs.Prelude.{All, Err, Ok, OnOk, Result, replicate}
 use Rattle.std.specs.Map.{keys_of}
 use Rattle.std.proofs.lemmas.List.Elements.{All-head, All-tail}
-use Rattle.workers_core.specs.Setups.{Setup}
+use Rattle.run_values.specs.Setups.{Setup}
 use Rattle.workers_core.specs.Workers.{accounts_of, posts_of, seats_of, setup_of}
-use Rattle.workers_core.specs.declared.answer.Answer.{Answer}
-use Rattle.workers_core.specs.declared.post.Body.{Body}
-use Rattle.workers_core.specs.declared.post.Post.{Post}
+use Rattle.run_values.specs.declared.answer.Answer.{Answer}
+use Rattle.run_values.specs.declared.post.Body.{Body}
+use Rattle.run_values.specs.declared.post.Post.{Post}
 use Rattle.runs_core.proofs.AtDesks.{answered_more, left_by}
 use Rattle.runs_core.proofs.Finishing.{left_as, left_from, worked_as, worked_from}
 use Rattle.runs_core.proofs.Sendings.{handled_more, none_handled}

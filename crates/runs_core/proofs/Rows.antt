@@ -7,7 +7,7 @@ use Rattle.account_core.specs.Events.{Event}
 use Rattle.shared_account.specs.Closed.{Closed}
 use Rattle.shared_account.specs.Terms.{Terms}
 use Rattle.workers_core.specs.Served.{AreServed, IsServed}
-use Rattle.workers_core.specs.declared.post.Post.{Post}
+use Rattle.run_values.specs.declared.post.Post.{Post}
 use Rattle.runs_core.specs.Closing.{AreOf, AreServedBy, terms_shown}
 use Rattle.runs_core.specs.Dealing.{dealt}
 use Rattle.runs_core.specs.Teams.{Reads}

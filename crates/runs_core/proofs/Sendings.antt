@@ -8,8 +8,8 @@ use Rattle.std.proofs.lemmas.Bool.{eq-eqb}
 use Rattle.std.proofs.lemmas.Bool.Decides.{nat_tests}
 use Rattle.std.proofs.lemmas.List.{append-nil, get_or_default, get_or-set_other, get_or-set_same, length-replicate, length-take-le, length-set, map-append, map-set, take_more}
 use Rattle.std.proofs.lemmas.List.Elements.{filter-append}
-use Rattle.workers_core.specs.declared.post.Body.{Body}
-use Rattle.workers_core.specs.declared.post.Post.{Post}
+use Rattle.run_values.specs.declared.post.Body.{Body}
+use Rattle.run_values.specs.declared.post.Post.{Post}
 use Rattle.runs_core.proofs.Joins.{joined_at, joined_length}
 use Rattle.runs_core.specs.Crews.{joined}
 use Rattle.runs_core.specs.Shares.{AreShares, HaveHandled, Item, item_at, item_of, numbered, share, share_from, worker_of}

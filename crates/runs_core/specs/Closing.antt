@@ -7,8 +7,8 @@ use Rattle.shared_account.specs.Seats.{are_all}
 use Rattle.shared_account.specs.Terms.{Terms}
 use Rattle.workers_core.specs.Chains.{IsWorked}
 use Rattle.workers_core.specs.Served.{AreServed, IsServed}
-use Rattle.workers_core.specs.Setups.{Setup}
-use Rattle.workers_core.specs.declared.post.Post.{Post}
+use Rattle.run_values.specs.Setups.{Setup}
+use Rattle.run_values.specs.declared.post.Post.{Post}
 use Rattle.runs_core.specs.Teams.{Reads}
 use Rattle.runs_core.specs.declared.desk.Left.{Left}
 

@@ -1,10 +1,10 @@
 -- The workers of a run: the main thread has the first, and a line to each other.
 use Rattle.std.specs.Prelude.{◌≡◌, ◌+◌, ◌++◌, ℕ, List, [], ◌∷◌, length, map}
 use Rattle.workers_core.specs.Handled.{Told}
-use Rattle.workers_core.specs.Setups.{Setup}
+use Rattle.run_values.specs.Setups.{Setup}
 use Rattle.workers_core.specs.Workers.{posts_of}
-use Rattle.workers_core.specs.declared.post.Body.{Body}
-use Rattle.workers_core.specs.declared.post.Post.{Post}
+use Rattle.run_values.specs.declared.post.Body.{Body}
+use Rattle.run_values.specs.declared.post.Post.{Post}
 use Rattle.runs_core.specs.Desks.{GoesOn, HasAnswered}
 use Rattle.runs_core.specs.Sending.{sent_by}
 use Rattle.runs_core.specs.Shares.{AreShares, HaveHandled}

@@ -5,9 +5,9 @@ use Rattle.runs_core.specs.Closing.{AreWorked}
 use Rattle.shared_account.specs.Closed.{Closed}
 use Rattle.workers_core.specs.Laws.{IsOnTerms, accepted_of}
 use Rattle.workers_core.specs.Served.{credits_of}
-use Rattle.workers_core.specs.Setups.{Setup}
-use Rattle.workers_core.specs.Verdicts.{place_of}
-use Rattle.workers_core.specs.declared.post.Post.{Post}
+use Rattle.run_values.specs.Setups.{Setup}
+use Rattle.run_values.specs.Setups.{place_of}
+use Rattle.run_values.specs.declared.post.Post.{Post}
 
 -- the book of an account, at its place among the books
 pub record IsBookOf (setup : Setup) (books : List Closed) (account place : ℕ) (book : Closed) : Type 0 where

@@ -8,10 +8,10 @@ use Rattle.runs_core.specs.declared.returns.Returns.{Returns}
 use Rattle.runs_core.specs.declared.run_fault.RunFault.{RunFault}
 use Rattle.runs_core.specs.declared.run_fault.RunFault.TheVariants as out
 use Rattle.workers_core.specs.Ends.{sent, taken}
-use Rattle.workers_core.specs.Setups.{Setup}
+use Rattle.run_values.specs.Setups.{Setup}
 use Rattle.workers_core.specs.Handled.{told_of}
-use Rattle.workers_core.specs.declared.answer.Answer.{Answer}
-use Rattle.workers_core.specs.declared.post.Post.{Post}
+use Rattle.run_values.specs.declared.answer.Answer.{Answer}
+use Rattle.run_values.specs.declared.post.Post.{Post}
 
 -- the posts that were sent by a line
 abbrev pub sent_by : {S G T : Type 0} → Line S G T → List Post

@@ -1,8 +1,8 @@
 -- What a driver gives, and which worker handles it.
 use Rattle.std.specs.Prelude.{◌≡◌, ◌+◌, ◌%◌, ◌==◌, ◌<◌, ℕ, List, [], ◌∷◌, length, map, filter, slice_index_or}
-use Rattle.workers_core.specs.declared.post.Body.{Body}
-use Rattle.workers_core.specs.declared.post.Body.TheVariants.{Ssf, Recharge}
-use Rattle.workers_core.specs.declared.post.Post.{Post}
+use Rattle.run_values.specs.declared.post.Body.{Body}
+use Rattle.run_values.specs.declared.post.Body.TheVariants.{Ssf, Recharge}
+use Rattle.run_values.specs.declared.post.Post.{Post}
 
 -- a call, or an account, goes to the worker of its remainder
 abbrev pub worker_of : ℕ → Body → ℕ

@@ -8,9 +8,9 @@ use Rattle.account_core.specs.declared.fault.AccountFault.{AccountFault}
 use Rattle.workers_core.specs.Chains.{IsAnswered, refusals_in}
 use Rattle.workers_core.specs.Handled.{Told}
 use Rattle.workers_core.specs.Served.{AreServed}
-use Rattle.workers_core.specs.Setups.{Setup}
-use Rattle.workers_core.specs.declared.opening_credit.OpeningCredit.{OpeningCredit}
-use Rattle.workers_core.specs.declared.post.Post.{Post}
+use Rattle.run_values.specs.Setups.{Setup}
+use Rattle.run_values.specs.declared.opening_credit.OpeningCredit.{OpeningCredit}
+use Rattle.run_values.specs.declared.post.Post.{Post}
 
 -- there can be so many workers: 1 to 16
 abbrev pub are_workers : ℕ → Bool

@@ -2,7 +2,7 @@
 
 use account_core::AccountFault;
 use shared_account::Book;
-use workers_core::Post;
+use run_values::Post;
 
 /// The books of a run that has ended.
 #[derive(Drop)]

@@ -8,7 +8,7 @@ ghost use Rattle.runs_core.specs.Sending.{promises_of, sent_by};
 ghost use Rattle.runs_core.specs.Teams.{reads};
 ghost use Rattle.workers_core.specs.Handled.{told_of};
 ghost use Rattle.workers_core.specs.Workers.{IsReady};
-ghost use Rattle.workers_core.specs.declared.post.Post.{Post};
+ghost use Rattle.run_values.specs.declared.post.Post.{Post};
 
 use crate::RunFault;
 use crate::desk::Desk;
@@ -17,7 +17,7 @@ use shared_account::{Gate, Shared};
 use std::alloc::Global;
 use std::sync::Wait;
 use std::vec::IntoIter;
-use workers_core::{Answer, Post};
+use run_values::{Answer, Post};
 
 /// The workers of a run: the main thread serves the first itself, and each other has a thread.
 #[derive(Drop)]

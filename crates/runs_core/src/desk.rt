@@ -12,7 +12,8 @@ use account_core::AccountFault;
 use shared_account::{Gate, Shared};
 use std::alloc::Global;
 use std::sync::Wait;
-use workers_core::{Answer, Post, RunSetup, Worker};
+use workers_core::Worker;
+use run_values::{Answer, Post, RunSetup};
 
 /// What a worker leaves: its seats, one of each account, and the posts that it has handled, with the
 /// refusal of each.

@@ -2,7 +2,7 @@
 
 use std::alloc::AllocError;
 use tariff_core::HORIZON;
-use workers_core::{Answer, Body};
+use run_values::{Answer, Body};
 
 /// Gives the posts of a run, round by round.
 ///
@@ -10,7 +10,7 @@ use workers_core::{Answer, Body};
 /// whether it has ended. It states a plan, which no round changes; of one that has none it is `tt`.
 pub trait Driver {
     ghost use Rattle.std.specs.Prelude.{◌≡◌, ◌≤◌, ◌++◌, ℕ, List, Bool, not, false, All, IfOk};
-    ghost use Rattle.workers_core.specs.declared.post.Body.{Body};
+    ghost use Rattle.run_values.specs.declared.post.Body.{Body};
 
     ghost given: { Self → List (ℕ × Body) };
 

@@ -18,7 +18,8 @@ use std::alloc::Global;
 use std::snapshot::Snapshot;
 use std::sync::Wait;
 use std::thread::{PromisedHandle, Scope, Threads};
-use workers_core::{Answer, Inbox, Mail, Outbox, Post, RunSetup, compare, mailbox};
+use workers_core::{Inbox, Mail, Outbox, compare, mailbox};
+use run_values::{Answer, Post, RunSetup};
 
 /// How many mails wait in a mailbox at most: those of one round, and the last one.
 const MAILBOX: u32 = 2;

@@ -8,7 +8,7 @@ use crate::dealing::deal;
 use shared_account::Shared;
 use std::alloc::{AllocError, Global};
 use tariff_core::MAX_MONEY;
-use workers_core::{OpeningCredit, RunSetup};
+use run_values::{OpeningCredit, RunSetup};
 
 /// The accounts of a run, in order, and the seats of each worker, one of each account.
 #[derive(Drop)]

@@ -8,7 +8,7 @@ ghost use Rattle.runs_core.specs.Sending.{promises_of};
 ghost use Rattle.runs_core.specs.Shares.{AreShares, item_at, item_of, worker_of};
 ghost use Rattle.runs_core.specs.Teams.{reads};
 ghost use Rattle.workers_core.specs.Workers.{IsReady, accounts_of, setup_of};
-ghost use Rattle.workers_core.specs.declared.post.Body.{Body};
+ghost use Rattle.run_values.specs.declared.post.Body.{Body};
 
 use crate::crew::{Crew, Replies};
 use crate::opening::empty_piles;
@@ -18,7 +18,7 @@ use std::alloc::Global;
 use std::collections::VecDeque;
 use std::sync::Wait;
 use tariff_core::HORIZON;
-use workers_core::{Answer, Body, Post};
+use run_values::{Answer, Body, Post};
 
 /// Plays rounds until the driver has ended.
 pub(crate) fn play<D: Driver, S: Shared, R: Wait, G: Gate>(

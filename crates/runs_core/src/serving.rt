@@ -25,7 +25,7 @@ use std::sync::Wait;
 use std::thread;
 use std::thread::{Scope, Threads};
 use std::vec::IntoIter;
-use workers_core::RunSetup;
+use run_values::RunSetup;
 
 /// The most workers of a run.
 const MOST_WORKERS: u32 = 16;

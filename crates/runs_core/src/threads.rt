@@ -15,7 +15,7 @@ use std::alloc::Global;
 use std::sync::Wait;
 use std::thread::{Scope, Threads};
 use std::vec::IntoIter;
-use workers_core::RunSetup;
+use run_values::RunSetup;
 
 /// Starts a worker for each team, in order from number 1 on, and puts down its line. After a fault
 /// the lines are those of the workers that were started.

@@ -9,7 +9,7 @@ ghost use Rattle.workers_core.specs.Ends.{IsSameInbox, IsSameOutbox, sent, taken
 ghost use Rattle.workers_core.specs.Handled.{told_of};
 ghost use Rattle.workers_core.specs.Logs.{has_close};
 ghost use Rattle.workers_core.specs.Workers.{IsReady};
-ghost use Rattle.workers_core.specs.declared.answer.Answer.{Answer};
+ghost use Rattle.run_values.specs.declared.answer.Answer.{Answer};
 
 use crate::RunFault;
 use crate::desk::Desk;
@@ -17,7 +17,8 @@ use crate::returns::Finished;
 use shared_account::{Gate, Shared};
 use std::alloc::Global;
 use std::sync::Wait;
-use workers_core::{Answer, Gone, Inbox, Mail, Outbox, Post, RunSetup};
+use workers_core::{Gone, Inbox, Mail, Outbox};
+use run_values::{Answer, Post, RunSetup};
 
 /// Handles the posts of a worker, round by round up to the last mail, and answers each round.
 pub(crate) fn work<S: Shared, R: Wait, G: Gate>(

@@ -8,7 +8,7 @@ use Rattle.cap_values.specs.declared.number.Number.{Number}
 use Rattle.ssf_core.specs.Calls.{View}
 use Rattle.ssf_core.specs.declared.config.SsfConfig.{SsfConfig}
 use Rattle.ssf_core.specs.declared.item.Out.{Out}
-use Rattle.workers_core.specs.declared.post.Body.{Body}
+use Rattle.run_values.specs.declared.post.Body.{Body}
 use Rattle.script_player.specs.Beginnings.{HasBegun}
 use Rattle.script_player.specs.Dues.{AreDues, HasTimer, Replaces, ssf_of}
 use Rattle.script_player.specs.Inputs.{IsGiven, IsNext}

@@ -4,7 +4,7 @@ use Rattle.run_texts.specs.declared.script_row.Happening.{Happening}
 use Rattle.run_texts.specs.declared.script_row.Happening.TheVariants as happening
 use Rattle.run_texts.specs.declared.script_row.ScriptRow.{ScriptRow}
 use Rattle.ssf_core.specs.declared.config.SsfConfig.{SsfConfig}
-use Rattle.workers_core.specs.declared.answer.Answer.{Answer}
+use Rattle.run_values.specs.declared.answer.Answer.{Answer}
 use Rattle.script_player.specs.Chains.{Chain}
 use Rattle.script_player.specs.Lives.{Does, DoesDeed, HasLived, delivery_deed, happening_deed, row_deed, wait_deed}
 use Rattle.script_player.specs.Networks.{Shown}

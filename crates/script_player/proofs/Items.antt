@@ -6,8 +6,8 @@ use Rattle.std.specs.Prelude.{All}
 use Rattle.ssf_core.specs.declared.item.Item.{Item}
 use Rattle.ssf_core.specs.declared.item.Item.TheVariants as sent
 use Rattle.ssf_core.specs.declared.item.Out.{Out}
-use Rattle.workers_core.specs.declared.post.Body.{Body}
-use Rattle.workers_core.specs.declared.post.Body.TheVariants as body
+use Rattle.run_values.specs.declared.post.Body.{Body}
+use Rattle.run_values.specs.declared.post.Body.TheVariants as body
 use Rattle.script_player.specs.Posts.{is_of, is_recharge, items_of, post_of, posts_of, recharges_in}
 
 pub posts_of-append : (call : ℕ) (first second : List Out) → posts_of call (first ++ second) ≡ posts_of call first ++ posts_of call second

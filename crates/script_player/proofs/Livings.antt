@@ -7,7 +7,7 @@ use Rattle.ssf_core.specs.Calls.{RunsUntil, Stands, View}
 use Rattle.ssf_core.specs.Happenings.{Happening, sent_in}
 use Rattle.ssf_core.specs.declared.config.SsfConfig.{SsfConfig}
 use Rattle.ssf_core.specs.declared.item.Out.{Out}
-use Rattle.workers_core.specs.declared.post.Body.{Body}
+use Rattle.run_values.specs.declared.post.Body.{Body}
 use Rattle.script_player.specs.Beginnings.{begun_trace}
 use Rattle.script_player.specs.Chains.{Chain}
 use Rattle.script_player.specs.Dues.{ssf_of}

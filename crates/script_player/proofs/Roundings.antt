@@ -7,7 +7,7 @@ use Rattle.run_texts.specs.declared.script_row.Happening.TheVariants as happenin
 use Rattle.run_texts.specs.declared.script_row.ScriptRow.{ScriptRow}
 use Rattle.ssf_core.specs.Calls.{View}
 use Rattle.ssf_core.specs.declared.config.SsfConfig.{SsfConfig}
-use Rattle.workers_core.specs.declared.answer.Answer.{Answer}
+use Rattle.run_values.specs.declared.answer.Answer.{Answer}
 use Rattle.script_player.specs.Chains.{Chain}
 use Rattle.script_player.specs.Deliveries.{deliveries_of, next_delivery}
 use Rattle.script_player.specs.Dues.{IsFirstDue, ssf_of}

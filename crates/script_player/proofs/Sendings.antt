@@ -1,8 +1,8 @@
 -- The answers of a round, taken one after the other.
 use Rattle.std.proofs.Common.{◌≡◌, ◌+◌, ◌<◌, ◌≤◌, ℕ, zero, suc, Option, Some, None, List, [], ◌∷◌, ◌++◌, length, drop, slice_index_or, refl, arith, sym, ◌∙◌, append_assoc, add-one, drop-cons}
 use Rattle.std.specs.List.{slice_get}
-use Rattle.workers_core.specs.declared.answer.Answer.{Answer}
-use Rattle.workers_core.specs.declared.post.Body.{Body}
+use Rattle.run_values.specs.declared.answer.Answer.{Answer}
+use Rattle.run_values.specs.declared.post.Body.{Body}
 use Rattle.script_player.specs.Deliveries.{deliveries_for, deliveries_of}
 use Rattle.script_player.specs.declared.deliveries.Delivery.{Delivery}
 

@@ -7,8 +7,8 @@ use Rattle.cap_values.specs.declared.number.Number.{Number}
 use Rattle.run_texts.specs.declared.script_row.Happening.{Happening}
 use Rattle.run_texts.specs.declared.script_row.Happening.TheVariants as happening
 use Rattle.run_texts.specs.declared.script_row.ScriptRow.{ScriptRow}
-use Rattle.workers_core.specs.declared.post.Body.{Body}
-use Rattle.workers_core.specs.declared.post.Body.TheVariants as body
+use Rattle.run_values.specs.declared.post.Body.{Body}
+use Rattle.run_values.specs.declared.post.Body.TheVariants as body
 use Rattle.script_player.specs.Networks.{Grows, Shown}
 use Rattle.script_player.specs.Playing.{IsKept}
 use Rattle.script_player.specs.Posts.{Begins, first_of, initial, is_of, is_recharge, items_of, opening_of, recharge_of, recharges_in, recharges_of, start_of}

@@ -14,7 +14,7 @@ use Rattle.ssf_core.specs.Traces.{IsTrace}
 use Rattle.ssf_core.specs.declared.config.SsfConfig.{SsfConfig}
 use Rattle.ssf_core.specs.declared.item.Item.TheVariants as item
 use Rattle.ssf_core.specs.declared.item.Out.{Out}
-use Rattle.workers_core.specs.declared.post.Body.{Body}
+use Rattle.run_values.specs.declared.post.Body.{Body}
 use Rattle.script_player.specs.Beginnings.{HasBegun}
 use Rattle.script_player.specs.Networks.{AreTold, GoesOn, Grows, IsTold, Moves, Shown}
 use Rattle.script_player.specs.Plays.{IsPlayed}

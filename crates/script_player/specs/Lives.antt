@@ -12,7 +12,7 @@ use Rattle.ssf_core.specs.Table.{on_input}
 use Rattle.ssf_core.specs.Traces.{phase_after}
 use Rattle.ssf_core.specs.declared.config.SsfConfig.{SsfConfig}
 use Rattle.ssf_core.specs.declared.item.Out.{Out}
-use Rattle.workers_core.specs.declared.post.Body.{Body}
+use Rattle.run_values.specs.declared.post.Body.{Body}
 use Rattle.script_player.specs.Beginnings.{begun_trace}
 use Rattle.script_player.specs.Chains.{Chain}
 use Rattle.script_player.specs.Networks.{Shown}

@@ -6,7 +6,7 @@ use Rattle.ssf_core.specs.Calls.{Stands, View}
 use Rattle.ssf_core.specs.Happenings.{Happening, sent_in}
 use Rattle.ssf_core.specs.declared.config.SsfConfig.{SsfConfig}
 use Rattle.ssf_core.specs.declared.item.Out.{Out}
-use Rattle.workers_core.specs.declared.post.Body.{Body}
+use Rattle.run_values.specs.declared.post.Body.{Body}
 use Rattle.script_player.specs.Inputs.{IsGiven, IsNext}
 use Rattle.script_player.specs.Posts.{items_of, posts_of, recharges_in}
 use Rattle.script_player.specs.declared.feeding.Fed.{Fed}

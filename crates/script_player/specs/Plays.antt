@@ -4,7 +4,7 @@ use Rattle.run_texts.specs.declared.script_row.ScriptRow.{ScriptRow}
 use Rattle.ssf_core.specs.Happenings.{Happening, sent_in}
 use Rattle.ssf_core.specs.Traces.{IsTrace}
 use Rattle.ssf_core.specs.declared.config.SsfConfig.{SsfConfig}
-use Rattle.workers_core.specs.declared.post.Body.{Body}
+use Rattle.run_values.specs.declared.post.Body.{Body}
 use Rattle.script_player.specs.Networks.{Shown}
 use Rattle.script_player.specs.Posts.{items_of, posts_of}
 use Rattle.script_player.specs.declared.deliveries.Delivery.{Delivery}

@@ -8,8 +8,8 @@ use Rattle.run_texts.specs.declared.script_row.ScriptRow.{ScriptRow}
 use Rattle.ssf_core.specs.declared.item.Item.{Item}
 use Rattle.ssf_core.specs.declared.item.Item.TheVariants as sent
 use Rattle.ssf_core.specs.declared.item.Out.{Out}
-use Rattle.workers_core.specs.declared.post.Body.{Body}
-use Rattle.workers_core.specs.declared.post.Body.TheVariants as body
+use Rattle.run_values.specs.declared.post.Body.{Body}
+use Rattle.run_values.specs.declared.post.Body.TheVariants as body
 
 -- what is sent by the gsmSSF of a call at a moment: a message is an item of the run, an instruction to the switch is none
 abbrev pub post_of : ℕ → ℕ → Item → List (ℕ × Body)

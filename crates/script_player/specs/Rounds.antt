@@ -1,6 +1,6 @@
 -- The rounds of a run.
 use Rattle.std.specs.Prelude.{◌≡◌, ◌++◌, ℕ, Bool, true, false, Option, Some, None, List}
-use Rattle.workers_core.specs.declared.answer.Answer.{Answer}
+use Rattle.run_values.specs.declared.answer.Answer.{Answer}
 use Rattle.script_player.specs.Deliveries.{deliveries_of, next_delivery}
 use Rattle.script_player.specs.Dues.{IsFirstDue}
 use Rattle.script_player.specs.Moments.{in_reach, sooner}

@@ -3,8 +3,8 @@ use Rattle.std.specs.Prelude.{◌≡◌, ℕ, Option, Some, None, List, [], ◌�
 use Rattle.run_texts.specs.declared.script_row.Happening.{Happening}
 use Rattle.run_texts.specs.declared.script_row.Happening.TheVariants as happening
 use Rattle.run_texts.specs.declared.script_row.ScriptRow.{ScriptRow}
-use Rattle.workers_core.specs.declared.post.Body.{Body}
-use Rattle.workers_core.specs.declared.post.Body.TheVariants as body
+use Rattle.run_values.specs.declared.post.Body.{Body}
+use Rattle.run_values.specs.declared.post.Body.TheVariants as body
 use Rattle.script_player.specs.Networks.{Grows, Shown}
 use Rattle.script_player.specs.Posts.{Begins, initial, items_of, opening_of, recharges_in, recharges_of}
 

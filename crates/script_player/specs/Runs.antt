@@ -2,7 +2,7 @@
 use Rattle.std.specs.Prelude.{◌≡◌, ◌++◌, ℕ, Bool, true, false, List, [], ◌∷◌, map}
 use Rattle.run_texts.specs.declared.script_row.ScriptRow.{ScriptRow}
 use Rattle.ssf_core.specs.declared.config.SsfConfig.{SsfConfig}
-use Rattle.workers_core.specs.declared.answer.Answer.{Answer}
+use Rattle.run_values.specs.declared.answer.Answer.{Answer}
 use Rattle.script_player.specs.Chains.{Chain}
 use Rattle.script_player.specs.Lives.{Deed, HasLived, delivery_deed, row_deed, wait_deed}
 use Rattle.script_player.specs.Plays.{Play}

@@ -9,7 +9,7 @@ use Rattle.run_texts.specs.declared.script_row.Happening.TheVariants as happenin
 use Rattle.run_texts.specs.declared.script_row.ScriptRow.{ScriptRow}
 use Rattle.ssf_core.specs.Calls.{View}
 use Rattle.ssf_core.specs.declared.item.Out.{Out}
-use Rattle.workers_core.specs.declared.post.Body.TheVariants as body
+use Rattle.run_values.specs.declared.post.Body.TheVariants as body
 use Rattle.script_player.specs.Beginnings.{HasBegun}
 use Rattle.script_player.specs.Chains.{Chain}
 use Rattle.script_player.specs.Deliveries.{next_delivery}

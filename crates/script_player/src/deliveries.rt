@@ -12,7 +12,7 @@ use ssf_core::Moment;
 use std::alloc::AllocError;
 use std::collections::VecDeque;
 use tariff_core::{DAY, HORIZON};
-use workers_core::{Answer, Body};
+use run_values::{Answer, Body};
 
 /// An operation on its way.
 #[derive(Clone, Copy)]

@@ -13,7 +13,7 @@ use std::alloc::{AllocError, Global};
 use std::collections::{BTreeMap, BTreeSet};
 use std::marker::Model;
 use tariff_core::HORIZON;
-use workers_core::Body;
+use run_values::Body;
 
 /// The most that a gsmSSF sends at one input.
 const MOST_SENT: usize = 8;
@@ -58,7 +58,7 @@ impl Network {
     ghost use Rattle.script_player.specs.Rows.{Starts};
     ghost use Rattle.script_player.specs.Steps.{GivesTo, Recharges, RunsTimers, StartsCall};
     ghost use Rattle.script_player.specs.declared.input.Input.TheVariants as what;
-    ghost use Rattle.workers_core.specs.declared.post.Body.TheVariants as body;
+    ghost use Rattle.run_values.specs.declared.post.Body.TheVariants as body;
 
     /// A network without calls. There is room for so many items.
     pub fn new(alloc: Global, config: SsfConfig, room: usize) -> Result<Network, AllocError>

@@ -11,7 +11,7 @@ use std::alloc::{AllocError, Global};
 use std::collections::VecDeque;
 use std::marker::Model;
 use tariff_core::{DAY, HORIZON, LAST_MOMENT};
-use workers_core::{Answer, Body};
+use run_values::{Answer, Body};
 
 /// Plays a script: it drives a run by the rows of a script, with one gsmSSF for each call that has
 /// started.
@@ -99,11 +99,11 @@ impl Driver for ScriptPlayer {
     ghost use Rattle.std.specs.Prelude.{◌≡◌, ◌≤◌, ◌++◌, ◌∷◌, ℕ, List, [], not, true, false, All, IfOk, OnOk};
     ghost use Rattle.run_texts.specs.declared.script_row.ScriptRow.{ScriptRow};
     ghost use Rattle.ssf_core.specs.declared.config.SsfConfig.{SsfConfig};
-    ghost use Rattle.workers_core.specs.declared.post.Body.{Body};
+    ghost use Rattle.run_values.specs.declared.post.Body.{Body};
     ghost use Rattle.script_player.specs.Plays.{IsPlayed};
     ghost use Rattle.script_player.specs.Rounds.{IsTurn};
     ghost use Rattle.script_player.specs.Runs.{HasHeard, IsReached, LivesByItsDeeds};
-    ghost use Rattle.workers_core.specs.declared.answer.Answer.{Answer};
+    ghost use Rattle.run_values.specs.declared.answer.Answer.{Answer};
     ghost use Rattle.script_player.specs.Posts.{Begins, items_of, opening_of, recharges_in, recharges_of};
 
     ghost given = { λ player. player.network.given };

@@ -22,12 +22,12 @@ use Rattle.workers_core.proofs.Handling.{Means, home_within, many_keys, means_on
 use Rattle.workers_core.specs.Chains.{AreHandled, IsHandledOnce, at_first, seat_numbers}
 use Rattle.workers_core.specs.Handled.{Holding, IsBegun, IsDone, IsRouted, IsTalked, Told, grown}
 use Rattle.workers_core.specs.Laws.{CallsAreReserved, CallsAreReturned, HasNoDialogue, IsHandledAfter, IsReserved, IsRunning, PostsAreHandled, ReportsAreSettled, asked_at, ends_call}
-use Rattle.workers_core.specs.Setups.{Setup, account_of}
+use Rattle.run_values.specs.Setups.{Setup, account_of}
 use Rattle.workers_core.specs.Talks.{Got, entries_of, entry_of, is_ask, last_fault, talked}
 use Rattle.workers_core.specs.Verdicts.{Standing, Verdict, Strays, Rejects, Recharges, Begins, GoesOn, begins, goes_on, home_of, spoken, verdict_on}
 use Rattle.workers_core.specs.Workers.{IsSound}
-use Rattle.workers_core.specs.declared.post.Body.TheVariants.{Ssf}
-use Rattle.workers_core.specs.declared.post.Post.{Post}
+use Rattle.run_values.specs.declared.post.Body.TheVariants.{Ssf}
+use Rattle.run_values.specs.declared.post.Post.{Post}
 
 -- ---- a worker's posts, cut at one
 

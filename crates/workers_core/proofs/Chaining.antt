@@ -8,10 +8,10 @@ use Rattle.workers_core.proofs.Handling.{sound_after}
 use Rattle.workers_core.specs.Chains.{AreAnswered, AreHandled, IsAnswered, IsHandledOnce, IsWorked, at_first, refusals_in}
 use Rattle.workers_core.specs.Handled.{Holding, IsHandled, Told}
 use Rattle.workers_core.specs.Served.{AreServed}
-use Rattle.workers_core.specs.Setups.{Setup}
+use Rattle.run_values.specs.Setups.{Setup}
 use Rattle.workers_core.specs.Workers.{IsSound}
-use Rattle.workers_core.specs.declared.opening_credit.OpeningCredit.{OpeningCredit}
-use Rattle.workers_core.specs.declared.post.Post.{Post}
+use Rattle.run_values.specs.declared.opening_credit.OpeningCredit.{OpeningCredit}
+use Rattle.run_values.specs.declared.post.Post.{Post}
 
 -- one post more
 pub one_more : (setup : Setup) (numbers : List ℕ) (posts : List Post) (answers : List Told) (post : Post) (told : Told) (old between new : Holding)

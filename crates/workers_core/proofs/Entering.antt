@@ -17,16 +17,16 @@ use Rattle.workers_core.proofs.Handling.{Means, at_place, many_keys, means_on, o
 use Rattle.workers_core.specs.Chains.{AreHandled, at_first}
 use Rattle.workers_core.specs.Handled.{Holding, IsDone, IsTalked, Told, grown}
 use Rattle.workers_core.specs.Laws.{RechargesAreEntered, accepted_of, credited_by}
-use Rattle.workers_core.specs.Openings.{no_credit}
+use Rattle.run_values.specs.Openings.{no_credit}
 use Rattle.workers_core.specs.Served.{AreServed, Money, credited_in, credits_of}
-use Rattle.workers_core.specs.Setups.{Setup}
+use Rattle.run_values.specs.Setups.{Setup, place_of}
 use Rattle.workers_core.specs.Talks.{Got, entries_of, entry_of, last_fault}
-use Rattle.workers_core.specs.Verdicts.{Verdict, Strays, Rejects, Recharges, Begins, GoesOn, place_of, recharged, verdict_on}
+use Rattle.workers_core.specs.Verdicts.{Verdict, Strays, Rejects, Recharges, Begins, GoesOn, recharged, verdict_on}
 use Rattle.workers_core.specs.Workers.{IsSound}
-use Rattle.workers_core.specs.declared.opening_credit.OpeningCredit.{OpeningCredit}
-use Rattle.workers_core.specs.declared.post.Body.{Body}
-use Rattle.workers_core.specs.declared.post.Body.TheVariants.{Ssf, Recharge}
-use Rattle.workers_core.specs.declared.post.Post.{Post}
+use Rattle.run_values.specs.declared.opening_credit.OpeningCredit.{OpeningCredit}
+use Rattle.run_values.specs.declared.post.Body.{Body}
+use Rattle.run_values.specs.declared.post.Body.TheVariants.{Ssf, Recharge}
+use Rattle.run_values.specs.declared.post.Post.{Post}
 
 -- ---- the list of one account
 

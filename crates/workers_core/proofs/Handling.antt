@@ -20,17 +20,17 @@ use Rattle.workers_core.proofs.Parts.{IsEntered, all_served_grown, all_served_mo
 use Rattle.workers_core.specs.Cases.{IsActed, IsCase, IsWithin, with_room}
 use Rattle.workers_core.specs.Handled.{Holding, IsDone, IsRecharged, IsTalked, IsUnasked, Stay, Told}
 use Rattle.workers_core.specs.Served.{IsPart, Money, Report, begun_by, begun_of, recharged_in, reported_in, settles_of}
-use Rattle.workers_core.specs.Openings.{no_credit}
-use Rattle.workers_core.specs.Setups.{Setup, account_of}
+use Rattle.run_values.specs.Openings.{no_credit}
+use Rattle.run_values.specs.Setups.{Setup, account_of, place_of}
 use Rattle.workers_core.specs.Talks.{Got, entries_of, entry_of}
-use Rattle.workers_core.specs.Verdicts.{Standing, Verdict, Strays, Rejects, Recharges, Begins, GoesOn, begins, fresh, goes_on, home_of, place_of, recharged, spoken, strays, verdict, verdict_on}
+use Rattle.workers_core.specs.Verdicts.{Standing, Verdict, Strays, Rejects, Recharges, Begins, GoesOn, begins, fresh, goes_on, home_of, recharged, spoken, strays, verdict, verdict_on}
 use Rattle.workers_core.specs.Workers.{IsAbout, IsOwn, IsSound, standing_of}
 use Rattle.workers_core.specs.declared.case.Case.{Case}
 use Rattle.workers_core.specs.declared.case.Case.TheVariants as case
-use Rattle.workers_core.specs.declared.opening_credit.OpeningCredit.{OpeningCredit}
-use Rattle.workers_core.specs.declared.post.Body.{Body}
-use Rattle.workers_core.specs.declared.post.Body.TheVariants.{Ssf, Recharge}
-use Rattle.workers_core.specs.declared.post.Post.{Post}
+use Rattle.run_values.specs.declared.opening_credit.OpeningCredit.{OpeningCredit}
+use Rattle.run_values.specs.declared.post.Body.{Body}
+use Rattle.run_values.specs.declared.post.Body.TheVariants.{Ssf, Recharge}
+use Rattle.run_values.specs.declared.post.Post.{Post}
 
 -- ---- what a verdict says of its post
 

@@ -6,11 +6,8 @@ pub mod Closes
 pub mod Doings
 pub mod Entering
 pub mod Handling
-pub mod Judging
-pub mod Listing
 pub mod Orders
 pub mod Parts
-pub mod Placing
 pub mod Reserving
 pub mod Talking
 pub mod Verdicts

@@ -7,7 +7,7 @@ use Rattle.std.proofs.lemmas.List.Elements.{All-append, All-head, All-nil, All-t
 use Rattle.account_core.specs.Events.{Event}
 use Rattle.workers_core.specs.Handled.{grown}
 use Rattle.workers_core.specs.Served.{AreServed, IsPart, IsServed, begun_by, begun_of, credited_in, credits_of, held_in, held_of, recharged_in, recharges_of, reported_in, reports_of, settled_in, settles_of}
-use Rattle.workers_core.specs.declared.post.Post.{Post}
+use Rattle.run_values.specs.declared.post.Post.{Post}
 
 -- ---- parts
 

@@ -26,11 +26,11 @@ use Rattle.workers_core.proofs.Handling.{Means, means_on, same_number}
 use Rattle.workers_core.specs.Chains.{AreHandled, at_first}
 use Rattle.workers_core.specs.Handled.{Holding, IsDone, IsRouted, IsTalked, Stay, Told, grown}
 use Rattle.workers_core.specs.Laws.{HasBegun, IsOnTerms, ReservesAreOnTerms}
-use Rattle.workers_core.specs.Setups.{Setup}
+use Rattle.run_values.specs.Setups.{Setup}
 use Rattle.workers_core.specs.Talks.{Got, after_got, entries_of, entry_of, or_done, talked}
 use Rattle.workers_core.specs.Verdicts.{Standing, Verdict, Strays, Rejects, Recharges, Begins, GoesOn, home_of, verdict_on}
-use Rattle.workers_core.specs.declared.post.Body.TheVariants.{Ssf}
-use Rattle.workers_core.specs.declared.post.Post.{Post}
+use Rattle.run_values.specs.declared.post.Body.TheVariants.{Ssf}
+use Rattle.run_values.specs.declared.post.Post.{Post}
 
 -- ---- what holds of the terms of a dialogue holds of all that it asks for
 

@@ -3,9 +3,9 @@ use Rattle.std.specs.Prelude.{◌≡◌, ℕ, Option, None, List, [], ◌∷◌,
 use Rattle.account_core.specs.Events.{Event}
 use Rattle.account_core.specs.declared.fault.AccountFault.{AccountFault}
 use Rattle.workers_core.specs.Handled.{Holding, IsHandled, Told}
-use Rattle.workers_core.specs.Setups.{Setup}
+use Rattle.run_values.specs.Setups.{Setup}
 use Rattle.workers_core.specs.Verdicts.{Standing}
-use Rattle.workers_core.specs.declared.post.Post.{Post}
+use Rattle.run_values.specs.declared.post.Post.{Post}
 
 -- a post is handled, and this is the last fault that an ask for it got, or none, where every ask for it was entered
 pub record IsHandledOnce (setup : Setup) (numbers : List ℕ) (post : Post) (refusal : Option AccountFault) (old new : Holding) : Type 0 where

@@ -11,11 +11,11 @@ use Rattle.dialogue_core.specs.Table.{begun}
 use Rattle.tariff_core.specs.Bands.{Band}
 use Rattle.tariff_core.specs.Routes.{HasNoRoute, IsRoute}
 use Rattle.tariff_core.specs.declared.route.Route.{Route}
-use Rattle.workers_core.specs.Setups.{Setup}
+use Rattle.run_values.specs.Setups.{Setup}
 use Rattle.workers_core.specs.Talks.{AllAsk, Got, entries_of, entry_of, is_ask, last_fault, sent_by, talked}
 use Rattle.workers_core.specs.Verdicts.{Standing, Verdict, Strays, Rejects, Recharges, Begins, GoesOn, verdict}
-use Rattle.workers_core.specs.declared.answer.Answer.{Answer}
-use Rattle.workers_core.specs.declared.post.Post.{Post}
+use Rattle.run_values.specs.declared.answer.Answer.{Answer}
+use Rattle.run_values.specs.declared.post.Post.{Post}
 
 -- what a worker holds beside the posts that it has handled: its seats' entries, in the ascending order of the accounts, and its dialogues
 pub record Holding : Type 0 where

@@ -17,12 +17,12 @@ use Rattle.tariff_core.specs.declared.time_info.TimeInfo.{TimeInfo}
 use Rattle.workers_core.specs.Chains.{AreHandled, IsHandledOnce, IsWorked, at_first, seat_numbers}
 use Rattle.workers_core.specs.Handled.{Holding, IsTalked, Told}
 use Rattle.workers_core.specs.Served.{Money, credits_of, recharged_in}
-use Rattle.workers_core.specs.Setups.{Setup}
+use Rattle.run_values.specs.Setups.{Setup, place_of}
 use Rattle.workers_core.specs.Talks.{is_ask, sent_by}
-use Rattle.workers_core.specs.Verdicts.{home_of, place_of}
-use Rattle.workers_core.specs.declared.post.Body.{Body}
-use Rattle.workers_core.specs.declared.post.Body.TheVariants.{Ssf}
-use Rattle.workers_core.specs.declared.post.Post.{Post}
+use Rattle.workers_core.specs.Verdicts.{home_of}
+use Rattle.run_values.specs.declared.post.Body.{Body}
+use Rattle.run_values.specs.declared.post.Body.TheVariants.{Ssf}
+use Rattle.run_values.specs.declared.post.Post.{Post}
 
 -- where a dialogue asks nothing at first, what it says is sent just so, and no ask was refused
 abbrev pub WhatIsSaidIsSent : Type 0

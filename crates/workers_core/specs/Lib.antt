@@ -4,10 +4,7 @@ pub mod Ends
 pub mod Handled
 pub mod Laws
 pub mod Logs
-pub mod Openings
 pub mod Served
-pub mod SetupFaults
-pub mod Setups
 pub mod Talks
 pub mod Verdicts
 pub mod WorkerFaults

@@ -5,9 +5,9 @@ use Rattle.account_core.specs.Events.{Event}
 use Rattle.cap_values.specs.declared.message.SsfMsg.{SsfMsg}
 use Rattle.cap_values.specs.declared.message.SsfMsg.TheVariants.{InitialDp, EventReport, ChargingReport, Ended}
 use Rattle.tariff_core.specs.declared.time_info.TimeInfo.{TimeInfo}
-use Rattle.workers_core.specs.declared.post.Body.{Body}
-use Rattle.workers_core.specs.declared.post.Body.TheVariants.{Ssf, Recharge}
-use Rattle.workers_core.specs.declared.post.Post.{Post}
+use Rattle.run_values.specs.declared.post.Body.{Body}
+use Rattle.run_values.specs.declared.post.Body.TheVariants.{Ssf, Recharge}
+use Rattle.run_values.specs.declared.post.Post.{Post}
 
 -- some of a list, in its order
 abbrev pub IsPart : {X : Type 0} → List X → List X → Type 0

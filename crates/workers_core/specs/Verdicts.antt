@@ -1,23 +1,19 @@
 -- What a post comes to before anything is asked.
-use Rattle.std.specs.Prelude.{◌==◌, ℕ, Bool, true, false, Option, Some, None, Ok, Err, option_and_then, position}
+use Rattle.std.specs.Prelude.{ℕ, Bool, true, false, Option, Some, None, Ok, Err, option_and_then}
 use Rattle.cap_values.specs.declared.message.SsfMsg.{SsfMsg}
 use Rattle.cap_values.specs.declared.message.SsfMsg.TheVariants.{InitialDp, EventReport, ChargingReport, Ended}
 use Rattle.cap_values.specs.declared.number.Number.{Number}
 use Rattle.dialogue_core.specs.Phases.{Phase, Says}
 use Rattle.dialogue_core.specs.Table.{Step, told}
-use Rattle.workers_core.specs.Setups.{Setup, account_of}
-use Rattle.workers_core.specs.declared.post.Body.{Body}
-use Rattle.workers_core.specs.declared.post.Body.TheVariants.{Ssf, Recharge}
-use Rattle.workers_core.specs.declared.post.Post.{Post}
+use Rattle.run_values.specs.Setups.{Setup, account_of, place_of}
+use Rattle.run_values.specs.declared.post.Body.{Body}
+use Rattle.run_values.specs.declared.post.Body.TheVariants.{Ssf, Recharge}
+use Rattle.run_values.specs.declared.post.Post.{Post}
 
 -- a dialogue of a worker: where it stands, and the place of its account in the ascending order
 pub record Standing : Type 0 where
   pub phase : Phase
   pub place : ℕ
-
--- the place of an account in the ascending order
-abbrev pub place_of : ℕ → Setup → Option ℕ
-place_of account setup = position (λ other. other.0 == account) setup.accounts
 
 -- the place of the account of a calling number, none where it isn't a subscriber's
 abbrev pub home_of : Number → Setup → Option ℕ

@@ -8,9 +8,9 @@ use Rattle.dialogue_core.specs.Phases.{Phase, FirstAsk, Running, Settling, MoreA
 use Rattle.dialogue_core.specs.Views.{phase_of}
 use Rattle.workers_core.specs.Handled.{Holding}
 use Rattle.workers_core.specs.Served.{AreServed, begun_of}
-use Rattle.workers_core.specs.Setups.{Setup}
+use Rattle.run_values.specs.Setups.{Setup}
 use Rattle.workers_core.specs.Verdicts.{Standing}
-use Rattle.workers_core.specs.declared.post.Post.{Post}
+use Rattle.run_values.specs.declared.post.Post.{Post}
 use Rattle.workers_core.specs.declared.talk.Talk.{Talk}
 use Rattle.workers_core.specs.declared.worker.Worker.{Worker}
 

@@ -3,12 +3,13 @@
 ghost use Rattle.std.specs.Prelude.{◌≡◌, ◌<◌, ◌≤◌, IfSome, IfNone, length};
 ghost use Rattle.dialogue_core.specs.Table.{told};
 ghost use Rattle.dialogue_core.specs.Views.{phase_of};
+ghost use Rattle.run_values.specs.Setups.{place_of};
 ghost use Rattle.workers_core.specs.Cases.{IsCase};
-ghost use Rattle.workers_core.specs.Verdicts.{fresh, goes_on, home_of, place_of, recharged, verdict};
+ghost use Rattle.workers_core.specs.Verdicts.{fresh, goes_on, home_of, recharged, verdict};
 ghost use Rattle.workers_core.specs.Workers.{standings_in};
 
 use crate::talk::Talk;
-use crate::{Body, Post, RunSetup};
+use run_values::{Body, Post, RunSetup};
 use cap_values::{Number, SsfMsg};
 use dialogue_core::{Dialogue, Turn};
 use std::collections::BTreeMap;

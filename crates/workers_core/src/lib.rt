@@ -2,26 +2,18 @@
 #![tactic(auto)]
 
 mod acting;
-mod answer;
 mod case;
 mod converse;
-mod directory;
 mod inbox;
 mod laws;
 mod log;
 mod mail;
 mod opening;
-mod opening_credit;
 mod outbox;
-mod post;
-mod setup;
-mod setup_fault;
 mod talk;
 mod worker;
 mod worker_fault;
 
-pub use answer::Answer;
-pub use directory::Directory;
 pub use inbox::{Gone, Inbox};
 pub use laws::{
     calls_are_reserved, calls_are_returned, posts_are_handled, recharges_are_entered,
@@ -29,10 +21,6 @@ pub use laws::{
 };
 pub use mail::Mail;
 pub use opening::{compare, mailbox};
-pub use opening_credit::OpeningCredit;
 pub use outbox::Outbox;
-pub use post::{Body, Post};
-pub use setup::{MAX_ACCOUNTS, MAX_SUBSCRIBERS, RunSetup};
-pub use setup_fault::SetupFault;
 pub use worker::Worker;
 pub use worker_fault::WorkerFault;

@@ -11,7 +11,8 @@ ghost use Rattle.workers_core.specs.Workers.{IsReady, accounts_of, holding, numb
 use crate::acting::{act, make_room, pass, tell};
 use crate::case::judge;
 use crate::talk::Talk;
-use crate::{Answer, Post, RunSetup, WorkerFault};
+use crate::WorkerFault;
+use run_values::{Answer, Post, RunSetup};
 use shared_account::{Gate, Shared};
 use std::alloc::Global;
 use std::collections::BTreeMap;

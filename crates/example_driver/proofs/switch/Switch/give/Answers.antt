@@ -3,7 +3,7 @@ use Rattle.std.proofs.lemmas.List.Elements.{All-push}
 use Rattle.std.specs.Prelude.{All, if◌then◌else◌}
 use Rattle.std.specs.Result.{is_ok}
 use Rattle.tariff_core.specs.declared.times.TheConstants.{HORIZON}
-use Rattle.workers_core.specs.declared.post.Body.{Body}
+use Rattle.run_values.specs.declared.post.Body.{Body}
 use Rattle.example_driver.proofs.switch.Switch.give.Goals as goal
 
 abbrev AreInRange : List (ℕ × Body) → Type 0

@@ -1,0 +1,3 @@
+pub mod Openings
+pub mod SetupFaults
+pub mod Setups
