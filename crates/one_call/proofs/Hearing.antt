@@ -1,8 +1,8 @@
 -- Time passes and messages are heard: what rests stays at rest, and what the service says fits.
-use Rattle.std.proofs.Common.{◌≡◌, ◌+◌, ◌≤◌, ◌++◌, ◌⊎◌, inl, inr, ℕ, Bool, true, Option, Some, Result, Ok, Err, List, [], ◌∷◌, sym, ap, ◌∙◌, arith, append_assoc, ◌<◌, suc, length, get_or, drop, drop-cons, add-one}
+use Rattle.std.proofs.Common.{◌≡◌, ◌+◌, ◌≤◌, ◌++◌, ◌⊎◌, inl, inr, ℕ, Bool, true, Option, Some, Ok, Err, List, [], ◌∷◌, sym, ap, ◌∙◌, arith, append_assoc, ◌<◌, suc, length, get_or, drop, drop-cons, add-one}
 use Rattle.std.proofs.Math.Nat.{le_trans}
 use Rattle.std.proofs.lemmas.List.{append-nil}
-use Rattle.std.specs.Prelude.{is_some, IfOk}
+use Rattle.std.specs.Prelude.{is_some}
 use Rattle.account_core.specs.Known.{Known}
 use Rattle.cap_values.specs.Orders.{Paid, orders_of, paid_by}
 use Rattle.cap_values.specs.declared.event.Event.{Event}
@@ -21,9 +21,9 @@ use Rattle.ssf_core.specs.declared.item.Out.{Out}
 use Rattle.tariff_core.specs.Rates.{Rates}
 use Rattle.tariff_core.specs.Times.{Elapsed, no_times}
 use Rattle.one_call.specs.Covered.{IsAtRest, IsCovered, IsReady, IsResting, IsSingle, IsTold}
-use Rattle.one_call.specs.Deliveries.{deliveries_at, queued_in}
-use Rattle.one_call.specs.declared.deliveries.Delivery.{Delivery}
-use Rattle.one_call.specs.declared.fault.DriveFault.{DriveFault}
+use Rattle.ssf_core.specs.Deliveries.{deliveries_at}
+use Rattle.ssf_core.specs.declared.deliveries.Delivery.{Delivery}
+use Rattle.one_call.specs.Deliveries.{queued_in}
 use Rattle.one_call.proofs.Asking.{FitsThen, sequel_fits}
 use Rattle.one_call.proofs.Orders.{queued-append, queued-sent}
 use Rattle.one_call.proofs.Settling.{every_report_settles}
@@ -218,21 +218,19 @@ unheard call number moment now meter after queued standing old new message fault
 -- ---- operations are on their way
 
 -- the operations of an answer are queued behind what was
-pub sent_rests : (call at : ℕ) (meter : Meter) (handed : List Paid) (before after : List Delivery) (ops : List ScfOp) (standing : Option Known) (phase : Phase)
-    (result : Result Unit DriveFault) → IfOk result (λ _. after ≡ before ++ deliveries_at at ops)
-    → IsAtRest call meter ((handed ++ queued_in before) ++ paid_by (orders_of ops)) standing phase
-    → IfOk result (λ _. IsAtRest call meter (handed ++ queued_in after) standing phase)
-sent_rests call at meter handed before after ops standing phase (Ok done) is rest =
+pub sent_rests : (call at to : ℕ) (meter : Meter) (handed : List Paid) (before after : List Delivery) (ops : List ScfOp) (standing : Option Known) (phase : Phase)
+    → after ≡ before ++ deliveries_at at to ops → IsAtRest call meter ((handed ++ queued_in before) ++ paid_by (orders_of ops)) standing phase
+    → IsAtRest call meter (handed ++ queued_in after) standing phase
+sent_rests call at to meter handed before after ops standing phase is rest =
     let queue : queued_in after ≡ queued_in before ++ paid_by (orders_of ops) =
-    ap queued_in is ∙ (queued-append before (deliveries_at at ops) ∙ ap (λ (q : List Paid). queued_in before ++ q) (queued-sent at ops)) in
+    ap queued_in is ∙ (queued-append before (deliveries_at at to ops) ∙ ap (λ (q : List Paid). queued_in before ++ q) (queued-sent at to ops)) in
     rw (queue, ← append_assoc handed (queued_in before) (paid_by (orders_of ops))) rest
-sent_rests call at meter handed before after ops standing phase (Err fault) is rest = tt
 
 -- the first operations are on their way
-pub first_rests : (call at : ℕ) (meter : Meter) (before after : List Delivery) (ops : List ScfOp) (standing : Option Known) (phase : Phase)
-    → before ≡ [] → after ≡ before ++ deliveries_at at ops → IsAtRest call meter ([] ++ paid_by (orders_of ops)) standing phase
+pub first_rests : (call at to : ℕ) (meter : Meter) (before after : List Delivery) (ops : List ScfOp) (standing : Option Known) (phase : Phase)
+    → before ≡ [] → after ≡ before ++ deliveries_at at to ops → IsAtRest call meter ([] ++ paid_by (orders_of ops)) standing phase
     → IsAtRest call meter (queued_in after) standing phase
-first_rests call at meter before after ops standing phase empty is rest =
+first_rests call at to meter before after ops standing phase empty is rest =
     let queue : queued_in after ≡ paid_by (orders_of ops) =
-    ap queued_in (is ∙ ap (λ (ds : List Delivery). ds ++ deliveries_at at ops) empty) ∙ queued-sent at ops in
+    ap queued_in (is ∙ ap (λ (ds : List Delivery). ds ++ deliveries_at at to ops) empty) ∙ queued-sent at to ops in
     rw queue rest

@@ -1,28 +1,13 @@
--- The operations of the service on their way to the gsmSSF.
-use Rattle.std.specs.Prelude.{◌≡◌, ◌<◌, ◌≤◌, ℕ, Option, Some, None, List, [], ◌∷◌, ◌++◌}
-use Rattle.std.specs.Option.{ForSome}
+-- The operations of a driven call on their way to its gsmSSF.
+use Rattle.std.specs.Prelude.{◌≡◌, ℕ, List, [], ◌∷◌, ◌++◌}
 use Rattle.cap_values.specs.Orders.{Paid, order_of, with_paid}
 use Rattle.cap_values.specs.declared.operation.ScfOp.{ScfOp}
-use Rattle.one_call.specs.declared.deliveries.Delivery.{Delivery}
+use Rattle.ssf_core.specs.Deliveries.{deliveries_at}
+use Rattle.ssf_core.specs.declared.deliveries.Delivery.{Delivery}
 
--- operations that are all delivered at this moment
-abbrev pub deliveries_at : ℕ → List ScfOp → List Delivery
-deliveries_at at [] = []
-deliveries_at at (op ∷ ops) = record { at = at; op = op } ∷ deliveries_at at ops
-
--- some operations were sent on their way, all to be delivered at this moment
-abbrev pub AreSent : ℕ → List Delivery → List Delivery → Type 0
-AreSent at before after = (ops : List ScfOp) × (after ≡ before ++ deliveries_at at ops)
-
--- when the first delivery is
-abbrev pub next_delivery : List Delivery → Option ℕ
-next_delivery [] = None
-next_delivery (delivery ∷ deliveries) = Some delivery.at
-
--- the first delivery is taken, where there is one that is due by now
-abbrev pub TakesDue : ℕ → List Delivery → Option ScfOp → List Delivery → Type 0
-TakesDue now before None after = (after ≡ before) × ForSome (next_delivery before) (λ at. now < at)
-TakesDue now before (Some op) after = (at : ℕ) × ((at ≤ now) × (before ≡ record { at = at; op = op } ∷ after))
+-- some operations were sent on their way, all to be delivered to one call at one moment
+abbrev pub AreSent : ℕ → ℕ → List Delivery → List Delivery → Type 0
+AreSent at call before after = (ops : List ScfOp) × (after ≡ before ++ deliveries_at at call ops)
 
 -- the periods that the deliveries pay for, in order
 abbrev pub queued_in : List Delivery → List Paid

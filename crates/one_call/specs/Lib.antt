@@ -2,7 +2,6 @@ pub mod Asks
 pub mod Covered
 pub mod Deliveries
 pub mod Drives
-pub mod Moments
 pub mod Scripts
 pub mod Starts
 pub mod Steps

@@ -1,19 +1,18 @@
 -- What the gsmSSF is given next.
 use Rattle.std.specs.Prelude.{◌≡◌, ℕ, Some, None, List}
-use Rattle.cap_values.specs.declared.operation.ScfOp.{ScfOp}
 use Rattle.ssf_core.specs.declared.bcsm_event.BcsmEvent.{BcsmEvent}
-use Rattle.one_call.specs.Deliveries.{TakesDue}
+use Rattle.ssf_core.specs.Deliveries.{TakesDue}
 use Rattle.one_call.specs.Scripts.{TakesEvent}
-use Rattle.one_call.specs.declared.deliveries.Delivery.{Delivery}
+use Rattle.ssf_core.specs.declared.deliveries.Delivery.{Delivery}
 
--- an operation, an event, or the time alone
+-- a delivery, an event, or the time alone
 pub data Given : Type 0 where
-  Delivers : ScfOp → Given
+  Delivers : Delivery → Given
   Meets : BcsmEvent → Given
   Waits : Given
 
 -- the first delivery where it is due by now, else the first event where it is, else the time alone
 abbrev pub IsNext : ℕ → List Delivery → List (ℕ × BcsmEvent) → Given → List Delivery → List (ℕ × BcsmEvent) → Type 0
-IsNext now deliveries script (Delivers op) after left = TakesDue now deliveries (Some op) after × (left ≡ script)
+IsNext now deliveries script (Delivers delivery) after left = TakesDue now deliveries (Some delivery) after × (left ≡ script)
 IsNext now deliveries script (Meets event) after left = TakesDue now deliveries None after × TakesEvent now script (Some event) left
 IsNext now deliveries script Waits after left = TakesDue now deliveries None after × TakesEvent now script None left

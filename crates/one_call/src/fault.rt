@@ -3,7 +3,7 @@
 ghost use Rattle.std.specs.Prelude.{◌≡◌};
 ghost use Rattle.one_call.specs.declared.fault.DriveFault.TheVariants as fault;
 
-use std::alloc::AllocFailed;
+use std::alloc::AllocError;
 use thiserror::Error;
 
 /// Why a call wasn't driven to its end; the numbers are stable. `Backwards` is judged before
@@ -21,10 +21,10 @@ pub enum DriveFault {
     OutOfMemory = 3,
 }
 
-impl<T: Drop> From<AllocFailed<T>> for DriveFault {
+impl From<AllocError> for DriveFault {
     ghost from_gives = { λ _ made. made ≡ fault.OutOfMemory };
 
-    fn from(_error: AllocFailed<T>) -> DriveFault {
+    fn from(_error: AllocError) -> DriveFault {
         DriveFault::OutOfMemory
     }
 }

@@ -10,13 +10,12 @@ ghost use Rattle.one_call.specs.Deliveries.{AreSent, queued_in};
 
 use crate::DriveFault;
 use crate::converse::converse;
-use crate::deliveries::{Delivery, send};
 use crate::tally::Tally;
 use account_core::Port;
 use arrayvec::ArrayVec;
 use cap_values::{ScfOp, SsfMsg};
 use dialogue_core::Dialogue;
-use ssf_core::{Item, Moment, Out};
+use ssf_core::{Delivery, Item, Moment, Out, send};
 use std::collections::VecDeque;
 
 /// Hands a message to the dialogue at its moment, and gives the operations that it answers with. A
@@ -46,13 +45,15 @@ fn hear<P: Port>(
     }
 }
 
-/// Hears one item: a message is answered, and the operations of its answer are on their way.
+/// Hears one item: a message is answered, and the operations of its answer are on their way to the
+/// gsmSSF of a call.
 fn hear_one<P: Port>(
     port: &mut P,
     dialogue: &mut Dialogue,
     tally: &mut Tally,
     deliveries: &mut VecDeque<Delivery>,
     due: Moment,
+    to: u64,
     out: Out,
 ) -> Result<(), DriveFault>
     ensures kept { (call now : ℕ) (meter after : Meter) (handed : List Paid)
@@ -66,26 +67,28 @@ fn hear_one<P: Port>(
         → Sends meter now out.item after
         → IfOk result (λ _. IsAtRest call after (handed ++ queued_in deliveries.new.items)
         (P.state port.new call) (phase_of dialogue.new)) }
-    ensures sent { IfOk result (λ _. AreSent due deliveries.old.items deliveries.new.items) }
+    ensures sent { IfOk result (λ _. AreSent due to deliveries.old.items deliveries.new.items) }
     ensures fault { IfErr result (λ fault. fault ≡ DriveFault.OutOfMemory) }
 {
     match out.item {
         Item::Msg(message) => {
             let ops = hear(port, dialogue, tally, out.at, message);
-            send(deliveries, due, ops.as_slice())
+            Ok(send(deliveries, due, to, ops.as_slice())?)
         }
         Item::Proceed => Ok(()),
         Item::Clear(_) => Ok(()),
     }
 }
 
-/// Hears all that the gsmSSF sent, in order. The operations of the answers are due at a moment.
+/// Hears all that the gsmSSF of a call sent, in order. The operations of the answers are due at a
+/// moment.
 pub(crate) fn hear_all<P: Port>(
     port: &mut P,
     dialogue: &mut Dialogue,
     tally: &mut Tally,
     deliveries: &mut VecDeque<Delivery>,
     due: Moment,
+    to: u64,
     sent: &[Out],
 ) -> Result<(), DriveFault>
     ensures kept { (call : ℕ) (meter after : Meter) (handed : List Paid)
@@ -99,11 +102,11 @@ pub(crate) fn hear_all<P: Port>(
         → RunsThrough handed meter sent.now after
         → IfOk result (λ _. IsAtRest call after (queued_in deliveries.new.items)
         (P.state port.new call) (phase_of dialogue.new)) }
-    ensures sent { IfOk result (λ _. AreSent due deliveries.old.items deliveries.new.items) }
+    ensures sent { IfOk result (λ _. AreSent due to deliveries.old.items deliveries.new.items) }
     ensures fault { IfErr result (λ fault. fault ≡ DriveFault.OutOfMemory) }
 {
     for out in sent {
-        hear_one(port, dialogue, tally, deliveries, due, *out)?;
+        hear_one(port, dialogue, tally, deliveries, due, to, *out)?;
     }
     Ok(())
 }

@@ -5,7 +5,6 @@
 mod ask;
 mod call_end;
 mod converse;
-mod deliveries;
 mod driving;
 mod fault;
 mod hear;

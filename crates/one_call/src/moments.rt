@@ -1,22 +1,21 @@
-//! When something happens next.
+//! When the gsmSSF is given its next input.
 
 ghost use Rattle.std.specs.Prelude.{◌≡◌, ◌≤◌, ℕ, List, Option, drop};
 ghost use Rattle.std.specs.Option.{ForSome};
 ghost use Rattle.ssf_core.specs.Calls.{IsNextDue, Stands};
+ghost use Rattle.ssf_core.specs.Deliveries.{next_delivery};
 ghost use Rattle.ssf_core.specs.Happenings.{Happening};
-ghost use Rattle.one_call.specs.Deliveries.{next_delivery};
-ghost use Rattle.one_call.specs.Moments.{in_reach, sooner};
+ghost use Rattle.ssf_core.specs.Moments.{in_reach, sooner};
 ghost use Rattle.one_call.specs.Scripts.{next_event};
 
-use crate::deliveries::{Delivery, next_delivery};
 use crate::script::next_event;
-use ssf_core::{BcsmEvent, Moment, Ssf};
+use ssf_core::{BcsmEvent, Delivery, Moment, Ssf, next_delivery, next_moment};
 use std::collections::VecDeque;
 use tariff_core::HORIZON;
 
-/// The moment of the next input: the least of the next delivery's, the next event's and that at
+/// The moment of the next input: the least of the next event's, the next delivery's and that at
 /// which a timer is due. None where there is none of them.
-pub(crate) fn next_moment(
+pub(crate) fn next_input(
     ssf: &Ssf,
     deliveries: &VecDeque<Delivery>,
     script: &[(Moment, BcsmEvent)],
@@ -26,24 +25,9 @@ pub(crate) fn next_moment(
     ensures least { (t : List Happening) → Stands ssf.now t → (due : Option ℕ)
         × (IsNextDue ssf.now.config t due
         × (result ≡ in_reach (sooner
-        (sooner (next_delivery deliveries.now.items) (next_event (drop played script.now)))
+        (sooner (next_event (drop played script.now)) (next_delivery deliveries.now.items))
         due))) }
 {
-    let given = sooner(next_delivery(deliveries), next_event(script, played));
-    let next = sooner(given, ssf.next_due())?;
-    if HORIZON < next {
-        return None;
-    }
-    Some(next)
-}
-
-/// The lesser of two moments, where there are two.
-fn sooner(first: Option<Moment>, second: Option<Moment>) -> Option<Moment>
-    ensures { result ≡ sooner first second }
-{
-    match (first, second) {
-        (None, _) => second,
-        (_, None) => first,
-        (Some(one), Some(other)) => Some(one.min(other)),
-    }
+    let event = next_event(script, played);
+    next_moment(event, next_delivery(deliveries), ssf.next_due())
 }

@@ -6,16 +6,15 @@ ghost use Rattle.account_core.specs.Known.{nothing_known};
 ghost use Rattle.one_call.specs.Starts.{IsStarted};
 
 use crate::converse::converse;
-use crate::deliveries::send;
 use crate::hear::hear_all;
-use crate::moments::next_moment;
+use crate::moments::next_input;
 use crate::step::step;
 use crate::tally::Tally;
 use crate::{CallEnd, DriveFault};
 use account_core::Port;
 use cap_values::Number;
 use dialogue_core::{Dialogue, ServiceConfig};
-use ssf_core::{BcsmEvent, Moment, Ssf, SsfConfig};
+use ssf_core::{BcsmEvent, Moment, Ssf, SsfConfig, send};
 use std::alloc::Global;
 use std::collections::VecDeque;
 use tariff_core::{DAY, HORIZON, LAST_MOMENT, Route};
@@ -46,16 +45,24 @@ pub(crate) fn play<P: Port>(
     let mut deliveries = VecDeque::new(alloc);
     let mut played = 0;
     let ops = converse(port, &mut dialogue, &mut tally, turn);
-    send(&mut deliveries, start + delay, ops.as_slice())?;
+    send(&mut deliveries, start + delay, call.0, ops.as_slice())?;
     'inputs: for _ in 0..u64::MAX {
-        let Some(now) = next_moment(&ssf, &deliveries, script, played) else {
+        let Some(now) = next_input(&ssf, &deliveries, script, played) else {
             break;
         };
         let step = step(&mut ssf, &mut deliveries, script, &mut played, now);
         tally = tally.with_input(step.fault);
         let due = now + delay;
         let sent = step.sent.as_slice();
-        hear_all(port, &mut dialogue, &mut tally, &mut deliveries, due, sent)?;
+        hear_all(
+            port,
+            &mut dialogue,
+            &mut tally,
+            &mut deliveries,
+            due,
+            call.0,
+            sent,
+        )?;
     }
     Ok(CallEnd {
         state: ssf.state(),

@@ -6,9 +6,8 @@ ghost use Rattle.ssf_core.specs.Meters.{Metered};
 ghost use Rattle.one_call.specs.Deliveries.{queued_in};
 ghost use Rattle.one_call.specs.Steps.{Given, IsNext};
 
-use crate::deliveries::{Delivery, take_due};
 use crate::script::take_event;
-use ssf_core::{BcsmEvent, Moment, Ssf, Step};
+use ssf_core::{BcsmEvent, Delivery, Moment, Ssf, Step, take_due};
 use std::collections::VecDeque;
 use tariff_core::HORIZON;
 
@@ -29,8 +28,8 @@ pub(crate) fn step(
         × ((queued_in deliveries.old.items ≡ handed ++ queued_in deliveries.new.items)
         × Metered handed ssf.old result.sent.items ssf.new) }
 {
-    if let Some(op) = take_due(deliveries, now) {
-        return ssf.operation(now, op);
+    if let Some(delivery) = take_due(deliveries, now) {
+        return ssf.operation(now, delivery.op);
     }
     if let Some(event) = take_event(script, played, now) {
         return ssf.event(now, event);

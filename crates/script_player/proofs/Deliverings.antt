@@ -4,10 +4,10 @@ use Rattle.std.proofs.lemmas.List.Elements.{All-append, All-cons, All-nil}
 use Rattle.std.specs.Option.{ForSome}
 use Rattle.std.specs.Prelude.{All}
 use Rattle.script_player.specs.Chains.{Chain}
-use Rattle.script_player.specs.Deliveries.{TakesDue, next_delivery}
+use Rattle.ssf_core.specs.Deliveries.{TakesDue, next_delivery}
 use Rattle.script_player.specs.Networks.{Grows, Shown}
 use Rattle.script_player.specs.Steps.{Delivers, DeliversDue}
-use Rattle.script_player.specs.declared.deliveries.Delivery.{Delivery}
+use Rattle.ssf_core.specs.declared.deliveries.Delivery.{Delivery}
 use Rattle.script_player.proofs.Chainings.{chain_more}
 use Rattle.script_player.proofs.Tellings.{grows_not, grows_on}
 

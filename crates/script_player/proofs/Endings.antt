@@ -4,7 +4,7 @@ use Rattle.std.proofs.lemmas.Bool.Decides.{nat_tests}
 use Rattle.std.proofs.lemmas.List.Elements.{All-drop, All-head}
 use Rattle.std.specs.Prelude.{All}
 use Rattle.run_texts.specs.declared.script_row.ScriptRow.{ScriptRow}
-use Rattle.script_player.specs.Moments.{in_reach, sooner}
+use Rattle.ssf_core.specs.Moments.{in_reach, sooner}
 use Rattle.script_player.specs.Rows.{next_row}
 
 reaches : (moment : ℕ) → moment ≤ 1000000000000 → in_reach (Some moment) ≡ None → ⊥

@@ -9,16 +9,17 @@ use Rattle.ssf_core.specs.Calls.{View}
 use Rattle.ssf_core.specs.declared.config.SsfConfig.{SsfConfig}
 use Rattle.run_values.specs.declared.answer.Answer.{Answer}
 use Rattle.script_player.specs.Chains.{Chain}
-use Rattle.script_player.specs.Deliveries.{deliveries_of, next_delivery}
+use Rattle.ssf_core.specs.Deliveries.{next_delivery}
+use Rattle.script_player.specs.Deliveries.{deliveries_of}
 use Rattle.script_player.specs.Dues.{IsFirstDue, ssf_of}
-use Rattle.script_player.specs.Moments.{in_reach, sooner}
+use Rattle.ssf_core.specs.Moments.{in_reach, sooner}
 use Rattle.script_player.specs.Networks.{Shown}
 use Rattle.script_player.specs.Plays.{Play, play_at}
 use Rattle.script_player.specs.Rounds.{IsEnd, IsRound, IsTurn, next_of}
 use Rattle.script_player.specs.Rows.{next_row}
 use Rattle.script_player.specs.Runs.{HasHeard, Hears, IsReached, fresh}
 use Rattle.script_player.specs.Steps.{Delivers, DeliversDue, GetsSsf, Gives, Happens, PlaysDue, PlaysRow, RunsTimers, Waits}
-use Rattle.script_player.specs.declared.deliveries.Delivery.{Delivery}
+use Rattle.ssf_core.specs.declared.deliveries.Delivery.{Delivery}
 use Rattle.script_player.specs.declared.input.Input.{Input}
 use Rattle.script_player.specs.declared.input.Input.TheVariants as what
 use Rattle.script_player.proofs.Chainings.{chain_more}

@@ -4,7 +4,7 @@ use Rattle.std.specs.List.{slice_get}
 use Rattle.run_values.specs.declared.answer.Answer.{Answer}
 use Rattle.run_values.specs.declared.post.Body.{Body}
 use Rattle.script_player.specs.Deliveries.{deliveries_for, deliveries_of}
-use Rattle.script_player.specs.declared.deliveries.Delivery.{Delivery}
+use Rattle.ssf_core.specs.declared.deliveries.Delivery.{Delivery}
 
 pub slice_get-at : {X : Type 0} (xs : List X) (k : ℕ) (x : X) → k < length xs → x ≡ slice_index_or xs k x → slice_get xs k ≡ Some x
 slice_get-at [] k x within is = absurd (omega arith)

@@ -4,7 +4,6 @@ pub mod Deliveries
 pub mod Dues
 pub mod Inputs
 pub mod Lives
-pub mod Moments
 pub mod Networks
 pub mod Playing
 pub mod Plays

@@ -18,7 +18,7 @@ use Rattle.script_player.specs.Chains.{Chain}
 use Rattle.script_player.specs.Networks.{Shown}
 use Rattle.script_player.specs.Posts.{items_of, posts_of}
 use Rattle.script_player.specs.Steps.{GivesTo, Recharges, StartsCall}
-use Rattle.script_player.specs.declared.deliveries.Delivery.{Delivery}
+use Rattle.ssf_core.specs.declared.deliveries.Delivery.{Delivery}
 use Rattle.script_player.specs.declared.input.Input.{Input}
 use Rattle.script_player.specs.declared.input.Input.TheVariants as input
 

@@ -7,7 +7,7 @@ use Rattle.ssf_core.specs.declared.config.SsfConfig.{SsfConfig}
 use Rattle.run_values.specs.declared.post.Body.{Body}
 use Rattle.script_player.specs.Networks.{Shown}
 use Rattle.script_player.specs.Posts.{items_of, posts_of}
-use Rattle.script_player.specs.declared.deliveries.Delivery.{Delivery}
+use Rattle.ssf_core.specs.declared.deliveries.Delivery.{Delivery}
 
 -- its gsmSSFs and all that it has given, the deliveries that wait, the delay, the rows that it has taken and those that are left, and whether it has ended
 pub record Play : Type 0 where

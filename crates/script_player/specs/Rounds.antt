@@ -1,14 +1,15 @@
 -- The rounds of a run.
 use Rattle.std.specs.Prelude.{◌≡◌, ◌++◌, ℕ, Bool, true, false, Option, Some, None, List}
 use Rattle.run_values.specs.declared.answer.Answer.{Answer}
-use Rattle.script_player.specs.Deliveries.{deliveries_of, next_delivery}
+use Rattle.ssf_core.specs.Deliveries.{next_delivery}
+use Rattle.script_player.specs.Deliveries.{deliveries_of}
 use Rattle.script_player.specs.Dues.{IsFirstDue}
-use Rattle.script_player.specs.Moments.{in_reach, sooner}
+use Rattle.ssf_core.specs.Moments.{in_reach, sooner}
 use Rattle.script_player.specs.Networks.{Shown}
 use Rattle.script_player.specs.Plays.{Play}
 use Rattle.script_player.specs.Rows.{next_row}
 use Rattle.script_player.specs.Steps.{DeliversDue, PlaysDue, RunsTimers}
-use Rattle.script_player.specs.declared.deliveries.Delivery.{Delivery}
+use Rattle.ssf_core.specs.declared.deliveries.Delivery.{Delivery}
 
 -- the deliveries that wait once answers were heard: each operation of an answer comes last, a delay after the moment of its item
 abbrev pub waiting : Play → List Answer → List Delivery

@@ -12,13 +12,13 @@ use Rattle.ssf_core.specs.declared.item.Out.{Out}
 use Rattle.run_values.specs.declared.post.Body.TheVariants as body
 use Rattle.script_player.specs.Beginnings.{HasBegun}
 use Rattle.script_player.specs.Chains.{Chain}
-use Rattle.script_player.specs.Deliveries.{next_delivery}
+use Rattle.ssf_core.specs.Deliveries.{next_delivery}
 use Rattle.script_player.specs.Dues.{AreDueBy, HasTimer, ssf_of}
 use Rattle.script_player.specs.Inputs.{IsGiven}
 use Rattle.script_player.specs.Networks.{Shown}
 use Rattle.script_player.specs.Posts.{posts_of}
 use Rattle.script_player.specs.Rows.{next_row}
-use Rattle.script_player.specs.declared.deliveries.Delivery.{Delivery}
+use Rattle.ssf_core.specs.declared.deliveries.Delivery.{Delivery}
 use Rattle.script_player.specs.declared.input.Input.{Input}
 use Rattle.script_player.specs.declared.input.Input.TheVariants as input
 

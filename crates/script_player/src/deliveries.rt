@@ -1,29 +1,18 @@
 //! The operations of the service on their way to the gsmSSFs.
 
 ghost use Rattle.std.specs.Prelude.{◌≡◌, ◌≤◌, ◌++◌, All, OnOk};
-ghost use Rattle.script_player.specs.Deliveries.{TakesDue, deliveries_at, deliveries_of, deliveries_to, next_delivery};
+ghost use Rattle.script_player.specs.Deliveries.{deliveries_of, deliveries_to};
 ghost use Rattle.script_player.specs.Networks.{Grows};
 ghost use Rattle.script_player.specs.Steps.{DeliversDue};
 
 use crate::input::Input;
 use crate::network::Network;
 use cap_values::ScfOp;
-use ssf_core::Moment;
+use ssf_core::{Delivery, Moment, send, take_due};
 use std::alloc::AllocError;
 use std::collections::VecDeque;
 use tariff_core::{DAY, HORIZON};
 use run_values::{Answer, Body};
-
-/// An operation on its way.
-#[derive(Clone, Copy)]
-pub(crate) struct Delivery {
-    /// When it is delivered.
-    pub at: Moment,
-    /// The call whose gsmSSF gets it.
-    pub call: u64,
-    /// What is delivered.
-    pub op: ScfOp,
-}
 
 /// Puts down the operations of answers, one after the other, each for the call of its post and a
 /// delay after the post's moment.
@@ -65,22 +54,6 @@ fn send_to(
     }
 }
 
-/// Puts down operations, all for one call and to be delivered at one moment.
-fn send(
-    deliveries: &mut VecDeque<Delivery>,
-    at: Moment,
-    call: u64,
-    ops: &[ScfOp],
-) -> Result<(), AllocError>
-    ensures { OnOk result (deliveries.new.items
-        ≡ deliveries.old.items ++ deliveries_at at call ops.now) }
-{
-    for op in ops {
-        deliveries.push_back(Delivery { at, call, op: *op })?;
-    }
-    Ok(())
-}
-
 /// Delivers the operations that are due by now, in order.
 pub(crate) fn deliver(
     network: &mut Network,
@@ -96,25 +69,4 @@ pub(crate) fn deliver(
         network.give(now, delivery.call, Input::Operate(delivery.op))?;
     }
     Ok(())
-}
-
-/// The moment of the first delivery.
-pub(crate) fn next_delivery(deliveries: &VecDeque<Delivery>) -> Option<Moment>
-    ensures { result ≡ next_delivery deliveries.now.items }
-{
-    match deliveries.front() {
-        Some(delivery) => Some(delivery.at),
-        None => None,
-    }
-}
-
-/// Takes the first delivery, where it is due by now.
-fn take_due(deliveries: &mut VecDeque<Delivery>, now: Moment) -> Option<Delivery>
-    ensures { TakesDue now deliveries.old.items result deliveries.new.items }
-{
-    let at = next_delivery(deliveries)?;
-    if now < at {
-        return None;
-    }
-    deliveries.pop_front()
 }

@@ -6,7 +6,6 @@ mod beginning;
 mod deliveries;
 mod feeding;
 mod input;
-mod moments;
 mod network;
 mod player;
 mod posting;

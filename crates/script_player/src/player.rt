@@ -1,12 +1,11 @@
 //! The driver that plays a script.
 
-use crate::deliveries::{Delivery, deliver, next_delivery, put_down};
-use crate::moments::next_moment;
+use crate::deliveries::{deliver, put_down};
 use crate::network::Network;
 use crate::rows::{next_row, take_rows};
 use run_texts::ScriptRow;
 use runs_core::Driver;
-use ssf_core::SsfConfig;
+use ssf_core::{Delivery, SsfConfig, next_delivery, next_moment};
 use std::alloc::{AllocError, Global};
 use std::collections::VecDeque;
 use std::marker::Model;

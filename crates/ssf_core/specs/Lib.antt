@@ -1,10 +1,12 @@
 pub mod Calls
 pub mod Configs
+pub mod Deliveries
 pub mod Happenings
 pub mod Inputs
 pub mod Laws
 pub mod Meters
 pub mod Modes
+pub mod Moments
 pub mod Moves
 pub mod Phases
 pub mod Quantities

@@ -3,6 +3,7 @@
 
 mod bcsm_event;
 mod config;
+mod deliveries;
 mod events;
 mod expiries;
 mod fault;
@@ -11,6 +12,7 @@ mod inputs;
 mod item;
 mod laws;
 mod modes;
+mod moments;
 mod operations;
 mod reports;
 mod sending;
@@ -22,8 +24,10 @@ mod timers;
 
 pub use bcsm_event::BcsmEvent;
 pub use config::{DefaultHandling, SsfConfig};
+pub use deliveries::{Delivery, next_delivery, send, take_due};
 pub use fault::SsfFault;
 pub use item::{Item, Moment, Out, Step};
 pub use laws::{each_report_fits, the_answer_stays, the_switch_stays};
+pub use moments::next_moment;
 pub use ssf::Ssf;
 pub use state::State;

@@ -26,7 +26,7 @@ loop-out-preserved g c = record {
           next.1.1.1.1,
         ),
       );
-  sent = both_sent c.args.due c.args.deliveries.now.items c.loop-out.deliveries.items c.hear_one.new.deliveries.items c.loop-out.invariant.sent c.in_ok-hear_one.ensures.sent;
+  sent = both_sent c.args.due c.args.to c.args.deliveries.now.items c.loop-out.deliveries.items c.hear_one.new.deliveries.items c.loop-out.invariant.sent c.in_ok-hear_one.ensures.sent;
 }
 
 pub returns-clause-rests : goal.returns-clause-rests

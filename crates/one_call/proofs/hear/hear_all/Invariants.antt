@@ -16,5 +16,5 @@ invariant-loop-out g l = record {
       → RunsThrough handed meter l.sent after
       → (now : Meter) × (IsAtRest call now (handed ++ queued_in l.deliveries.items) (g.P.Port.state l.port call) (phase_of l.dialogue)
       × RunsThrough handed now (drop l.out-index l.sent) after);
-  sent : AreSent l.due l.initial.deliveries.items l.deliveries.items;
+  sent : AreSent l.due l.to l.initial.deliveries.items l.deliveries.items;
 }

@@ -4,12 +4,16 @@ use Rattle.one_call.specs.Deliveries.{queued_in}
 use Rattle.one_call.proofs.Hearing.{sent_rests}
 use Rattle.one_call.proofs.hear.hear_one.Goals as goal
 
-pub returns-in-Msg-clause-kept : goal.returns-in-Msg-clause-kept
-returns-in-Msg-clause-kept g c = λ call now meter after handed rest sends.
+pub returns-in_ok-send-in-Msg-clause-kept : goal.returns-in_ok-send-in-Msg-clause-kept
+returns-in_ok-send-in-Msg-clause-kept g c = λ call now meter after handed rest sends.
     c.hear-ops.ensures.kept call now meter after (handed ++ queued_in c.args.deliveries.now.items) rest (rw c.in-Msg.is at sends)
 
-pub returns-in-Msg-clause-rests : goal.returns-in-Msg-clause-rests
-returns-in-Msg-clause-rests g c = λ call now meter after handed rest sends.
-    sent_rests call c.args.due after handed c.args.deliveries.now.items c.send.new.deliveries.items c.hear-ops.result.items (g.P.Port.state c.hear-ops.new.port call)
-    (phase_of c.hear-ops.new.dialogue) c.send.result (rw c.as_slice.ensures.value at c.send.ensures.sent)
+pub returns-in_err-send-in-Msg-clause-kept : goal.returns-in_err-send-in-Msg-clause-kept
+returns-in_err-send-in-Msg-clause-kept g c = λ call now meter after handed rest sends.
+    c.hear-ops.ensures.kept call now meter after (handed ++ queued_in c.args.deliveries.now.items) rest (rw c.in-Msg.is at sends)
+
+pub returns-in_ok-send-in-Msg-clause-rests : goal.returns-in_ok-send-in-Msg-clause-rests
+returns-in_ok-send-in-Msg-clause-rests g c = λ call now meter after handed rest sends.
+    sent_rests call c.args.due c.args.to after handed c.args.deliveries.now.items c.send.new.deliveries.items c.hear-ops.result.items (g.P.Port.state c.hear-ops.new.port call)
+    (phase_of c.hear-ops.new.dialogue) (rw c.as_slice.ensures.value at c.in_ok-send-in-Msg.ensures.sent)
     (c.hear-ops.ensures.rests call now meter after (handed ++ queued_in c.args.deliveries.now.items) rest (rw c.in-Msg.is at sends))

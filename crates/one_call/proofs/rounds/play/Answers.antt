@@ -15,7 +15,7 @@ inputs-init g c = λ new.
       none = c.converse-ops.ensures.kept c.args.call.0 meter [] ready ∙ c.started-ssf.ensures.none;
       meter = meter;
       shows = shows;
-      rests = first_rests c.args.call.0 (c.args.start + c.from-delay.result) meter c.new-deliveries.result.items c.send.new.deliveries.items c.converse-ops.result.items
+      rests = first_rests c.args.call.0 (c.args.start + c.from-delay.result) c.args.call.0 meter c.new-deliveries.result.items c.send.new.deliveries.items c.converse-ops.result.items
           (g.P.Port.state c.converse-ops.new.port c.args.call.0) (phase_of c.converse-ops.new.dialogue) c.new-deliveries.ensures.items (rw c.as_slice.ensures.value at c.in_ok-send.ensures.sent)
           (c.converse-ops.ensures.rests c.args.call.0 meter [] ready);
     }

@@ -7,15 +7,15 @@ use Rattle.one_call.proofs.step.step.Goals as goal
 
 pub returns-in-Some : goal.returns-in-Some
 returns-in-Some c = record {
-  next = (Delivers c.in-Some.op, (c.in-Some.ensures, refl));
+  next = (Delivers c.in-Some.delivery, (c.in-Some.ensures.takes, refl));
   metered = (
-    paid_by (order_of c.in-Some.op ∷ []),
+    paid_by (order_of c.in-Some.delivery.op ∷ []),
     (
-      ap queued_in c.in-Some.ensures.1.1 ∙ handed-first c.in-Some.op (queued_in c.take_due.new.deliveries.items),
+      ap queued_in c.in-Some.ensures.takes.1 ∙ handed-first c.in-Some.delivery.op (queued_in c.take_due.new.deliveries.items),
       c.operation.ensures.metered,
     ),
   );
 }
 
 pub returns-in-Some-take_event-clause-next : goal.returns-in-Some-take_event-clause-next
-returns-in-Some-take_event-clause-next c = (Meets c.in-Some-take_event.event, (rw c.in_default.is at c.take_due.ensures, c.in-Some-take_event.ensures))
+returns-in-Some-take_event-clause-next c = (Meets c.in-Some-take_event.event, (rw c.in_default.is at c.take_due.ensures.takes, c.in-Some-take_event.ensures))

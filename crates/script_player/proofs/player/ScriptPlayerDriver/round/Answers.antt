@@ -21,7 +21,7 @@ invariant_of-self-in_default c =
     let row = rw c.as_slice.ensures.value at c.next_row-row.ensures in
     let whole = reached_whole i.network.config i.delay i.rows.items _ (c.self.invariant.2 c.if-not-self.false) in
     let next = next_is i.network i.deliveries.items c.put_down.new.deliveries.items i.delay i.rows.items i.taken i.ended c.args.answers.now c.next_row-row.result c.next_delivery-delivery.result
-    c.first_due.result c.next_moment.result c.next_moment.ensures.least row c.next_delivery-delivery.ensures waits in
+    c.first_due.result c.next_moment.result c.next_moment.ensures.least row c.next_delivery-delivery.ensures.first waits in
     let turn = end_is i.network i.deliveries.items c.put_down.new.deliveries.items i.delay i.rows.items i.taken i.ended c.args.answers.now c.first_due.result whole c.first_due.ensures
     (sym next ∙ c.in_default.is) waits in (
       record {
@@ -43,7 +43,7 @@ returns-in_default-clause-turn c =
     let row = rw c.as_slice.ensures.value at c.next_row-row.ensures in
     let whole = reached_whole i.network.config i.delay i.rows.items _ (c.self.invariant.2 c.if-not-self.false) in
     let next = next_is i.network i.deliveries.items c.put_down.new.deliveries.items i.delay i.rows.items i.taken i.ended c.args.answers.now c.next_row-row.result c.next_delivery-delivery.result
-    c.first_due.result c.next_moment.result c.next_moment.ensures.least row c.next_delivery-delivery.ensures waits in
+    c.first_due.result c.next_moment.result c.next_moment.ensures.least row c.next_delivery-delivery.ensures.first waits in
     let turn = end_is i.network i.deliveries.items c.put_down.new.deliveries.items i.delay i.rows.items i.taken i.ended c.args.answers.now c.first_due.result whole c.first_due.ensures
     (sym next ∙ c.in_default.is) waits in
     rw (← c.self.view_is) (λ running. turn)
@@ -55,7 +55,7 @@ returns-in_default-clause-heard c =
     let row = rw c.as_slice.ensures.value at c.next_row-row.ensures in
     let whole = reached_whole i.network.config i.delay i.rows.items _ (c.self.invariant.2 c.if-not-self.false) in
     let next = next_is i.network i.deliveries.items c.put_down.new.deliveries.items i.delay i.rows.items i.taken i.ended c.args.answers.now c.next_row-row.result c.next_delivery-delivery.result
-    c.first_due.result c.next_moment.result c.next_moment.ensures.least row c.next_delivery-delivery.ensures waits in
+    c.first_due.result c.next_moment.result c.next_moment.ensures.least row c.next_delivery-delivery.ensures.first waits in
     let turn = end_is i.network i.deliveries.items c.put_down.new.deliveries.items i.delay i.rows.items i.taken i.ended c.args.answers.now c.first_due.result whole c.first_due.ensures
     (sym next ∙ c.in_default.is) waits in
     rw (← c.self.view_is)
@@ -88,7 +88,7 @@ invariant_of-self-2 c =
     let row = rw c.as_slice.ensures.value at c.next_row-row.ensures in
     let whole = reached_whole i.network.config i.delay i.rows.items _ (c.self.invariant.2 c.if-not-self.false) in
     let next = next_is i.network i.deliveries.items c.put_down.new.deliveries.items i.delay i.rows.items i.taken i.ended c.args.answers.now c.next_row-row.result c.next_delivery-delivery.result
-    c.first_due.result c.next_moment.result c.next_moment.ensures.least row c.next_delivery-delivery.ensures waits in
+    c.first_due.result c.next_moment.result c.next_moment.ensures.least row c.next_delivery-delivery.ensures.first waits in
     let delivers = rw waits at c.in_ok-deliver.ensures.delivers in
     let plays = rw c.as_slice-2.ensures.value at c.in_ok-take_rows.ensures.plays in
     let turn = round_is i.network c.deliver.new.network c.take_rows.new.network c.advance.new.self i.deliveries.items c.deliver.new.deliveries.items i.delay i.rows.items i.taken c.take_rows.new.taken
@@ -108,7 +108,7 @@ returns-clause-turn c =
     let row = rw c.as_slice.ensures.value at c.next_row-row.ensures in
     let whole = reached_whole i.network.config i.delay i.rows.items _ (c.self.invariant.2 c.if-not-self.false) in
     let next = next_is i.network i.deliveries.items c.put_down.new.deliveries.items i.delay i.rows.items i.taken i.ended c.args.answers.now c.next_row-row.result c.next_delivery-delivery.result
-    c.first_due.result c.next_moment.result c.next_moment.ensures.least row c.next_delivery-delivery.ensures waits in
+    c.first_due.result c.next_moment.result c.next_moment.ensures.least row c.next_delivery-delivery.ensures.first waits in
     let delivers = rw waits at c.in_ok-deliver.ensures.delivers in
     let plays = rw c.as_slice-2.ensures.value at c.in_ok-take_rows.ensures.plays in
     let turn = round_is i.network c.deliver.new.network c.take_rows.new.network c.advance.new.self i.deliveries.items c.deliver.new.deliveries.items i.delay i.rows.items i.taken c.take_rows.new.taken
@@ -122,7 +122,7 @@ returns-clause-heard c =
     let row = rw c.as_slice.ensures.value at c.next_row-row.ensures in
     let whole = reached_whole i.network.config i.delay i.rows.items _ (c.self.invariant.2 c.if-not-self.false) in
     let next = next_is i.network i.deliveries.items c.put_down.new.deliveries.items i.delay i.rows.items i.taken i.ended c.args.answers.now c.next_row-row.result c.next_delivery-delivery.result
-    c.first_due.result c.next_moment.result c.next_moment.ensures.least row c.next_delivery-delivery.ensures waits in
+    c.first_due.result c.next_moment.result c.next_moment.ensures.least row c.next_delivery-delivery.ensures.first waits in
     let delivers = rw waits at c.in_ok-deliver.ensures.delivers in
     let plays = rw c.as_slice-2.ensures.value at c.in_ok-take_rows.ensures.plays in
     let turn = round_is i.network c.deliver.new.network c.take_rows.new.network c.advance.new.self i.deliveries.items c.deliver.new.deliveries.items i.delay i.rows.items i.taken c.take_rows.new.taken

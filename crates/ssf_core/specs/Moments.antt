@@ -1,4 +1,4 @@
--- The moments of a run.
+-- When something happens next.
 use Rattle.std.specs.Prelude.{ℕ, Option, Some, None, min, nat_lt, if◌then◌else◌}
 use Rattle.tariff_core.specs.declared.times.TheConstants.{HORIZON}
 

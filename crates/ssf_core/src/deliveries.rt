@@ -1,0 +1,58 @@
+//! The operations of the service on their way to gsmSSFs.
+
+ghost use Rattle.std.specs.Prelude.{◌≡◌, ◌++◌, OnOk};
+ghost use Rattle.ssf_core.specs.Deliveries.{TakesDue, deliveries_at, next_delivery};
+
+use crate::Moment;
+use cap_values::ScfOp;
+use std::alloc::AllocError;
+use std::collections::VecDeque;
+
+/// An operation on its way.
+#[derive(Clone, Copy, Debug, PartialEq, Eq)]
+pub struct Delivery {
+    /// When it is delivered.
+    pub at: Moment,
+    /// The call whose gsmSSF gets it.
+    pub call: u64,
+    /// What is delivered.
+    pub op: ScfOp,
+}
+
+/// Sends operations on their way, one after the other, all to be delivered to one call at one
+/// moment. After want of memory some of them may be on their way.
+pub fn send(
+    deliveries: &mut VecDeque<Delivery>,
+    at: Moment,
+    call: u64,
+    ops: &[ScfOp],
+) -> Result<(), AllocError>
+    ensures sent { OnOk result (deliveries.new.items
+        ≡ deliveries.old.items ++ deliveries_at at call ops.now) }
+{
+    for op in ops {
+        deliveries.push_back(Delivery { at, call, op: *op })?;
+    }
+    Ok(())
+}
+
+/// The moment of the first delivery, none where none is on its way.
+pub fn next_delivery(deliveries: &VecDeque<Delivery>) -> Option<Moment>
+    ensures first { result ≡ next_delivery deliveries.now.items }
+{
+    match deliveries.front() {
+        Some(delivery) => Some(delivery.at),
+        None => None,
+    }
+}
+
+/// Takes the first delivery, where it is due by now.
+pub fn take_due(deliveries: &mut VecDeque<Delivery>, now: Moment) -> Option<Delivery>
+    ensures takes { TakesDue now deliveries.old.items result deliveries.new.items }
+{
+    let at = next_delivery(deliveries)?;
+    if now < at {
+        return None;
+    }
+    deliveries.pop_front()
+}
