@@ -28,6 +28,7 @@ misplaced call (Returns number) = if is_open call then None else Some fault.NotO
 abbrev pub inadmissible_for : Known → Asked → Option AccountFault
 inadmissible_for call asked = if is_in_range asked then misplaced call asked else Some fault.OutOfRange
 
+-- why an operation is refused after a history, whatever room there is
 abbrev pub inadmissible : List Event → Asked → Option AccountFault
 inadmissible h asked = inadmissible_for (known (call_of asked) h) asked
 
@@ -41,6 +42,7 @@ lawful_times None known read = None
 lawful_times (Some plan) known None = None
 lawful_times (Some plan) known (Some times) = if is_lawful plan known.times times known.granted then Some times else None
 
+-- the times that a report states, where they are accepted
 unfoldable pub accepted_times : Known → TimeInfo → Option Elapsed
 accepted_times known info = if known.forfeited then None else lawful_times known.plan known (times_read known.times info)
 
@@ -53,10 +55,12 @@ abbrev pub reserve_verdict : ℕ → ℕ → ℕ → Bool → Bool → Reply
 reserve_verdict units wanted least forfeited late =
     if nat_lt units least || (units == 0) || forfeited || late then reply.Denied 0 else reply.Granted units (nat_lt units wanted) 0
 
+-- a report that is accepted settles the call at its price; any other forfeits all that it holds
 abbrev pub settle_verdict : Known → Option Elapsed → Reply
 settle_verdict known (Some times) = reply.Settled (price_under known.plan times) 0
 settle_verdict known None = reply.Forfeit known.top 0
 
+-- the reply to an operation, with 0 in place of what is available
 abbrev pub verdict : ℕ → Option ℕ → List Event → Asked → Reply
 verdict opening until h (Credits amount moment) = credit_verdict (opening + credits h) amount
 verdict opening until h (Reserves call plan wanted least at) =

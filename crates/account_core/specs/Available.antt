@@ -16,6 +16,7 @@ abbrev pub credits : List Event → ℕ
 credits [] = 0
 credits (event ∷ h) = credits h + credited event.asked event.reply
 
+-- an entry that grants time
 abbrev pub is_grant : Deed → Bool
 is_grant (Grants plan units) = true
 is_grant deed = false

@@ -18,6 +18,7 @@ abbrev pub state_by : {S : Type 0} → Option KnownCall → HashMap ℕ CallStat
 state_by None others call = state_in others call
 state_by (Some last) others call = if last.call == call then last.state else state_in others call
 
+-- where a call stands
 abbrev pub state_of : CallStates → ℕ → CallState
 state_of calls call = state_by calls.last calls.others call
 

@@ -23,5 +23,6 @@ abbrev pub HasHeard : Heard → Type 0
 HasHeard (Nothing alloc first last) = ⊥
 HasHeard other = Unit {0}
 
+-- a check has heard its opening
 abbrev pub HasBegun : HistoryCheck → Type 0
 HasBegun check = HasHeard check.heard

@@ -50,6 +50,7 @@ nothing_known = record { plan = None; times = no_times; granted = 0; top = 0; fo
 abbrev pub plan_in_force : Known → Rates → Rates
 plan_in_force known plan = unwrap_or known.plan plan
 
+-- what is known of a call after an entry of it
 abbrev pub known_after : Known → Deed → Known
 known_after known (Grants plan units) = record {
   plan = Some (plan_in_force known plan);
@@ -88,6 +89,7 @@ abbrev pub taken_under : Option Rates → Known → ℕ
 taken_under None known = 0
 taken_under (Some plan) known = if known.returned then paid_of known else known.top
 
+-- what a call takes of the credit
 unfoldable pub taken_of : Known → ℕ
 taken_of known = taken_under known.plan known
 
@@ -96,5 +98,6 @@ abbrev pub paid_under : Option Rates → Known → Option ℕ
 paid_under None known = None
 paid_under (Some plan) known = Some (paid_of known)
 
+-- what a call has paid, where it was ever granted anything
 abbrev pub paid_if_granted : Known → Option ℕ
 paid_if_granted known = paid_under known.plan known

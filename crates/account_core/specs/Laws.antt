@@ -24,6 +24,7 @@ abbrev pub told_after : Option ℕ → Deed → Option ℕ
 told_after before (Ends paid) = Some paid
 told_after before other = before
 
+-- what the last Returned of a call told that it paid in all, after a history
 abbrev pub told : ℕ → List Event → Option ℕ
 told call [] = None
 told call (event ∷ h) = told_after (told call h) (deed call event)
@@ -49,6 +50,7 @@ abbrev pub report_after : Option Reporting → Elapsed → Asked → Option Repo
 report_after last times (Settles call number info) = Some (record { before = times; info = info })
 report_after last times asked = last
 
+-- what the last accepted report of a call stated, after a history
 abbrev pub last_report : ℕ → List Event → Option Reporting
 last_report call [] = None
 last_report call (event ∷ h) = if call_of event.asked == call then report_after (last_report call h) (known call h).times event.asked else last_report call h
@@ -58,6 +60,7 @@ abbrev pub AreReported : Option Reporting → Elapsed → Type 0
 AreReported None times = times ≡ no_times
 AreReported (Some report) times = times_read report.before report.info ≡ Some times
 
+-- the times of a call that never forfeited are those that its last report states
 abbrev pub TimesAreReported : Type 0
 TimesAreReported = (opening : ℕ) (until : Option ℕ) (history : List Event) (call : ℕ) → opening ≤ MAX_MONEY → IsLegal opening until history
     → (known call (reverse history)).forfeited ≡ false → AreReported (last_report call (reverse history)) (known call (reverse history)).times
@@ -67,6 +70,7 @@ abbrev pub IsSettle : Asked → Type 0
 IsSettle (Settles call number info) = Unit {0}
 IsSettle asked = ⊥
 
+-- a Settle leaves what is available as it was
 abbrev pub SettlesKeepTheCredit : Type 0
 SettlesKeepTheCredit = (opening : ℕ) (until : Option ℕ) (history : List Event) (event : Event) → opening ≤ MAX_MONEY → IsLegal opening until (history ++ event ∷ []) → IsSettle event.asked
     → available opening (reverse (history ++ event ∷ [])) ≡ available opening (reverse history)

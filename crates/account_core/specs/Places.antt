@@ -12,6 +12,7 @@ use Rattle.account_core.specs.declared.fault.AccountFault.TheVariants as fault
 abbrev pub places_owed : Bool → Bool → ℕ
 places_owed open_call awaits = if open_call then (if awaits then 2 else 1) else 0
 
+-- how many entries it takes to close a call
 unfoldable pub owed_to : Known → ℕ
 owed_to known = places_owed (is_open known) known.awaits
 
@@ -26,9 +27,11 @@ places_needed open_call awaits (Reserves call plan wanted least at) = if open_ca
 places_needed open_call awaits (Settles call number info) = if open_call && awaits then 0 else 1
 places_needed open_call awaits (Returns call) = if open_call then 0 else 1
 
+-- how many entries an operation of a call may make necessary
 abbrev pub needed_by : Known → Asked → ℕ
 needed_by known asked = places_needed (is_open known) known.awaits asked
 
+-- the same after a history
 abbrev pub needed : List Event → Asked → ℕ
 needed h asked = needed_by (known (call_of asked) h) asked
 
@@ -45,6 +48,7 @@ over_limit limit kept needs = if nat_lt limit (kept + needs) then Some fault.His
 abbrev pub refusal_for : ℕ → ℕ → ℕ → Known → Asked → Option AccountFault
 refusal_for limit entries owed call asked = or_else (inadmissible_for call asked) (over_limit limit (entries + owed) (needed_by call asked))
 
+-- why an account with a limit refuses an operation after a history
 unfoldable pub refusal : ℕ → List Event → Asked → Option AccountFault
 refusal limit h asked = refusal_for limit (length h) (owed h) (known (call_of asked) h) asked
 

@@ -21,6 +21,7 @@ reserve_reply credit call plan wanted least late units =
     if nat_lt units least || (units == 0) || call.forfeited || late then reply.Denied credit
     else reply.Granted units (nat_lt units wanted) (credit + taken_of call - ceiling_of (plan_in_force call plan) call.times units)
 
+-- the reply to a report, by the times that were accepted
 abbrev pub settle_reply : ℕ → Known → Option Elapsed → Reply
 settle_reply credit call (Some times) = reply.Settled (price_under call.plan times) credit
 settle_reply credit call None = reply.Forfeit call.top credit

@@ -20,6 +20,7 @@ pub record IsHeld (plan : Rates) (call : Known) : Type 0 where
   pub comes : may_come plan base (base.before + base.after + units) call.times ≡ true
   pub within_day : base.before + base.after + units ≤ DAY
 
+-- a call is sound by its plan, and knows nothing without one
 abbrev pub IsSoundUnder : Option Rates → Known → Type 0
 IsSoundUnder None call = call ≡ nothing_known
 IsSoundUnder (Some plan) call = IsHeld plan call
@@ -34,6 +35,7 @@ pub record IsSoundPast (opening : ℕ) (h : List Event) : Type 0 where
   pub covered : taken_by_all h ≤ opening + credits h
   pub capped : opening + credits h ≤ MAX_MONEY
 
+-- each legal history is sound
 abbrev pub LegalPastsAreSound : Type 0
 LegalPastsAreSound = (opening : ℕ) (until : Option ℕ) (h : List Event) → opening ≤ MAX_MONEY → IsLegalPast opening until h → IsSoundPast opening h
 
@@ -52,5 +54,6 @@ abbrev pub AnswersFit : ℕ → Option ℕ → List Event → Type 0
 AnswersFit opening until h = (asked : Asked) → inadmissible h asked ≡ None
     → IsFitting (available opening h) (known (call_of asked) h) (deed_of asked (verdict opening until h asked))
 
+-- after a sound history the answers fit
 abbrev pub SoundPastsAnswer : Type 0
 SoundPastsAnswer = (opening : ℕ) (until : Option ℕ) (h : List Event) → IsSoundPast opening h → AnswersFit opening until h

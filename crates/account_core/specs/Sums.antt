@@ -24,6 +24,7 @@ abbrev pub sum_under : Option Rates → ℕ → Known → Option CallSum
 sum_under None call known = None
 sum_under (Some plan) call known = Some (record { call = call; paid = paid_of known; fate = fate_of known })
 
+-- the row of a call in a summary, where it was ever granted anything
 abbrev pub sum_of : ℕ → Known → Option CallSum
 sum_of call known = sum_under known.plan call known
 

@@ -1,6 +1,7 @@
 -- The laws of the tariff that an account stands on.
 use Rattle.tariff_core.specs.Laws.{AffordedAreCovered, AffordedAreWithin, CeilingIsNotPassed, ComingIsTransitive, ComingTimesStand, ReadTimesAre, TimesMayStay}
 
+-- the laws of prices that an account rests on
 pub record TariffLaws : Type 0 where
   pub not_passed : CeilingIsNotPassed
   pub within : AffordedAreWithin

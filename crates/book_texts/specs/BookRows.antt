@@ -29,6 +29,7 @@ reply_place version = 2 + width_of version
 abbrev pub HasColumns : Version → List (List ℕ) → Type 0
 HasColumns version fields = HasOperation version fields 2 × (reply_place version + 3 < length fields)
 
+-- the fields of a row by the columns of its version
 abbrev pub columns_in : Version → List (List ℕ) → Columns
 columns_in version fields = record {
   account = field_in fields 0;
@@ -52,9 +53,11 @@ account_of text = number_of 4294967295 text
 
 -- ---- openings
 
+-- the row opens an account
 abbrev pub is_opening : Columns → Bool
 is_opening columns = bytes_eq columns.operation.op (codes "opening")
 
+-- the fields of the reply are empty
 abbrev pub is_no_answer : Answer → Bool
 is_no_answer a = is_empty a.reply && is_empty a.y1 && is_empty a.y2 && is_empty a.y3
 

@@ -72,6 +72,7 @@ books_header =
     codes "account" ∷ codes "seat" ∷ codes "op" ∷ codes "call" ∷ codes "x1" ∷ codes "x2" ∷ codes "x3" ∷ codes "x4" ∷ codes "x5" ∷ codes "x6" ∷ codes "x7"
     ∷ codes "reply" ∷ codes "y1" ∷ codes "y2" ∷ codes "y3" ∷ []
 
+-- the headers of all versions, the oldest first
 abbrev pub books_headers : List (List (List ℕ))
 books_headers = first_header ∷ second_header ∷ books_header ∷ []
 

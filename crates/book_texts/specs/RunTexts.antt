@@ -23,6 +23,7 @@ account_text account opening credit entries =
 abbrev pub account_line : Closed → List ℕ
 account_line book = account_text book.account book.opening (available book.opening (reverse book.history)) (length book.history)
 
+-- the word for what became of a call
 abbrev pub word_of : Fate → List ℕ
 word_of fate.Holding = codes "holding"
 word_of fate.Returned = codes "returned"

@@ -6,6 +6,7 @@ use Rattle.book_texts.specs.declared.book_row.BookRow.{BookRow}
 use Rattle.book_texts.specs.declared.book_row.BookRow.TheVariants as row
 use Rattle.tariff_core.specs.declared.money.TheConstants.{MAX_MONEY}
 
+-- what a row of the code says
 abbrev pub said_of : BookRow → Said
 said_of (row.Opening account opening until) = Opens account opening until
 said_of (row.Entry account entry) = Enters account (event_of entry)

@@ -2,8 +2,10 @@
 use Rattle.std.specs.Prelude.{ℕ, min}
 use Rattle.run_options.specs.declared.ask.RunAsk.{RunAsk}
 
+-- a number in 32 bits, of which the greatest stands for all above it
 abbrev pub capped : ℕ → ℕ
 capped number = min number 4294967295
 
+-- an ask whose numbers are capped
 abbrev pub capped_ask : RunAsk → RunAsk
 capped_ask ask = record ask { wanted = capped ask.wanted; least = capped ask.least; tssf = capped ask.tssf; tccd = capped ask.tccd; delay = capped ask.delay }

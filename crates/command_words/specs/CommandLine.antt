@@ -29,12 +29,15 @@ price_app = with_rules (new_app (codes "price")) (required_rule (codes "fee") �
 unfoldable pub replay_app : App
 replay_app = with_rules (new_app (codes "replay")) (required_rule (codes "opening") ∷ option_rule (codes "limit") ∷ [])
 
+-- the options of the service
 abbrev pub service_rules : List Rule
 service_rules = option_rule (codes "wanted") ∷ option_rule (codes "least") ∷ []
 
+-- the options of the switch
 abbrev pub switch_rules : List Rule
 switch_rules = option_rule (codes "tssf") ∷ option_rule (codes "tccd") ∷ option_rule (codes "delay") ∷ []
 
+-- the other options of a run
 abbrev pub other_rules : List Rule
 other_rules = option_rule (codes "workers") ∷ option_rule (codes "default") ∷ flag_rule (codes "book") ∷ []
 

@@ -36,6 +36,7 @@ plan_in options = option_and_then (λ fee. option_and_then (λ before. option_an
 abbrev pub at_least : ℕ → ℕ → Option ℕ
 at_least least number = if nat_le least number then Some number else None
 
+-- the limit of a history, in its range
 abbrev pub limit_in : List Row → Option ℕ
 limit_in options = option_and_then (λ limit. at_least MIN_LIMIT (unwrap_or limit MAX_LIMIT)) (optional_number_in options (codes "limit") MAX_LIMIT)
 

@@ -23,9 +23,11 @@ time_or None text = decimal_of LAST_MOMENT text
 abbrev pub moment_of : Text → Option ℕ
 moment_of text = time_or (time_of text) text
 
+-- the called number
 abbrev pub called_in : List Row → Option (List ℕ)
 called_in options = option_and_then called_of (first_of (codes "called") options)
 
+-- the moment
 abbrev pub moment_in : List Row → Option ℕ
 moment_in options = option_and_then moment_of (first_of (codes "at") options)
 

@@ -22,6 +22,7 @@ abbrev pub number_or : ℕ → Option Text → Option ℕ
 number_or default None = Some default
 number_or default (Some text) = number_of text
 
+-- the number of an option, or its default
 abbrev pub setting_in : List Row → Text → ℕ → Option ℕ
 setting_in options name default = number_or default (first_of name options)
 
@@ -35,6 +36,7 @@ handling_of None = Some handling.Release
 handling_of (Some text) =
     if bytes_eq text (codes "release") then Some handling.Release else if bytes_eq text (codes "proceed") then Some handling.Proceed else None
 
+-- what the switch does where no answer comes
 abbrev pub handling_in : List Row → Option DefaultHandling
 handling_in options = handling_of (first_of (codes "default") options)
 
@@ -43,6 +45,7 @@ abbrev pub is_yes : Option Text → Bool
 is_yes None = false
 is_yes (Some text) = bytes_eq text (codes "true")
 
+-- whether the books are asked for
 abbrev pub book_in : List Row → Bool
 book_in options = is_yes (first_of (codes "book") options)
 
@@ -68,5 +71,6 @@ abbrev pub judged : Option RunAsk → Result Wish WordsFault
 judged None = Err fault.Arguments
 judged (Some ask) = if is_config ask then Ok (Runs ask) else Err fault.Config
 
+-- what a run is asked for, judged
 abbrev pub run_in : List Row → Result Wish WordsFault
 run_in options = judged (ask_in options)

@@ -33,14 +33,17 @@ IsRun first (exchange ∷ earlier) phase = (before : Phase) × IsRun first earli
 
 -- ---- what a run has asked
 
+-- a reply that grants time
 abbrev pub is_grant : Input → Bool
 is_grant (Answer (Granted units last available)) = true
 is_grant _ = false
 
+-- 1 where a Settle is asked
 abbrev pub settles_in : Says → ℕ
 settles_in (Asks (Settles call number info)) = 1
 settles_in _ = 0
 
+-- 1 where a Return is asked
 abbrev pub returns_in : Says → ℕ
 returns_in (Asks (Returns call)) = 1
 returns_in _ = 0
@@ -51,14 +54,17 @@ settles_since_grant [] = 0
 settles_since_grant (exchange ∷ earlier) =
     if is_grant exchange.input then settles_in exchange.said else settles_in exchange.said + settles_since_grant earlier
 
+-- how many Returns were asked
 abbrev pub returns_asked : List Exchange → ℕ
 returns_asked [] = 0
 returns_asked (exchange ∷ earlier) = returns_in exchange.said + returns_asked earlier
 
+-- whether time was ever granted
 abbrev pub was_granted : List Exchange → Bool
 was_granted [] = false
 was_granted (exchange ∷ earlier) = is_grant exchange.input || was_granted earlier
 
+-- what was said last
 abbrev pub last_said : Says × Phase → List Exchange → Says
 last_said first [] = first.0
 last_said first (exchange ∷ earlier) = exchange.said

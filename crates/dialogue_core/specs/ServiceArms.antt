@@ -9,9 +9,11 @@ use Rattle.cap_values.specs.declared.leg.Leg.{Leg}
 use Rattle.cap_values.specs.declared.leg.Leg.TheVariants.{One, Two}
 use Rattle.cap_values.specs.declared.mode.Mode.TheVariants.{Interrupted, NotifyAndContinue}
 
+-- an event of which the service is told while the call goes on
 abbrev pub notified : Event → Arming
 notified event = record { event = event; leg = None; mode = NotifyAndContinue }
 
+-- a disconnect of a leg, at which the call waits for the service
 abbrev pub interrupted : Leg → Arming
 interrupted leg = record { event = Disconnect; leg = Some leg; mode = Interrupted }
 
@@ -21,5 +23,6 @@ service_armings =
     notified RouteSelectFailure ∷ notified CalledPartyBusy ∷ notified NoAnswer ∷ notified Answer ∷ notified Abandon
     ∷ interrupted One ∷ interrupted Two ∷ []
 
+-- these armings, by point
 unfoldable pub service_arms : Arms
 service_arms = arms_of service_armings

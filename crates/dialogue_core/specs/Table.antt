@@ -53,10 +53,12 @@ abbrev pub seconds_to : ℕ → Option ℕ → Option ℕ
 seconds_to now None = None
 seconds_to now (Some at) = Some (div_ceil (at - now) 10)
 
+-- the terms of a call that begins at a moment on a route
 abbrev pub conditions : ℕ → ℕ → ℕ → ℕ → Route → Conditions
 conditions call now wanted least route =
     record { call = call; plan = rates_of route.plan; wanted = wanted; least = least; switch = seconds_to now route.switch_at }
 
+-- a dialogue begins: it asks for time, or releases a call without a route
 abbrev pub begun : ℕ → ℕ → ℕ → ℕ → Option Route → Says × Phase
 begun call now wanted least None = (Sends (Release 1 ∷ []), Ending)
 begun call now wanted least (Some route) =
@@ -69,12 +71,14 @@ abbrev pub reported : Conditions → Event → Mode → Step
 reported t event.Answer mode = Ok (Sends [], Running t)
 reported t _ mode = give_back t (going_on mode)
 
+-- a message while the call goes on
 abbrev pub running : Conditions → ℕ → ℕ → SsfMsg → Step
 running t number at (msg.InitialDp call calling called) = Err Unexpected
 running t number at (msg.EventReport event leg mode) = reported t event mode
 running t number at (msg.ChargingReport active info) = Ok (Asks (Settles t.call number info), Settling t active at)
 running t number at msg.Ended = give_back t phase.Closes
 
+-- a message after the last ask
 abbrev pub ending : SsfMsg → Step
 ending (msg.InitialDp call calling called) = Err Unexpected
 ending (msg.EventReport event leg mode) = Ok (sequel (going_on mode))
@@ -101,6 +105,7 @@ are_units units = nat_le 1 units && nat_le units DAY
 abbrev pub first_period : Conditions → ℕ → Bool → Says
 first_period t units last = Sends (Watch service_arms ∷ Pay units t.switch last ∷ GoOn ∷ [])
 
+-- the reply to the first Reserve
 abbrev pub first_reply : Conditions → Reply → Step
 first_reply t (Granted units last available) =
     if are_units units then Ok (first_period t units last, Running t) else Err Unexpected
@@ -119,16 +124,19 @@ last_reply t (Settled paid available) = give_back t phase.Nothing
 last_reply t (Forfeit paid available) = give_back t phase.Nothing
 last_reply t _ = Err Unexpected
 
+-- the reply to a further Reserve
 abbrev pub more_reply : Conditions → Reply → Step
 more_reply t (Granted units last available) =
     if are_units units then Ok (Sends (Pay units None last ∷ []), Running t) else Err Unexpected
 more_reply t (Denied available) = give_back t phase.Clears
 more_reply t _ = Err Unexpected
 
+-- the reply to a Return
 abbrev pub return_reply : Sequel → Reply → Step
 return_reply after (Returned paid available) = Ok (sequel after)
 return_reply after _ = Err Unexpected
 
+-- a reply of the account
 abbrev pub replied : Phase → Reply → Step
 replied (FirstAsk t) reply = first_reply t reply
 replied (Running t) reply = Err NoAskPending
@@ -141,6 +149,7 @@ replied Closed reply = Err NoAskPending
 
 -- ---- a refusal of the account
 
+-- the account refused what was asked
 abbrev pub unanswered : Phase → Step
 unanswered (FirstAsk t) = Ok (Sends (Release 41 ∷ []), Ending)
 unanswered (Running t) = Err NoAskPending

@@ -16,10 +16,12 @@ use Rattle.dialogue_core.specs.declared.terms.Terms.{Terms}
 use Rattle.dialogue_core.specs.declared.turn.Turn.{Turn}
 use Rattle.dialogue_core.specs.declared.turn.Turn.TheVariants as turn
 
+-- the terms of a call, as plain data
 abbrev pub conditions_of : Terms → Conditions
 conditions_of terms =
     record { call = terms.call; plan = rates_of terms.plan; wanted = terms.wanted; least = terms.least; switch = terms.switch }
 
+-- what follows a Return, as plain data
 abbrev pub sequel_of : Then → Sequel
 sequel_of next.Nothing = phase.Nothing
 sequel_of next.GoOn = phase.Continues
@@ -27,6 +29,7 @@ sequel_of next.Clear = phase.Clears
 sequel_of next.Fail = phase.Fails
 sequel_of next.Close = phase.Closes
 
+-- the phase of a state
 abbrev pub phase_at : State → Phase
 phase_at (state.FirstAsk terms) = phase.FirstAsk (conditions_of terms)
 phase_at (state.Running terms) = phase.Running (conditions_of terms)

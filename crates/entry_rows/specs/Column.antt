@@ -58,5 +58,6 @@ abbrev pub counted_interval : Option ℕ → Result (Option ℕ) RowKind
 counted_interval None = Ok None
 counted_interval (Some interval) = if interval == 0 then Err kind.Number else Ok (Some interval)
 
+-- a tariff interval of a report, 1 to a day, or none where the field is empty
 abbrev pub interval_of : List ℕ → Result (Option ℕ) RowKind
 interval_of text = after (optional_of DAY text) counted_interval

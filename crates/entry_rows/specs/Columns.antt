@@ -66,6 +66,7 @@ operation_at version fields at = record {
 abbrev pub first_operation_at : List (List ℕ) → ℕ → Operation
 first_operation_at fields at = operation_at version.One fields at
 
+-- the four fields of a reply, from this column on
 abbrev pub answer_at : List (List ℕ) → ℕ → Answer
 answer_at fields at = record {
   reply = field_in fields at;
@@ -78,6 +79,7 @@ answer_at fields at = record {
 abbrev pub no_operation : Operation
 no_operation = record { version = version.Three; op = []; call = []; x1 = []; x2 = []; x3 = []; x4 = []; x5 = []; x6 = []; x7 = [] }
 
+-- a reply with nothing in its fields
 abbrev pub no_answer : Answer
 no_answer = record { reply = []; y1 = []; y2 = []; y3 = [] }
 
@@ -90,12 +92,14 @@ number_or_empty (Some number) = decimal number
 abbrev pub opening_of : ℕ → Option ℕ → Operation
 opening_of opening until = record no_operation { op = codes "opening"; x1 = decimal opening; x2 = number_or_empty until }
 
+-- a Settle in the fields of a row
 abbrev pub settle_of : ℕ → ℕ → TimeInfo → Operation
 settle_of call number (info.NoSwitch t) =
     record no_operation { op = codes "settle"; call = decimal call; x1 = decimal number; x2 = codes "n"; x3 = decimal t }
 settle_of call number (info.Switch since interval) =
     record no_operation { op = codes "settle"; call = decimal call; x1 = decimal number; x2 = codes "s"; x3 = decimal since; x4 = number_or_empty interval }
 
+-- an operation in the fields of a row
 abbrev pub operation_of : Asked → Operation
 operation_of (Credits amount until) = record no_operation { op = codes "credit"; x1 = decimal amount; x2 = number_or_empty until }
 operation_of (Reserves call plan wanted least at) = record {
@@ -113,6 +117,7 @@ operation_of (Reserves call plan wanted least at) = record {
 operation_of (Settles call number info) = settle_of call number info
 operation_of (Returns call) = record no_operation { op = codes "return"; call = decimal call }
 
+-- a reply in the fields of a row
 abbrev pub answer_of : Reply → Answer
 answer_of (reply.Credited available) = record no_answer { reply = codes "credited"; y3 = decimal available }
 answer_of (reply.CreditOver available) = record no_answer { reply = codes "over"; y3 = decimal available }

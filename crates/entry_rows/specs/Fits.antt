@@ -15,12 +15,15 @@ use Rattle.tariff_core.specs.declared.times.TheConstants.{DAY, HORIZON}
 abbrev pub IsWide : ℕ → Type 0
 IsWide number = number ≤ 18446744073709551615
 
+-- 0 to a day
 abbrev pub IsTime : ℕ → Type 0
 IsTime units = units ≤ DAY
 
+-- 0 to the largest money
 abbrev pub IsMoney : ℕ → Type 0
 IsMoney money = money ≤ MAX_MONEY
 
+-- 0 to the largest rate
 abbrev pub IsRate : ℕ → Type 0
 IsRate rate = rate ≤ MAX_RATE
 
@@ -39,16 +42,19 @@ pub record FitsPlan (plan : Rates) : Type 0 where
   pub second : IfSome plan.after IsRate
   pub free : IsTime plan.free
 
+-- the times of a report fit their columns
 abbrev pub FitsReport : TimeInfo → Type 0
 FitsReport (info.NoSwitch time) = IsTime time
 FitsReport (info.Switch since interval) = IsTime since × IfSome interval IsInterval
 
+-- the numbers of an operation fit their columns
 abbrev pub FitsAsked : Asked → Type 0
 FitsAsked (Credits amount until) = IsMoney amount × IfSome until IsMoment
 FitsAsked (Reserves call plan wanted least at) = IsWide call × FitsPlan plan × IsTime wanted × IsTime least × IsMoment at
 FitsAsked (Settles call number report) = IsWide call × IsWide number × FitsReport report
 FitsAsked (Returns call) = IsWide call
 
+-- the numbers of a reply fit their columns
 abbrev pub FitsReply : Reply → Type 0
 FitsReply (reply.Credited available) = IsMoney available
 FitsReply (reply.CreditOver available) = IsMoney available

@@ -12,6 +12,7 @@ use Rattle.one_call.specs.declared.tally.Tally.{Tally}
 abbrev pub counted : ℕ → ℕ
 counted count = min (count + 1) 18446744073709551615
 
+-- nothing was counted yet
 abbrev pub no_tally : Tally
 no_tally = record { messages = 0; reports = 0; forfeits = 0; last = None; refused = 0 }
 

@@ -39,6 +39,7 @@ ask_in version fields = asking_in (field_in fields 0) (operation_at version fiel
 abbrev pub first_header : List (List ℕ)
 first_header = codes "seat" ∷ codes "op" ∷ codes "call" ∷ codes "x1" ∷ codes "x2" ∷ codes "x3" ∷ codes "x4" ∷ codes "x5" ∷ []
 
+-- the headers of a table of operations, the oldest first
 abbrev pub asks_headers : List (List (List ℕ))
 asks_headers = first_header ∷ (first_header ++ codes "x6" ∷ []) ∷ (first_header ++ codes "x6" ∷ codes "x7" ∷ []) ∷ []
 

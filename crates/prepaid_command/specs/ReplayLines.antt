@@ -10,9 +10,11 @@ use Rattle.account_core.specs.declared.fault.AccountFault.{AccountFault}
 abbrev pub ending : ℕ → List ℕ
 ending number = decimal number ++ codes "\n"
 
+-- what was paid, and what is available
 abbrev pub paid_and_available : ℕ → ℕ → List ℕ
 paid_and_available paid available = decimal paid ++ (codes " available " ++ ending available)
 
+-- the line of a grant
 abbrev pub granted_line : ℕ → Bool → ℕ → List ℕ
 granted_line units true available = codes "granted " ++ (decimal units ++ (codes " last available " ++ ending available))
 granted_line units false available = codes "granted " ++ (decimal units ++ (codes " more available " ++ ending available))

@@ -20,9 +20,11 @@ abbrev pub history_by : Option AccountFault → Event → List Event → List Ev
 history_by (Some why) event h = h
 history_by None event h = event ∷ h
 
+-- the line of an operation after a history
 abbrev pub line_of_ask : ℕ → Option ℕ → ℕ → List Event → Asking → List ℕ
 line_of_ask opening until limit h ask = line_by (refusal limit h ask.asked) (answer opening until h ask.asked)
 
+-- the history after an operation
 abbrev pub history_after : ℕ → Option ℕ → ℕ → List Event → Asking → List Event
 history_after opening until limit h ask =
     history_by (refusal limit h ask.asked) (record { seat = ask.seat; asked = ask.asked; reply = answer opening until h ask.asked }) h

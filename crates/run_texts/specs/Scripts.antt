@@ -111,6 +111,7 @@ judged accounts earlier event = if nat_lt event.at (last_moment earlier) then Er
 unfoldable pub row_at : List (ℕ × OpeningCredit) → List Event → List (List ℕ) → Result Event RowKind
 row_at accounts earlier fields = after (read_in fields) (judged accounts earlier)
 
+-- the headers of a script, the older one first
 abbrev pub script_headers : List Fields
 script_headers =
     (codes "moment" ∷ codes "call" ∷ codes "what" ∷ codes "x" ∷ codes "y" ∷ [])

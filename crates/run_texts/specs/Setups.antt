@@ -78,6 +78,7 @@ row_at earlier fields =
     if has_word fields 0 (codes "account") then account_row earlier fields else
     if has_word fields 0 (codes "subscriber") then subscriber_row earlier fields else Err kind.What
 
+-- the headers of a setup, the older one first
 abbrev pub setup_headers : List Fields
 setup_headers =
     (codes "kind" ∷ codes "key" ∷ codes "value" ∷ []) ∷ (codes "kind" ∷ codes "key" ∷ codes "value" ∷ codes "until" ∷ []) ∷ []

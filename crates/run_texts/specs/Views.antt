@@ -23,6 +23,7 @@ with_digits subscribers = map (λ subscriber. (digits_of subscriber.0, subscribe
 abbrev pub setup_in : Listing → Setup
 setup_in listing = record { accounts = listing.accounts; subscribers = with_digits listing.subscribers }
 
+-- what happens, as plain data
 abbrev pub happens_of : Happening → Happens
 happens_of (happening.Start call calling called) = Starts call (digits_of calling) (digits_of called)
 happens_of (happening.Meets call event) = Meets call event

@@ -43,9 +43,11 @@ counts_fault limit accounts subscribers =
 abbrev pub account_fault : Bool → OpeningCredit → Option SetupFault
 account_fault is_named opening = if is_in_range opening then if is_named then Some fault.Repeated else None else Some fault.OutOfRange
 
+-- what is wrong with an account after earlier ones
 abbrev pub judge_account : List (ℕ × OpeningCredit) → ℕ × OpeningCredit → Option SetupFault
 judge_account earlier account = account_fault (has_account account.0 earlier) account.1
 
+-- the first fault of the accounts
 abbrev pub accounts_fault : List (ℕ × OpeningCredit) → Option SetupFault
 accounts_fault = first_fault judge_account []
 
@@ -53,9 +55,11 @@ accounts_fault = first_fault judge_account []
 abbrev pub subscriber_fault : Bool → Bool → Option SetupFault
 subscriber_fault is_named is_known = if is_named then Some fault.Repeated else if is_known then None else Some fault.Unknown
 
+-- what is wrong with a subscriber after earlier ones
 abbrev pub judge_subscriber : List (ℕ × OpeningCredit) → List (Number × ℕ) → Number × ℕ → Option SetupFault
 judge_subscriber accounts earlier subscriber = subscriber_fault (is_some (account_of subscriber.0 earlier)) (has_account subscriber.1 accounts)
 
+-- the first fault of the subscribers
 abbrev pub subscribers_fault : List (ℕ × OpeningCredit) → List (Number × ℕ) → Option SetupFault
 subscribers_fault accounts = first_fault (judge_subscriber accounts) []
 

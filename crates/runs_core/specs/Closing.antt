@@ -35,6 +35,7 @@ pub record IsLeftFrom {K S T : Type 0} (read : Reads K T) (keys : List K) (numbe
   pub of_accounts : map read.key one.seats.items ≡ keys
   pub served : AreServed numbers one.posts.items (map read.mine one.seats.items)
 
+-- each worker has left seats of these accounts with its number
 abbrev pub AreLeftFrom : {K S T : Type 0} → Reads K T → List K → List ℕ → List (Left S T) → Type 0
 AreLeftFrom read keys numbers [] = Unit {0}
 AreLeftFrom read keys numbers (one ∷ left) = IsLeftFrom read keys numbers one × AreLeftFrom read keys numbers left

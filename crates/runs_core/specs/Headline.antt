@@ -24,6 +24,7 @@ abbrev pub ReportsItsTimes : Closed → Type 0
 ReportsItsTimes book = (call : ℕ) → (known call (reverse book.history)).forfeited ≡ false
     → AreReported (last_report call (reverse book.history)) (known call (reverse book.history)).times
 
+-- the promise of a book: no balance is negative, each closed call has paid its price, and its last report states its times
 pub record IsRight (book : Closed) : Type 0 where
   pub solvent : IsSolvent book
   pub paid : PaysTheTariff book

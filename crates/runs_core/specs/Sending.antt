@@ -32,6 +32,7 @@ pub record IsPromised {S G T : Type 0} (setup : Setup) (accounts : List S) (gate
   pub gate_is : promise.gate.now ≡ gate
   pub number_is : promise.number ≡ number
 
+-- the promises of the workers, from this number on
 abbrev pub ArePromised : {S G T : Type 0} → Setup → List S → G → ℕ → List (Returns S G T) → Type 0
 ArePromised setup accounts gate number [] = Unit {0}
 ArePromised setup accounts gate number (promise ∷ promises) = IsPromised setup accounts gate number promise × ArePromised setup accounts gate (number + 1) promises
@@ -46,6 +47,7 @@ abbrev pub IsLeftBy : {K S G T : Type 0} → Reads K T → (S → K) → Returns
 IsLeftBy read key promise answers left =
     IsLeft read (map key promise.accounts.now) promise.setup.now promise.number left.posts.items left.refusals.items (map told_of answers) left.seats.items
 
+-- what each worker has left is what it promised
 abbrev pub AreLeftBy : {K S G T : Type 0} → Reads K T → (S → K) → List (Returns S G T) → List (List Answer) → List (Left S T) → Type 0
 AreLeftBy read key [] heard [] = Unit {0}
 AreLeftBy read key [] heard (one ∷ left) = ⊥

@@ -15,9 +15,11 @@ pub record Item : Type 0 where
   pub at : ℕ
   pub body : Body
 
+-- the item that a post carries
 abbrev pub item_of : Post → Item
 item_of post = record { number = post.number; at = post.at; body = post.body }
 
+-- the item of this number
 abbrev pub item_at : ℕ → ℕ × Body → Item
 item_at number next = record { number = number; at = next.0; body = next.1 }
 

@@ -20,6 +20,7 @@ are_workers workers = nat_le 1 workers && nat_le workers 16
 abbrev pub terms_with : ℕ → ℕ → ℕ × OpeningCredit → Terms
 terms_with limit seats account = record { number = account.0; opening = account.1.amount; until = account.1.until; limit = limit; seats = seats }
 
+-- the terms of each account
 abbrev pub terms_of : ℕ → ℕ → List (ℕ × OpeningCredit) → List Terms
 terms_of limit seats accounts = map (terms_with limit seats) accounts
 
@@ -29,6 +30,7 @@ pub record Reads (K T : Type 0) : Type 0 where
   pub number : T → ℕ
   pub mine : T → List Event
 
+-- what the three ghost members of a seat say of it
 abbrev pub reads : {K T : Type 0} → (T → K) → (T → ℕ) → (T → List Event) → Reads K T
 reads key number mine = record { key = key; number = number; mine = mine }
 

@@ -13,6 +13,7 @@ abbrev pub deliveries_to : ℕ → List ScfOp → ℕ → Body → List Delivery
 deliveries_to delay ops at (body.Ssf call msg) = deliveries_at (at + delay) call ops
 deliveries_to delay ops at (body.Recharge account amount until) = []
 
+-- the deliveries of an answer, none where its item isn't there
 abbrev pub deliveries_for : ℕ → List ScfOp → Option (ℕ × Body) → List Delivery
 deliveries_for delay ops None = []
 deliveries_for delay ops (Some item) = deliveries_to delay ops item.0 item.1

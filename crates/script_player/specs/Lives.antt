@@ -34,6 +34,7 @@ Does at (Starting call calling called) before after = StartsCall at call calling
 Does at (Giving call input) before after = GivesTo at call input before after
 Does at (Recharging account amount until) before after = Recharges at account amount until before after
 
+-- what a player does at a moment, as a deed says
 abbrev pub DoesDeed : Shown → ℕ × Deed → Shown → Type 0
 DoesDeed before deed after = Does deed.0 deed.1 before after
 
@@ -43,6 +44,7 @@ DoesDeed before deed after = Does deed.0 deed.1 before after
 abbrev pub delivery_deed : ℕ → Delivery → ℕ × Deed
 delivery_deed now delivery = (now, Giving delivery.call (input.Operate delivery.op))
 
+-- the deed of what happens in a row
 abbrev pub happening_deed : RowHappening → Deed
 happening_deed (happening.Start call calling called) = Starting call calling called
 happening_deed (happening.Meets call event) = Giving call (input.Meet event)
@@ -84,6 +86,7 @@ Befalls config call (Some life) at (Giving other input) after =
     MatchBool (other == call) ((next : Life) × ((after ≡ Some next) × LivesOn config at input life next)) (after ≡ Some life)
 Befalls config call (Some life) at deed after = after ≡ Some life
 
+-- what a deed at a moment is for one call
 abbrev pub BefallsDeed : SsfConfig → ℕ → Option Life → ℕ × Deed → Option Life → Type 0
 BefallsDeed config call before deed after = Befalls config call before deed.0 deed.1 after
 

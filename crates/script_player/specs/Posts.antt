@@ -22,10 +22,12 @@ abbrev pub posts_of : ℕ → List Out → List (ℕ × Body)
 posts_of call [] = []
 posts_of call (out ∷ outs) = post_of call out.at out.item ++ posts_of call outs
 
+-- a message of this call
 abbrev pub is_of : ℕ → Body → Bool
 is_of call (body.Ssf other msg) = other == call
 is_of call (body.Recharge account amount until) = false
 
+-- a recharge
 abbrev pub is_recharge : Body → Bool
 is_recharge (body.Ssf call msg) = false
 is_recharge (body.Recharge account amount until) = true

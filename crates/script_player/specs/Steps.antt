@@ -84,6 +84,7 @@ Happens at (happening.Start call calling called) before after = StartsCall at ca
 Happens at (happening.Meets call event) before after = GivesTo at call (input.Meet event) before after
 Happens at (happening.Recharge account amount until) before after = Recharges at account amount until before after
 
+-- a row happens at its moment
 abbrev pub PlaysRow : Shown → ScriptRow → Shown → Type 0
 PlaysRow before row after = Happens row.at row.what before after
 

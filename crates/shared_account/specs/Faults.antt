@@ -3,6 +3,7 @@ use Rattle.std.specs.Prelude.{ℕ}
 use Rattle.shared_account.specs.declared.fault.CloseFault.{CloseFault}
 use Rattle.shared_account.specs.declared.fault.CloseFault.TheVariants.{Seats, Mismatch, OutOfMemory}
 
+-- the number of a fault
 abbrev pub code_of : CloseFault → ℕ
 code_of Seats = 1
 code_of Mismatch = 2

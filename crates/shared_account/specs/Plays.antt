@@ -14,6 +14,7 @@ use Rattle.shared_account.specs.declared.board.View.{View}
 abbrev pub Sitter : Type 0
 Sitter = Me (Option Ledger) View
 
+-- a step on the board of an account
 abbrev pub At : Type 0
 At = Step (Option Ledger)
 
@@ -42,6 +43,7 @@ pub record HasCome (before after : Sitter) : Type 0 where
   pub stage : after.0.stage ≡ Serves (its_ticket before.0.stage)
   pub taken : after.1 ≡ (0, Some after.0.seen) ∷ before.1
 
+-- a look at the served ticket: the turn has come where it is one's own
 abbrev pub looked : At → Sitter → ℕ → Sitter → Type 0
 looked step before found after =
     (found ≡ its_ticket before.0.stage % 2 ^ 64 → HasCome before after) × (found ≢ its_ticket before.0.stage % 2 ^ 64 → after ≡ before)
@@ -67,5 +69,6 @@ pub record HasMet (seen heard : List Event) (before after : View) : Type 0 where
   pub begins_heard : IsPrefix heard after.seen.history
   pub own : own before.number after.seen.history ≡ own before.number before.seen.history
 
+-- two views have met
 abbrev pub compared : At → Sitter → ℕ → Sitter → Type 0
 compared step before found after = HasMet before.0.seen.history before.0.heard.history before.0 after.0 × (after.1 ≡ before.1)

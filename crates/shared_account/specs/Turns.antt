@@ -53,6 +53,7 @@ pub record IsNumbered (now : BoardState) (view : View) : Type 0 where
   pub first : view.number ≡ 0 → view.made ≡ now.made
   pub own : own view.number view.seen.history ≡ own view.number now.account.history
 
+-- a ticket was drawn, and isn't served yet
 pub record IsOut (now : BoardState) (ticket : ℕ) : Type 0 where
   pub drawn : now.served ≤ ticket
   pub unserved : ticket < now.served + now.out
@@ -76,9 +77,11 @@ pub record AreApart (view other : View) : Type 0 where
   pub numbers : IsSeat view.stage → IsSeat other.stage → view.number ≢ other.number
   pub tickets : (ticket : ℕ) → ticket_of view.stage ≡ Some ticket → ticket_of other.stage ≡ Some ticket → ⊥
 
+-- each view agrees with what the board says
 abbrev pub AllKnow : BoardState → List View → Type 0
 AllKnow now views = (at : ℕ) (view : View) → get_elem? views at ≡ some view → Knows now at view
 
+-- no two views have one number or one ticket
 abbrev pub AllApart : List View → Type 0
 AllApart views = (at by : ℕ) (view other : View) → at ≢ by → get_elem? views at ≡ some view → get_elem? views by ≡ some other → AreApart view other
 
@@ -95,6 +98,7 @@ abbrev pub AccountLiesAt : Ledger → List (maybe.Option (Option Ledger)) → Li
 AccountLiesAt account homes views None = homes ≡ some (Some account) ∷ []
 AccountLiesAt account homes views (Some at) = IsTaken homes views at
 
+-- the rule of a board: its words, its slot and its views agree with one legal history
 pub record Kept (start : Start) (s : State (Option Ledger) View) : Type 0 where
   pub now : BoardState
   pub words : AreWords now s.words

@@ -5,10 +5,12 @@ use Rattle.shared_account.specs.declared.board.Stage.{Stage}
 use Rattle.shared_account.specs.declared.board.Stage.TheVariants.{Idles, Notes, Serves, Waits}
 use Rattle.shared_account.specs.declared.board.View.{View}
 
+-- a seat, and not a note
 abbrev pub IsSeat : Stage → Type 0
 IsSeat Notes = ⊥
 IsSeat stage = Unit {0}
 
+-- its turn has come
 abbrev pub IsServing : Stage → Type 0
 IsServing (Serves ticket) = Unit {0}
 IsServing stage = ⊥
@@ -20,6 +22,7 @@ ticket_of Idles = None
 ticket_of (Waits ticket) = Some ticket
 ticket_of (Serves ticket) = Some ticket
 
+-- the ticket that a seat holds, 0 where it holds none
 abbrev pub its_ticket : Stage → ℕ
 its_ticket Notes = 0
 its_ticket Idles = 0
@@ -31,6 +34,7 @@ abbrev pub seats_at : Stage → ℕ
 seats_at Notes = 0
 seats_at stage = 1
 
+-- how many tickets a seat holds
 abbrev pub tickets_at : Stage → ℕ
 tickets_at Notes = 0
 tickets_at Idles = 0
@@ -45,6 +49,7 @@ total count (view ∷ views) = count view.stage + total count views
 abbrev pub at_stage : View → Stage → View
 at_stage view stage = record view { stage = stage }
 
+-- a view that has seen this
 abbrev pub seeing : View → Ledger → View
 seeing view seen = record view { seen = seen }
 
@@ -66,6 +71,7 @@ first_view opening until limit = record {
 abbrev pub one_more : View → View
 one_more view = record view { made = view.made + 1 }
 
+-- the view of the seat that is made next
 abbrev pub next_seat : View → View
 next_seat view = record { stage = Idles; number = view.made; made = 0; seen = view.seen; heard = unopened }
 
@@ -73,8 +79,10 @@ next_seat view = record { stage = Idles; number = view.made; made = 0; seen = vi
 abbrev pub note_of : View → View
 note_of view = record { stage = Notes; number = 0; made = 0; seen = view.seen; heard = unopened }
 
+-- a view that has heard a note
 abbrev pub hearing : View → View → View
 hearing view note = record view { heard = note.seen }
 
+-- a note that was heard
 abbrev pub spent_note : View
 spent_note = record { stage = Notes; number = 0; made = 0; seen = unopened; heard = unopened }

@@ -21,10 +21,12 @@ pub record View : Type 0 where
 abbrev pub Stands : View → List Happening → Type 0
 Stands view trace = StageStands view.config view.last view.stage trace
 
+-- a timer expired
 abbrev pub IsExpiry : What → Type 0
 IsExpiry (Took input) = ⊥
 IsExpiry (Expired timer) = Unit {0}
 
+-- nothing but timers that expired
 abbrev pub AreExpiries : List Happening → Type 0
 AreExpiries [] = Unit {0}
 AreExpiries (e ∷ trace) = AreExpiries trace × IsExpiry e.what
@@ -42,6 +44,7 @@ abbrev pub with_input : ℕ → Input → List Happening → Result Effect SsfFa
 with_input now input trace (Ok effect) = record { at = now; what = Took input; sent = effect.sent } ∷ trace
 with_input now input trace (Err fault) = trace
 
+-- the fault of an input that the table refuses
 abbrev pub fault_in : Result Effect SsfFault → Option SsfFault
 fault_in (Ok effect) = None
 fault_in (Err fault) = Some fault

@@ -22,6 +22,7 @@ abbrev pub periods : List Happening → ℕ
 periods [] = 0
 periods (e ∷ trace) = periods_after e.what (periods trace)
 
+-- one report more, where the item is a report of a call that goes on
 abbrev pub report_after : Item → ℕ → ℕ
 report_after (Msg (ChargingReport active info)) before = 1 + before
 report_after _ before = before
@@ -46,14 +47,17 @@ pub record Fits (trace : List Happening) (now : ℕ) (active : Bool) (info : Tim
   pub was_pending : is_some (pending trace) ≡ true
   pub in_turn : periods trace ≡ 1 + reports trace
 
+-- a report fits the trace before it; any other item does
 abbrev pub ItemFits : List Happening → ℕ → Item → Type 0
 ItemFits trace now (Msg (ChargingReport active info)) = Fits trace now active info
 ItemFits trace now _ = ⊤
 
+-- each item that was sent at one moment fits
 abbrev pub AllFit : List Happening → ℕ → List Item → Type 0
 AllFit trace now [] = ⊤
 AllFit trace now (item ∷ items) = ItemFits trace now item × AllFit trace now items
 
+-- each report of a trace fits what came before it
 abbrev pub ReportsFit : List Happening → Type 0
 ReportsFit [] = ⊤
 ReportsFit (e ∷ trace) = ReportsFit trace × AllFit trace e.at e.sent

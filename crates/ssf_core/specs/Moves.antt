@@ -56,37 +56,46 @@ send_all outs now (item ∷ items) = send_all (outs ++ record { at = now; item =
 abbrev pub send_move : List Out → ℕ → Move → List Out
 send_move outs now move = send_all (send_all outs now move.first) now move.sent
 
+-- the stage that a move leads to
 abbrev pub stage_of : Result Move SsfFault → Result Stage SsfFault
 stage_of (Ok move) = Ok move.stage
 stage_of (Err fault) = Err fault
 
+-- what was sent, and then what a move sends at this moment
 abbrev pub outs_of : List Out → ℕ → Result Move SsfFault → List Out
 outs_of outs now (Ok move) = send_move outs now move
 outs_of outs now (Err fault) = outs
 
+-- a move that sends nothing
 abbrev pub quietly : Stage → Move
 quietly to = record { stage = to; first = []; sent = [] }
 
+-- a move that sends these items
 abbrev pub sending : List Item → Stage → Move
 sending items to = record { stage = to; first = []; sent = items }
 
+-- the charging report of a call at a moment, which goes on or doesn't
 abbrev pub report_of : Active → ℕ → Bool → Item
 report_of active now goes_on = Msg (message.ChargingReport goes_on (split active.answered (passed active.switch) now))
 
+-- an item, where a period runs
 abbrev pub report_in : Charging → Item → List Item
 report_in charging.Off item = []
 report_in (charging.Running release) item = item ∷ []
 report_in (charging.Over moment) item = []
 
+-- the last charging report, where a period runs
 abbrev pub last_report_of : Active → ℕ → List Item
 last_report_of active now = report_in active.charging (report_of active now false)
 
+-- a call that ends by itself, by the mode of its event
 abbrev pub met_by : ℕ → ℕ → Event → Option Leg → Mode → Move
 met_by tssf now event leg Interrupted = sending (told event leg Interrupted) (stage.Down (now + tssf))
 met_by tssf now event leg NotifyAndContinue =
     sending (Msg (message.EventReport event leg NotifyAndContinue) ∷ Msg message.Ended ∷ []) stage.Ended
 met_by tssf now event leg Transparent = sending (Msg message.Ended ∷ []) stage.Ended
 
+-- a move that sends these items before its own
 abbrev pub reporting : List Item → Move → Move
 reporting items move = record { stage = move.stage; first = items; sent = move.sent }
 
@@ -115,14 +124,17 @@ charged_active (charging.Over moment) true active now charge = Ok (record active
 })
 charged_active (charging.Over moment) false active now charge = Err ParameterOutOfRange
 
+-- the setup in the stage that waits for orders until this moment
 abbrev pub initial_from : ℕ → Result Setup SsfFault → Result Stage SsfFault
 initial_from due (Ok setup) = Ok (stage.Initial setup due)
 initial_from due (Err fault) = Err fault
 
+-- the setup in its stage
 abbrev pub setup_from : Result Setup SsfFault → Result Stage SsfFault
 setup_from (Ok setup) = Ok (stage.Setup setup)
 setup_from (Err fault) = Err fault
 
+-- the answered call in its stage
 abbrev pub active_from : Result Active SsfFault → Result Stage SsfFault
 active_from (Ok active) = Ok (stage.Active active)
 active_from (Err fault) = Err fault
@@ -146,6 +158,7 @@ resumed (stage.Initial setup due) = Ok (proceeded (any_watched (modes_at setup.m
 resumed (stage.Down due) = Ok (sending (Proceed ∷ Msg message.Ended ∷ []) stage.Ended)
 resumed _ = Err UnexpectedComponentSequence
 
+-- the call is released for a cause, and ends
 abbrev pub cleared : Cause → Move
 cleared cause = sending (Clear cause ∷ Msg message.Ended ∷ []) stage.Ended
 
@@ -157,10 +170,12 @@ released (stage.Active active) now cause = Ok (reporting (last_report_of active 
 released (stage.Down due) now cause = Ok (cleared cause)
 released _ now cause = Err UnexpectedComponentSequence
 
+-- the stage that follows, with nothing sent
 abbrev pub silently : Result Stage SsfFault → Result Move SsfFault
 silently (Ok to) = Ok (quietly to)
 silently (Err fault) = Err fault
 
+-- an operation of the service
 abbrev pub operated : ℕ → Stage → ℕ → ScfOp → Result Move SsfFault
 operated tssf from now (RequestReport arms) = silently (requested tssf from now arms)
 operated tssf from now (ApplyCharging charge) = silently (charged tssf from now charge)
@@ -172,6 +187,7 @@ abbrev pub charging_of : Option Charge → Charging
 charging_of None = charging.Off
 charging_of (Some charge) = charging.Running charge.release
 
+-- the units of a period that was ordered, none where there is no order
 abbrev pub period_of : Option Charge → ℕ
 period_of None = 0
 period_of (Some charge) = charge.period
@@ -197,6 +213,7 @@ abbrev pub failed : ℕ → Stage → ℕ → Event → Point → Result Move Ss
 failed tssf (stage.Setup setup) now event p = Ok (met_by tssf now event None (modes_at setup.modes p))
 failed tssf _ now event p = Err NoSuchEvent
 
+-- the calling party gave up
 abbrev pub gave_up : Mode → Move
 gave_up mode = record { stage = stage.Ended; first = notified event.Abandon mode; sent = Msg message.Ended ∷ [] }
 
@@ -212,6 +229,7 @@ disconnected tssf (stage.Active active) now leg =
     Ok (reporting (last_report_of active now) (met_by tssf now event.Disconnect (Some leg) (modes_at active.modes (point.Disconnect leg))))
 disconnected tssf _ now leg = Err NoSuchEvent
 
+-- an event of the call
 abbrev pub met_event : ℕ → Stage → ℕ → BcsmEvent → Result Move SsfFault
 met_event tssf from now met.RouteSelectFailure = failed tssf from now event.RouteSelectFailure point.RouteSelectFailure
 met_event tssf from now met.Busy = failed tssf from now event.CalledPartyBusy point.CalledPartyBusy
@@ -236,6 +254,7 @@ period_over tccd active now (charging.Running false) =
 period_over tccd active now charging.Off = quietly (stage.Active active)
 period_over tccd active now (charging.Over due) = quietly (stage.Active active)
 
+-- a period is over, where the call is answered
 abbrev pub period_over_in : ℕ → Stage → ℕ → Move
 period_over_in tccd (stage.Active active) now = period_over tccd active now active.charging
 period_over_in tccd other now = quietly other

@@ -34,11 +34,13 @@ switch_due_of switch.Unset = None
 switch_due_of (switch.Due moment) = Some moment
 switch_due_of (switch.Passed moment) = None
 
+-- when Tcp is due, of a period that ends at a moment
 abbrev pub tcp_due_of : ℕ → Charging → Option ℕ
 tcp_due_of end charging.Off = None
 tcp_due_of end (charging.Running release) = Some end
 tcp_due_of end (charging.Over moment) = None
 
+-- when Tccd is due
 abbrev pub tccd_due_of : Charging → Option ℕ
 tccd_due_of charging.Off = None
 tccd_due_of (charging.Running release) = None
@@ -58,12 +60,14 @@ initial_due setup moment Tcp = None
 initial_due setup moment Tccd = None
 initial_due setup moment Tssf = Some moment
 
+-- which timers run before the answer
 abbrev pub setup_due : Setup → Timer → Option ℕ
 setup_due setup Tsw = switch_due_of setup.switch
 setup_due setup Tcp = None
 setup_due setup Tccd = None
 setup_due setup Tssf = None
 
+-- which timers run while the service is told of the end
 abbrev pub down_due : ℕ → Timer → Option ℕ
 down_due moment Tsw = None
 down_due moment Tcp = None
@@ -166,6 +170,7 @@ blank = record {
   switch = switch.Unset;
 }
 
+-- how many items can still come of a period
 abbrev pub items_after_period : Charging → ℕ
 items_after_period charging.Off = 0
 items_after_period (charging.Running release) = 3
@@ -181,11 +186,13 @@ items_left (stage.Active active) = items_after_period active.charging
 items_left (stage.Down moment) = 2
 items_left stage.Ended = 0
 
+-- how often Tsw can still expire
 abbrev pub switches_left : Switch → ℕ
 switches_left switch.Unset = 0
 switches_left (switch.Due moment) = 1
 switches_left (switch.Passed moment) = 0
 
+-- how often Tcp and Tccd can still expire
 abbrev pub periods_left : Charging → ℕ
 periods_left charging.Off = 0
 periods_left (charging.Running release) = 2

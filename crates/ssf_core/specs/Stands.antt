@@ -29,10 +29,12 @@ phase_of (stage.Active active) = Active
 phase_of (stage.Down due) = Down
 phase_of stage.Ended = Ended
 
+-- whether the period that was ordered ends the call
 abbrev pub release_of : Option Charge → Option Bool
 release_of None = None
 release_of (Some charge) = Some charge.release
 
+-- whether the period that runs ends the call, where one runs
 abbrev pub running : Charging → Option Bool
 running charging.Off = None
 running (charging.Running release) = Some release
@@ -57,10 +59,12 @@ pub record ActiveHas (active : AnActive) (modes : Point → Mode) (wish : Option
   pub same_switch : came ≡ passed active.switch
   pub same_awaited : awaited ≡ switch_due_of active.switch
 
+-- what a setup keeps is what the trace says
 abbrev pub SetupMatches : ASetup → List Happening → Type 0
 SetupMatches setup trace =
     SetupHas setup (mode_at trace) (pending trace) (granted trace) (period_end trace) (switched trace) (awaited_switch (switched trace) (switch_due trace))
 
+-- what an answered call keeps is what the trace says
 abbrev pub ActiveMatches : ℕ → AnActive → List Happening → Type 0
 ActiveMatches tccd active trace =
     ActiveHas active (mode_at trace) (pending trace) (granted trace) (option_map (λ end. end + tccd) (period_end trace)) (answered trace) (switched trace)

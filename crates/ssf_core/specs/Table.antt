@@ -50,6 +50,7 @@ ends sent = record { sent = sent ++ Msg message.Ended ∷ []; next = Ended }
 abbrev pub after : List Item → Effect → Effect
 after first effect = record { sent = first ++ effect.sent; next = effect.next }
 
+-- the input has no place in the phase
 abbrev pub unexpected : Result Effect SsfFault
 unexpected = Err UnexpectedComponentSequence
 
@@ -77,6 +78,7 @@ by_mode event leg Interrupted = goes (told event leg Interrupted) Down
 by_mode event leg NotifyAndContinue = ends (told event leg NotifyAndContinue)
 by_mode event leg Transparent = ends []
 
+-- a mode in which the service is told of the event
 abbrev pub is_watched : Mode → Bool
 is_watched Interrupted = true
 is_watched NotifyAndContinue = true
@@ -149,6 +151,7 @@ on_release_call trace now cause Setup = Ok (ends (Clear cause ∷ []))
 on_release_call trace now cause Active = Ok (after (last_report trace now) (ends (Clear cause ∷ [])))
 on_release_call trace now cause _ = unexpected
 
+-- an operation of the service
 abbrev pub on_operation : List Happening → ℕ → ScfOp → Phase → Result Effect SsfFault
 on_operation trace now (RequestReport arms) phase = on_request_report phase
 on_operation trace now (ApplyCharging charge) phase = on_apply_charging trace now charge phase
@@ -177,6 +180,7 @@ on_disconnect trace now leg Active =
     Ok (after (last_report trace now) (by_mode event.Disconnect (Some leg) (mode_at trace (point.Disconnect leg))))
 on_disconnect trace now leg _ = Err NoSuchEvent
 
+-- an event of the call
 abbrev pub on_event : List Happening → ℕ → BcsmEvent → Phase → Result Effect SsfFault
 on_event trace now met.RouteSelectFailure phase = on_failure event.RouteSelectFailure (mode_at trace point.RouteSelectFailure) phase
 on_event trace now met.Busy phase = on_failure event.CalledPartyBusy (mode_at trace point.CalledPartyBusy) phase

@@ -16,6 +16,7 @@ abbrev pub next_in : Phase → Result Effect SsfFault → Phase
 next_in phase (Ok effect) = effect.next
 next_in phase (Err fault) = phase
 
+-- the phase after an input that was taken or a timer that expired
 abbrev pub next_phase : SsfConfig → List Happening → Phase → ℕ → What → Phase
 next_phase config trace phase now (Took input) = next_in phase (on_input trace phase now input)
 next_phase config trace phase now (Expired timer) = (on_expiry config.default_handling trace phase now timer).next
@@ -58,6 +59,7 @@ tssf_due tssf trace Initial = Some (last_input trace + tssf)
 tssf_due tssf trace Down = Some (last_input trace + tssf)
 tssf_due tssf trace _ = None
 
+-- when each timer is due in a phase
 abbrev pub due_in : SsfConfig → List Happening → Phase → Timer → Option ℕ
 due_in config trace phase Tsw = tsw_due trace phase
 due_in config trace phase Tcp = tcp_due trace phase

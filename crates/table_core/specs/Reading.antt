@@ -20,9 +20,11 @@ row_of rows = rows.row
 abbrev pub row_of_table : {R : Type 0} → Table R → Row
 row_of_table table = table.rows.row
 
+-- the number of the row that was read last
 abbrev pub number_of : {R : Type 0} → Table R → ℕ
 number_of table = table.number
 
+-- how many fields a row has
 abbrev pub width_of : {R : Type 0} → Table R → ℕ
 width_of table = table.width
 
@@ -30,6 +32,7 @@ width_of table = table.width
 abbrev pub header_of : {R : Type 0} → Table R → ℕ
 header_of table = table.header
 
+-- the number of the last row that there may be
 abbrev pub limit_of : {R : Type 0} → Table R → ℕ
 limit_of table = table.limit
 

@@ -15,6 +15,7 @@ use Rattle.table_core.specs.declared.fault.RowKind.TheVariants as kind
 abbrev pub names_of : List (Bor (List ℕ)) → Fields
 names_of names = map (λ name. name.now) names
 
+-- the headers that a table may have
 abbrev pub headers_of : List (Bor (List (Bor (List ℕ)))) → List Fields
 headers_of headers = map (λ names. names_of names.now) headers
 

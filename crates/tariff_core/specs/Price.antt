@@ -12,6 +12,7 @@ second_rate plan = unwrap_or plan.after 0
 abbrev pub charged_before : Rates → ℕ → ℕ
 charged_before plan before = before - plan.free
 
+-- the units after the switch that are charged, once free units are used up before it
 abbrev pub charged_after : Rates → ℕ → ℕ → ℕ
 charged_after plan before after = after - (plan.free - before)
 

@@ -54,6 +54,7 @@ pub record IsSwitch (bands : List Band) (prefix : List ℕ) (band : Band) (now a
   pub second_rate : rate ≡ Some next.rate
   pub moment : at ≡ now + wait (now % DAY) next.start
 
+-- the next rate of a prefix within a day, or none where the band is the only one
 abbrev pub Switches : List Band → List ℕ → Band → ℕ → Option ℕ → Option ℕ → Type 0
 Switches bands prefix band now None rate = IsOnly bands prefix band × (rate ≡ None)
 Switches bands prefix band now (Some at) rate = IsSwitch bands prefix band now at rate

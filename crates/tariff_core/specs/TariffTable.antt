@@ -31,9 +31,11 @@ time_of text =
 abbrev pub prefix_in : List (List ℕ) → Result (List ℕ) TariffKind
 prefix_in fields = if is_prefix (field_in fields 0) then Ok (field_in fields 0) else Err kind.Digits
 
+-- the start of a band
 abbrev pub start_in : List (List ℕ) → Result ℕ TariffKind
 start_in fields = ok_or (time_of (field_in fields 1)) kind.From
 
+-- a fee or a rate
 abbrev pub money_in : List (List ℕ) → ℕ → Result ℕ TariffKind
 money_in fields place = ok_or (decimal_of 1000000000 (field_in fields place)) kind.Money
 
@@ -63,6 +65,7 @@ new_band_in header earlier fields = after (band_in header fields) (new_band earl
 abbrev pub header : List (List ℕ)
 header = codes "prefix" ∷ codes "from" ∷ codes "fee" ∷ codes "rate" ∷ []
 
+-- the header with a column for free units
 abbrev pub header_with_free : List (List ℕ)
 header_with_free = header ++ codes "free" ∷ []
 
@@ -91,6 +94,7 @@ abbrev pub complete_by : List Band → Option ℕ → Result (List Band) TariffF
 complete_by bands None = Ok bands
 complete_by bands (Some number) = Err (record { row = number; kind = kind.NoMidnightBand })
 
+-- the bands, where each prefix has one from midnight on
 abbrev pub complete : List Band → Result (List Band) TariffFault
 complete bands = complete_by bands (without_midnight bands 2 bands)
 

@@ -22,5 +22,6 @@ ArePaired outbox inbox = receives_on inbox.receiver ≡ sends_on outbox.sender
 abbrev pub IsSameOutbox : {T : Type 0} → Outbox T → Outbox T → Type 0
 IsSameOutbox old new = sends_on new.sender ≡ sends_on old.sender
 
+-- the taking end of the same mailbox
 abbrev pub IsSameInbox : {T : Type 0} → Inbox T → Inbox T → Type 0
 IsSameInbox old new = receives_on new.receiver ≡ receives_on old.receiver

@@ -29,6 +29,7 @@ pub record Told : Type 0 where
   pub stray : Bool
   pub refused : Option AccountFault
 
+-- what an answer of the code tells
 abbrev pub told_of : Answer → Told
 told_of answer = record { number = answer.number; orders = orders_of answer.ops.items; stray = answer.stray; refused = answer.refused }
 

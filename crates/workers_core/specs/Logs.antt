@@ -6,6 +6,7 @@ use Rattle.workers_core.specs.declared.log.Log.{Log}
 use Rattle.workers_core.specs.declared.mail.Mail.{Mail}
 use Rattle.workers_core.specs.declared.mail.Mail.TheVariants.{Work, Close}
 
+-- what an end of a mailbox knows
 abbrev pub log : {T : Type 0} → Bool → Bool → List (Mail T) → List (Mail T) → Log T
 log sends takes sent taken = record { sends = sends; takes = takes; sent = sent; taken = taken }
 
@@ -15,6 +16,7 @@ has_close [] = false
 has_close (Work content ∷ mails) = has_close mails
 has_close (Close ∷ mails) = true
 
+-- no mails
 abbrev pub is_empty : {T : Type 0} → List (Mail T) → Bool
 is_empty [] = true
 is_empty (mail ∷ mails) = false

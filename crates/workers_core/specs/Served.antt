@@ -19,12 +19,14 @@ IsPart (x ∷ part) (y ∷ whole) = ((x ≡ y) × IsPart part whole) ⊎ IsPart 
 abbrev pub Report : Type 0
 Report = ℕ × ℕ × TimeInfo
 
+-- the report in a message, with the number of its post and its call
 abbrev pub report_in : ℕ → ℕ → SsfMsg → List Report
 report_in number call (InitialDp other calling called) = []
 report_in number call (EventReport event leg mode) = []
 report_in number call (ChargingReport active info) = (number, call, info) ∷ []
 report_in number call Ended = []
 
+-- the report in a post
 abbrev pub reported_in : ℕ → Body → List Report
 reported_in number (Ssf call message) = report_in number call message
 reported_in number (Recharge account amount until) = []
@@ -33,6 +35,7 @@ reported_in number (Recharge account amount until) = []
 abbrev pub reports_of : List Post → List Report
 reports_of posts = flat_map (λ post. reported_in post.number post.body) posts
 
+-- the report that an operation settles
 abbrev pub settled_in : Asked → List Report
 settled_in (Credits amount until) = []
 settled_in (Reserves call plan wanted least moment) = []
@@ -47,6 +50,7 @@ settles_of mine = flat_map (λ event. settled_in event.asked) mine
 abbrev pub Money : Type 0
 Money = ℕ × Option ℕ
 
+-- the money for an account in a post
 abbrev pub recharged_in : ℕ → Body → List Money
 recharged_in account (Ssf call message) = []
 recharged_in account (Recharge other amount until) = if other == account then (amount, until) ∷ [] else []
@@ -55,6 +59,7 @@ recharged_in account (Recharge other amount until) = if other == account then (a
 abbrev pub recharges_of : ℕ → List Post → List Money
 recharges_of account posts = flat_map (λ post. recharged_in account post.body) posts
 
+-- the money that an operation credits
 abbrev pub credited_in : Asked → List Money
 credited_in (Credits amount until) = (amount, until) ∷ []
 credited_in (Reserves call plan wanted least moment) = []
@@ -65,12 +70,14 @@ credited_in (Returns call) = []
 abbrev pub credits_of : List Event → List Money
 credits_of mine = flat_map (λ event. credited_in event.asked) mine
 
+-- the call that a message begins
 abbrev pub begun_in : ℕ → SsfMsg → List ℕ
 begun_in call (InitialDp other calling called) = call ∷ []
 begun_in call (EventReport event leg mode) = []
 begun_in call (ChargingReport active info) = []
 begun_in call Ended = []
 
+-- the call that a post begins
 abbrev pub begun_by : Body → List ℕ
 begun_by (Ssf call message) = begun_in call message
 begun_by (Recharge account amount until) = []
@@ -79,6 +86,7 @@ begun_by (Recharge account amount until) = []
 abbrev pub begun_of : List Post → List ℕ
 begun_of posts = flat_map (λ post. begun_by post.body) posts
 
+-- the call for which an operation reserves or returns
 abbrev pub held_in : Asked → List ℕ
 held_in (Credits amount until) = []
 held_in (Reserves call plan wanted least moment) = call ∷ []

@@ -45,6 +45,7 @@ last_fault [] = None
 last_fault (Ok reply ∷ earlier) = last_fault earlier
 last_fault (Err fault ∷ earlier) = Some fault
 
+-- an ask of the account is pending
 abbrev pub is_ask : Says → Bool
 is_ask (Asks asked) = true
 is_ask (Sends orders) = false

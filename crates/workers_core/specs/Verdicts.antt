@@ -50,10 +50,12 @@ abbrev pub goes_on : ℕ → ℕ → Step → Verdict
 goes_on call place (Ok next) = GoesOn call place next.0 next.1
 goes_on call place (Err fault) = Strays
 
+-- a message, by the call's dialogue
 abbrev pub spoken : Setup → ℕ → ℕ → ℕ → SsfMsg → Option Standing → Verdict
 spoken setup number at call message None = fresh setup call message
 spoken setup number at call message (Some standing) = goes_on call standing.place (told standing.phase number at message)
 
+-- what a post is about, by the setup and the dialogues
 abbrev pub verdict_on : Setup → (ℕ → Option Standing) → ℕ → ℕ → Body → Verdict
 verdict_on setup talks number at (Ssf call message) = spoken setup number at call message (talks call)
 verdict_on setup talks number at (Recharge account amount until) = recharged amount until (place_of account setup)
@@ -62,6 +64,7 @@ verdict_on setup talks number at (Recharge account amount until) = recharged amo
 abbrev pub verdict : Setup → (ℕ → Option Standing) → Post → Verdict
 verdict setup talks post = verdict_on setup talks post.number post.at post.body
 
+-- whether a post has no place
 abbrev pub strays : Verdict → Bool
 strays Strays = true
 strays Rejects = false

@@ -14,6 +14,7 @@ use Rattle.run_values.specs.declared.post.Post.{Post}
 use Rattle.workers_core.specs.declared.talk.Talk.{Talk}
 use Rattle.workers_core.specs.declared.worker.Worker.{Worker}
 
+-- where a talk stands
 abbrev pub standing_of : Talk → Standing
 standing_of talk = record { phase = phase_of talk.dialogue; place = talk.place }
 
@@ -25,18 +26,23 @@ standings_in talks call = option_map standing_of (get nat_cmp talks call)
 abbrev pub number_of : {S T : Type 0} → Worker S T → ℕ
 number_of worker = worker.number
 
+-- the setup of its run
 abbrev pub setup_of : {S T : Type 0} → Worker S T → Setup
 setup_of worker = worker.setup.now
 
+-- the accounts of its run
 abbrev pub accounts_of : {S T : Type 0} → Worker S T → List S
 accounts_of worker = worker.accounts.now
 
+-- its seats, one at each account
 abbrev pub seats_of : {S T : Type 0} → Worker S T → List T
 seats_of worker = worker.seats.items
 
+-- the posts that it has handled
 abbrev pub posts_of : {S T : Type 0} → Worker S T → List Post
 posts_of worker = worker.posts.items
 
+-- where the dialogue of each call stands
 abbrev pub talks_of : {S T : Type 0} → Worker S T → ℕ → Option Standing
 talks_of worker = standings_in worker.talks
 
