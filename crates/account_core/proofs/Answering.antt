@@ -3,35 +3,35 @@ use Rattle.std.proofs.Common.{◌≡◌, ℕ, ◌+◌, ◌≤◌, Option, None, 
 use Rattle.account_core.specs.Answers.{answer, inadmissible}
 use Rattle.account_core.specs.Asked.{Asked, call_of}
 use Rattle.account_core.specs.Available.{available, credits}
-use Rattle.account_core.specs.Events.{Event}
+use Rattle.account_core.specs.Events.{EntryData}
 use Rattle.account_core.specs.Expiry.{last_moment}
-use Rattle.account_core.specs.Known.{Known, known, taken_of}
+use Rattle.account_core.specs.Known.{CallFacts, known, taken_of}
 use Rattle.account_core.specs.Replies.{reply_for}
 use Rattle.account_core.specs.Sound.{AnswersFit, IsSound, IsSoundPast}
 use Rattle.account_core.specs.declared.entry.Reply.{Reply}
 use Rattle.account_core.proofs.Fitting.{answer_for, money_within}
 
-module _ (opening : ℕ) (h : List Event) (sound : IsSoundPast opening h) where
+module _ (opening : ℕ) (h : List EntryData) (sound : IsSoundPast opening h) where
   pub funds_kept : (funds : ℕ) → funds ≡ opening + credits h → funds ≤ 1000000000000000
   funds_kept funds funds_are = omega (arith, funds_are, sound.capped)
 
-  module _ (asked : Asked) (call : Known) (call_is : call ≡ known (call_of asked) h) where
+  module _ (asked : Asked) (call : CallFacts) (call_is : call ≡ known (call_of asked) h) where
     pub sound_call : IsSound call
-    sound_call = let P : Known → Type 0 = λ k. IsSound k in subst P (sym call_is) (sound.each (call_of asked))
+    sound_call = let P : CallFacts → Type 0 = λ k. IsSound k in subst P (sym call_is) (sound.each (call_of asked))
 
     pub money_kept : (credit : ℕ) → credit ≡ available opening h → credit + taken_of call ≤ 1000000000000000
     money_kept credit credit_is =
-        let P : Known → Type 0 = λ k. credit + taken_of k ≤ 1000000000000000 in
+        let P : CallFacts → Type 0 = λ k. credit + taken_of k ≤ 1000000000000000 in
         subst P (sym call_is) (omega (arith, credit_is, money_within opening h (call_of asked) sound))
 
 -- what an account replies by its totals and its last moment is the answer of its history
-pub reply_is_answer : (opening : ℕ) (until : Option ℕ) (h : List Event) → IsSoundPast opening h → AnswersFit opening until h
-    → (asked : Asked) (call : Known) → call ≡ known (call_of asked) h
+pub reply_is_answer : (opening : ℕ) (until : Option ℕ) (h : List EntryData) → IsSoundPast opening h → AnswersFit opening until h
+    → (asked : Asked) (call : CallFacts) → call ≡ known (call_of asked) h
     → (credit funds : ℕ) (last : Option ℕ) → credit ≡ available opening h → funds ≡ opening + credits h → last ≡ last_moment until h → inadmissible h asked ≡ None
     → (told : Reply) → told ≡ reply_for credit funds last call asked → told ≡ answer opening until h asked
 reply_is_answer opening until h sound fitting asked call call_is credit funds last credit_is funds_are last_is is told told_is =
     let C : ℕ → Type 0 = λ n. told ≡ reply_for n funds last call asked in
     let F : ℕ → Type 0 = λ n. told ≡ reply_for (available opening h) n last call asked in
     let L : Option ℕ → Type 0 = λ n. told ≡ reply_for (available opening h) (opening + credits h) n call asked in
-    let K : Known → Type 0 = λ k. told ≡ reply_for (available opening h) (opening + credits h) (last_moment until h) k asked in
+    let K : CallFacts → Type 0 = λ k. told ≡ reply_for (available opening h) (opening + credits h) (last_moment until h) k asked in
     subst K call_is (subst L last_is (subst F funds_are (subst C credit_is told_is))) ∙ sym (answer_for opening until h sound fitting asked is)

@@ -7,11 +7,11 @@ use Rattle.tariff_core.specs.Laws.{AffordedAreCovered, CeilingIsNotPassed}
 use Rattle.tariff_core.specs.Price.{price_at}
 use Rattle.tariff_core.specs.Rates.{Rates}
 use Rattle.tariff_core.specs.Times.{Elapsed}
-use Rattle.account_core.specs.Known.{Known, paid_of, price_under, taken_of, taken_under}
+use Rattle.account_core.specs.Known.{CallFacts, paid_of, price_under, taken_of, taken_under}
 use Rattle.account_core.specs.Sound.{IsHeld, IsSound, IsSoundUnder}
 
 -- the price of its times is at most its top
-pub price_within : CeilingIsNotPassed → (plan : Rates) (call : Known) → IsHeld plan call → price_at plan call.times ≤ call.top
+pub price_within : CeilingIsNotPassed → (plan : Rates) (call : CallFacts) → IsHeld plan call → price_at plan call.times ≤ call.top
 price_within not_passed plan call held = omega (arith, not_passed plan held.base held.units call.times held.comes, held.top_is)
 
 paid_by_case : (forfeited returned : Bool) (price top : ℕ) → price ≤ top
@@ -21,14 +21,14 @@ paid_by_case true false price top le = omega arith
 paid_by_case false true price top le = omega arith
 paid_by_case false false price top le = le
 
-paid_taken_under : CeilingIsNotPassed → (plan : Option Rates) (call : Known) → call.plan ≡ plan → IsSoundUnder plan call → paid_of call ≤ taken_under plan call
-paid_taken_under not_passed None call is sound = let P : Known → Type 0 = λ k. paid_of k ≤ 0 in subst P (sym sound) (omega arith)
+paid_taken_under : CeilingIsNotPassed → (plan : Option Rates) (call : CallFacts) → call.plan ≡ plan → IsSoundUnder plan call → paid_of call ≤ taken_under plan call
+paid_taken_under not_passed None call is sound = let P : CallFacts → Type 0 = λ k. paid_of k ≤ 0 in subst P (sym sound) (omega arith)
 paid_taken_under not_passed (Some plan) call is sound =
     let here : price_under call.plan call.times ≤ call.top = rw is (price_within not_passed plan call sound) in
     paid_by_case call.forfeited call.returned (price_under call.plan call.times) call.top here
 
 -- no call has paid more than it takes
-pub paid_within : CeilingIsNotPassed → (call : Known) → IsSound call → paid_of call ≤ taken_of call
+pub paid_within : CeilingIsNotPassed → (call : CallFacts) → IsSound call → paid_of call ≤ taken_of call
 unfolding taken_of
 paid_within not_passed call sound = paid_taken_under not_passed call.plan call refl sound
 

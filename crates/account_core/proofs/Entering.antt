@@ -14,10 +14,10 @@ use Rattle.tariff_core.specs.declared.time_info.TimeInfo.{TimeInfo}
 use Rattle.account_core.specs.Answers.{IsAnswered, answer, inadmissible, misplaced, settle_verdict, shown_by, accepted_times, units_offered, verdict}
 use Rattle.account_core.specs.Asked.{Asked, Credits, IsCredit, IsOfCall, Reserves, Returns, Settles, call_of, is_in_range}
 use Rattle.account_core.specs.Available.{available, credited, credits, taken_by_all}
-use Rattle.account_core.specs.Events.{Event, asked_of, event_of}
+use Rattle.account_core.specs.Events.{EntryData, asked_of, entry_data}
 use Rattle.account_core.specs.Expiry.{last_moment_after}
 use Rattle.account_core.specs.Kept.{IsKept, TellsEach, known_of}
-use Rattle.account_core.specs.Known.{Deed, Ends, Known, Rests, deed_of, is_open, known, known_after, paid_of}
+use Rattle.account_core.specs.Known.{Deed, Ends, CallFacts, Rests, deed_of, is_open, known, known_after, paid_of}
 use Rattle.account_core.specs.Ledger.{Ledger, answer_of, refusal_of}
 use Rattle.account_core.specs.Places.{needed, needed_by, or_else, over_limit, owed, owed_to, places_needed, places_owed, refusal}
 use Rattle.account_core.specs.Sound.{AnswersFit, HasRoom, IsSoundPast}
@@ -35,16 +35,16 @@ use Rattle.account_core.proofs.SoundPasts.{answered_credit, answered_deed}
 use Rattle.account_core.proofs.Verdicts.{credited_capped, in_place}
 
 -- what an account keeps, in the words of its callers
-pub kept_of : (a : Inside) (ledger : Ledger) → record { opening = a.opening; until = a.until; limit = a.limit; history = map event_of a.entries.items } ≡ ledger
-    → IsKept a.opening a.until a.limit (reverse (map event_of a.entries.items)) a.calls a.funds a.available a.last_moment a.owed (vec_capacity a.entries)
+pub kept_of : (a : Inside) (ledger : Ledger) → record { opening = a.opening; until = a.until; limit = a.limit; history = map entry_data a.entries.items } ≡ ledger
+    → IsKept a.opening a.until a.limit (reverse (map entry_data a.entries.items)) a.calls a.funds a.available a.last_moment a.owed (vec_capacity a.entries)
     → IsKept ledger.opening ledger.until ledger.limit (reverse ledger.history) a.calls a.funds a.available a.last_moment a.owed (vec_capacity a.entries)
 kept_of a ledger view_is kept =
     let P : Ledger → Type 0 = λ l. IsKept l.opening l.until l.limit (reverse l.history) a.calls a.funds a.available a.last_moment a.owed (vec_capacity a.entries) in
     subst P view_is kept
 
 -- the history with an entry at its end
-pub past_pushed : (items : List Entry) (entry : Entry) → reverse (map event_of (items ++ entry ∷ [])) ≡ event_of entry ∷ reverse (map event_of items)
-past_pushed items entry = rw (map-append event_of items (entry ∷ []), reverse-append) refl
+pub past_pushed : (items : List Entry) (entry : Entry) → reverse (map entry_data (items ++ entry ∷ [])) ≡ entry_data entry ∷ reverse (map entry_data items)
+past_pushed items entry = rw (map-append entry_data items (entry ∷ []), reverse-append) refl
 
 -- ---- what is not refused
 
@@ -59,7 +59,7 @@ within_by false limit places over is = grind (arith, nat_tests)
 within_if : (limit places : ℕ) → (if nat_lt limit places then Some fault.HistoryFull else None) ≡ None → places ≤ limit
 within_if limit places is = within_by (nat_lt limit places) limit places refl is
 
-pub admitted : (limit : ℕ) (h : List Event) (asked : Asked) → refusal limit h asked ≡ None → (inadmissible h asked ≡ None) × (length h + owed h + needed h asked ≤ limit)
+pub admitted : (limit : ℕ) (h : List EntryData) (asked : Asked) → refusal limit h asked ≡ None → (inadmissible h asked ≡ None) × (length h + owed h + needed h asked ≤ limit)
 unfolding refusal
 admitted limit h asked is =
     let (admissible, within) = or_else_none (inadmissible h asked) (over_limit limit (length h + owed h) (needed h asked)) is in
@@ -72,7 +72,7 @@ gate_by : (b : Bool) (first second : Option AccountFault) → (first ≡ Some fa
 gate_by true first second x y is = x is
 gate_by false first second x y is = y is
 
-gate_misplaced : (call : Known) (asked : Asked) → misplaced call asked ≡ Some fault.GateClosed → ⊥
+gate_misplaced : (call : CallFacts) (asked : Asked) → misplaced call asked ≡ Some fault.GateClosed → ⊥
 gate_misplaced call (Credits amount moment) is = cc
 gate_misplaced call (Reserves number plan wanted least at) is = gate_by call.returned (Some fault.CallUsed) None (λ e. cc) (λ e. cc) is
 gate_misplaced call (Settles number mail info) is = gate_by (is_open call) None (Some fault.NotOpen) (λ e. cc) (λ e. cc) is
@@ -83,7 +83,7 @@ gate_either : (first second : Option AccountFault) → (first ≡ Some fault.Gat
 gate_either None second x y is = y is
 gate_either (Some why) second x y is = x is
 
-pub never_gated : (limit : ℕ) (h : List Event) (asked : Asked) → refusal limit h asked ≡ Some fault.GateClosed → ⊥
+pub never_gated : (limit : ℕ) (h : List EntryData) (asked : Asked) → refusal limit h asked ≡ Some fault.GateClosed → ⊥
 unfolding refusal
 never_gated limit h asked is =
     gate_either (inadmissible h asked) (over_limit limit (length h + owed h) (needed h asked))
@@ -117,25 +117,25 @@ owes_end (Some plan) true awaits = omega arith
 owes_end (Some plan) false true = omega arith
 owes_end (Some plan) false false = omega arith
 
-owes_reserve : (denied : Bool) (known : Known) (units : ℕ) (last : Bool) (call : ℕ) (plan : Rates) (wanted least at : ℕ)
+owes_reserve : (denied : Bool) (known : CallFacts) (units : ℕ) (last : Bool) (call : ℕ) (plan : Rates) (wanted least at : ℕ)
     → 1 + owed_to (known_after known (deed_of (Reserves call plan wanted least at) (if denied then reply.Denied 0 else reply.Granted units last 0)))
     ≤ owed_to known + needed_by known (Reserves call plan wanted least at)
 unfolding owed_to
 owes_reserve true known units last call plan wanted least at = omega (arith, owes_denied (is_open known) known.awaits call plan wanted least at)
 owes_reserve false known units last call plan wanted least at = owes_grant known.plan known.returned known.awaits call plan wanted least at
 
-owes_settle : (times : Option Elapsed) (known : Known) (call number : ℕ) (info : TimeInfo)
+owes_settle : (times : Option Elapsed) (known : CallFacts) (call number : ℕ) (info : TimeInfo)
     → 1 + owed_to (known_after known (deed_of (Settles call number info) (settle_verdict known times))) ≤ owed_to known + needed_by known (Settles call number info)
 unfolding owed_to
 owes_settle None known call number info = owes_report (is_open known) known.awaits
 owes_settle (Some times) known call number info = owes_report (is_open known) known.awaits
 
-owes_return : (known : Known) (call paid : ℕ) → 1 + owed_to (known_after known (Ends paid)) ≤ owed_to known + needed_by known (Returns call)
+owes_return : (known : CallFacts) (call paid : ℕ) → 1 + owed_to (known_after known (Ends paid)) ≤ owed_to known + needed_by known (Returns call)
 unfolding owed_to
 owes_return known call paid = owes_end known.plan known.returned known.awaits
 
 -- an answer's entry and what is owed after it take the places that were owed and needed
-pub owes : (opening : ℕ) (until : Option ℕ) (h : List Event) (asked : Asked)
+pub owes : (opening : ℕ) (until : Option ℕ) (h : List EntryData) (asked : Asked)
     → 1 + owed_to (known_after (known (call_of asked) h) (deed_of asked (verdict opening until h asked))) ≤ owed_to (known (call_of asked) h) + needed h asked
 owes opening until h (Credits amount moment) = omega arith
 owes opening until h (Reserves call plan wanted least at) =
@@ -143,21 +143,21 @@ owes opening until h (Reserves call plan wanted least at) =
 owes opening until h (Settles call number info) = owes_settle (accepted_times (known call h) info) (known call h) call number info
 owes opening until h (Returns call) = owes_return (known call h) call (paid_of (known call h))
 
-nothing_owed : (call : Known) → call.plan ≡ None → owed_to call ≡ 0
+nothing_owed : (call : CallFacts) → call.plan ≡ None → owed_to call ≡ 0
 unfolding owed_to
 nothing_owed call none = rw none refl
 
-pub owed_moves : (h : List Event) (event : Event)
+pub owed_moves : (h : List EntryData) (event : EntryData)
     → owed (event ∷ h) + owed_to (known (its_call event) h) ≡ owed h + owed_to (known_after (known (its_call event) h) (its_deed event))
 unfolding owed
 owed_moves h event = sum_moves owed_to nothing_owed h event
 
-pub owed_at_most : (h : List Event) (call : ℕ) → owed_to (known call h) ≤ owed h
+pub owed_at_most : (h : List EntryData) (call : ℕ) → owed_to (known call h) ≤ owed h
 unfolding owed
 owed_at_most h call = at_most_all owed_to nothing_owed h call
 
 -- what is owed after an answered entry
-pub owed_after : (opening : ℕ) (until : Option ℕ) (h : List Event) (event : Event) → IsAnswered opening until h event → 1 + owed (event ∷ h) ≤ owed h + needed h event.asked
+pub owed_after : (opening : ℕ) (until : Option ℕ) (h : List EntryData) (event : EntryData) → IsAnswered opening until h event → 1 + owed (event ∷ h) ≤ owed h + needed h event.asked
 owed_after opening until h event answered =
     let P : Deed → Type 0 = λ d. 1 + owed_to (known_after (known (its_call event) h) d) ≤ owed_to (known (its_call event) h) + needed h event.asked in
     let call_owes = subst P (sym (answered_deed opening until h event answered)) (owes opening until h event.asked) in
@@ -168,7 +168,7 @@ owed_after opening until h event answered =
 apart_at : (call other : ℕ) → (call == other) ≡ false → nat_eq call other ≡ false
 apart_at call other apart = grind (arith, nat_tests)
 
-tells_by : {S : Type 0} (here : Bool) (old new : HashMap ℕ CallState S) (h : List Event) (event : Event) (state : CallState) (call : ℕ) → (its_call event == call) ≡ here
+tells_by : {S : Type 0} (here : Bool) (old new : HashMap ℕ CallState S) (h : List EntryData) (event : EntryData) (state : CallState) (call : ℕ) → (its_call event == call) ≡ here
     → Updates nat_eq old new (its_call event) (Some state) → TellsEach old h → known_of state ≡ known_after (known (its_call event) h) (its_deed event)
     → known_of (unwrap_or (get nat_eq new call) Fresh) ≡ known call (event ∷ h)
 tells_by true old new h event state call is updates tells known_is =
@@ -178,18 +178,18 @@ tells_by false old new h event state call is updates tells known_is =
     rw (updates.2 call (apart_at (its_call event) call is)) (tells call ∙ sym (known_apart h event call is))
 
 -- the map after the state of an entry's call is renewed
-pub tells_renewed : {S : Type 0} (old new : HashMap ℕ CallState S) (h : List Event) (event : Event) (state : CallState)
+pub tells_renewed : {S : Type 0} (old new : HashMap ℕ CallState S) (h : List EntryData) (event : EntryData) (state : CallState)
     → Updates nat_eq old new (its_call event) (Some state) → TellsEach old h → known_of state ≡ known_after (known (its_call event) h) (its_deed event)
     → TellsEach new (event ∷ h)
 tells_renewed old new h event state updates tells known_is call = tells_by _ old new h event state call refl updates tells known_is
 
-rests_by : (here : Bool) (h : List Event) (event : Event) (call : ℕ) → (its_call event == call) ≡ here → its_deed event ≡ Rests → known call (event ∷ h) ≡ known call h
+rests_by : (here : Bool) (h : List EntryData) (event : EntryData) (call : ℕ) → (its_call event == call) ≡ here → its_deed event ≡ Rests → known call (event ∷ h) ≡ known call h
 rests_by true h event call is rests =
     let P : ℕ → Type 0 = λ c. known c (event ∷ h) ≡ known c h in
     subst P (eqb-true (its_call event) call is) (known_here h event ∙ ap (known_after (known (its_call event) h)) rests)
 rests_by false h event call is rests = known_apart h event call is
 
-pub tells_resting : {S : Type 0} (m : HashMap ℕ CallState S) (h : List Event) (event : Event) → its_deed event ≡ Rests → TellsEach m h → TellsEach m (event ∷ h)
+pub tells_resting : {S : Type 0} (m : HashMap ℕ CallState S) (h : List EntryData) (event : EntryData) → its_deed event ≡ Rests → TellsEach m h → TellsEach m (event ∷ h)
 tells_resting m h event rests tells call = tells call ∙ sym (rests_by _ h event call refl rests)
 
 -- ---- the whole
@@ -203,14 +203,14 @@ of_call call (Settles other number info) is = (is, (λ told. refl, λ last told.
 of_call call (Returns other) is = (is, (λ told. refl, λ last told. refl))
 
 -- the map, the totals and the last moment are those of the longer history, and there is room
-pub record IsEntered {S : Type 0} (h : List Event) (event : Event) (m : HashMap ℕ CallState S) (funds funds' : ℕ) (last last' : Option ℕ) (places places' capacity : ℕ) : Type 0 where
+pub record IsEntered {S : Type 0} (h : List EntryData) (event : EntryData) (m : HashMap ℕ CallState S) (funds funds' : ℕ) (last last' : Option ℕ) (places places' capacity : ℕ) : Type 0 where
   pub tells : TellsEach m (event ∷ h)
   pub funds_are : funds' ≡ funds + credited event.asked event.reply
   pub last_is : last' ≡ last_moment_after last event.asked event.reply
   pub places_are : places' ≡ owed (event ∷ h)
   pub room : length h + (places + needed h event.asked) ≤ capacity
 
-pub entered : {S : Type 0} (opening : ℕ) (until : Option ℕ) (limit : ℕ) (h : List Event) (m m' : HashMap ℕ CallState S) (funds funds' credit : ℕ) (last last' : Option ℕ) (places places' capacity capacity' : ℕ) (event : Event)
+pub entered : {S : Type 0} (opening : ℕ) (until : Option ℕ) (limit : ℕ) (h : List EntryData) (m m' : HashMap ℕ CallState S) (funds funds' credit : ℕ) (last last' : Option ℕ) (places places' capacity capacity' : ℕ) (event : EntryData)
     → IsKept opening until limit h m funds credit last places capacity → refusal limit h event.asked ≡ None → event.reply ≡ answer opening until h event.asked
     → IsEntered h event m' funds funds' last last' places places' capacity' → IsKept opening until limit (event ∷ h) m' funds' (shown_by event.reply) last' places' capacity'
 entered opening until limit h m m' funds funds' credit last last' places places' capacity capacity' event kept open_yet is entry =
@@ -231,25 +231,25 @@ entered opening until limit h m m' funds funds' credit last last' places places'
     }
 
 -- the same of an account's fields
-module _ (a : Inside) (ledger : Ledger) (view_is : record { opening = a.opening; until = a.until; limit = a.limit; history = map event_of a.entries.items } ≡ ledger)
-    (kept : IsKept a.opening a.until a.limit (reverse (map event_of a.entries.items)) a.calls a.funds a.available a.last_moment a.owed (vec_capacity a.entries)) where
+module _ (a : Inside) (ledger : Ledger) (view_is : record { opening = a.opening; until = a.until; limit = a.limit; history = map entry_data a.entries.items } ≡ ledger)
+    (kept : IsKept a.opening a.until a.limit (reverse (map entry_data a.entries.items)) a.calls a.funds a.available a.last_moment a.owed (vec_capacity a.entries)) where
   pub length_past : length (reverse ledger.history) ≡ length a.entries.items
   length_past =
-      ap (λ l. length (reverse l.history)) (sym view_is) ∙ (length-reverse (map event_of a.entries.items) ∙ length-map a.entries.items event_of)
+      ap (λ l. length (reverse l.history)) (sym view_is) ∙ (length-reverse (map entry_data a.entries.items) ∙ length-map a.entries.items entry_data)
 
   pub entered_inside : (entry : Entry) (items : List Entry) (m : HashMap ℕ CallState (BuildHasherDefault FoldHasher)) (funds credit : ℕ) (last : Option ℕ) (places capacity : ℕ)
       → refusal_of ledger (asked_of entry.op) ≡ None → entry.reply ≡ answer_of ledger (asked_of entry.op) → items ≡ a.entries.items ++ entry ∷ []
-      → credit ≡ shown_by entry.reply → IsEntered (reverse ledger.history) (event_of entry) m a.funds funds a.last_moment last a.owed places capacity
-      → IsKept a.opening a.until a.limit (reverse (map event_of items)) m funds credit last places capacity
+      → credit ≡ shown_by entry.reply → IsEntered (reverse ledger.history) (entry_data entry) m a.funds funds a.last_moment last a.owed places capacity
+      → IsKept a.opening a.until a.limit (reverse (map entry_data items)) m funds credit last places capacity
   entered_inside entry items m funds credit last places capacity open_yet is items_are shows entry_is =
       let R : Ledger → Type 0 = λ l. refusal_of l (asked_of entry.op) ≡ None in
       let A : Ledger → Type 0 = λ l. entry.reply ≡ answer_of l (asked_of entry.op) in
-      let E : Ledger → Type 0 = λ l. IsEntered (reverse l.history) (event_of entry) m a.funds funds a.last_moment last a.owed places capacity in
-      let K : List Event → Type 0 = λ h. IsKept a.opening a.until a.limit h m funds (shown_by entry.reply) last places capacity in
-      let C : ℕ → Type 0 = λ n. IsKept a.opening a.until a.limit (reverse (map event_of items)) m funds n last places capacity in
-      let longer : event_of entry ∷ reverse (map event_of a.entries.items) ≡ reverse (map event_of items) =
-      sym (ap (λ es. reverse (map event_of es)) items_are ∙ past_pushed a.entries.items entry) in
-      let whole = entered a.opening a.until a.limit (reverse (map event_of a.entries.items)) a.calls m a.funds funds a.available a.last_moment last a.owed places (vec_capacity a.entries) capacity (event_of entry)
+      let E : Ledger → Type 0 = λ l. IsEntered (reverse l.history) (entry_data entry) m a.funds funds a.last_moment last a.owed places capacity in
+      let K : List EntryData → Type 0 = λ h. IsKept a.opening a.until a.limit h m funds (shown_by entry.reply) last places capacity in
+      let C : ℕ → Type 0 = λ n. IsKept a.opening a.until a.limit (reverse (map entry_data items)) m funds n last places capacity in
+      let longer : entry_data entry ∷ reverse (map entry_data a.entries.items) ≡ reverse (map entry_data items) =
+      sym (ap (λ es. reverse (map entry_data es)) items_are ∙ past_pushed a.entries.items entry) in
+      let whole = entered a.opening a.until a.limit (reverse (map entry_data a.entries.items)) a.calls m a.funds funds a.available a.last_moment last a.owed places (vec_capacity a.entries) capacity (entry_data entry)
       kept (subst R (sym view_is) open_yet) (subst A (sym view_is) is) (subst E (sym view_is) entry_is) in
       subst C (sym shows) (subst K longer whole)
 
@@ -261,18 +261,18 @@ credit_rests (Reserves call plan wanted least at) told is = absurd is
 credit_rests (Settles call number info) told is = absurd is
 credit_rests (Returns call) told is = absurd is
 
-pub credit_needs : (h : List Event) (asked : Asked) → IsCredit asked → needed h asked ≡ 1
+pub credit_needs : (h : List EntryData) (asked : Asked) → IsCredit asked → needed h asked ≡ 1
 credit_needs h (Credits amount moment) is = refl
 credit_needs h (Reserves call plan wanted least at) is = absurd is
 credit_needs h (Settles call number info) is = absurd is
 credit_needs h (Returns call) is = absurd is
 
-pub owed_resting : (h : List Event) (event : Event) → its_deed event ≡ Rests → owed (event ∷ h) ≡ owed h
+pub owed_resting : (h : List EntryData) (event : EntryData) → its_deed event ≡ Rests → owed (event ∷ h) ≡ owed h
 owed_resting h event rests =
     let same : owed_to (known_after (known (its_call event) h) (its_deed event)) ≡ owed_to (known (its_call event) h) = ap (λ d. owed_to (known_after (known (its_call event) h) d)) rests in
     omega (arith, owed_moves h event, same)
 
-pub credit_entered : {S : Type 0} (h : List Event) (event : Event) (m : HashMap ℕ CallState S) (funds funds' : ℕ) (last last' : Option ℕ) (places capacity : ℕ) → IsCredit event.asked → TellsEach m h
+pub credit_entered : {S : Type 0} (h : List EntryData) (event : EntryData) (m : HashMap ℕ CallState S) (funds funds' : ℕ) (last last' : Option ℕ) (places capacity : ℕ) → IsCredit event.asked → TellsEach m h
     → funds' ≡ funds + credited event.asked event.reply → last' ≡ last_moment_after last event.asked event.reply → places ≡ owed h
     → length h + (places + 1) ≤ capacity → IsEntered h event m funds funds' last last' places places capacity
 credit_entered h event m funds funds' last last' places capacity is tells funds_are last_is places_are room =
@@ -286,13 +286,13 @@ credit_entered h event m funds funds' last last' places capacity is tells funds_
     }
 
 -- the funds stay within the largest money
-pub funds_fit : (opening : ℕ) (until : Option ℕ) (h : List Event) (event : Event) → IsSoundPast opening h → IsAnswered opening until h event
+pub funds_fit : (opening : ℕ) (until : Option ℕ) (h : List EntryData) (event : EntryData) → IsSoundPast opening h → IsAnswered opening until h event
     → opening + credits h + credited event.asked event.reply ≤ 1000000000000000
 funds_fit opening until h event sound answered = omega (arith, answered_credit opening until h event answered, credited_capped opening until h event.asked sound.capped)
 
 -- ---- an operation of a call
 
-module _ (opening : ℕ) (until : Option ℕ) (limit : ℕ) (h : List Event) (call : ℕ) (event : Event) (here : IsOfCall call event.asked) (before : Known) (before_is : before ≡ known call h)
+module _ (opening : ℕ) (until : Option ℕ) (limit : ℕ) (h : List EntryData) (call : ℕ) (event : EntryData) (here : IsOfCall call event.asked) (before : CallFacts) (before_is : before ≡ known call h)
     (open_yet : refusal limit h event.asked ≡ None) (is : event.reply ≡ answer opening until h event.asked) where
   pub before_its : before ≡ known (its_call event) h
   before_its = before_is ∙ ap (λ c. known c h) (sym (of_call call event.asked here).0)
@@ -302,7 +302,7 @@ module _ (opening : ℕ) (until : Option ℕ) (limit : ℕ) (h : List Event) (ca
 
   pub placed_known : misplaced before event.asked ≡ None
   placed_known =
-      let P : Known → Type 0 = λ k. misplaced k event.asked ≡ None in
+      let P : CallFacts → Type 0 = λ k. misplaced k event.asked ≡ None in
       subst P (sym before_its) (in_place h event.asked (admitted limit h event.asked open_yet).0).1
 
   pub needs_known : needed_by before event.asked ≡ needed h event.asked
@@ -311,7 +311,7 @@ module _ (opening : ℕ) (until : Option ℕ) (limit : ℕ) (h : List Event) (ca
   pub room_known : AnswersFit opening until h → HasRoom before (its_deed event)
   room_known fitting =
       let P : Deed → Type 0 = λ d. HasRoom (known (its_call event) h) d in
-      let K : Known → Type 0 = λ k. HasRoom k (its_deed event) in
+      let K : CallFacts → Type 0 = λ k. HasRoom k (its_deed event) in
       subst K (sym before_its) (subst P (sym (answered_deed opening until h event answered_here)) (fitting event.asked (admitted limit h event.asked open_yet).0).room)
 
   pub some_place : (places : ℕ) → places ≡ owed h → 1 ≤ places + needed_by before event.asked
@@ -347,9 +347,9 @@ unfolding available taken_by_all
 nothing_taken_yet opening = omega arith
 
 pub kept_new : {S : Type 0} (opening : ℕ) (until : Option ℕ) (limit : ℕ) (entries : Vec Entry Global) (m : HashMap ℕ CallState S) → opening ≤ 1000000000000000 → entries.items ≡ [] → IsEmpty m
-    → IsKept opening until limit (reverse (map event_of entries.items)) m opening opening until 0 (vec_capacity entries)
+    → IsKept opening until limit (reverse (map entry_data entries.items)) m opening opening until 0 (vec_capacity entries)
 kept_new opening until limit entries m small none empty =
-    let K : List Entry → Type 0 = λ es. IsKept opening until limit (reverse (map event_of es)) m opening opening until 0 (vec_capacity entries) in
+    let K : List Entry → Type 0 = λ es. IsKept opening until limit (reverse (map entry_data es)) m opening opening until 0 (vec_capacity entries) in
     subst K (sym none) (record {
       small = small;
       legal = tt;

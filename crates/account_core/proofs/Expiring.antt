@@ -8,7 +8,7 @@ use Rattle.tariff_core.specs.Rates.{Rates}
 use Rattle.account_core.specs.Answers.{IsAnswered, IsLegal, IsLegalPast, answer, reserve_verdict, showing, units_offered}
 use Rattle.account_core.specs.Asked.{Asked, Credits, Reserves, Returns, Settles}
 use Rattle.account_core.specs.Available.{available}
-use Rattle.account_core.specs.Events.{Event}
+use Rattle.account_core.specs.Events.{EntryData}
 use Rattle.account_core.specs.Expiry.{GrantsBy, LeavesLastMoment, is_past, last_moment, last_moment_after}
 use Rattle.account_core.specs.Known.{known}
 use Rattle.account_core.specs.Laws.{NothingIsGrantedLate}
@@ -35,7 +35,7 @@ verdict_grants moment last c plan wanted least at units credit forfeited is =
     let P : Option ℕ → Type 0 = λ m. GrantsBy last (Reserves c plan wanted least at) (showing credit (reserve_verdict units wanted least forfeited (is_past m at))) in
     subst P (sym is) (grants_by _ last c plan wanted least at units credit _ (in_time (nat_lt units least) (units == 0) forfeited last at))
 
-answer_grants : (opening : ℕ) (until : Option ℕ) (h : List Event) (last : ℕ) (asked : Asked) → last_moment until h ≡ Some last
+answer_grants : (opening : ℕ) (until : Option ℕ) (h : List EntryData) (last : ℕ) (asked : Asked) → last_moment until h ≡ Some last
     → GrantsBy last asked (answer opening until h asked)
 unfolding answer
 answer_grants opening until h last (Credits amount moment) is = tt
@@ -44,7 +44,7 @@ answer_grants opening until h last (Reserves c plan wanted least at) is =
 answer_grants opening until h last (Settles c number info) is = tt
 answer_grants opening until h last (Returns c) is = tt
 
-entry_grants : (opening : ℕ) (until : Option ℕ) (h : List Event) (last : ℕ) (event : Event) → IsAnswered opening until h event → last_moment until h ≡ Some last
+entry_grants : (opening : ℕ) (until : Option ℕ) (h : List EntryData) (last : ℕ) (event : EntryData) → IsAnswered opening until h event → last_moment until h ≡ Some last
     → GrantsBy last event.asked event.reply
 entry_grants opening until h last event answered is =
     let P : Reply → Type 0 = λ r. GrantsBy last event.asked r in
@@ -57,19 +57,19 @@ moment_left before asked told leaves = refl
 
 -- ---- the entries of a history, from one place on
 
-entry_here : (opening : ℕ) (until : Option ℕ) (history later : List Event) (event : Event) → IsLegal opening until ((history ++ event ∷ []) ++ later)
+entry_here : (opening : ℕ) (until : Option ℕ) (history later : List EntryData) (event : EntryData) → IsLegal opening until ((history ++ event ∷ []) ++ later)
     → IsAnswered opening until (reverse history) event
 entry_here opening until history later event legal =
-    let P : List Event → Type 0 = λ h. IsLegalPast opening until h in
+    let P : List EntryData → Type 0 = λ h. IsLegalPast opening until h in
     let past = prefix_legal opening until (reverse later) (reverse (history ++ event ∷ [])) (subst P (reverse-append (history ++ event ∷ []) later) legal) in
     (subst P (reverse-append history (event ∷ [])) past).1
 
 pub nothing_late : NothingIsGrantedLate
 nothing_late opening until history [] last legal is leave = All-nil (λ event. GrantsBy last event.asked event.reply)
 nothing_late opening until history (event ∷ later) last legal is leave =
-    let G : Event → Type 0 = λ event. GrantsBy last event.asked event.reply in
-    let L : Event → Type 0 = λ event. LeavesLastMoment event.asked event.reply in
-    let P : List Event → Type 0 = λ h. IsLegal opening until h in
+    let G : EntryData → Type 0 = λ event. GrantsBy last event.asked event.reply in
+    let L : EntryData → Type 0 = λ event. LeavesLastMoment event.asked event.reply in
+    let P : List EntryData → Type 0 = λ h. IsLegal opening until h in
     let longer : IsLegal opening until ((history ++ event ∷ []) ++ later) = subst P (sym (append_assoc history (event ∷ []) later)) legal in
     let stays : last_moment until (reverse (history ++ event ∷ [])) ≡ Some last =
     ap (last_moment until) (reverse-append history (event ∷ []))

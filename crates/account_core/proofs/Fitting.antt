@@ -8,9 +8,9 @@ use Rattle.tariff_core.specs.declared.time_info.TimeInfo.{TimeInfo}
 use Rattle.account_core.specs.Answers.{accepted_times, answer, inadmissible, settle_verdict, showing, shown_by, units_offered, verdict}
 use Rattle.account_core.specs.Asked.{Asked, Credits, Reserves, Returns, Settles, call_of}
 use Rattle.account_core.specs.Available.{available, credited, credits, taken_by_all}
-use Rattle.account_core.specs.Events.{Event}
+use Rattle.account_core.specs.Events.{EntryData}
 use Rattle.account_core.specs.Expiry.{is_past, last_moment}
-use Rattle.account_core.specs.Known.{Deed, Ends, Forfeits, Grants, Known, Reports, Rests, deed, deed_of, is_open, known, known_after, paid_of, plan_in_force, price_under, taken_of}
+use Rattle.account_core.specs.Known.{Deed, Ends, Forfeits, Grants, CallFacts, Reports, Rests, deed, deed_of, is_open, known, known_after, paid_of, plan_in_force, price_under, taken_of}
 use Rattle.account_core.specs.Replies.{credit_reply, reply_for, reserve_reply, return_reply, settle_reply}
 use Rattle.account_core.specs.Sound.{AnswersFit, HasRoom, IsFitting, IsSoundPast}
 use Rattle.account_core.specs.declared.entry.Reply.{Reply}
@@ -22,16 +22,16 @@ use Rattle.account_core.proofs.Soundness.{IsAllowed, taken_ended, taken_granted,
 use Rattle.account_core.specs.TariffLaws.{TariffLaws}
 use Rattle.account_core.proofs.Verdicts.{in_place, none_else, none_if, verdict_allowed}
 
-room_allowed : (credit : ℕ) (call : Known) (deed : Deed) → IsAllowed credit call deed → HasRoom call deed
+room_allowed : (credit : ℕ) (call : CallFacts) (deed : Deed) → IsAllowed credit call deed → HasRoom call deed
 room_allowed credit call (Grants plan units) grant = grant.within_day
 room_allowed credit call (Reports info) report = tt
 room_allowed credit call Forfeits is = tt
 room_allowed credit call (Ends paid) end = tt
 room_allowed credit call Rests rests = tt
 
-pub answers_fit : (laws : TariffLaws) (opening : ℕ) (until : Option ℕ) (h : List Event) → IsSoundPast opening h → AnswersFit opening until h
+pub answers_fit : (laws : TariffLaws) (opening : ℕ) (until : Option ℕ) (h : List EntryData) → IsSoundPast opening h → AnswersFit opening until h
 answers_fit laws opening until h sound asked is =
-    let call : Known = known (call_of asked) h in
+    let call : CallFacts = known (call_of asked) h in
     let done : Deed = deed_of asked (verdict opening until h asked) in
     let allowed : IsAllowed (available opening h) call done = verdict_allowed laws opening until h asked (sound.each (call_of asked)) is in
     record {
@@ -46,7 +46,7 @@ available_by : (funds taken funds' taken' t t' credit credit' more : ℕ) → ta
 available_by funds taken funds' taken' t t' credit credit' more covered funds_are is is' moves within = omega arith
 
 -- it moves by what the entry credits, and by what its call takes
-pub available_moves : (opening : ℕ) (h : List Event) (event : Event) → IsSoundPast opening h
+pub available_moves : (opening : ℕ) (h : List EntryData) (event : EntryData) → IsSoundPast opening h
     → taken_of (known_after (known (its_call event) h) (its_deed event)) ≤ available opening h + taken_of (known (its_call event) h)
     → available opening (event ∷ h) + taken_of (known_after (known (its_call event) h) (its_deed event))
     ≡ available opening h + taken_of (known (its_call event) h) + credited event.asked event.reply
@@ -58,30 +58,30 @@ available_moves opening h event sound within =
 total_by : (funds taken credit t : ℕ) → taken ≤ funds → funds ≤ 1000000000000000 → credit ≡ funds - taken → t ≤ taken → credit + t ≤ 1000000000000000
 total_by funds taken credit t covered capped is member = omega arith
 
-taken_at_most : (h : List Event) (c : ℕ) → taken_of (known c h) ≤ taken_by_all h
+taken_at_most : (h : List EntryData) (c : ℕ) → taken_of (known c h) ≤ taken_by_all h
 unfolding taken_by_all
 taken_at_most h c = at_most_all taken_of nothing_taken h c
 
 -- what is available and what a call takes are money together
-pub money_within : (opening : ℕ) (h : List Event) (c : ℕ) → IsSoundPast opening h → available opening h + taken_of (known c h) ≤ 1000000000000000
+pub money_within : (opening : ℕ) (h : List EntryData) (c : ℕ) → IsSoundPast opening h → available opening h + taken_of (known c h) ≤ 1000000000000000
 money_within opening h c sound =
     total_by (opening + credits h) (taken_by_all h) (available opening h) (taken_of (known c h)) sound.covered sound.capped (available_is opening h) (taken_at_most h c)
 
 -- ---- the answers in closed form
 
-an_entry : Asked → Reply → Event
+an_entry : Asked → Reply → EntryData
 an_entry asked told = record { seat = 0; asked = asked; reply = told }
 
-module _ (opening : ℕ) (until : Option ℕ) (h : List Event) (sound : IsSoundPast opening h) where
+module _ (opening : ℕ) (until : Option ℕ) (h : List EntryData) (sound : IsSoundPast opening h) where
   credit_by : (fits : Bool) (amount : ℕ) (moment : Option ℕ)
       → showing (available opening (record { seat = 0; asked = Credits amount moment; reply = if fits then reply.Credited 0 else reply.CreditOver 0 } ∷ h)) (if fits then reply.Credited 0 else reply.CreditOver 0)
       ≡ (if fits then reply.Credited (available opening h + amount) else reply.CreditOver (available opening h))
   credit_by true amount moment =
-      let e : Event = record { seat = 0; asked = Credits amount moment; reply = reply.Credited 0 } in
+      let e : EntryData = record { seat = 0; asked = Credits amount moment; reply = reply.Credited 0 } in
       let moves = available_moves opening h e sound (omega arith) in
       let is : available opening (e ∷ h) ≡ available opening h + amount = omega (arith, moves) in ap reply.Credited is
   credit_by false amount moment =
-      let e : Event = record { seat = 0; asked = Credits amount moment; reply = reply.CreditOver 0 } in
+      let e : EntryData = record { seat = 0; asked = Credits amount moment; reply = reply.CreditOver 0 } in
       let moves = available_moves opening h e sound (omega arith) in
       let is : available opening (e ∷ h) ≡ available opening h = omega (arith, moves) in ap reply.CreditOver is
 
@@ -96,11 +96,11 @@ module _ (opening : ℕ) (until : Option ℕ) (h : List Event) (sound : IsSoundP
       ≡ (if denied then reply.Denied (available opening h)
       else reply.Granted units last (available opening h + taken_of (known c h) - ceiling_of (plan_in_force (known c h) plan) (known c h).times units))
   reserve_by true c plan wanted least at units last here within =
-      let e : Event = record { seat = 0; asked = Reserves c plan wanted least at; reply = reply.Denied 0 } in
+      let e : EntryData = record { seat = 0; asked = Reserves c plan wanted least at; reply = reply.Denied 0 } in
       let moves = available_moves opening h e sound within in
       let is : available opening (e ∷ h) ≡ available opening h = omega (arith, moves) in ap reply.Denied is
   reserve_by false c plan wanted least at units last here within =
-      let e : Event = record { seat = 0; asked = Reserves c plan wanted least at; reply = reply.Granted units last 0 } in
+      let e : EntryData = record { seat = 0; asked = Reserves c plan wanted least at; reply = reply.Granted units last 0 } in
       let moves = available_moves opening h e sound within in
       let held = taken_granted (known c h) plan units here in
       let is : available opening (e ∷ h) ≡ available opening h + taken_of (known c h) - ceiling_of (plan_in_force (known c h) plan) (known c h).times units = omega (arith, moves, held) in
@@ -119,12 +119,12 @@ module _ (opening : ℕ) (until : Option ℕ) (h : List Event) (sound : IsSoundP
       → showing (available opening (record { seat = 0; asked = Settles c number info; reply = settle_verdict (known c h) times } ∷ h)) (settle_verdict (known c h) times)
       ≡ settle_reply (available opening h) (known c h) times
   settle_by None c number info open_yet within =
-      let e : Event = record { seat = 0; asked = Settles c number info; reply = settle_verdict (known c h) None } in
+      let e : EntryData = record { seat = 0; asked = Settles c number info; reply = settle_verdict (known c h) None } in
       let moves = available_moves opening h e sound within in
       let is : available opening (e ∷ h) ≡ available opening h = omega (arith, moves, taken_open (known c h) open_yet, taken_open (known_after (known c h) Forfeits) open_yet) in
       ap (reply.Forfeit (known c h).top) is
   settle_by (Some times) c number info open_yet within =
-      let e : Event = record { seat = 0; asked = Settles c number info; reply = settle_verdict (known c h) (Some times) } in
+      let e : EntryData = record { seat = 0; asked = Settles c number info; reply = settle_verdict (known c h) (Some times) } in
       let moves = available_moves opening h e sound within in
       let is : available opening (e ∷ h) ≡ available opening h = omega (arith, moves, taken_open (known c h) open_yet, taken_open (known_after (known c h) (Reports info)) open_yet) in
       ap (reply.Settled (price_under (known c h).plan times)) is
@@ -140,7 +140,7 @@ module _ (opening : ℕ) (until : Option ℕ) (h : List Event) (sound : IsSoundP
       → answer opening until h (Returns c) ≡ return_reply (available opening h) (known c h)
   unfolding answer
   return_answer c open_yet fitting =
-      let e : Event = record { seat = 0; asked = Returns c; reply = reply.Returned (paid_of (known c h)) 0 } in
+      let e : EntryData = record { seat = 0; asked = Returns c; reply = reply.Returned (paid_of (known c h)) 0 } in
       let moves = available_moves opening h e sound fitting.covered in
       let is : available opening (e ∷ h) ≡ available opening h + taken_of (known c h) - paid_of (known c h) =
       omega (arith, moves, taken_ended (known c h) (paid_of (known c h)) open_yet) in
@@ -168,7 +168,7 @@ shown_by_showing (reply.Forfeit paid available) credit = refl
 shown_by_showing (reply.Returned paid available) credit = refl
 
 -- neither the seat nor what a reply shows is read
-available_showing : (opening : ℕ) (h : List Event) (seat credit : ℕ) (asked : Asked) (told : Reply)
+available_showing : (opening : ℕ) (h : List EntryData) (seat credit : ℕ) (asked : Asked) (told : Reply)
     → available opening (record { seat = seat; asked = asked; reply = showing credit told } ∷ h) ≡ available opening (record { seat = 0; asked = asked; reply = told } ∷ h)
 unfolding available taken_by_all deed
 available_showing opening h seat credit (Credits amount moment) (reply.Credited available) = refl
@@ -179,7 +179,7 @@ available_showing opening h seat credit (Returns call) (reply.Returned paid avai
 available_showing opening h seat credit asked told = refl
 
 -- an answer shows what is available after it
-pub answer_shows : (opening : ℕ) (until : Option ℕ) (h : List Event) (event : Event) → event.reply ≡ answer opening until h event.asked → shown_by event.reply ≡ available opening (event ∷ h)
+pub answer_shows : (opening : ℕ) (until : Option ℕ) (h : List EntryData) (event : EntryData) → event.reply ≡ answer opening until h event.asked → shown_by event.reply ≡ available opening (event ∷ h)
 unfolding answer
 answer_shows opening until h event is =
     let told : Reply = verdict opening until h event.asked in

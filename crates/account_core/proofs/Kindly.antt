@@ -9,9 +9,9 @@ use Rattle.tariff_core.specs.declared.time_info.TimeInfo.{TimeInfo}
 use Rattle.account_core.specs.Answers.{IsLegal, accepted_times, answer, inadmissible, misplaced, settle_verdict, showing, units_offered}
 use Rattle.account_core.specs.Asked.{Asked, Credits, IsOfCall, Reserves, Returns, Settles}
 use Rattle.account_core.specs.Available.{available}
-use Rattle.account_core.specs.Events.{Event}
+use Rattle.account_core.specs.Events.{EntryData}
 use Rattle.account_core.specs.Expiry.{is_past, last_moment}
-use Rattle.account_core.specs.Known.{Known, deed, known, known_after, plan_in_force, taken_of}
+use Rattle.account_core.specs.Known.{CallFacts, deed, known, known_after, plan_in_force, taken_of}
 use Rattle.account_core.specs.Laws.{AnswersAreKindly}
 use Rattle.account_core.specs.Ledger.{Ledger, answer_of, event_by, refusal_of}
 use Rattle.account_core.specs.Sound.{IsSound}
@@ -38,7 +38,7 @@ some_units n is = grind (arith, nat_tests)
 not_less : (n m : ℕ) → nat_lt n m ≡ false → m ≤ n
 not_less n m is = grind (arith, nat_tests)
 
-reserve_kindly : (denied : Bool) (call : Known) (c : ℕ) (plan : Rates) (wanted least at units credit : ℕ) (last late : Bool)
+reserve_kindly : (denied : Bool) (call : CallFacts) (c : ℕ) (plan : Rates) (wanted least at units credit : ℕ) (last late : Bool)
     → (nat_lt units least || (units == 0) || call.forfeited || late) ≡ denied → units ≤ wanted → call.times.before + call.times.after + units ≤ 864000
     → IsReplyTo call (Reserves c plan wanted least at) (showing credit (if denied then reply.Denied 0 else reply.Granted units last 0))
 reserve_kindly true call c plan wanted least at units credit last late is within day = tt
@@ -46,18 +46,18 @@ reserve_kindly false call c plan wanted least at units credit last late is withi
     let (enough, some) = undenied (nat_lt units least) (units == 0) call.forfeited late is in
     record { some = some_units units some; enough = not_less units least enough; within = within; day = day }
 
-settle_kindly : (times : Option Elapsed) (call : Known) (c number : ℕ) (info : TimeInfo) (credit : ℕ) → accepted_times call info ≡ times
+settle_kindly : (times : Option Elapsed) (call : CallFacts) (c number : ℕ) (info : TimeInfo) (credit : ℕ) → accepted_times call info ≡ times
     → IsReplyTo call (Settles c number info) (showing credit (settle_verdict call times))
 settle_kindly None call c number info credit is = is
 settle_kindly (Some times) call c number info credit is = rw is refl
 
-offered_within : TariffLaws → (call : Known) (plan : Rates) (credit wanted : ℕ) → IsSound call
+offered_within : TariffLaws → (call : CallFacts) (plan : Rates) (credit wanted : ℕ) → IsSound call
     → (units_offered credit call plan wanted ≤ wanted) × (call.times.before + call.times.after + units_offered credit call plan wanted ≤ 864000)
 unfolding units_offered
 offered_within laws call plan credit wanted sound =
     let (state, day) = stands laws call plan sound in laws.within (plan_in_force call plan) call.times wanted (credit + taken_of call) day
 
-kindly_here : TariffLaws → (opening : ℕ) (until : Option ℕ) (h : List Event) (c : ℕ) (asked : Asked) → IsSound (known c h) → IsOfCall c asked
+kindly_here : TariffLaws → (opening : ℕ) (until : Option ℕ) (h : List EntryData) (c : ℕ) (asked : Asked) → IsSound (known c h) → IsOfCall c asked
     → IsReplyTo (known c h) asked (answer opening until h asked)
 unfolding answer
 kindly_here laws opening until h c (Credits amount moment) sound here = absurd here
@@ -70,7 +70,7 @@ kindly_here laws opening until h c (Settles other number info) sound here =
     subst P here (settle_kindly (accepted_times (known other h) info) (known other h) other number info _ refl)
 kindly_here laws opening until h c (Returns other) sound here = tt
 
-call_here : (c : ℕ) (asked : Asked) → IsOfCall c asked → (h : List Event) → inadmissible h asked ≡ None → misplaced (known c h) asked ≡ None
+call_here : (c : ℕ) (asked : Asked) → IsOfCall c asked → (h : List EntryData) → inadmissible h asked ≡ None → misplaced (known c h) asked ≡ None
 call_here c (Credits amount moment) here h is = absurd here
 call_here c (Reserves other plan wanted least at) here h is =
     let P : ℕ → Type 0 = λ n. misplaced (known n h) (Reserves other plan wanted least at) ≡ None in subst P here (in_place h (Reserves other plan wanted least at) is).1
@@ -91,7 +91,7 @@ deed_of_any : (seat call : ℕ) (asked : Asked) (told : Reply) → deed call (ev
 unfolding deed
 deed_of_any seat call asked told = refl
 
-entry_moves : (history later : List Event) (seat call : ℕ) (asked : Asked) (told : Reply) → later ≡ history ++ event_by seat asked told ∷ []
+entry_moves : (history later : List EntryData) (seat call : ℕ) (asked : Asked) (told : Reply) → later ≡ history ++ event_by seat asked told ∷ []
     → known call (reverse later) ≡ known_after (known call (reverse history)) (deed call (event_by 0 asked told))
 entry_moves history later seat call asked told is =
     ap (λ h. known call (reverse h)) is

@@ -10,9 +10,9 @@ use Rattle.tariff_core.specs.declared.time_info.TimeInfo.{TimeInfo}
 use Rattle.account_core.specs.Answers.{IsAnswered, IsLegalPast, accepted_times, settle_verdict, verdict}
 use Rattle.account_core.specs.Asked.{Asked, Credits, Reserves, Returns, Settles, call_of}
 use Rattle.account_core.specs.Available.{available, credited}
-use Rattle.account_core.specs.Events.{Event}
-use Rattle.account_core.specs.Known.{Deed, Ends, Forfeits, Grants, Known, Reports, Rests, deed_of, is_open, known, known_after, paid_of, taken_of}
-use Rattle.account_core.specs.Laws.{AreReported, ClosedCallsPayTheTariff, IsSettle, NoBalanceIsNegative, Reporting, SettlesKeepTheCredit, TimesAreReported, last_report, report_after, told, told_after}
+use Rattle.account_core.specs.Events.{EntryData}
+use Rattle.account_core.specs.Known.{Deed, Ends, Forfeits, Grants, CallFacts, Reports, Rests, deed_of, is_open, known, known_after, paid_of, taken_of}
+use Rattle.account_core.specs.Laws.{AreReported, ClosedCallsPayTheTariff, IsSettle, NoBalanceIsNegative, Reporting, SettlesKeepTheCredit, TimesAreReported, last_report, report_after, paid_at_return, paid_after}
 use Rattle.account_core.specs.TariffLaws.{TariffLaws}
 use Rattle.account_core.specs.declared.entry.Reply.{Reply}
 use Rattle.account_core.specs.declared.entry.Reply.TheVariants as reply
@@ -22,30 +22,30 @@ use Rattle.account_core.proofs.SoundPasts.{answered_deed, entry_allowed, legal_i
 use Rattle.account_core.proofs.Soundness.{IsAllowed, accepted, open_parts, taken_open}
 
 -- what came first in a legal history is legal
-pub prefix_legal : (opening : ℕ) (until : Option ℕ) (later h : List Event) → IsLegalPast opening until (later ++ h) → IsLegalPast opening until h
+pub prefix_legal : (opening : ℕ) (until : Option ℕ) (later h : List EntryData) → IsLegalPast opening until (later ++ h) → IsLegalPast opening until h
 prefix_legal opening until [] h legal = legal
 prefix_legal opening until (event ∷ later) h legal = prefix_legal opening until later h legal.0
 
 pub no_negative : TariffLaws → NoBalanceIsNegative
 no_negative laws opening until history later small legal =
-    let P : List Event → Type 0 = λ h. IsLegalPast opening until h in
+    let P : List EntryData → Type 0 = λ h. IsLegalPast opening until h in
     let past = subst P (reverse-append history later) legal in
     (legal_is_sound laws opening until (reverse history) small (prefix_legal opening until (reverse later) (reverse history) past)).covered
 
 -- ---- closed calls
 
-told_here : (h : List Event) (event : Event) → told (its_call event) (event ∷ h) ≡ told_after (told (its_call event) h) (its_deed event)
-told_here h event = ap (told_after (told (its_call event) h)) (deed_here event)
+told_here : (h : List EntryData) (event : EntryData) → paid_at_return (its_call event) (event ∷ h) ≡ paid_after (paid_at_return (its_call event) h) (its_deed event)
+told_here h event = ap (paid_after (paid_at_return (its_call event) h)) (deed_here event)
 
-told_apart : (h : List Event) (event : Event) (call : ℕ) → (its_call event == call) ≡ false → told call (event ∷ h) ≡ told call h
-told_apart h event call apart = ap (told_after (told call h)) (deed_apart call event apart)
+told_apart : (h : List EntryData) (event : EntryData) (call : ℕ) → (its_call event == call) ≡ false → paid_at_return call (event ∷ h) ≡ paid_at_return call h
+told_apart h event call apart = ap (paid_after (paid_at_return call h)) (deed_apart call event apart)
 
-ended_yet : (call : Known) → is_open call ≡ true → call.returned ≡ true → ⊥
+ended_yet : (call : CallFacts) → is_open call ≡ true → call.returned ≡ true → ⊥
 ended_yet call is ended = let yet = (open_parts call.plan call.returned is).1 in cc
 
 -- a call that is returned told what it has paid
-told_by : (credit : ℕ) (call : Known) (before : Option ℕ) (deed : Deed) → IsAllowed credit call deed → (call.returned ≡ true → before ≡ Some (paid_of call))
-    → (known_after call deed).returned ≡ true → told_after before deed ≡ Some (paid_of (known_after call deed))
+told_by : (credit : ℕ) (call : CallFacts) (before : Option ℕ) (deed : Deed) → IsAllowed credit call deed → (call.returned ≡ true → before ≡ Some (paid_of call))
+    → (known_after call deed).returned ≡ true → paid_after before deed ≡ Some (paid_of (known_after call deed))
 told_by credit call before (Grants plan units) grant known_told ended = let yet = grant.unreturned in cc
 told_by credit call before (Reports info) report known_told ended = absurd (ended_yet call report.open_yet ended)
 told_by credit call before Forfeits is known_told ended = absurd (ended_yet call is ended)
@@ -53,23 +53,23 @@ told_by credit call before (Ends paid) end known_told ended = ap Some end.paid_i
 told_by credit call before Rests rests known_told ended = known_told ended
 
 module _ (laws : TariffLaws) where
-  allowed_at : (opening : ℕ) (until : Option ℕ) (h : List Event) (event : Event) → opening ≤ 1000000000000000 → IsLegalPast opening until (event ∷ h)
+  allowed_at : (opening : ℕ) (until : Option ℕ) (h : List EntryData) (event : EntryData) → opening ≤ 1000000000000000 → IsLegalPast opening until (event ∷ h)
       → IsAllowed (available opening h) (known (its_call event) h) (its_deed event)
   allowed_at opening until h event small legal =
       entry_allowed laws opening until h event ((legal_is_sound laws opening until h small legal.0).each (its_call event)) legal.1
 
-  told_more : (here : Bool) (opening : ℕ) (until : Option ℕ) (h : List Event) (event : Event) (call : ℕ) → (its_call event == call) ≡ here → opening ≤ 1000000000000000
-      → IsLegalPast opening until (event ∷ h) → ((c : ℕ) → (known c h).returned ≡ true → told c h ≡ Some (paid_of (known c h)))
-      → (known call (event ∷ h)).returned ≡ true → told call (event ∷ h) ≡ Some (paid_of (known call (event ∷ h)))
+  told_more : (here : Bool) (opening : ℕ) (until : Option ℕ) (h : List EntryData) (event : EntryData) (call : ℕ) → (its_call event == call) ≡ here → opening ≤ 1000000000000000
+      → IsLegalPast opening until (event ∷ h) → ((c : ℕ) → (known c h).returned ≡ true → paid_at_return c h ≡ Some (paid_of (known c h)))
+      → (known call (event ∷ h)).returned ≡ true → paid_at_return call (event ∷ h) ≡ Some (paid_of (known call (event ∷ h)))
   told_more true opening until h event call is small legal before =
-      let P : ℕ → Type 0 = λ c. (known c (event ∷ h)).returned ≡ true → told c (event ∷ h) ≡ Some (paid_of (known c (event ∷ h))) in
+      let P : ℕ → Type 0 = λ c. (known c (event ∷ h)).returned ≡ true → paid_at_return c (event ∷ h) ≡ Some (paid_of (known c (event ∷ h))) in
       subst P (eqb-true (its_call event) call is)
       (rw (known_here h event, told_here h event)
-      (told_by (available opening h) (known (its_call event) h) (told (its_call event) h) (its_deed event) (allowed_at opening until h event small legal) (before (its_call event))))
+      (told_by (available opening h) (known (its_call event) h) (paid_at_return (its_call event) h) (its_deed event) (allowed_at opening until h event small legal) (before (its_call event))))
   told_more false opening until h event call is small legal before = rw (known_apart h event call is, told_apart h event call is) (before call)
 
-  told_paid : (opening : ℕ) (until : Option ℕ) (h : List Event) → opening ≤ 1000000000000000 → IsLegalPast opening until h
-      → (call : ℕ) → (known call h).returned ≡ true → told call h ≡ Some (paid_of (known call h))
+  told_paid : (opening : ℕ) (until : Option ℕ) (h : List EntryData) → opening ≤ 1000000000000000 → IsLegalPast opening until h
+      → (call : ℕ) → (known call h).returned ≡ true → paid_at_return call h ≡ Some (paid_of (known call h))
   told_paid opening until [] small legal call ended = cc
   told_paid opening until (event ∷ h) small legal call ended =
       told_more (its_call event == call) opening until h event call refl small legal (told_paid opening until h small legal.0) ended
@@ -85,19 +85,19 @@ read_unwrapped : (old : Elapsed) (info : TimeInfo) (times : Elapsed) → times_r
 read_unwrapped old info times is = rw is refl
 
 -- a Settle's answer either reads the report or forfeits
-settle_reported : (call : Known) (c number : ℕ) (info : TimeInfo) (times : Option Elapsed) → accepted_times call info ≡ times
+settle_reported : (call : CallFacts) (c number : ℕ) (info : TimeInfo) (times : Option Elapsed) → accepted_times call info ≡ times
     → (known_after call (deed_of (Settles c number info) (settle_verdict call times))).forfeited ≡ false
     → AreReported (Some (record { before = call.times; info = info })) (known_after call (deed_of (Settles c number info) (settle_verdict call times))).times
 settle_reported call c number info None is lawful = cc
 settle_reported call c number info (Some times) is lawful = read_unwrapped call.times info times (accepted call info times is).read
 
-reserve_times : (call : Known) (c : ℕ) (plan : Rates) (wanted least at : ℕ) (told : Reply)
-    → ((known_after call (deed_of (Reserves c plan wanted least at) told)).times ≡ call.times) × ((known_after call (deed_of (Reserves c plan wanted least at) told)).forfeited ≡ call.forfeited)
+reserve_times : (call : CallFacts) (c : ℕ) (plan : Rates) (wanted least at : ℕ) (reply : Reply)
+    → ((known_after call (deed_of (Reserves c plan wanted least at) reply)).times ≡ call.times) × ((known_after call (deed_of (Reserves c plan wanted least at) reply)).forfeited ≡ call.forfeited)
 reserve_times call c plan wanted least at (reply.Granted units last available) = (refl, refl)
-reserve_times call c plan wanted least at told = (refl, refl)
+reserve_times call c plan wanted least at reply = (refl, refl)
 
 -- what an answered entry does to the times of its call is what its report states
-reported_by : (opening : ℕ) (until : Option ℕ) (h : List Event) (asked : Asked) (before : Option Reporting)
+reported_by : (opening : ℕ) (until : Option ℕ) (h : List EntryData) (asked : Asked) (before : Option Reporting)
     → ((known (call_of asked) h).forfeited ≡ false → AreReported before (known (call_of asked) h).times)
     → (known_after (known (call_of asked) h) (deed_of asked (verdict opening until h asked))).forfeited ≡ false
     → AreReported (report_after before (known (call_of asked) h).times asked) (known_after (known (call_of asked) h) (deed_of asked (verdict opening until h asked))).times
@@ -109,16 +109,16 @@ reported_by opening until h (Settles c number info) before known_told lawful =
     settle_reported (known c h) c number info (accepted_times (known c h) info) refl lawful
 reported_by opening until h (Returns c) before known_told lawful = known_told lawful
 
-report_here : (h : List Event) (event : Event) → last_report (its_call event) (event ∷ h) ≡ report_after (last_report (its_call event) h) (known (its_call event) h).times event.asked
+report_here : (h : List EntryData) (event : EntryData) → last_report (its_call event) (event ∷ h) ≡ report_after (last_report (its_call event) h) (known (its_call event) h).times event.asked
 report_here h event = rw (eq-eqb (its_call event) (its_call event) refl) refl
 
-report_apart : (h : List Event) (event : Event) (call : ℕ) → (its_call event == call) ≡ false → last_report call (event ∷ h) ≡ last_report call h
+report_apart : (h : List EntryData) (event : EntryData) (call : ℕ) → (its_call event == call) ≡ false → last_report call (event ∷ h) ≡ last_report call h
 report_apart h event call apart = rw apart refl
 
-IsReported : ℕ → List Event → Type 0
+IsReported : ℕ → List EntryData → Type 0
 IsReported call h = (known call h).forfeited ≡ false → AreReported (last_report call h) (known call h).times
 
-reported_more : (here : Bool) (opening : ℕ) (until : Option ℕ) (h : List Event) (event : Event) (call : ℕ) → (its_call event == call) ≡ here → IsAnswered opening until h event
+reported_more : (here : Bool) (opening : ℕ) (until : Option ℕ) (h : List EntryData) (event : EntryData) (call : ℕ) → (its_call event == call) ≡ here → IsAnswered opening until h event
     → ((c : ℕ) → IsReported c h) → IsReported call (event ∷ h)
 unfolding IsReported
 reported_more true opening until h event call is answered before =
@@ -128,7 +128,7 @@ reported_more true opening until h event call is answered before =
     (reported_by opening until h event.asked (last_report (its_call event) h) (before (its_call event))))
 reported_more false opening until h event call is answered before = rw (known_apart h event call is, report_apart h event call is) (before call)
 
-reported : (opening : ℕ) (until : Option ℕ) (h : List Event) → IsLegalPast opening until h → (call : ℕ) → IsReported call h
+reported : (opening : ℕ) (until : Option ℕ) (h : List EntryData) → IsLegalPast opening until h → (call : ℕ) → IsReported call h
 unfolding IsReported
 reported opening until [] legal call lawful = refl
 reported opening until (event ∷ h) legal call lawful = reported_more (its_call event == call) opening until h event call refl legal.1 (reported opening until h legal.0) lawful
@@ -139,24 +139,24 @@ times_reported opening until history call small legal lawful = reported opening 
 
 -- ---- a Settle
 
-settle_takes : (credit : ℕ) (call : Known) (asked : Asked) (told : Reply) → IsSettle asked → IsAllowed credit call (deed_of asked told)
-    → taken_of (known_after call (deed_of asked told)) ≡ taken_of call
-settle_takes credit call (Credits amount moment) told is allowed = absurd is
-settle_takes credit call (Reserves c plan wanted least at) told is allowed = absurd is
+settle_takes : (credit : ℕ) (call : CallFacts) (asked : Asked) (reply : Reply) → IsSettle asked → IsAllowed credit call (deed_of asked reply)
+    → taken_of (known_after call (deed_of asked reply)) ≡ taken_of call
+settle_takes credit call (Credits amount moment) reply is allowed = absurd is
+settle_takes credit call (Reserves c plan wanted least at) reply is allowed = absurd is
 settle_takes credit call (Settles c number info) (reply.Settled paid available) is report =
     taken_open (known_after call (Reports info)) report.open_yet ∙ sym (taken_open call report.open_yet)
 settle_takes credit call (Settles c number info) (reply.Forfeit paid available) is here =
     taken_open (known_after call Forfeits) here ∙ sym (taken_open call here)
-settle_takes credit call (Settles c number info) told is allowed = refl
-settle_takes credit call (Returns c) told is allowed = absurd is
+settle_takes credit call (Settles c number info) reply is allowed = refl
+settle_takes credit call (Returns c) reply is allowed = absurd is
 
-settle_credits : (asked : Asked) (told : Reply) → IsSettle asked → credited asked told ≡ 0
-settle_credits (Credits amount moment) told is = absurd is
-settle_credits (Reserves c plan wanted least at) told is = absurd is
-settle_credits (Settles c number info) told is = refl
-settle_credits (Returns c) told is = absurd is
+settle_credits : (asked : Asked) (reply : Reply) → IsSettle asked → credited asked reply ≡ 0
+settle_credits (Credits amount moment) reply is = absurd is
+settle_credits (Reserves c plan wanted least at) reply is = absurd is
+settle_credits (Settles c number info) reply is = refl
+settle_credits (Returns c) reply is = absurd is
 
-settle_keeps_past : TariffLaws → (opening : ℕ) (until : Option ℕ) (h : List Event) (event : Event) → opening ≤ 1000000000000000 → IsLegalPast opening until (event ∷ h) → IsSettle event.asked
+settle_keeps_past : TariffLaws → (opening : ℕ) (until : Option ℕ) (h : List EntryData) (event : EntryData) → opening ≤ 1000000000000000 → IsLegalPast opening until (event ∷ h) → IsSettle event.asked
     → available opening (event ∷ h) ≡ available opening h
 settle_keeps_past laws opening until h event small legal is =
     let sound = legal_is_sound laws opening until h small legal.0 in
@@ -166,7 +166,7 @@ settle_keeps_past laws opening until h event small legal is =
 
 pub settle_keeps : TariffLaws → SettlesKeepTheCredit
 settle_keeps laws opening until history event small legal is =
-    let P : List Event → Type 0 = λ h. IsLegalPast opening until h in
-    let Q : List Event → Type 0 = λ h. available opening h ≡ available opening (reverse history) in
+    let P : List EntryData → Type 0 = λ h. IsLegalPast opening until h in
+    let Q : List EntryData → Type 0 = λ h. available opening h ≡ available opening (reverse history) in
     let longer = reverse-append history (event ∷ []) in
     subst Q (sym longer) (settle_keeps_past laws opening until (reverse history) event small (subst P longer legal) is)

@@ -7,34 +7,34 @@ use Rattle.std.proofs.lemmas.List.Sums.{sum_by-cons}
 use Rattle.tariff_core.specs.Rates.{Rates}
 use Rattle.account_core.specs.Asked.{call_of}
 use Rattle.account_core.specs.Available.{begins_call, calls, is_grant}
-use Rattle.account_core.specs.Events.{Event}
-use Rattle.account_core.specs.Known.{Deed, Ends, Forfeits, Grants, Known, Reports, Rests, deed, deed_of, known, known_after}
+use Rattle.account_core.specs.Events.{EntryData}
+use Rattle.account_core.specs.Known.{Deed, Ends, Forfeits, Grants, CallFacts, Reports, Rests, deed, deed_of, known, known_after}
 use Rattle.account_core.proofs.Sums.{at_most_sum, sum_absent, sum_once, times_in}
 
 -- the call of an entry, and what the entry does to it
-abbrev pub its_call : Event → ℕ
+abbrev pub its_call : EntryData → ℕ
 its_call event = call_of event.asked
 
-abbrev pub its_deed : Event → Deed
+abbrev pub its_deed : EntryData → Deed
 its_deed event = deed_of event.asked event.reply
 
-pub deed_here : (event : Event) → deed (its_call event) event ≡ its_deed event
+pub deed_here : (event : EntryData) → deed (its_call event) event ≡ its_deed event
 unfolding deed
 deed_here event = rw (eq-eqb (its_call event) (its_call event) refl) refl
 
-pub deed_apart : (call : ℕ) (event : Event) → (its_call event == call) ≡ false → deed call event ≡ Rests
+pub deed_apart : (call : ℕ) (event : EntryData) → (its_call event == call) ≡ false → deed call event ≡ Rests
 unfolding deed
 deed_apart call event apart = rw apart refl
 
-pub known_here : (h : List Event) (event : Event) → known (its_call event) (event ∷ h) ≡ known_after (known (its_call event) h) (its_deed event)
+pub known_here : (h : List EntryData) (event : EntryData) → known (its_call event) (event ∷ h) ≡ known_after (known (its_call event) h) (its_deed event)
 known_here h event = ap (known_after (known (its_call event) h)) (deed_here event)
 
-pub known_apart : (h : List Event) (event : Event) (call : ℕ) → (its_call event == call) ≡ false → known call (event ∷ h) ≡ known call h
+pub known_apart : (h : List EntryData) (event : EntryData) (call : ℕ) → (its_call event == call) ≡ false → known call (event ∷ h) ≡ known call h
 known_apart h event call apart = ap (known_after (known call h)) (deed_apart call event apart)
 
 -- ---- each call once
 
-is_begun : Known → ℕ
+is_begun : CallFacts → ℕ
 is_begun call = if is_some call.plan then 1 else 0
 
 count_begun : (here begins : Bool) (n : ℕ) → ℕ
@@ -49,7 +49,7 @@ some_once : (plan : Option Rates) (n : ℕ) → n ≡ (if is_some plan then 1 el
 some_once None n is = omega (arith, is)
 some_once (Some plan) n is = is
 
-once_here : (d : Deed) (call : Known) (n : ℕ) → n ≡ is_begun call → count_begun true (is_grant d && not (is_some call.plan)) n ≡ is_begun (known_after call d)
+once_here : (d : Deed) (call : CallFacts) (n : ℕ) → n ≡ is_begun call → count_begun true (is_grant d && not (is_some call.plan)) n ≡ is_begun (known_after call d)
 unfolding count_begun is_begun
 once_here (Grants plan units) call n is = some_once call.plan n is
 once_here (Reports info) call n is = is
@@ -65,7 +65,7 @@ apart_same false n = refl
 eq_apart : (c d : ℕ) → (c == d) ≡ false → (d == c) ≡ false
 eq_apart c d apart = grind (arith, nat_tests)
 
-once_cases : (h : List Event) (event : Event) (c : ℕ) (here : Bool) → (c == its_call event) ≡ here → times_in c (calls h) ≡ is_begun (known c h)
+once_cases : (h : List EntryData) (event : EntryData) (c : ℕ) (here : Bool) → (c == its_call event) ≡ here → times_in c (calls h) ≡ is_begun (known c h)
     → count_begun here (begins_call event h) (times_in c (calls h)) ≡ is_begun (known c (event ∷ h))
 once_cases h event c true here is =
     let same : its_call event ≡ c = sym (eqb-true c (its_call event) here) in
@@ -75,7 +75,7 @@ once_cases h event c false apart is =
     rw (known_apart h event c (eq_apart c (its_call event) apart)) (apart_same (begins_call event h) (times_in c (calls h)) ∙ is)
 
 -- a call stands in the list of calls once, if it was granted anything
-pub calls_once : (h : List Event) (c : ℕ) → times_in c (calls h) ≡ (if is_some (known c h).plan then 1 else 0)
+pub calls_once : (h : List EntryData) (c : ℕ) → times_in c (calls h) ≡ (if is_some (known c h).plan then 1 else 0)
 unfolding is_begun
 calls_once [] c = refl
 calls_once (event ∷ h) c =
@@ -100,7 +100,7 @@ none_is : (plan : Option Rates) → is_some plan ≡ false → plan ≡ None
 none_is None is = refl
 none_is (Some plan) is = cc
 
-still_none : (call : Known) (d : Deed) → is_grant d ≡ false → is_some call.plan ≡ false → (known_after call d).plan ≡ None
+still_none : (call : CallFacts) (d : Deed) → is_grant d ≡ false → is_some call.plan ≡ false → (known_after call d).plan ≡ None
 still_none call (Grants plan units) rests none = cc
 still_none call (Reports info) rests none = none_is call.plan none
 still_none call Forfeits rests none = none_is call.plan none
@@ -111,9 +111,9 @@ at_most_cases : (begun : Bool) (n total value : ℕ) → n ≡ (if begun then 1 
 at_most_cases true n total value is once none = once is
 at_most_cases false n total value is once none = omega (arith, none refl)
 
-module _ (value : Known → ℕ) (nothing : (call : Known) → call.plan ≡ None → value call ≡ 0) where
+module _ (value : CallFacts → ℕ) (nothing : (call : CallFacts) → call.plan ≡ None → value call ≡ 0) where
   -- the sum moves as the entry's own call does
-  pub sum_moves : (h : List Event) (event : Event)
+  pub sum_moves : (h : List EntryData) (event : EntryData)
       → sum_by (λ call. value (known call (event ∷ h))) (calls (event ∷ h)) + value (known (its_call event) h)
       ≡ sum_by (λ call. value (known call h)) (calls h) + value (known_after (known (its_call event) h) (its_deed event))
   sum_moves h event =
@@ -129,11 +129,11 @@ module _ (value : Known → ℕ) (nothing : (call : Known) → call.plan ≡ Non
       (λ rests none. here ∙ nothing (known_after (known c h) (its_deed event)) (still_none (known c h) (its_deed event) rests none)) in
       rw (sum_if (begins_call event h) new c (calls h), ← here) moved
 
-  at_most_of : (call : Known) (n total : ℕ) → n ≡ (if is_some call.plan then 1 else 0) → (n ≡ 1 → value call ≤ total) → value call ≤ total
+  at_most_of : (call : CallFacts) (n total : ℕ) → n ≡ (if is_some call.plan then 1 else 0) → (n ≡ 1 → value call ≤ total) → value call ≤ total
   at_most_of call n total is once = at_most_cases (is_some call.plan) n total (value call) is once (λ none. nothing call (none_is call.plan none))
 
   -- what a call has is at most the sum
-  pub at_most_all : (h : List Event) (c : ℕ) → value (known c h) ≤ sum_by (λ call. value (known call h)) (calls h)
+  pub at_most_all : (h : List EntryData) (c : ℕ) → value (known c h) ≤ sum_by (λ call. value (known call h)) (calls h)
   at_most_all h c =
       at_most_of (known c h) (times_in c (calls h)) (sum_by (λ call. value (known call h)) (calls h)) (calls_once h c)
       (at_most_sum (λ call. value (known call h)) c (calls h))

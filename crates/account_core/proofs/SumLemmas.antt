@@ -13,9 +13,9 @@ use Rattle.std.specs.declared.cmp.Ordering.TheVariants.{Less}
 use Rattle.std.proofs.lemmas.Bool.Decides.{nat_tests}
 use Rattle.std.proofs.lemmas.Map.Made.{update_all_none}
 use Rattle.tariff_core.specs.Rates.{Rates}
-use Rattle.account_core.specs.Events.{event_of}
+use Rattle.account_core.specs.Events.{entry_data}
 use Rattle.account_core.specs.Kept.{IsKept, known_of}
-use Rattle.account_core.specs.Known.{Known, known}
+use Rattle.account_core.specs.Known.{CallFacts, known}
 use Rattle.account_core.specs.Ledger.{Ledger}
 use Rattle.account_core.specs.Sums.{AreSums, HasStates, sum_in, sum_of, sum_under, sums_told}
 use Rattle.account_core.specs.declared.account.Account.TheInside.{Inside}
@@ -30,23 +30,23 @@ IsBelow call others = AllByRecursion (λ other. nat_cmp call other ≡ Less) oth
 
 -- ---- one state more
 
-below_by : (plan : Option Rates) (known : Known) (least call : ℕ) (sums : List CallSum) → nat_cmp least call ≡ Less → IsBelow least (map (λ sum. sum.call) sums)
+below_by : (plan : Option Rates) (known : CallFacts) (least call : ℕ) (sums : List CallSum) → nat_cmp least call ≡ Less → IsBelow least (map (λ sum. sum.call) sums)
     → IsBelow least (map (λ sum. sum.call) (option_to_list (sum_under plan call known) ++ sums))
 below_by None known least call sums less below = below
 below_by (Some plan) known least call sums less below = (less, below)
 
-rising_by : (plan : Option Rates) (known : Known) (call : ℕ) (sums : List CallSum) → IsBelow call (map (λ sum. sum.call) sums)
+rising_by : (plan : Option Rates) (known : CallFacts) (call : ℕ) (sums : List CallSum) → IsBelow call (map (λ sum. sum.call) sums)
     → IsStrictlySortedBy nat_cmp (map (λ sum. sum.call) sums) → IsStrictlySortedBy nat_cmp (map (λ sum. sum.call) (option_to_list (sum_under plan call known) ++ sums))
 unfolding IsStrictlySortedBy
 rising_by None known call sums below rising = rising
 rising_by (Some plan) known call sums below rising = (below, rising)
 
-apart_by : (plan : Option Rates) (known : Known) (q call : ℕ) (sums : List CallSum) → (q == call) ≡ false
+apart_by : (plan : Option Rates) (known : CallFacts) (q call : ℕ) (sums : List CallSum) → (q == call) ≡ false
     → sum_in q (option_to_list (sum_under plan call known) ++ sums) ≡ sum_in q sums
 apart_by None known q call sums apart = refl
 apart_by (Some plan) known q call sums apart = rw apart refl
 
-here_by : (plan : Option Rates) (known : Known) (q : ℕ) (sums : List CallSum) → (q == q) ≡ true → sum_in q sums ≡ None
+here_by : (plan : Option Rates) (known : CallFacts) (q : ℕ) (sums : List CallSum) → (q == q) ≡ true → sum_in q sums ≡ None
     → sum_in q (option_to_list (sum_under plan q known) ++ sums) ≡ sum_under plan q known
 here_by None known q sums same absent = absent
 here_by (Some plan) known q sums same absent = rw same refl
@@ -104,7 +104,7 @@ found_all q [] rising = refl
 found_all q ((call, state) ∷ entries) rising =
     found_by (is_at (nat_cmp q) call) q call state entries refl rising.0 (found_all q entries rising.1)
 
-found_told : (q : ℕ) (found : Option CallState) (call : Known) → known_of (unwrap_or found Fresh) ≡ call → sum_found q found ≡ sum_of q call
+found_told : (q : ℕ) (found : Option CallState) (call : CallFacts) → known_of (unwrap_or found Fresh) ≡ call → sum_found q found ≡ sum_of q call
 found_told q None call is = ap (sum_of q) is
 found_told q (Some state) call is = ap (sum_of q) is
 
@@ -121,8 +121,8 @@ states_ordered states entries same unique ordered from call =
 
 -- ---- an account's
 
-pub listed_sums : (a : Inside) (ledger : Ledger) → record { opening = a.opening; until = a.until; limit = a.limit; history = map event_of a.entries.items } ≡ ledger
-    → IsKept a.opening a.until a.limit (reverse (map event_of a.entries.items)) a.calls a.funds a.available a.last_moment a.owed (vec_capacity a.entries)
+pub listed_sums : (a : Inside) (ledger : Ledger) → record { opening = a.opening; until = a.until; limit = a.limit; history = map entry_data a.entries.items } ≡ ledger
+    → IsKept a.opening a.until a.limit (reverse (map entry_data a.entries.items)) a.calls a.funds a.available a.last_moment a.owed (vec_capacity a.entries)
     → (states : BTreeMap ℕ CallState) → HasStates a.calls states → IsOrdered nat_cmp states → (sums : List CallSum) → sums ≡ sums_told states.entries
     → AreSums (reverse ledger.history) sums
 listed_sums a ledger view_is kept states has ordered sums is =

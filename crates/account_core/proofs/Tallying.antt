@@ -4,11 +4,11 @@ use Rattle.std.specs.Prelude.{◌==◌, Bool, false, true, is_some, if◌then◌
 use Rattle.std.proofs.lemmas.Bool.{eqb-true}
 use Rattle.account_core.specs.Answers.{IsAnswered, answer, inadmissible, inadmissible_for, shown_by}
 use Rattle.account_core.specs.Available.{credited}
-use Rattle.account_core.specs.Events.{Event}
+use Rattle.account_core.specs.Events.{EntryData}
 use Rattle.account_core.specs.CallStates.{Renews, TellsCalls, state_of}
 use Rattle.account_core.specs.Expiry.{last_moment_after}
 use Rattle.account_core.specs.Kept.{known_of}
-use Rattle.account_core.specs.Known.{Known, known, known_after, taken_of}
+use Rattle.account_core.specs.Known.{CallFacts, known, known_after, taken_of}
 use Rattle.account_core.specs.Replies.{reply_for}
 use Rattle.account_core.specs.Sound.{HasRoom, LegalPastsAreSound, SoundPastsAnswer}
 use Rattle.account_core.specs.Tallied.{IsTallied, IsToldOf, tally_of}
@@ -45,7 +45,7 @@ pub not_some : {A : Type 0} (found : Option A) → found ≡ None → is_some fo
 not_some None none some = cc
 not_some (Some a) none some = cc
 
-module _ (opening : ℕ) (until : Option ℕ) (h : List Event) (event : Event) (call : Known) (funds credit : ℕ) (last : Option ℕ)
+module _ (opening : ℕ) (until : Option ℕ) (h : List EntryData) (event : EntryData) (call : CallFacts) (funds credit : ℕ) (last : Option ℕ)
     (told : IsToldOf opening until h event call funds credit last) where
   pub told_money : LegalPastsAreSound → credit + taken_of call ≤ 1000000000000000
   told_money sounds = money_kept opening h (sounds opening until h told.small told.legal) event.asked call told.call_is credit told.credit_is
@@ -82,7 +82,7 @@ module _ (opening : ℕ) (until : Option ℕ) (h : List Event) (event : Event) (
 
 -- ---- an entry, by the states of all calls
 
-module _ (opening : ℕ) (until : Option ℕ) (h : List Event) (calls : CallStates) (funds credit : ℕ) (last : Option ℕ) (event : Event)
+module _ (opening : ℕ) (until : Option ℕ) (h : List EntryData) (calls : CallStates) (funds credit : ℕ) (last : Option ℕ) (event : EntryData)
     (tallied : IsTallied h (tally_of opening until calls funds credit last)) where
   pub told_by : (state : CallState) → state ≡ state_of calls (its_call event) → IsToldOf opening until h event (known_of state) funds credit last
   told_by state is = record {
@@ -110,7 +110,7 @@ module _ (opening : ℕ) (until : Option ℕ) (h : List Event) (calls : CallStat
 
 -- ---- an entry that was answered
 
-module _ (h : List Event) (tally : Tally) (event : Event) (tallied : IsTallied h tally) (answered : IsAnswered tally.opening tally.until h event) where
+module _ (h : List EntryData) (tally : Tally) (event : EntryData) (tallied : IsTallied h tally) (answered : IsAnswered tally.opening tally.until h event) where
   pub funds_more : LegalPastsAreSound → tally.funds + credited event.asked event.reply ≤ 1000000000000000
   funds_more sounds = omega (arith, tallied.funds_are, (sounds tally.opening tally.until (event ∷ h) tallied.small (tallied.legal, answered)).capped)
 

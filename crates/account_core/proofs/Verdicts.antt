@@ -8,9 +8,9 @@ use Rattle.tariff_core.specs.declared.time_info.TimeInfo.{TimeInfo}
 use Rattle.account_core.specs.Answers.{accepted_times, inadmissible, misplaced, settle_verdict, showing, units_offered, verdict}
 use Rattle.account_core.specs.Asked.{Asked, Credits, Reserves, Returns, Settles, call_of, is_in_range}
 use Rattle.account_core.specs.Available.{available, credited, credits}
-use Rattle.account_core.specs.Events.{Event}
+use Rattle.account_core.specs.Events.{EntryData}
 use Rattle.account_core.specs.Expiry.{is_past, last_moment}
-use Rattle.account_core.specs.Known.{Known, deed_of, is_open, known, plan_in_force, taken_of}
+use Rattle.account_core.specs.Known.{CallFacts, deed_of, is_open, known, plan_in_force, taken_of}
 use Rattle.account_core.specs.Sound.{IsSound}
 use Rattle.account_core.specs.declared.entry.Reply.{Reply}
 use Rattle.account_core.specs.declared.entry.Reply.TheVariants as reply
@@ -39,7 +39,7 @@ in_range : (range : Bool) (later : Option AccountFault) → (if range then later
 in_range true later is = (refl, is)
 in_range false later is = cc
 
-pub in_place : (h : List Event) (asked : Asked) → inadmissible h asked ≡ None → (is_in_range asked ≡ true) × (misplaced (known (call_of asked) h) asked ≡ None)
+pub in_place : (h : List EntryData) (asked : Asked) → inadmissible h asked ≡ None → (is_in_range asked ≡ true) × (misplaced (known (call_of asked) h) asked ≡ None)
 in_place h asked is = in_range (is_in_range asked) (misplaced (known (call_of asked) h) asked) is
 
 pub none_if : (b : Bool) (why : AccountFault) → (if b then Some why else None) ≡ None → b ≡ false
@@ -71,7 +71,7 @@ fits_capped : (funds amount : ℕ) → funds ≤ 1000000000000000 → funds + (i
 fits_capped funds amount capped = grind (arith, nat_tests)
 
 -- the credits stay within the largest money
-pub credited_capped : (opening : ℕ) (until : Option ℕ) (h : List Event) (asked : Asked) → opening + credits h ≤ 1000000000000000
+pub credited_capped : (opening : ℕ) (until : Option ℕ) (h : List EntryData) (asked : Asked) → opening + credits h ≤ 1000000000000000
     → opening + credits h + credited asked (verdict opening until h asked) ≤ 1000000000000000
 credited_capped opening until h (Credits amount moment) capped =
     rw (credited_if (nat_le (opening + credits h + amount) 1000000000000000) amount moment) (fits_capped (opening + credits h) amount capped)
@@ -80,7 +80,7 @@ credited_capped opening until h (Settles call number info) capped = omega (arith
 credited_capped opening until h (Returns call) capped = omega (arith, capped)
 
 module _ (laws : TariffLaws) where
-  grant_allowed : (credit : ℕ) (call : Known) (plan : Rates) (wanted units : ℕ) → IsSound call → call.returned ≡ false
+  grant_allowed : (credit : ℕ) (call : CallFacts) (plan : Rates) (wanted units : ℕ) → IsSound call → call.returned ≡ false
       → units_offered credit call plan wanted ≡ units → 1 ≤ units → IsGrant credit call plan units
   unfolding units_offered
   grant_allowed credit call plan wanted units sound here is some =
@@ -93,7 +93,7 @@ module _ (laws : TariffLaws) where
         covered = laws.covered (plan_in_force call plan) call.times wanted money more;
       }) some
 
-  reserve_allowed : (denied : Bool) (credit : ℕ) (call : Known) (number : ℕ) (plan : Rates) (wanted least at : ℕ) (late : Bool) → IsSound call → call.returned ≡ false
+  reserve_allowed : (denied : Bool) (credit : ℕ) (call : CallFacts) (number : ℕ) (plan : Rates) (wanted least at : ℕ) (late : Bool) → IsSound call → call.returned ≡ false
       → (nat_lt (units_offered credit call plan wanted) least || (units_offered credit call plan wanted == 0) || call.forfeited || late) ≡ denied
       → IsAllowed credit call (deed_of (Reserves number plan wanted least at)
       (if denied then reply.Denied 0 else reply.Granted (units_offered credit call plan wanted) (nat_lt (units_offered credit call plan wanted) wanted) 0))
@@ -102,13 +102,13 @@ module _ (laws : TariffLaws) where
       let some = any_false (nat_lt (units_offered credit call plan wanted) least) (units_offered credit call plan wanted == 0) call.forfeited late is in
       grant_allowed credit call plan wanted (units_offered credit call plan wanted) sound here refl (some_units (units_offered credit call plan wanted) some)
 
-  settle_allowed : (credit : ℕ) (call : Known) (c number : ℕ) (info : TimeInfo) (times : Option Elapsed) → is_open call ≡ true → accepted_times call info ≡ times
+  settle_allowed : (credit : ℕ) (call : CallFacts) (c number : ℕ) (info : TimeInfo) (times : Option Elapsed) → is_open call ≡ true → accepted_times call info ≡ times
       → IsAllowed credit call (deed_of (Settles c number info) (settle_verdict call times))
   settle_allowed credit call c number info None is read = is
   settle_allowed credit call c number info (Some times) is read = record { open_yet = is; times = times; accepted = read }
 
   -- an admissible operation's answer does what is allowed
-  pub verdict_allowed : (opening : ℕ) (until : Option ℕ) (h : List Event) (asked : Asked) → IsSound (known (call_of asked) h) → inadmissible h asked ≡ None
+  pub verdict_allowed : (opening : ℕ) (until : Option ℕ) (h : List EntryData) (asked : Asked) → IsSound (known (call_of asked) h) → inadmissible h asked ≡ None
       → IsAllowed (available opening h) (known (call_of asked) h) (deed_of asked (verdict opening until h asked))
   verdict_allowed opening until h (Credits amount moment) sound is = tt
   verdict_allowed opening until h (Reserves call plan wanted least at) sound is =

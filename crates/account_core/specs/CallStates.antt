@@ -1,7 +1,7 @@
 -- What is known of the calls of a history, one call apart from the others.
 use Rattle.std.specs.Prelude.{◌≡◌, ◌==◌, ℕ, Option, Some, None, List, nat_eq, unwrap_or, if◌then◌else◌}
 use Rattle.std.specs.HashMap.{HashMap, get}
-use Rattle.account_core.specs.Events.{Event}
+use Rattle.account_core.specs.Events.{EntryData}
 use Rattle.account_core.specs.Kept.{known_of}
 use Rattle.account_core.specs.Known.{known}
 use Rattle.account_core.specs.declared.call_states.CallStates.{CallStates}
@@ -31,5 +31,5 @@ abbrev pub AreSame : CallStates → CallStates → Type 0
 AreSame old new = (call : ℕ) → state_of new call ≡ state_of old call
 
 -- each call has the state that the history says
-abbrev pub TellsCalls : CallStates → List Event → Type 0
+abbrev pub TellsCalls : CallStates → List EntryData → Type 0
 TellsCalls calls h = (call : ℕ) → known_of (state_of calls call) ≡ known call h

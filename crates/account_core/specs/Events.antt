@@ -8,7 +8,7 @@ use Rattle.account_core.specs.declared.entry.Op.TheVariants as op
 use Rattle.account_core.specs.declared.entry.Reply.{Reply}
 
 -- what was asked by which seat, and the reply to it
-pub record Event : Type 0 where
+pub record EntryData : Type 0 where
   pub seat : ℕ
   pub asked : Asked
   pub reply : Reply
@@ -21,5 +21,5 @@ asked_of (op.Settle call number info) = Settles call number info
 asked_of (op.Return call) = Returns call
 
 -- what an entry of the code says
-abbrev pub event_of : Entry → Event
-event_of entry = record { seat = entry.seat; asked = asked_of entry.op; reply = entry.reply }
+abbrev pub entry_data : Entry → EntryData
+entry_data entry = record { seat = entry.seat; asked = asked_of entry.op; reply = entry.reply }

@@ -1,7 +1,7 @@
 -- The last moment of an account's credit: after it nothing new is granted.
 use Rattle.std.specs.Prelude.{◌≤◌, ℕ, Bool, false, Option, Some, None, List, [], ◌∷◌, nat_lt}
 use Rattle.account_core.specs.Asked.{Asked, Credits, Reserves}
-use Rattle.account_core.specs.Events.{Event}
+use Rattle.account_core.specs.Events.{EntryData}
 use Rattle.account_core.specs.declared.entry.Reply.{Reply}
 use Rattle.account_core.specs.declared.entry.Reply.TheVariants as reply
 
@@ -11,7 +11,7 @@ last_moment_after before (Credits amount (Some moment)) (reply.Credited availabl
 last_moment_after before asked answer = before
 
 -- the last moment after a history: that of the last such Credit, else the opening's, if it has one
-abbrev pub last_moment : Option ℕ → List Event → Option ℕ
+abbrev pub last_moment : Option ℕ → List EntryData → Option ℕ
 last_moment until [] = until
 last_moment until (event ∷ h) = last_moment_after (last_moment until h) event.asked event.reply
 

@@ -3,10 +3,10 @@ use Rattle.std.specs.Prelude.{◌≡◌, ◌+◌, ◌≤◌, ℕ, Option, List, 
 use Rattle.std.specs.HashMap.{HashMap, get}
 use Rattle.account_core.specs.Answers.{IsLegalPast}
 use Rattle.account_core.specs.Available.{available, credits}
-use Rattle.account_core.specs.Events.{Event}
+use Rattle.account_core.specs.Events.{EntryData}
 use Rattle.account_core.specs.Expiry.{last_moment}
 use Rattle.account_core.specs.KeptPlans.{rates_kept}
-use Rattle.account_core.specs.Known.{Known, known, nothing_known}
+use Rattle.account_core.specs.Known.{CallFacts, known, nothing_known}
 use Rattle.account_core.specs.Places.{owed}
 use Rattle.account_core.specs.declared.call_state.CallState.{CallState}
 use Rattle.account_core.specs.declared.call_state.CallState.TheVariants.{Fresh, Granted, Over, Reported}
@@ -14,7 +14,7 @@ use Rattle.account_core.specs.declared.held_call.HeldCall.{HeldCall}
 use Rattle.tariff_core.specs.declared.money.TheConstants.{MAX_MONEY}
 
 -- what is known of a call that was granted something, by whether it was returned and whether it awaits a report
-abbrev pub held_of : HeldCall → Bool → Bool → Known
+abbrev pub held_of : HeldCall → Bool → Bool → CallFacts
 held_of held returned awaits = record {
   plan = Some (rates_kept held.plan);
   times = held.times;
@@ -26,18 +26,18 @@ held_of held returned awaits = record {
 }
 
 -- what a state says of its call
-abbrev pub known_of : CallState → Known
+abbrev pub known_of : CallState → CallFacts
 known_of Fresh = nothing_known
 known_of (Granted held) = held_of held false true
 known_of (Reported held) = held_of held false false
 known_of (Over held) = held_of held true false
 
 -- the map has for each call what the history says of it
-abbrev pub TellsEach : {S : Type 0} → HashMap ℕ CallState S → List Event → Type 0
+abbrev pub TellsEach : {S : Type 0} → HashMap ℕ CallState S → List EntryData → Type 0
 TellsEach states h = (call : ℕ) → known_of (unwrap_or (get nat_eq states call) Fresh) ≡ known call h
 
 -- the history is legal and within its limit, with a place for each that is owed, in memory too, and the map, the totals and the last moment are those of the history
-pub record IsKept {S : Type 0} (opening : ℕ) (until : Option ℕ) (limit : ℕ) (h : List Event) (states : HashMap ℕ CallState S) (funds credit : ℕ) (last : Option ℕ) (places capacity : ℕ) : Type 0 where
+pub record IsKept {S : Type 0} (opening : ℕ) (until : Option ℕ) (limit : ℕ) (h : List EntryData) (states : HashMap ℕ CallState S) (funds credit : ℕ) (last : Option ℕ) (places capacity : ℕ) : Type 0 where
   pub small : opening ≤ MAX_MONEY
   pub legal : IsLegalPast opening until h
   pub within_limit : length h + places ≤ limit

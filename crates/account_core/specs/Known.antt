@@ -7,7 +7,7 @@ use Rattle.tariff_core.specs.Reading.{times_read}
 use Rattle.tariff_core.specs.Times.{Elapsed, no_times}
 use Rattle.tariff_core.specs.declared.time_info.TimeInfo.{TimeInfo}
 use Rattle.account_core.specs.Asked.{Asked, Reserves, Settles, Returns, call_of}
-use Rattle.account_core.specs.Events.{Event}
+use Rattle.account_core.specs.Events.{EntryData}
 use Rattle.account_core.specs.declared.entry.Reply.{Reply}
 use Rattle.account_core.specs.declared.entry.Reply.TheVariants as reply
 
@@ -28,12 +28,12 @@ deed_of (Returns call) (reply.Returned paid available) = Ends paid
 deed_of asked answer = Rests
 
 -- what an entry does to this call
-unfoldable pub deed : ℕ → Event → Deed
+unfoldable pub deed : ℕ → EntryData → Deed
 deed call event = if call_of event.asked == call then deed_of event.asked event.reply else Rests
 
 -- the plan of a call's first grant; its times, which its last accepted report states; the time granted in all, which is its times at its last grant and the units of that
 -- grant; the most that it can come to pay for them; whether it has a forfeit; whether it was returned; and whether it isn't and no report has come since its last grant
-pub record Known : Type 0 where
+pub record CallFacts : Type 0 where
   pub plan : Option Rates
   pub times : Elapsed
   pub granted : ℕ
@@ -43,15 +43,15 @@ pub record Known : Type 0 where
   pub awaits : Bool
 
 -- a call before any entry
-abbrev pub nothing_known : Known
+abbrev pub nothing_known : CallFacts
 nothing_known = record { plan = None; times = no_times; granted = 0; top = 0; forfeited = false; returned = false; awaits = false }
 
 -- the plan that a grant goes by: the call's first one
-abbrev pub plan_in_force : Known → Rates → Rates
+abbrev pub plan_in_force : CallFacts → Rates → Rates
 plan_in_force known plan = unwrap_or known.plan plan
 
 -- what is known of a call after an entry of it
-abbrev pub known_after : Known → Deed → Known
+abbrev pub known_after : CallFacts → Deed → CallFacts
 known_after known (Grants plan units) = record {
   plan = Some (plan_in_force known plan);
   times = known.times;
@@ -67,12 +67,12 @@ known_after known (Ends paid) = record known { returned = true; awaits = false }
 known_after known Rests = known
 
 -- what a history says of a call
-abbrev pub known : ℕ → List Event → Known
+abbrev pub known : ℕ → List EntryData → CallFacts
 known call [] = nothing_known
 known call (event ∷ h) = known_after (known call h) (deed call event)
 
 -- a call is open from its first grant until it is returned
-abbrev pub is_open : Known → Bool
+abbrev pub is_open : CallFacts → Bool
 is_open known = is_some known.plan && not known.returned
 
 -- the price of a call's times under its plan
@@ -81,23 +81,23 @@ price_under None times = 0
 price_under (Some plan) times = price_at plan times
 
 -- what a call has paid: all that was held for it after a forfeit, else the price of its times
-abbrev pub paid_of : Known → ℕ
+abbrev pub paid_of : CallFacts → ℕ
 paid_of known = if known.forfeited then known.top else price_under known.plan known.times
 
 -- what a call takes of the credit: nothing before its first grant, all that it can come to while it is open, and then what it has paid
-abbrev pub taken_under : Option Rates → Known → ℕ
+abbrev pub taken_under : Option Rates → CallFacts → ℕ
 taken_under None known = 0
 taken_under (Some plan) known = if known.returned then paid_of known else known.top
 
 -- what a call takes of the credit
-unfoldable pub taken_of : Known → ℕ
+unfoldable pub taken_of : CallFacts → ℕ
 taken_of known = taken_under known.plan known
 
 -- what a call has paid, where it was granted anything
-abbrev pub paid_under : Option Rates → Known → Option ℕ
+abbrev pub paid_under : Option Rates → CallFacts → Option ℕ
 paid_under None known = None
 paid_under (Some plan) known = Some (paid_of known)
 
 -- what a call has paid, where it was ever granted anything
-abbrev pub paid_if_granted : Known → Option ℕ
+abbrev pub paid_if_granted : CallFacts → Option ℕ
 paid_if_granted known = paid_under known.plan known

@@ -8,7 +8,7 @@ use Rattle.tariff_core.specs.declared.time_info.TimeInfo.{TimeInfo}
 use Rattle.account_core.specs.Answers.{IsLegal, answer, inadmissible}
 use Rattle.account_core.specs.Asked.{Asked, Settles, call_of}
 use Rattle.account_core.specs.Available.{available, credits, taken_by_all}
-use Rattle.account_core.specs.Events.{Event}
+use Rattle.account_core.specs.Events.{EntryData}
 use Rattle.account_core.specs.Expiry.{GrantsBy, LeavesLastMoment, last_moment}
 use Rattle.account_core.specs.Known.{Deed, Ends, deed, known}
 use Rattle.account_core.specs.Standing.{IsKindly}
@@ -16,29 +16,29 @@ use Rattle.tariff_core.specs.declared.money.TheConstants.{MAX_MONEY}
 
 -- no balance is negative: at no place of a legal history do all calls take more than the opening and the credits accepted so far
 abbrev pub NoBalanceIsNegative : Type 0
-NoBalanceIsNegative = (opening : ℕ) (until : Option ℕ) (history later : List Event) → opening ≤ MAX_MONEY → IsLegal opening until (history ++ later)
+NoBalanceIsNegative = (opening : ℕ) (until : Option ℕ) (history later : List EntryData) → opening ≤ MAX_MONEY → IsLegal opening until (history ++ later)
     → taken_by_all (reverse history) ≤ opening + credits (reverse history)
 
 -- what the Returned of a call told that it paid in all
-abbrev pub told_after : Option ℕ → Deed → Option ℕ
-told_after before (Ends paid) = Some paid
-told_after before other = before
+abbrev pub paid_after : Option ℕ → Deed → Option ℕ
+paid_after before (Ends paid) = Some paid
+paid_after before other = before
 
 -- what the last Returned of a call told that it paid in all, after a history
-abbrev pub told : ℕ → List Event → Option ℕ
-told call [] = None
-told call (event ∷ h) = told_after (told call h) (deed call event)
+abbrev pub paid_at_return : ℕ → List EntryData → Option ℕ
+paid_at_return call [] = None
+paid_at_return call (event ∷ h) = paid_after (paid_at_return call h) (deed call event)
 
 -- a call that was granted something and returned without a forfeit
-pub record IsClosed (call : ℕ) (plan : Rates) (h : List Event) : Type 0 where
+pub record IsClosed (call : ℕ) (plan : Rates) (h : List EntryData) : Type 0 where
   pub granted : (known call h).plan ≡ Some plan
   pub returned : (known call h).returned ≡ true
   pub lawful : (known call h).forfeited ≡ false
 
 -- it has paid exactly the price of its times
 abbrev pub ClosedCallsPayTheTariff : Type 0
-ClosedCallsPayTheTariff = (opening : ℕ) (until : Option ℕ) (history : List Event) (call : ℕ) (plan : Rates) → opening ≤ MAX_MONEY → IsLegal opening until history
-    → IsClosed call plan (reverse history) → told call (reverse history) ≡ Some (price_at plan (known call (reverse history)).times)
+ClosedCallsPayTheTariff = (opening : ℕ) (until : Option ℕ) (history : List EntryData) (call : ℕ) (plan : Rates) → opening ≤ MAX_MONEY → IsLegal opening until history
+    → IsClosed call plan (reverse history) → paid_at_return call (reverse history) ≡ Some (price_at plan (known call (reverse history)).times)
 
 -- a report, and the times of its call before it
 pub record Reporting : Type 0 where
@@ -51,7 +51,7 @@ report_after last times (Settles call number info) = Some (record { before = tim
 report_after last times asked = last
 
 -- what the last accepted report of a call stated, after a history
-abbrev pub last_report : ℕ → List Event → Option Reporting
+abbrev pub last_report : ℕ → List EntryData → Option Reporting
 last_report call [] = None
 last_report call (event ∷ h) = if call_of event.asked == call then report_after (last_report call h) (known call h).times event.asked else last_report call h
 
@@ -62,7 +62,7 @@ AreReported (Some report) times = times_read report.before report.info ≡ Some 
 
 -- the times of a call that never forfeited are those that its last report states
 abbrev pub TimesAreReported : Type 0
-TimesAreReported = (opening : ℕ) (until : Option ℕ) (history : List Event) (call : ℕ) → opening ≤ MAX_MONEY → IsLegal opening until history
+TimesAreReported = (opening : ℕ) (until : Option ℕ) (history : List EntryData) (call : ℕ) → opening ≤ MAX_MONEY → IsLegal opening until history
     → (known call (reverse history)).forfeited ≡ false → AreReported (last_report call (reverse history)) (known call (reverse history)).times
 
 -- a Settle changes nothing of what is available
@@ -72,15 +72,15 @@ IsSettle asked = ⊥
 
 -- a Settle leaves what is available as it was
 abbrev pub SettlesKeepTheCredit : Type 0
-SettlesKeepTheCredit = (opening : ℕ) (until : Option ℕ) (history : List Event) (event : Event) → opening ≤ MAX_MONEY → IsLegal opening until (history ++ event ∷ []) → IsSettle event.asked
+SettlesKeepTheCredit = (opening : ℕ) (until : Option ℕ) (history : List EntryData) (event : EntryData) → opening ≤ MAX_MONEY → IsLegal opening until (history ++ event ∷ []) → IsSettle event.asked
     → available opening (reverse (history ++ event ∷ [])) ≡ available opening (reverse history)
 
 -- the answer to an admissible operation is of its kind, whatever its call
 abbrev pub AnswersAreKindly : Type 0
-AnswersAreKindly = (opening : ℕ) (until : Option ℕ) (history : List Event) (call : ℕ) (asked : Asked) → opening ≤ MAX_MONEY → IsLegal opening until history
+AnswersAreKindly = (opening : ℕ) (until : Option ℕ) (history : List EntryData) (call : ℕ) (asked : Asked) → opening ≤ MAX_MONEY → IsLegal opening until history
     → inadmissible (reverse history) asked ≡ None → IsKindly call (known call (reverse history)) asked (answer opening until (reverse history) asked)
 
 -- after the last moment no entry grants anything, until one moves it
 abbrev pub NothingIsGrantedLate : Type 0
-NothingIsGrantedLate = (opening : ℕ) (until : Option ℕ) (history later : List Event) (last : ℕ) → IsLegal opening until (history ++ later)
+NothingIsGrantedLate = (opening : ℕ) (until : Option ℕ) (history later : List EntryData) (last : ℕ) → IsLegal opening until (history ++ later)
     → last_moment until (reverse history) ≡ Some last → All (λ event. LeavesLastMoment event.asked event.reply) later → All (λ event. GrantsBy last event.asked event.reply) later

@@ -2,7 +2,7 @@
 use Rattle.std.specs.Prelude.{◌≡◌, ℕ, ◌⊎◌, Option, Some, None, List, reverse}
 use Rattle.account_core.specs.Asked.{Asked}
 use Rattle.account_core.specs.Answers.{answer}
-use Rattle.account_core.specs.Events.{Event}
+use Rattle.account_core.specs.Events.{EntryData}
 use Rattle.account_core.specs.Places.{refusal}
 use Rattle.account_core.specs.declared.entry.Reply.{Reply}
 use Rattle.account_core.specs.declared.fault.AccountFault.{AccountFault}
@@ -13,7 +13,7 @@ pub record Ledger : Type 0 where
   pub opening : ℕ
   pub until : Option ℕ
   pub limit : ℕ
-  pub history : List Event
+  pub history : List EntryData
 
 -- the reply of an account to an operation
 abbrev pub answer_of : Ledger → Asked → Reply
@@ -24,7 +24,7 @@ abbrev pub refusal_of : Ledger → Asked → Option AccountFault
 refusal_of ledger asked = refusal ledger.limit (reverse ledger.history) asked
 
 -- the entry of a seat's operation and its reply
-abbrev pub event_by : ℕ → Asked → Reply → Event
+abbrev pub event_by : ℕ → Asked → Reply → EntryData
 event_by seat asked reply = record { seat = seat; asked = asked; reply = reply }
 
 -- the fault is that of the operation, and want of memory only where it has none

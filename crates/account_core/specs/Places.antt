@@ -3,8 +3,8 @@ use Rattle.std.specs.Prelude.{◌≡◌, ◌+◌, ◌&&◌, ℕ, Bool, true, Opt
 use Rattle.account_core.specs.Asked.{Asked, Credits, Reserves, Settles, Returns, call_of}
 use Rattle.account_core.specs.Available.{calls}
 use Rattle.account_core.specs.Answers.{inadmissible_for}
-use Rattle.account_core.specs.Events.{Event}
-use Rattle.account_core.specs.Known.{Known, is_open, known}
+use Rattle.account_core.specs.Events.{EntryData}
+use Rattle.account_core.specs.Known.{CallFacts, is_open, known}
 use Rattle.account_core.specs.declared.fault.AccountFault.{AccountFault}
 use Rattle.account_core.specs.declared.fault.AccountFault.TheVariants as fault
 
@@ -13,11 +13,11 @@ abbrev pub places_owed : Bool → Bool → ℕ
 places_owed open_call awaits = if open_call then (if awaits then 2 else 1) else 0
 
 -- how many entries it takes to close a call
-unfoldable pub owed_to : Known → ℕ
+unfoldable pub owed_to : CallFacts → ℕ
 owed_to known = places_owed (is_open known) known.awaits
 
 -- the places owed to all calls
-unfoldable pub owed : List Event → ℕ
+unfoldable pub owed : List EntryData → ℕ
 owed h = sum_by (λ call. owed_to (known call h)) (calls h)
 
 -- the places that an operation takes beyond those owed: its own entry, and for a Reserve those that its grant would owe anew
@@ -28,11 +28,11 @@ places_needed open_call awaits (Settles call number info) = if open_call && awai
 places_needed open_call awaits (Returns call) = if open_call then 0 else 1
 
 -- how many entries an operation of a call may make necessary
-abbrev pub needed_by : Known → Asked → ℕ
+abbrev pub needed_by : CallFacts → Asked → ℕ
 needed_by known asked = places_needed (is_open known) known.awaits asked
 
 -- the same after a history
-abbrev pub needed : List Event → Asked → ℕ
+abbrev pub needed : List EntryData → Asked → ℕ
 needed h asked = needed_by (known (call_of asked) h) asked
 
 -- the first fault of an operation, and else the second
@@ -45,15 +45,15 @@ abbrev pub over_limit : ℕ → ℕ → ℕ → Option AccountFault
 over_limit limit kept needs = if nat_lt limit (kept + needs) then Some fault.HistoryFull else None
 
 -- why an operation is refused, if it is and memory is there: inadmissible, else over the limit
-abbrev pub refusal_for : ℕ → ℕ → ℕ → Known → Asked → Option AccountFault
+abbrev pub refusal_for : ℕ → ℕ → ℕ → CallFacts → Asked → Option AccountFault
 refusal_for limit entries owed call asked = or_else (inadmissible_for call asked) (over_limit limit (entries + owed) (needed_by call asked))
 
 -- why an account with a limit refuses an operation after a history
-unfoldable pub refusal : ℕ → List Event → Asked → Option AccountFault
+unfoldable pub refusal : ℕ → List EntryData → Asked → Option AccountFault
 refusal limit h asked = refusal_for limit (length h) (owed h) (known (call_of asked) h) asked
 
 -- a Return of an open call, or its first Settle since its last grant: the places for it are kept
-abbrev pub IsClosing : List Event → Asked → Type 0
+abbrev pub IsClosing : List EntryData → Asked → Type 0
 IsClosing h (Credits amount moment) = ⊥
 IsClosing h (Reserves call plan wanted least at) = ⊥
 IsClosing h (Settles call number info) = (is_open (known call h) ≡ true) × ((known call h).awaits ≡ true)

@@ -2,7 +2,7 @@
 use Rattle.std.specs.Prelude.{◌≡◌, ◌+◌, ◌≤◌, ℕ, Option, Some, None, IsSome, Result, Ok, Err}
 use Rattle.account_core.specs.Answers.{accepted_times, misplaced}
 use Rattle.account_core.specs.Asked.{Asked, IsOfCall, Reserves, Returns, Settles}
-use Rattle.account_core.specs.Known.{Known, deed, known_after}
+use Rattle.account_core.specs.Known.{CallFacts, deed, known_after}
 use Rattle.account_core.specs.Ledger.{event_by}
 use Rattle.account_core.specs.declared.entry.Reply.{Reply}
 use Rattle.account_core.specs.declared.entry.Reply.TheVariants as reply
@@ -10,14 +10,14 @@ use Rattle.account_core.specs.declared.fault.AccountFault.{AccountFault}
 use Rattle.tariff_core.specs.declared.times.TheConstants.{DAY}
 
 -- the units of a grant: some, at least the least and at most those wanted, and within a day with the times of the call
-pub record IsGrant (known : Known) (wanted least units : ℕ) : Type 0 where
+pub record IsGrant (known : CallFacts) (wanted least units : ℕ) : Type 0 where
   pub some : 1 ≤ units
   pub enough : least ≤ units
   pub within : units ≤ wanted
   pub day : known.times.before + known.times.after + units ≤ DAY
 
 -- a reply is of its operation's kind. A grant is made, or not, at will; a report is settled exactly where it is lawful
-abbrev pub IsReplyTo : Known → Asked → Reply → Type 0
+abbrev pub IsReplyTo : CallFacts → Asked → Reply → Type 0
 IsReplyTo known (Reserves call plan wanted least at) (reply.Granted units last available) = IsGrant known wanted least units
 IsReplyTo known (Reserves call plan wanted least at) (reply.Denied available) = Unit {0}
 IsReplyTo known (Settles call number info) (reply.Settled paid available) = IsSome (accepted_times known info)
@@ -26,11 +26,11 @@ IsReplyTo known (Returns call) (reply.Returned paid available) = Unit {0}
 IsReplyTo known asked other = ⊥
 
 -- an operation of this call was in its place and got such a reply
-abbrev pub IsKindly : ℕ → Known → Asked → Reply → Type 0
+abbrev pub IsKindly : ℕ → CallFacts → Asked → Reply → Type 0
 IsKindly call known asked answer = IsOfCall call asked → (misplaced known asked ≡ None) × IsReplyTo known asked answer
 
 -- what is known of a call before an operation and after it: a refusal changes nothing, a reply what its entry would
-abbrev pub Moves : ℕ → Known → Asked → Result Reply AccountFault → Option Known → Type 0
+abbrev pub Moves : ℕ → CallFacts → Asked → Result Reply AccountFault → Option CallFacts → Type 0
 Moves call before asked (Err fault) after = after ≡ Some before
 Moves call before asked (Ok answer) after =
     (after ≡ Some (known_after before (deed call (event_by 0 asked answer)))) × IsKindly call before asked answer

@@ -4,9 +4,9 @@ use Rattle.account_core.specs.Answers.{IsLegalPast}
 use Rattle.account_core.specs.Asked.{call_of}
 use Rattle.account_core.specs.Available.{available, credits}
 use Rattle.account_core.specs.CallStates.{TellsCalls}
-use Rattle.account_core.specs.Events.{Event}
+use Rattle.account_core.specs.Events.{EntryData}
 use Rattle.account_core.specs.Expiry.{last_moment}
-use Rattle.account_core.specs.Known.{Known, known}
+use Rattle.account_core.specs.Known.{CallFacts, known}
 use Rattle.account_core.specs.declared.call_states.CallStates.{CallStates}
 use Rattle.account_core.specs.declared.tally.Tally.{Tally}
 use Rattle.tariff_core.specs.declared.money.TheConstants.{MAX_MONEY}
@@ -17,7 +17,7 @@ tally_of opening until calls funds available last =
     record { opening = opening; until = until; calls = calls; funds = funds; available = available; last_moment = last }
 
 -- the history is legal from this opening, and the states, the totals and the last moment are those of the history
-pub record IsTallied (h : List Event) (tally : Tally) : Type 0 where
+pub record IsTallied (h : List EntryData) (tally : Tally) : Type 0 where
   pub small : tally.opening ≤ MAX_MONEY
   pub legal : IsLegalPast tally.opening tally.until h
   pub tells : TellsCalls tally.calls h
@@ -26,7 +26,7 @@ pub record IsTallied (h : List Event) (tally : Tally) : Type 0 where
   pub last_is : tally.last_moment ≡ last_moment tally.until h
 
 -- the history is legal from this opening, and what is known of the entry's call, the funds, the credit and the last moment are those of the history
-pub record IsToldOf (opening : ℕ) (until : Option ℕ) (h : List Event) (event : Event) (call : Known) (funds credit : ℕ) (last : Option ℕ) : Type 0 where
+pub record IsToldOf (opening : ℕ) (until : Option ℕ) (h : List EntryData) (event : EntryData) (call : CallFacts) (funds credit : ℕ) (last : Option ℕ) : Type 0 where
   pub small : opening ≤ MAX_MONEY
   pub legal : IsLegalPast opening until h
   pub call_is : call ≡ known (call_of event.asked) h

@@ -5,7 +5,7 @@ ghost use Rattle.account_core.specs.Admitting.{IsAdmitted};
 ghost use Rattle.account_core.specs.Answers.{IsLegal, inadmissible};
 ghost use Rattle.account_core.specs.Asked.{call_of};
 ghost use Rattle.account_core.specs.Available.{available};
-ghost use Rattle.account_core.specs.Events.{asked_of, event_of};
+ghost use Rattle.account_core.specs.Events.{asked_of, entry_data};
 ghost use Rattle.account_core.specs.Kept.{known_of};
 ghost use Rattle.account_core.specs.Known.{known, paid_if_granted};
 ghost use Rattle.account_core.specs.Ledger.{IsRefusal, answer_of, event_by, refusal_of};
@@ -47,7 +47,7 @@ pub struct Account {
 impl Model for Account {
     ghost use Rattle.std.specs.Prelude.{map, reverse};
     ghost use Rattle.std.specs.Vec.{vec_capacity};
-    ghost use Rattle.account_core.specs.Events.{event_of};
+    ghost use Rattle.account_core.specs.Events.{entry_data};
     ghost use Rattle.account_core.specs.Kept.{IsKept};
     ghost use Rattle.account_core.specs.Ledger.{Ledger};
 
@@ -57,10 +57,10 @@ impl Model for Account {
       opening = a.opening;
       until = a.until;
       limit = a.limit;
-      history = map event_of a.entries.items;
+      history = map entry_data a.entries.items;
     } };
 
-    ghost invariant = { λ a. IsKept a.opening a.until a.limit (reverse (map event_of a.entries.items))
+    ghost invariant = { λ a. IsKept a.opening a.until a.limit (reverse (map entry_data a.entries.items))
         a.calls a.funds a.available a.last_moment a.owed (vec_capacity a.entries) };
 }
 
@@ -152,7 +152,7 @@ impl Account {
 
     /// The entries, oldest first. They are a legal history.
     pub fn history(&self) -> &[Entry]
-        ensures value { map event_of result.now ≡ self.now.history }
+        ensures value { map entry_data result.now ≡ self.now.history }
         ensures legal { IsLegal self.now.opening self.now.until self.now.history }
         ensures small { self.now.opening ≤ MAX_MONEY }
     {

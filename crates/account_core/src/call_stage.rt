@@ -3,7 +3,7 @@
 ghost use Rattle.std.specs.Prelude.{◌≡◌, ◌≤◌};
 ghost use Rattle.account_core.specs.CallStages.{stage_of};
 ghost use Rattle.account_core.specs.Events.{asked_of};
-ghost use Rattle.account_core.specs.Known.{Known, deed_of, known_after};
+ghost use Rattle.account_core.specs.Known.{CallFacts, deed_of, known_after};
 ghost use Rattle.account_core.specs.Places.{needed_by, owed_to};
 
 use crate::{Op, Reply};
@@ -26,7 +26,7 @@ impl CallStage {
     /// The places that the call is owed: one for its Return, and one for a Settle while it awaits it.
     #[tactic(auto, unfolding(crate::specs::Places::owed_to))]
     pub fn owed(&self) -> usize
-        ensures value { (known : Known) → stage_of known ≡ self.now → result ≡ owed_to known }
+        ensures value { (known : CallFacts) → stage_of known ≡ self.now → result ≡ owed_to known }
         ensures few { result ≤ 2 }
     {
         match self {
@@ -38,7 +38,7 @@ impl CallStage {
 
     /// The places that an operation of the call needs beyond those that are owed.
     pub fn needed(&self, op: &Op) -> usize
-        ensures value { (known : Known) → stage_of known ≡ self.now
+        ensures value { (known : CallFacts) → stage_of known ≡ self.now
             → result ≡ needed_by known (asked_of op.now) }
         ensures few { result ≤ 3 }
     {
@@ -53,7 +53,7 @@ impl CallStage {
 
     /// The stage after an entry of the call.
     pub fn after(self, op: Op, reply: Reply) -> CallStage
-        ensures { (known : Known) → stage_of known ≡ self
+        ensures { (known : CallFacts) → stage_of known ≡ self
             → result ≡ stage_of (known_after known (deed_of (asked_of op) reply)) }
     {
         match (self, op, reply) {

@@ -2,7 +2,7 @@
 
 ghost use Rattle.std.specs.Prelude.{◌≡◌, ◌≤◌, Ok, true, false, map};
 ghost use Rattle.account_core.specs.Answers.{IsLegal};
-ghost use Rattle.account_core.specs.Events.{event_of};
+ghost use Rattle.account_core.specs.Events.{entry_data};
 
 use crate::{Account, Entry, HistoryCheck};
 use std::alloc::{AllocError, Global};
@@ -20,8 +20,8 @@ impl Account {
         entries: &[Entry],
     ) -> Result<bool, AllocError>
         requires { opening ≤ MAX_MONEY }
-        ensures legal { result ≡ Ok true → IsLegal opening until (map event_of entries.now) }
-        ensures illegal { result ≡ Ok false → IsLegal opening until (map event_of entries.now) → ⊥ }
+        ensures legal { result ≡ Ok true → IsLegal opening until (map entry_data entries.now) }
+        ensures illegal { result ≡ Ok false → IsLegal opening until (map entry_data entries.now) → ⊥ }
     {
         let mut check = HistoryCheck::new(alloc, opening, until);
         for entry in entries {

@@ -3,7 +3,7 @@
 ghost use Rattle.std.specs.Prelude.{◌≡◌, ◌+◌, ◌≤◌, ◌++◌, ◌∷◌, [], None, map, reverse, OnOk, OnErr, IfOk, IfErr};
 ghost use Rattle.account_core.specs.Answers.{IsLegal};
 ghost use Rattle.account_core.specs.Available.{available, credits};
-ghost use Rattle.account_core.specs.Events.{asked_of, event_of};
+ghost use Rattle.account_core.specs.Events.{asked_of, entry_data};
 ghost use Rattle.account_core.specs.Expiry.{last_moment};
 ghost use Rattle.account_core.specs.Kept.{known_of};
 ghost use Rattle.account_core.specs.Known.{known, paid_if_granted};
@@ -32,7 +32,7 @@ pub struct ListAccount {
 
 impl Model for ListAccount {
     ghost use Rattle.std.specs.Prelude.{map, reverse};
-    ghost use Rattle.account_core.specs.Events.{event_of};
+    ghost use Rattle.account_core.specs.Events.{entry_data};
     ghost use Rattle.account_core.specs.Ledger.{Ledger};
     ghost use Rattle.account_core.specs.Listed.{IsListed};
 
@@ -42,10 +42,10 @@ impl Model for ListAccount {
       opening = a.opening;
       until = a.until;
       limit = a.limit;
-      history = map event_of a.entries.items;
+      history = map entry_data a.entries.items;
     } };
 
-    ghost invariant = { λ a. IsListed a.opening a.until a.limit (reverse (map event_of a.entries.items)) };
+    ghost invariant = { λ a. IsListed a.opening a.until a.limit (reverse (map entry_data a.entries.items)) };
 }
 
 impl ListAccount {
@@ -83,7 +83,7 @@ impl ListAccount {
 
     /// The entries, oldest first.
     pub fn history(&self) -> &[Entry]
-        ensures { map event_of result.now ≡ self.now.history }
+        ensures { map entry_data result.now ≡ self.now.history }
     {
         self.entries.as_slice()
     }

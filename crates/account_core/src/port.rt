@@ -2,7 +2,7 @@
 
 ghost use Rattle.std.specs.Prelude.{IfSome, ℕ, None, Option};
 ghost use Rattle.account_core.specs.Events.{asked_of};
-ghost use Rattle.account_core.specs.Known.{Known};
+ghost use Rattle.account_core.specs.Known.{CallFacts};
 ghost use Rattle.account_core.specs.Standing.{Moves};
 
 use crate::{AccountFault, Op, Reply};
@@ -12,7 +12,7 @@ use crate::{AccountFault, Op, Reply};
 /// A port may state what it keeps of a call, and then moves it as an account's history would. One
 /// that others move too, as they share its account, can't state it.
 pub trait Port {
-    ghost state: { Self → ℕ → Option Known } = { λ _ _. None };
+    ghost state: { Self → ℕ → Option CallFacts } = { λ _ _. None };
 
     /// Asks the account, and gives its reply or its refusal.
     fn ask(&mut self, op: Op) -> Result<Reply, AccountFault>

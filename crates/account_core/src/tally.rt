@@ -4,7 +4,7 @@ ghost use Rattle.std.specs.Prelude.{◌≡◌, ◌≤◌, ◌∷◌, [], ℕ, Li
 ghost use Rattle.account_core.specs.Answers.{IsAnswered};
 ghost use Rattle.account_core.specs.Asked.{call_of};
 ghost use Rattle.account_core.specs.CallStates.{AreSame, TellsCalls, state_of};
-ghost use Rattle.account_core.specs.Events.{Event, asked_of, event_of};
+ghost use Rattle.account_core.specs.Events.{EntryData, asked_of, entry_data};
 ghost use Rattle.account_core.specs.Kept.{known_of};
 ghost use Rattle.account_core.specs.Known.{known, nothing_known};
 ghost use Rattle.account_core.specs.Tallied.{IsTallied, IsToldOf, tally_of};
@@ -51,16 +51,16 @@ impl Tally {
     /// Adds an entry to those so far where it is legal after them, and tells whether it is. Memory
     /// is taken where the entry's call is new, which is 0 at a Credit.
     pub fn hear(&mut self, entry: Entry) -> Result<bool, AllocError>
-        requires { (h : List Event) × IsTallied h self.old }
-        ensures legal { IfOk result (λ legal. legal ≡ true → (h : List Event) →
-            IsTallied h self.old → IsTallied (event_of entry ∷ h) self.new) }
-        ensures illegal { IfOk result (λ legal. legal ≡ false → (h : List Event) →
-            IsTallied h self.old → IsAnswered self.old.opening self.old.until h (event_of entry) → ⊥) }
+        requires { (h : List EntryData) × IsTallied h self.old }
+        ensures legal { IfOk result (λ legal. legal ≡ true → (h : List EntryData) →
+            IsTallied h self.old → IsTallied (entry_data entry ∷ h) self.new) }
+        ensures illegal { IfOk result (λ legal. legal ≡ false → (h : List EntryData) →
+            IsTallied h self.old → IsAnswered self.old.opening self.old.until h (entry_data entry) → ⊥) }
         ensures opening { self.new.opening ≡ self.old.opening }
         ensures until { self.new.until ≡ self.old.until }
-        ensures kept { OnErr result ((h : List Event) →
+        ensures kept { OnErr result ((h : List EntryData) →
             IsTallied h self.old → IsTallied h self.new) }
-        ensures fresh { OnErr result ((h : List Event) → IsTallied h self.old →
+        ensures fresh { OnErr result ((h : List EntryData) → IsTallied h self.old →
             known (call_of (asked_of entry.op)) h ≡ nothing_known) }
     {
         legal_pasts_are_sound();
@@ -89,16 +89,16 @@ fn renew_state(
     available: u64,
     last_moment: Option<u64>,
 ) -> Result<bool, AllocError>
-    requires { (opening : ℕ) × (until : Option ℕ) × (h : List Event) ×
+    requires { (opening : ℕ) × (until : Option ℕ) × (h : List EntryData) ×
         IsTallied h (tally_of opening until calls.old funds available last_moment) }
     ensures legal { IfOk result (λ legal. legal ≡ true
-        → (opening : ℕ) (until : Option ℕ) (h : List Event)
+        → (opening : ℕ) (until : Option ℕ) (h : List EntryData)
         → IsTallied h (tally_of opening until calls.old funds available last_moment)
-        → IsAnswered opening until h (event_of entry) × TellsCalls calls.new (event_of entry ∷ h)) }
+        → IsAnswered opening until h (entry_data entry) × TellsCalls calls.new (entry_data entry ∷ h)) }
     ensures illegal { IfOk result (λ legal. legal ≡ false
-        → (opening : ℕ) (until : Option ℕ) (h : List Event)
+        → (opening : ℕ) (until : Option ℕ) (h : List EntryData)
         → IsTallied h (tally_of opening until calls.old funds available last_moment)
-        → IsAnswered opening until h (event_of entry) → ⊥) }
+        → IsAnswered opening until h (entry_data entry) → ⊥) }
     ensures kept { OnErr result (AreSame calls.old calls.new) }
     ensures fresh { OnErr result (state_of calls.old (call_of (asked_of entry.op)) ≡ CallState.Fresh) }
 {
@@ -120,18 +120,18 @@ fn after_legal(
     available: u64,
     last_moment: Option<u64>,
 ) -> Option<CallState>
-    requires { (opening : ℕ) × (until : Option ℕ) × (h : List Event) ×
-        IsToldOf opening until h (event_of entry) (known_of state.now)
+    requires { (opening : ℕ) × (until : Option ℕ) × (h : List EntryData) ×
+        IsToldOf opening until h (entry_data entry) (known_of state.now)
         funds available last_moment }
-    ensures legal { IfSome result (λ after. (opening : ℕ) (until : Option ℕ) (h : List Event) →
-        IsToldOf opening until h (event_of entry) (known_of state.now)
+    ensures legal { IfSome result (λ after. (opening : ℕ) (until : Option ℕ) (h : List EntryData) →
+        IsToldOf opening until h (entry_data entry) (known_of state.now)
         funds available last_moment →
-        IsAnswered opening until h (event_of entry)
-        × (known_of after ≡ known (call_of (asked_of entry.op)) (event_of entry ∷ h))) }
-    ensures illegal { IfNone result ((opening : ℕ) (until : Option ℕ) (h : List Event) →
-        IsToldOf opening until h (event_of entry) (known_of state.now)
+        IsAnswered opening until h (entry_data entry)
+        × (known_of after ≡ known (call_of (asked_of entry.op)) (entry_data entry ∷ h))) }
+    ensures illegal { IfNone result ((opening : ℕ) (until : Option ℕ) (h : List EntryData) →
+        IsToldOf opening until h (entry_data entry) (known_of state.now)
         funds available last_moment →
-        IsAnswered opening until h (event_of entry) → ⊥) }
+        IsAnswered opening until h (entry_data entry) → ⊥) }
 {
     legal_pasts_are_sound();
     if inadmissible(&entry.op, state).is_some() {

@@ -15,7 +15,7 @@ use Rattle.account_core.specs.declared.history_check.HistoryCheck.{HistoryCheck}
 use Rattle.std.specs.BTreeMap.{BTreeMap}
 use Rattle.std.specs.HashMap.{HashMap}
 use Rattle.account_core.specs.Answers.{IsLegalPast}
-use Rattle.account_core.specs.Events.{Event}
+use Rattle.account_core.specs.Events.{EntryData}
 use Rattle.table_core.specs.Faults.{Refuses}
 use Rattle.table_core.specs.declared.fault.RowFault.{RowFault}
 use Rattle.table_core.specs.declared.fault.RowKind.{RowKind}
@@ -139,7 +139,7 @@ fault_told known (Err other) why P meaning met holds so = map_known known P _ ho
 -- ---- what the checks say
 
 said_more : (done : List (ℕ × HistoryCheck)) (verdicts : List (ℕ × Bool)) (account : ℕ) (check : HistoryCheck) (legal : Bool) → AreSaidBy done verdicts
-    → ((opening : ℕ) (until : Option ℕ) (h : List Event) → IsCheckOf opening until h check → Decides legal (IsLegalPast opening until h))
+    → ((opening : ℕ) (until : Option ℕ) (h : List EntryData) → IsCheckOf opening until h check → Decides legal (IsLegalPast opening until h))
     → AreSaidBy (done ++ (account, check) ∷ []) (verdicts ++ (account, legal) ∷ [])
 said_more [] [] account check legal said says = ((refl, says), tt)
 said_more [] (verdict ∷ verdicts) account check legal said says = absurd said
@@ -161,7 +161,7 @@ pub record IsToldMore (done next all : List (ℕ × HistoryCheck)) (verdicts : L
   pub said : AreSaidBy done verdicts
 
 pub told_more : (done left next all : List (ℕ × HistoryCheck)) (verdicts : List (ℕ × Bool)) (account : ℕ) (check : HistoryCheck) (legal : Bool) → done ++ left ≡ all
-    → left ≡ (account, check) ∷ next → AreSaidBy done verdicts → ((opening : ℕ) (until : Option ℕ) (h : List Event) → IsCheckOf opening until h check → Decides legal (IsLegalPast opening until h))
+    → left ≡ (account, check) ∷ next → AreSaidBy done verdicts → ((opening : ℕ) (until : Option ℕ) (h : List EntryData) → IsCheckOf opening until h check → Decides legal (IsLegalPast opening until h))
     → IsToldMore (done ++ (account, check) ∷ []) next all (verdicts ++ (account, legal) ∷ [])
 told_more done left next all verdicts account check legal split is said says = record {
   split = append_assoc done ((account, check) ∷ []) next ∙ ap (λ l. done ++ l) (sym is) ∙ split;

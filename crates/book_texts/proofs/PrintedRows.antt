@@ -7,7 +7,7 @@ use Rattle.std.proofs.lemmas.List.Concat.{flat_map-append}
 use Rattle.std.proofs.lemmas.List.Elements.{All-append, All-cons, All-from_recursion, All-head, All-nil, All-tail}
 use Rattle.csv.specs.Reading.{strip_bom}
 use Rattle.account_core.specs.Asked.{Asked, Credits, Reserves, Returns, Settles}
-use Rattle.account_core.specs.Events.{Event}
+use Rattle.account_core.specs.Events.{EntryData}
 use Rattle.account_core.specs.declared.entry.Reply.{Reply}
 use Rattle.account_core.specs.declared.entry.Reply.TheVariants as reply
 use Rattle.entry_rows.specs.Columns.{Answer, Operation, answer_of, no_answer, number_or_empty, opening_of, operation_of}
@@ -25,7 +25,7 @@ use Rattle.book_texts.specs.Printable.{FitsBook}
 abbrev pub row_fields : List ℕ → List ℕ → Operation → Answer → Fields
 row_fields account seat o a = account ∷ seat ∷ o.op ∷ o.call ∷ o.x1 ∷ o.x2 ∷ o.x3 ∷ o.x4 ∷ o.x5 ∷ o.x6 ∷ o.x7 ∷ a.reply ∷ a.y1 ∷ a.y2 ∷ a.y3 ∷ []
 
-abbrev pub entry_fields : ℕ → Event → Fields
+abbrev pub entry_fields : ℕ → EntryData → Fields
 entry_fields account event = row_fields (decimal account) (decimal event.seat) (operation_of event.asked) (answer_of event.reply)
 
 abbrev pub opening_fields : Closed → Fields
@@ -42,7 +42,7 @@ table_fields books = books_header ∷ flat_map book_fields books
 row_line : (account : ℕ) (seat : List ℕ) (o : Operation) (a : Answer) → row account seat o a ≡ line_of (row_fields (decimal account) seat o a)
 row_line account seat o a = simp append_assoc
 
-entry_lines : (account : ℕ) (history : List Event) → flat_map (entry_row account) history ≡ flat_map line_of (map (entry_fields account) history)
+entry_lines : (account : ℕ) (history : List EntryData) → flat_map (entry_row account) history ≡ flat_map line_of (map (entry_fields account) history)
 entry_lines account [] = refl
 entry_lines account (event ∷ history) =
     rw (row_line account (decimal event.seat) (operation_of event.asked) (answer_of event.reply), entry_lines account history) refl
@@ -157,7 +157,7 @@ module _ (plain : DecimalsArePlain) where
 
   -- ---- plain rows
 
-  entries_plain : (account : ℕ) (history : List Event) → account ≤ 4294967295 → All FitsEvent history → All IsPlainRow (map (entry_fields account) history)
+  entries_plain : (account : ℕ) (history : List EntryData) → account ≤ 4294967295 → All FitsEvent history → All IsPlainRow (map (entry_fields account) history)
   entries_plain account [] small fit = All-nil IsPlainRow
   entries_plain account (event ∷ history) small fit =
       let fits : FitsEvent event = All-head FitsEvent event history fit in

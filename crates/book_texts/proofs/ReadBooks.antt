@@ -14,7 +14,7 @@ use Rattle.std.proofs.lemmas.Fmt.{decimal_nonempty}
 use Rattle.std.proofs.lemmas.List.Elements.{All-head, All-tail}
 use Rattle.account_core.specs.Answers.{IsLegal}
 use Rattle.account_core.specs.Asked.{Asked, Credits, Reserves, Returns, Settles}
-use Rattle.account_core.specs.Events.{Event}
+use Rattle.account_core.specs.Events.{EntryData}
 use Rattle.entry_rows.specs.Column.{is_empty, moment_of, money_of, number_of, optional_moment_of, seat_of}
 use Rattle.entry_rows.specs.Columns.{Answer, answer_of, number_or_empty, operation_at, operation_of}
 use Rattle.entry_rows.specs.Fits.{FitsEvent, IsMoment, IsMoney}
@@ -124,7 +124,7 @@ module _ (reads : DecimalsAreRead) (operations : OperationsAreRead) (replies : R
   optional_moment_read None fits = refl
   optional_moment_read (Some moment) fits = rw (not_empty moment (omega (arith, fits)), moment_read moment fits) refl
 
-  entry_said : (account : ℕ) (event : Event) → account ≤ 4294967295 → FitsEvent event → said_in (columns_in version.Three (entry_fields account event)) ≡ Ok (Enters account event)
+  entry_said : (account : ℕ) (event : EntryData) → account ≤ 4294967295 → FitsEvent event → said_in (columns_in version.Three (entry_fields account event)) ≡ Ok (Enters account event)
   unfolding entry_in
   entry_said account event small fits =
       let asked = operations event.asked fits.asked in
@@ -140,7 +140,7 @@ module _ (reads : DecimalsAreRead) (operations : OperationsAreRead) (replies : R
   unfolding row_at
   opening_at book front fits above = rw (opening_said book fits, not_told book.account front above, opened_last book.account front _ above) refl
 
-  entry_at : (account opening : ℕ) (until : Option ℕ) (before : List Event) (event : Event) (front : Books) → account ≤ 4294967295 → FitsEvent event → IsAbove account front
+  entry_at : (account opening : ℕ) (until : Option ℕ) (before : List EntryData) (event : EntryData) (front : Books) → account ≤ 4294967295 → FitsEvent event → IsAbove account front
       → row_at version.Three (front ++ (account, record { opening = opening; until = until; history = before }) ∷ []) (entry_fields account event)
       ≡ Ok (front ++ (account, record { opening = opening; until = until; history = before ++ event ∷ [] }) ∷ [])
   unfolding row_at
@@ -149,7 +149,7 @@ module _ (reads : DecimalsAreRead) (operations : OperationsAreRead) (replies : R
 
   -- ---- books
 
-  entries_from : (account opening : ℕ) (until : Option ℕ) (front : Books) → account ≤ 4294967295 → IsAbove account front → (history before : List Event) (number : ℕ) (rest : List Fields)
+  entries_from : (account opening : ℕ) (until : Option ℕ) (front : Books) → account ≤ 4294967295 → IsAbove account front → (history before : List EntryData) (number : ℕ) (rest : List Fields)
       → All FitsEvent history → number + length history ≤ 1000002
       → rows_from books_form 2 15 number (front ++ (account, record { opening = opening; until = until; history = before }) ∷ []) (map (entry_fields account) history ++ rest)
       ≡ rows_from books_form 2 15 (number + length history) (front ++ (account, record { opening = opening; until = until; history = before ++ history }) ∷ []) rest

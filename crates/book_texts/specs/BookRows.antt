@@ -1,7 +1,7 @@
 -- What a row of the table of books says.
 use Rattle.std.specs.Prelude.{◌&&◌, ◌<◌, ◌+◌, ℕ, Bool, List, Option, length, Result, Ok, Err, codes, if◌then◌else◌}
 use Rattle.std.specs.Str.{bytes_eq}
-use Rattle.account_core.specs.Events.{Event}
+use Rattle.account_core.specs.Events.{EntryData}
 use Rattle.entry_rows.specs.Column.{is_empty, money_of, number_of, seat_of}
 use Rattle.entry_rows.specs.Columns.{Answer, HasOperation, Operation, answer_at, operation_at}
 use Rattle.entry_rows.specs.Operations.{asked_in, is_asked_blank, is_money_blank, until_of}
@@ -41,7 +41,7 @@ columns_in version fields = record {
 -- what a row says: an account opens with a credit and its last moment, if it has one, or has one more entry
 pub data Said : Type 0 where
   Opens : (account opening : ℕ) (until : Option ℕ) → Said
-  Enters : (account : ℕ) (event : Event) → Said
+  Enters : (account : ℕ) (event : EntryData) → Said
 
 -- what is said, where the columns that must be empty are
 abbrev pub when_blank : Bool → Said → Result Said RowKind

@@ -2,7 +2,7 @@
 use Rattle.std.specs.Prelude.{ℕ, List, [], ◌++◌, codes}
 use Rattle.std.specs.Fmt.{decimal}
 use Rattle.std.specs.List.{flat_map}
-use Rattle.account_core.specs.Events.{Event}
+use Rattle.account_core.specs.Events.{EntryData}
 use Rattle.shared_account.specs.Closed.{Closed}
 use Rattle.entry_rows.specs.Columns.{Answer, Operation, answer_of, answer_text, field, no_answer, opening_of, operation_of, operation_text}
 
@@ -15,7 +15,7 @@ abbrev pub opening_row : Closed → List ℕ
 opening_row book = row book.account [] (opening_of book.opening book.until) no_answer
 
 -- the row of an entry
-abbrev pub entry_row : ℕ → Event → List ℕ
+abbrev pub entry_row : ℕ → EntryData → List ℕ
 entry_row account event = row account (decimal event.seat) (operation_of event.asked) (answer_of event.reply)
 
 -- the opening of a book, and its entries

@@ -3,7 +3,7 @@ use Rattle.std.specs.Prelude.{ℕ, Option, Some, None, List, [], ◌∷◌, ◌+
 use Rattle.std.specs.BTreeMap.{insert_entry, is_at}
 use Rattle.std.specs.Map.{lookup, set_value}
 use Rattle.std.specs.Ordering.{nat_cmp}
-use Rattle.account_core.specs.Events.{Event}
+use Rattle.account_core.specs.Events.{EntryData}
 use Rattle.entry_rows.specs.Versions.{version_at}
 use Rattle.entry_rows.specs.declared.version.Version.{Version}
 use Rattle.table_core.specs.Judging.{after}
@@ -17,7 +17,7 @@ use Rattle.book_texts.specs.BookRows.{Enters, Opens, Said, columns_in, said_in}
 pub record Told : Type 0 where
   pub opening : ℕ
   pub until : Option ℕ
-  pub history : List Event
+  pub history : List EntryData
 
 -- what is told of each account, by rising number
 abbrev pub Books : Type 0
@@ -32,7 +32,7 @@ abbrev pub with_opening : ℕ → ℕ → Option ℕ → Books → Books
 with_opening account opening until books = insert_entry nat_cmp books account (record { opening = opening; until = until; history = [] })
 
 -- the books with one entry more of an account
-abbrev pub with_entry : ℕ → Told → Event → Books → Books
+abbrev pub with_entry : ℕ → Told → EntryData → Books → Books
 with_entry account told event books = set_value (is_at (nat_cmp account)) books (record told { history = told.history ++ event ∷ [] })
 
 -- an account opens once
@@ -41,7 +41,7 @@ opened account opening until books None = Ok (with_opening account opening until
 opened account opening until books (Some told) = Err kind.Repeated
 
 -- and has entries after that
-abbrev pub entered : ℕ → Event → Books → Option Told → Result Books RowKind
+abbrev pub entered : ℕ → EntryData → Books → Option Told → Result Books RowKind
 entered account event books None = Err kind.Unknown
 entered account event books (Some told) = Ok (with_entry account told event books)
 

@@ -9,7 +9,7 @@ use Rattle.std.specs.Map.{keys_of, lookup}
 use Rattle.std.specs.Ordering.{nat_cmp}
 use Rattle.account_core.specs.Answers.{IsLegalPast}
 use Rattle.account_core.specs.Checked.{IsCheckOf}
-use Rattle.account_core.specs.Events.{Event}
+use Rattle.account_core.specs.Events.{EntryData}
 use Rattle.account_core.specs.declared.history_check.HistoryCheck.{HistoryCheck}
 use Rattle.table_core.specs.Faults.{Refuses}
 use Rattle.table_core.specs.declared.fault.RowFault.{RowFault}
@@ -50,7 +50,7 @@ GivesChecks (Err fault) meaning = Refuses fault meaning
 
 -- a verdict is what the account's check says of any history that it has heard
 abbrev pub IsSaidBy : ℕ × HistoryCheck → ℕ × Bool → Type 0
-IsSaidBy check verdict = (verdict.0 ≡ check.0) × ((opening : ℕ) (until : Option ℕ) (h : List Event) → IsCheckOf opening until h check.1 → Decides verdict.1 (IsLegalPast opening until h))
+IsSaidBy check verdict = (verdict.0 ≡ check.0) × ((opening : ℕ) (until : Option ℕ) (h : List EntryData) → IsCheckOf opening until h check.1 → Decides verdict.1 (IsLegalPast opening until h))
 
 -- a verdict of each check, in order
 abbrev pub AreSaidBy : List (ℕ × HistoryCheck) → List (ℕ × Bool) → Type 0

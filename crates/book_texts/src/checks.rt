@@ -2,7 +2,7 @@
 
 ghost use Rattle.std.specs.Prelude.{◌≡◌, ◌≤◌, IfOk, IfSome};
 ghost use Rattle.csv.specs.Records.{fields_of};
-ghost use Rattle.account_core.specs.Events.{event_of};
+ghost use Rattle.account_core.specs.Events.{entry_data};
 ghost use Rattle.table_core.specs.Rows.{rows_of};
 ghost use Rattle.book_texts.specs.BookRows.{HasColumns};
 ghost use Rattle.book_texts.specs.Books.{Books, books_of, entered, opened, row_at, told_of};
@@ -119,7 +119,7 @@ fn enter(
 ) -> Result<Option<RowKind>, AllocError>
     requires { (books : Books) × HasChecks books checks.old }
     ensures { IfOk result (λ refused. (books : Books) → HasChecks books checks.old
-        → Comes refused (entered account (event_of entry) books (told_of account books)) checks.new) }
+        → Comes refused (entered account (entry_data entry) books (told_of account books)) checks.new) }
 {
     let Some(check) = checks.get_mut(&account) else {
         return Ok(Some(RowKind::Unknown));

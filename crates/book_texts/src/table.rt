@@ -1,7 +1,7 @@
 //! The table of books.
 
 ghost use Rattle.std.specs.Prelude.{◌≡◌, ◌++◌, OnOk, IfOk, string_bytes};
-ghost use Rattle.account_core.specs.Events.{event_of};
+ghost use Rattle.account_core.specs.Events.{entry_data};
 ghost use Rattle.book_texts.specs.BookTexts.{book_rows, book_text, entry_row};
 
 use account_core::Entry;
@@ -43,7 +43,7 @@ fn write_book(text: &mut String, book: &Book) -> Result<(), AllocError>
 /// Adds the row of an entry.
 fn write_entry(text: &mut String, account: u32, entry: &Entry) -> Result<(), AllocError>
     ensures { OnOk result (string_bytes text.new ≡ string_bytes text.old
-        ++ entry_row account (event_of entry.now)) }
+        ++ entry_row account (entry_data entry.now)) }
 {
     let seat = entry.seat;
     write!(text, "{account},{seat},")?;

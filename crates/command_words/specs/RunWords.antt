@@ -4,7 +4,7 @@ use Rattle.std.specs.Str.{bytes_eq}
 use Rattle.std.specs.Str.Parse.{digits_value}
 use Rattle.clap.specs.Words.{Row, Text, first_of}
 use Rattle.run_options.specs.Configs.{is_config}
-use Rattle.run_options.specs.declared.ask.RunAsk.{RunAsk}
+use Rattle.run_options.specs.declared.run_ask.RunAsk.{RunAsk}
 use Rattle.ssf_core.specs.declared.config.DefaultHandling.{DefaultHandling}
 use Rattle.ssf_core.specs.declared.config.DefaultHandling.TheVariants as handling
 use Rattle.table_core.specs.Decimals.{is_decimal}

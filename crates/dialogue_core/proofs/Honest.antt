@@ -14,7 +14,7 @@ use Rattle.cap_values.specs.declared.mode.Mode.{Mode}
 use Rattle.dialogue_core.specs.Phases.{Conditions, Phase, Says, Sequel, FirstAsk, Running, Settling, MoreAsk, Returning, Ending, Closed, Asks, Sends, Finished}
 use Rattle.dialogue_core.specs.Phases as phase
 use Rattle.dialogue_core.specs.Runs.{Exchange, Input, IsHonest, IsRun, Message, Answer, Refusal, last_said, step}
-use Rattle.dialogue_core.specs.Table.{Step, are_units, begun, ending, first_period, going_on, replied, reported, running, sequel}
+use Rattle.dialogue_core.specs.Table.{Step, are_units, on_begin, ending, first_period, going_on, on_reply, reported, running, sequel}
 use Rattle.dialogue_core.specs.declared.fault.DialogueFault.TheVariants.{Unexpected}
 use Rattle.tariff_core.specs.declared.route.Route.{Route}
 
@@ -68,7 +68,7 @@ awaits_more : (t : Conditions) (units : ℕ) (last b : Bool) → AwaitsIn (if b 
 awaits_more t units last true = tt
 awaits_more t units last false = tt
 
-awaits_reply : (phase : Phase) (reply : Reply) → AwaitsIn (replied phase reply)
+awaits_reply : (phase : Phase) (reply : Reply) → AwaitsIn (on_reply phase reply)
 awaits_reply (FirstAsk t) (Credited a) = tt
 awaits_reply (FirstAsk t) (CreditOver a) = tt
 awaits_reply (FirstAsk t) (Granted units last a) = awaits_first t units last (are_units units)
@@ -133,12 +133,12 @@ awaits Closed (Answer reply) = awaits_reply Closed reply
 awaits Closed Refusal = tt
 
 begun_awaits : (call now wanted least : ℕ) (route : Option Route)
-    → Awaits (begun call now wanted least route).0 (begun call now wanted least route).1
+    → Awaits (on_begin call now wanted least route).0 (on_begin call now wanted least route).1
 begun_awaits call now wanted least None = tt
 begun_awaits call now wanted least (Some route) = tt
 
-run_awaits : (call now wanted least : ℕ) (route : Option Route) (run : List Exchange) (phase : Phase) → IsRun (begun call now wanted least route) run phase
-    → Awaits (last_said (begun call now wanted least route) run) phase
+run_awaits : (call now wanted least : ℕ) (route : Option Route) (run : List Exchange) (phase : Phase) → IsRun (on_begin call now wanted least route) run phase
+    → Awaits (last_said (on_begin call now wanted least route) run) phase
 run_awaits call now wanted least route [] phase is = rw (← is) (begun_awaits call now wanted least route)
 run_awaits call now wanted least route (exchange ∷ earlier) phase (before, runs, is) = rw is at (awaits before exchange.input)
 
@@ -152,7 +152,7 @@ granted false said phase is = cc
 units_are : (units : ℕ) → 1 ≤ units → units ≤ 864000 → are_units units ≡ true
 units_are units positive within = grind (arith, nat_tests)
 
-expected : (asked : Asked) (phase : Phase) (reply : Reply) → Awaits (Asks asked) phase → IsHonest asked reply → IsOk (replied phase reply)
+expected : (asked : Asked) (phase : Phase) (reply : Reply) → Awaits (Asks asked) phase → IsHonest asked reply → IsOk (on_reply phase reply)
 expected (Credits amount until) phase reply waits honest = absurd waits
 expected (Reserves call plan wanted least moment) (FirstAsk t) (Credited a) waits honest = absurd honest
 expected (Reserves call plan wanted least moment) (FirstAsk t) (CreditOver a) waits honest = absurd honest
@@ -208,6 +208,6 @@ expected (Returns call) Ending reply waits honest = absurd waits
 expected (Returns call) Closed reply waits honest = absurd waits
 
 pub honest_expected : (call now wanted least : ℕ) (route : Option Route) (run : List Exchange) (phase : Phase) (asked : Asked) (reply : Reply)
-    → IsRun (begun call now wanted least route) run phase → last_said (begun call now wanted least route) run ≡ Asks asked → IsHonest asked reply → IsOk (replied phase reply)
+    → IsRun (on_begin call now wanted least route) run phase → last_said (on_begin call now wanted least route) run ≡ Asks asked → IsHonest asked reply → IsOk (on_reply phase reply)
 honest_expected call now wanted least route run phase asked reply is said honest =
     expected asked phase reply (rw said at (run_awaits call now wanted least route run phase is)) honest

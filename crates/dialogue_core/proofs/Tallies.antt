@@ -12,7 +12,7 @@ use Rattle.cap_values.specs.Orders.{Pay}
 use Rattle.dialogue_core.specs.Phases.{Conditions, Phase, Says, Sequel, FirstAsk, Running, Settling, MoreAsk, Returning, Ending, Closed, Asks, Sends, Finished}
 use Rattle.dialogue_core.specs.Phases as phase
 use Rattle.dialogue_core.specs.Runs.{Exchange, Input, IsRun, Message, Answer, Refusal, is_grant, is_over, returns_asked, returns_in, settles_in, settles_since_grant, step, was_granted}
-use Rattle.dialogue_core.specs.Table.{Step, are_units, begun, ending, first_period, first_reply, going_on, more_reply, replied, reported, running, sequel}
+use Rattle.dialogue_core.specs.Table.{Step, are_units, on_begin, ending, first_period, first_reply, going_on, more_reply, on_reply, reported, running, sequel}
 use Rattle.dialogue_core.specs.declared.fault.DialogueFault.TheVariants.{Unexpected}
 use Rattle.tariff_core.specs.declared.route.Route.{Route}
 
@@ -93,7 +93,7 @@ keeps_first t (Forfeit p a) s r g c = tt
 keeps_first t (Returned p a) s r g c = tt
 
 keeps_settling : (t : Conditions) (active : Bool) (since : ℕ) (reply : Reply) (s r : ℕ) (g : Bool) → Counts s r 1 0 g true
-    → Keeps (Answer reply) s r g (replied (Settling t active since) reply)
+    → Keeps (Answer reply) s r g (on_reply (Settling t active since) reply)
 keeps_settling t true since (Settled p a) s r g c = record { settled = omega (arith, c.settled); returned = omega (arith, c.returned); grants = c.grants }
 keeps_settling t true since (Forfeit p a) s r g c = record { settled = omega (arith, c.settled); returned = omega (arith, c.returned); grants = c.grants }
 keeps_settling t true since (Credited a) s r g c = tt
@@ -123,7 +123,7 @@ keeps_more t (Settled p a) s r g c = tt
 keeps_more t (Forfeit p a) s r g c = tt
 keeps_more t (Returned p a) s r g c = tt
 
-keeps_return : (after : Sequel) (reply : Reply) (s r : ℕ) (g : Bool) → Counts s r 1 1 g true → Keeps (Answer reply) s r g (replied (Returning after) reply)
+keeps_return : (after : Sequel) (reply : Reply) (s r : ℕ) (g : Bool) → Counts s r 1 1 g true → Keeps (Answer reply) s r g (on_reply (Returning after) reply)
 keeps_return after (Credited a) s r g c = tt
 keeps_return after (CreditOver a) s r g c = tt
 keeps_return after (Granted units last a) s r g c = tt
@@ -156,12 +156,12 @@ keeps Closed (Message number at message) s r g c = tt
 keeps Closed (Answer reply) s r g c = tt
 keeps Closed Refusal s r g c = tt
 
-begins : (call now wanted least : ℕ) (route : Option Route) → Tally (begun call now wanted least route).1 0 0 false
+begins : (call now wanted least : ℕ) (route : Option Route) → Tally (on_begin call now wanted least route).1 0 0 false
 begins call now wanted least None = record { settled = omega arith; returned = refl; grants = refl }
 begins call now wanted least (Some route) = record { settled = omega arith; returned = refl; grants = refl }
 
 -- the tally of a run
-pub tally : (call now wanted least : ℕ) (route : Option Route) (run : List Exchange) (phase : Phase) → IsRun (begun call now wanted least route) run phase
+pub tally : (call now wanted least : ℕ) (route : Option Route) (run : List Exchange) (phase : Phase) → IsRun (on_begin call now wanted least route) run phase
     → Tally phase (settles_since_grant run) (returns_asked run) (was_granted run)
 tally call now wanted least route [] phase is = rw (← is) (begins call now wanted least route)
 tally call now wanted least route (exchange ∷ earlier) phase (before, runs, is) =
@@ -176,7 +176,7 @@ settled_once (Returning after) s r g c = c.settled
 settled_once Ending s r g c = c.settled
 settled_once Closed s r g c = c.settled
 
-pub one_settle : (call now wanted least : ℕ) (route : Option Route) (run : List Exchange) (phase : Phase) → IsRun (begun call now wanted least route) run phase
+pub one_settle : (call now wanted least : ℕ) (route : Option Route) (run : List Exchange) (phase : Phase) → IsRun (on_begin call now wanted least route) run phase
     → settles_since_grant run ≤ 1
 one_settle call now wanted least route run phase is = settled_once phase _ _ _ (tally call now wanted least route run phase is)
 
@@ -189,6 +189,6 @@ returned_once (Returning after) s r g c over = cc
 returned_once Ending s r g c over = c.returned
 returned_once Closed s r g c over = c.returned
 
-pub one_return : (call now wanted least : ℕ) (route : Option Route) (run : List Exchange) (phase : Phase) → IsRun (begun call now wanted least route) run phase
+pub one_return : (call now wanted least : ℕ) (route : Option Route) (run : List Exchange) (phase : Phase) → IsRun (on_begin call now wanted least route) run phase
     → is_over phase ≡ true → returns_asked run ≡ (if was_granted run then 1 else 0)
 one_return call now wanted least route run phase is over = returned_once phase _ _ _ (tally call now wanted least route run phase is) over

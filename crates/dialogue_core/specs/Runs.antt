@@ -5,7 +5,7 @@ use Rattle.account_core.specs.declared.entry.Reply.{Reply}
 use Rattle.account_core.specs.declared.entry.Reply.TheVariants.{Granted, Denied, Settled, Forfeit, Returned}
 use Rattle.cap_values.specs.declared.message.SsfMsg.{SsfMsg}
 use Rattle.dialogue_core.specs.Phases.{Phase, Says, Ending, Closed, Asks}
-use Rattle.dialogue_core.specs.Table.{Step, begun, replied, told, unanswered}
+use Rattle.dialogue_core.specs.Table.{Step, on_begin, on_reply, on_message, on_refusal}
 use Rattle.tariff_core.specs.declared.route.Route.{Route}
 use Rattle.tariff_core.specs.declared.times.TheConstants.{DAY}
 
@@ -17,9 +17,9 @@ pub data Input : Type 0 where
 
 -- the table
 abbrev pub step : Phase → Input → Step
-step phase (Message number at message) = told phase number at message
-step phase (Answer reply) = replied phase reply
-step phase Refusal = unanswered phase
+step phase (Message number at message) = on_message phase number at message
+step phase (Answer reply) = on_reply phase reply
+step phase Refusal = on_refusal phase
 
 -- an input that wasn't refused, and the turn to it
 pub record Exchange : Type 0 where
@@ -89,15 +89,15 @@ IsHonest _ _ = ⊥
 -- at most one settle is asked between a grant and the next
 abbrev pub OneSettleAGrant : Type 0
 OneSettleAGrant = (call now wanted least : ℕ) (route : Option Route) (run : List Exchange) (phase : Phase)
-    → IsRun (begun call now wanted least route) run phase → settles_since_grant run ≤ 1
+    → IsRun (on_begin call now wanted least route) run phase → settles_since_grant run ≤ 1
 
 -- a run that is done with the account has asked exactly one return where it was granted time, and none elsewhere
 abbrev pub OneReturnIfGranted : Type 0
 OneReturnIfGranted = (call now wanted least : ℕ) (route : Option Route) (run : List Exchange) (phase : Phase)
-    → IsRun (begun call now wanted least route) run phase → is_over phase ≡ true → returns_asked run ≡ (if was_granted run then 1 else 0)
+    → IsRun (on_begin call now wanted least route) run phase → is_over phase ≡ true → returns_asked run ≡ (if was_granted run then 1 else 0)
 
 -- a reply of the kind that an account gives to what was asked last has its place in the table
 abbrev pub HonestRepliesAreExpected : Type 0
 HonestRepliesAreExpected = (call now wanted least : ℕ) (route : Option Route) (run : List Exchange) (phase : Phase) (asked : Asked) (reply : Reply)
-    → IsRun (begun call now wanted least route) run phase → last_said (begun call now wanted least route) run ≡ Asks asked
-    → IsHonest asked reply → IsOk (replied phase reply)
+    → IsRun (on_begin call now wanted least route) run phase → last_said (on_begin call now wanted least route) run ≡ Asks asked
+    → IsHonest asked reply → IsOk (on_reply phase reply)

@@ -59,9 +59,9 @@ conditions call now wanted least route =
     record { call = call; plan = rates_of route.plan; wanted = wanted; least = least; switch = seconds_to now route.switch_at }
 
 -- a dialogue begins: it asks for time, or releases a call without a route
-abbrev pub begun : ℕ → ℕ → ℕ → ℕ → Option Route → Says × Phase
-begun call now wanted least None = (Sends (Release 1 ∷ []), Ending)
-begun call now wanted least (Some route) =
+abbrev pub on_begin : ℕ → ℕ → ℕ → ℕ → Option Route → Says × Phase
+on_begin call now wanted least None = (Sends (Release 1 ∷ []), Ending)
+on_begin call now wanted least (Some route) =
     (Asks (reserve (conditions call now wanted least route) now), FirstAsk (conditions call now wanted least route))
 
 -- ---- a message of the gsmSSF
@@ -86,14 +86,14 @@ ending (msg.ChargingReport active info) = Err Unexpected
 ending msg.Ended = Ok (Finished, Closed)
 
 -- of the mail with this number, at its moment
-abbrev pub told : Phase → ℕ → ℕ → SsfMsg → Step
-told (FirstAsk t) number at message = Err AskPending
-told (Running t) number at message = running t number at message
-told (Settling t active since) number at message = Err AskPending
-told (MoreAsk t) number at message = Err AskPending
-told (Returning after) number at message = Err AskPending
-told Ending number at message = ending message
-told Closed number at message = Err Unexpected
+abbrev pub on_message : Phase → ℕ → ℕ → SsfMsg → Step
+on_message (FirstAsk t) number at message = Err AskPending
+on_message (Running t) number at message = running t number at message
+on_message (Settling t active since) number at message = Err AskPending
+on_message (MoreAsk t) number at message = Err AskPending
+on_message (Returning after) number at message = Err AskPending
+on_message Ending number at message = ending message
+on_message Closed number at message = Err Unexpected
 
 -- ---- a reply of the account
 
@@ -137,25 +137,25 @@ return_reply after (Returned paid available) = Ok (sequel after)
 return_reply after _ = Err Unexpected
 
 -- a reply of the account
-abbrev pub replied : Phase → Reply → Step
-replied (FirstAsk t) reply = first_reply t reply
-replied (Running t) reply = Err NoAskPending
-replied (Settling t true at) reply = active_reply t at reply
-replied (Settling t false at) reply = last_reply t reply
-replied (MoreAsk t) reply = more_reply t reply
-replied (Returning after) reply = return_reply after reply
-replied Ending reply = Err NoAskPending
-replied Closed reply = Err NoAskPending
+abbrev pub on_reply : Phase → Reply → Step
+on_reply (FirstAsk t) reply = first_reply t reply
+on_reply (Running t) reply = Err NoAskPending
+on_reply (Settling t true at) reply = active_reply t at reply
+on_reply (Settling t false at) reply = last_reply t reply
+on_reply (MoreAsk t) reply = more_reply t reply
+on_reply (Returning after) reply = return_reply after reply
+on_reply Ending reply = Err NoAskPending
+on_reply Closed reply = Err NoAskPending
 
 -- ---- a refusal of the account
 
 -- the account refused what was asked
-abbrev pub unanswered : Phase → Step
-unanswered (FirstAsk t) = Ok (Sends (Release 41 ∷ []), Ending)
-unanswered (Running t) = Err NoAskPending
-unanswered (Settling t true at) = give_back t phase.Fails
-unanswered (Settling t false at) = give_back t phase.Nothing
-unanswered (MoreAsk t) = give_back t phase.Fails
-unanswered (Returning after) = Ok (sequel after)
-unanswered Ending = Err NoAskPending
-unanswered Closed = Err NoAskPending
+abbrev pub on_refusal : Phase → Step
+on_refusal (FirstAsk t) = Ok (Sends (Release 41 ∷ []), Ending)
+on_refusal (Running t) = Err NoAskPending
+on_refusal (Settling t true at) = give_back t phase.Fails
+on_refusal (Settling t false at) = give_back t phase.Nothing
+on_refusal (MoreAsk t) = give_back t phase.Fails
+on_refusal (Returning after) = Ok (sequel after)
+on_refusal Ending = Err NoAskPending
+on_refusal Closed = Err NoAskPending

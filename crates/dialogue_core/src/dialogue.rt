@@ -2,7 +2,7 @@
 
 ghost use Rattle.std.specs.Prelude.{◌≡◌, ◌+◌, ◌<◌, ◌≤◌, Ok, Err, IfOk, IfErr};
 ghost use Rattle.std.specs.Option.{ForSome};
-ghost use Rattle.dialogue_core.specs.Table.{begun, replied, seconds_to, told, unanswered};
+ghost use Rattle.dialogue_core.specs.Table.{on_begin, on_reply, seconds_to, on_message, on_refusal};
 ghost use Rattle.dialogue_core.specs.Views.{Follows, phase_at, phase_of, says_of};
 
 use crate::messages::{ending, running};
@@ -34,7 +34,7 @@ impl Dialogue {
         config: &ServiceConfig,
     ) -> (Dialogue, Turn)
         requires { ForSome route (λ route. ForSome route.switch_at (λ at. (now < at) × (at ≤ now + DAY))) }
-        ensures { begun call now config.now.wanted config.now.least route
+        ensures { on_begin call now config.now.wanted config.now.least route
             ≡ (says_of result.1, phase_of result.0) }
     {
         let Some(route) = route else {
@@ -60,9 +60,9 @@ impl Dialogue {
     /// asked for after a report, it is asked for at the report's moment.
     pub fn take(&mut self, number: u64, at: u64, message: SsfMsg) -> Result<Turn, DialogueFault>
         ensures ok { IfOk result (λ turn.
-            told (phase_of self.old) number at message ≡ Ok (says_of turn, phase_of self.new)) }
+            on_message (phase_of self.old) number at message ≡ Ok (says_of turn, phase_of self.new)) }
         ensures fault { IfErr result (λ fault.
-            told (phase_of self.old) number at message ≡ Err fault) }
+            on_message (phase_of self.old) number at message ≡ Err fault) }
         ensures unchanged { IfErr result (λ fault. self.new ≡ self.old) }
     {
         let (turn, state) = told(self.state, number, at, message)?;
@@ -73,8 +73,8 @@ impl Dialogue {
     /// Takes the account's reply to what was asked.
     pub fn answer(&mut self, reply: Reply) -> Result<Turn, DialogueFault>
         ensures ok { IfOk result (λ turn.
-            replied (phase_of self.old) reply ≡ Ok (says_of turn, phase_of self.new)) }
-        ensures fault { IfErr result (λ fault. replied (phase_of self.old) reply ≡ Err fault) }
+            on_reply (phase_of self.old) reply ≡ Ok (says_of turn, phase_of self.new)) }
+        ensures fault { IfErr result (λ fault. on_reply (phase_of self.old) reply ≡ Err fault) }
         ensures unchanged { IfErr result (λ fault. self.new ≡ self.old) }
     {
         let (turn, state) = replied(self.state, reply)?;
@@ -85,8 +85,8 @@ impl Dialogue {
     /// Takes the account's refusal of what was asked; which fault it was makes no difference.
     pub fn refused(&mut self, fault: AccountFault) -> Result<Turn, DialogueFault>
         ensures ok { IfOk result (λ turn.
-            unanswered (phase_of self.old) ≡ Ok (says_of turn, phase_of self.new)) }
-        ensures fault { IfErr result (λ fault. unanswered (phase_of self.old) ≡ Err fault) }
+            on_refusal (phase_of self.old) ≡ Ok (says_of turn, phase_of self.new)) }
+        ensures fault { IfErr result (λ fault. on_refusal (phase_of self.old) ≡ Err fault) }
         ensures unchanged { IfErr result (λ fault. self.new ≡ self.old) }
     {
         let _ = fault;
@@ -98,7 +98,7 @@ impl Dialogue {
 
 /// The table's rows for a message.
 fn told(state: State, number: u64, at: u64, message: SsfMsg) -> Result<(Turn, State), DialogueFault>
-    ensures { Follows result (told (phase_at state) number at message) }
+    ensures { Follows result (on_message (phase_at state) number at message) }
 {
     match state {
         State::Running(terms) => running(terms, number, at, message),
@@ -113,7 +113,7 @@ fn told(state: State, number: u64, at: u64, message: SsfMsg) -> Result<(Turn, St
 
 /// The table's rows for a reply.
 fn replied(state: State, reply: Reply) -> Result<(Turn, State), DialogueFault>
-    ensures { Follows result (replied (phase_at state) reply) }
+    ensures { Follows result (on_reply (phase_at state) reply) }
 {
     match state {
         State::FirstAsk(terms) => first_reply(terms, reply),
@@ -134,7 +134,7 @@ fn replied(state: State, reply: Reply) -> Result<(Turn, State), DialogueFault>
 
 /// The table's rows for a refusal.
 fn unanswered(state: State) -> Result<(Turn, State), DialogueFault>
-    ensures { Follows result (unanswered (phase_at state)) }
+    ensures { Follows result (on_refusal (phase_at state)) }
 {
     match state {
         State::FirstAsk(_) => Ok((release(Cause::temporary_failure()), State::Ending)),

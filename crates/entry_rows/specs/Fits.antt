@@ -1,7 +1,7 @@
 -- The operations and the replies whose numbers a row may have.
 use Rattle.std.specs.Prelude.{◌≤◌, ℕ, IfSome}
 use Rattle.account_core.specs.Asked.{Asked, Credits, Reserves, Settles, Returns}
-use Rattle.account_core.specs.Events.{Event}
+use Rattle.account_core.specs.Events.{EntryData}
 use Rattle.account_core.specs.declared.entry.Reply.{Reply}
 use Rattle.account_core.specs.declared.entry.Reply.TheVariants as reply
 use Rattle.tariff_core.specs.Rates.{Rates}
@@ -65,7 +65,7 @@ FitsReply (reply.Forfeit paid available) = IsMoney paid × IsMoney available
 FitsReply (reply.Returned paid available) = IsMoney paid × IsMoney available
 
 -- an entry of one of 16 seats
-pub record FitsEvent (event : Event) : Type 0 where
+pub record FitsEvent (event : EntryData) : Type 0 where
   pub seat : event.seat ≤ 15
   pub asked : FitsAsked event.asked
   pub reply : FitsReply event.reply

@@ -3,7 +3,7 @@ use Rattle.std.proofs.Common.{refl, subst, ◌≡◌, ◌≤◌, ℕ, Bool, true
 use Rattle.std.specs.Prelude.{IfSome, IfOk, IfErr}
 use Rattle.std.specs.Result.{result_unwrap_or}
 use Rattle.account_core.specs.Asked.{Asked, IsOfCall}
-use Rattle.account_core.specs.Known.{Known, deed, deed_of, known_after}
+use Rattle.account_core.specs.Known.{CallFacts, deed, deed_of, known_after}
 use Rattle.account_core.specs.Ledger.{event_by}
 use Rattle.account_core.specs.Standing.{Moves}
 use Rattle.account_core.specs.declared.entry.Reply.{Reply}
@@ -12,7 +12,7 @@ use Rattle.account_core.specs.declared.fault.AccountFault.{AccountFault}
 use Rattle.cap_values.specs.Orders.{Paid, Pay}
 use Rattle.dialogue_core.specs.Phases.{Conditions, Phase, Says, Sequel, FirstAsk, Running, Settling, MoreAsk, Returning, Ending, Closed, Asks, Sends, Finished}
 use Rattle.dialogue_core.specs.Phases as phase
-use Rattle.dialogue_core.specs.Table.{Step, are_units, first_period, replied, sequel, unanswered}
+use Rattle.dialogue_core.specs.Table.{Step, are_units, first_period, on_reply, sequel, on_refusal}
 use Rattle.dialogue_core.specs.Views.{phase_of, says_of}
 use Rattle.dialogue_core.specs.declared.dialogue.Dialogue.{Dialogue}
 use Rattle.dialogue_core.specs.declared.fault.DialogueFault.{DialogueFault}
@@ -36,13 +36,13 @@ done was is step (Err fault) ok err same = rw (err, same) refl
 
 -- ---- what it says fits
 
-fits_done : (call : ℕ) (meter : Meter) (queued : List Paid) (kept : Known) (phase : Phase) (step : Step) → FitsThen call meter queued kept phase step
+fits_done : (call : ℕ) (meter : Meter) (queued : List Paid) (kept : CallFacts) (phase : Phase) (step : Step) → FitsThen call meter queued kept phase step
     → Fits call meter queued kept (or_done phase step).1 (or_done phase step).0
 fits_done call meter queued kept phase (Ok next) fits = fits
 fits_done call meter queued kept phase (Err fault) fits = fits
 
 -- a port that moved what it keeps of this call, and a dialogue that went on
-ready_by : (call : ℕ) (meter : Meter) (queued : List Paid) (before after : Option Known) (phase : Phase) (asked : Asked) (answer : Result Reply AccountFault)
+ready_by : (call : ℕ) (meter : Meter) (queued : List Paid) (before after : Option CallFacts) (phase : Phase) (asked : Asked) (answer : Result Reply AccountFault)
     → IfSome before (λ kept. Moves call kept asked answer after) → IsReady call meter queued before phase (Asks asked)
     → IsReady call meter queued after (after_answer phase answer).1 (after_answer phase answer).0
 ready_by call meter queued before after phase asked (Ok reply) moves ready =
@@ -52,7 +52,7 @@ ready_by call meter queued before after phase asked (Ok reply) moves ready =
     record {
       kept = known_after ready.kept (deed_of asked reply);
       stands = moved.0 ∙ ap (λ d. Some (known_after ready.kept d)) deed_here;
-      fits = fits_done call meter queued (known_after ready.kept (deed_of asked reply)) phase (replied phase reply)
+      fits = fits_done call meter queued (known_after ready.kept (deed_of asked reply)) phase (on_reply phase reply)
           (answered_fits call meter queued ready.kept phase asked reply ready.fits (moved.1 of).1);
     }
 ready_by call meter queued before after phase asked (Err fault) moves ready =
@@ -60,10 +60,10 @@ ready_by call meter queued before after phase asked (Err fault) moves ready =
     record {
       kept = ready.kept;
       stands = moved;
-      fits = fits_done call meter queued ready.kept phase (unanswered phase) (refused_fits call meter queued ready.kept phase asked ready.fits);
+      fits = fits_done call meter queued ready.kept phase (on_refusal phase) (refused_fits call meter queued ready.kept phase asked ready.fits);
     }
 
-pub asked_ready : (call : ℕ) (meter : Meter) (queued : List Paid) (before after : ℕ → Option Known) (asked : Asked) (old new : Tally) (from to : Phase) (said : Says)
+pub asked_ready : (call : ℕ) (meter : Meter) (queued : List Paid) (before after : ℕ → Option CallFacts) (asked : Asked) (old new : Tally) (from to : Phase) (said : Says)
     → IsAsked before after asked old new from to said → IsReady call meter queued (before call) from (Asks asked) → IsReady call meter queued (after call) to said
 asked_ready call meter queued before after asked old new from to said is ready =
     let P : (Says × Phase) → Type 0 = λ p. IsReady call meter queued (after call) p.1 p.0 in
@@ -71,7 +71,7 @@ asked_ready call meter queued before after asked old new from to said is ready =
 
 -- ---- no forfeit
 
-none_by : (call : ℕ) (meter : Meter) (queued : List Paid) (before after : Option Known) (phase : Phase) (asked : Asked) (answer : Result Reply AccountFault) (tally : Tally)
+none_by : (call : ℕ) (meter : Meter) (queued : List Paid) (before after : Option CallFacts) (phase : Phase) (asked : Asked) (answer : Result Reply AccountFault) (tally : Tally)
     → IfSome before (λ kept. Moves call kept asked answer after) → IsReady call meter queued before phase (Asks asked)
     → (with_answer tally answer).forfeits ≡ tally.forfeits
 none_by call meter queued before after phase asked (Ok reply) tally moves ready =
@@ -79,7 +79,7 @@ none_by call meter queued before after phase asked (Ok reply) tally moves ready 
     no_forfeit call meter queued ready.kept phase asked reply tally ready.fits (moved.1 (of_call call meter queued ready.kept phase asked ready.fits)).1
 none_by call meter queued before after phase asked (Err fault) tally moves ready = refl
 
-pub asked_kept : (call : ℕ) (meter : Meter) (queued : List Paid) (before after : ℕ → Option Known) (asked : Asked) (old new : Tally) (from to : Phase) (said : Says)
+pub asked_kept : (call : ℕ) (meter : Meter) (queued : List Paid) (before after : ℕ → Option CallFacts) (asked : Asked) (old new : Tally) (from to : Phase) (said : Says)
     → IsAsked before after asked old new from to said → IsReady call meter queued (before call) from (Asks asked) → new.forfeits ≡ old.forfeits
 asked_kept call meter queued before after asked old new from to said is ready =
     ap (λ (t : Tally). t.forfeits) is.counts ∙ none_by call meter queued (before call) (after call) from asked is.answer old (is.moves call) ready
@@ -101,7 +101,7 @@ fewer_sequel at phase.Clears = omega arith
 fewer_sequel at phase.Fails = omega arith
 fewer_sequel at phase.Closes = omega arith
 
-fewer_answered : (phase : Phase) (reply : Reply) → FewerThen phase (replied phase reply)
+fewer_answered : (phase : Phase) (reply : Reply) → FewerThen phase (on_reply phase reply)
 fewer_answered (FirstAsk t) (Credited a) = omega arith
 fewer_answered (FirstAsk t) (CreditOver a) = omega arith
 fewer_answered (FirstAsk t) (Granted units last a) = fewer_given (are_units units) (FirstAsk t) (Running t) (first_period t units last) (omega arith)
@@ -141,7 +141,7 @@ fewer_answered (Returning after) (Returned p a) = fewer_sequel after after
 fewer_answered Ending reply = omega arith
 fewer_answered Closed reply = omega arith
 
-fewer_refused : (phase : Phase) → FewerThen phase (unanswered phase)
+fewer_refused : (phase : Phase) → FewerThen phase (on_refusal phase)
 fewer_refused (FirstAsk t) = omega arith
 fewer_refused (Running t) = omega arith
 fewer_refused (Settling t true since) = omega arith
@@ -156,10 +156,10 @@ fewer_done phase (Ok next) fewer = fewer
 fewer_done phase (Err fault) fewer = fewer
 
 fewer_by : (phase : Phase) (answer : Result Reply AccountFault) → asks_left (after_answer phase answer).0 (after_answer phase answer).1 ≤ asks_after phase
-fewer_by phase (Ok reply) = fewer_done phase (replied phase reply) (fewer_answered phase reply)
-fewer_by phase (Err fault) = fewer_done phase (unanswered phase) (fewer_refused phase)
+fewer_by phase (Ok reply) = fewer_done phase (on_reply phase reply) (fewer_answered phase reply)
+fewer_by phase (Err fault) = fewer_done phase (on_refusal phase) (fewer_refused phase)
 
-pub asked_fewer : (before after : ℕ → Option Known) (asked : Asked) (old new : Tally) (from to : Phase) (said : Says) → IsAsked before after asked old new from to said
+pub asked_fewer : (before after : ℕ → Option CallFacts) (asked : Asked) (old new : Tally) (from to : Phase) (said : Says) → IsAsked before after asked old new from to said
     → asks_left said to ≤ asks_after from
 asked_fewer before after asked old new from to said is =
     let P : (Says × Phase) → Type 0 = λ p. asks_left p.0 p.1 ≤ asks_after from in subst P is.says (fewer_by from is.answer)

@@ -4,7 +4,7 @@ use Rattle.std.proofs.lemmas.Bool.{eq-eqb}
 use Rattle.std.specs.Prelude.{unwrap_or, if◌then◌else◌, IsSome}
 use Rattle.account_core.specs.Answers.{accepted_times}
 use Rattle.account_core.specs.Asked.{Asked, Credits, Reserves, Settles, Returns, IsOfCall, call_of}
-use Rattle.account_core.specs.Known.{Known, Deed, deed, deed_of, known_after, nothing_known, plan_in_force}
+use Rattle.account_core.specs.Known.{CallFacts, Deed, deed, deed_of, known_after, nothing_known, plan_in_force}
 use Rattle.account_core.specs.Known as known
 use Rattle.account_core.specs.Ledger.{event_by}
 use Rattle.account_core.specs.Standing.{IsGrant, IsReplyTo}
@@ -13,7 +13,7 @@ use Rattle.account_core.specs.declared.entry.Reply.TheVariants.{Credited, Credit
 use Rattle.cap_values.specs.Orders.{Paid, Pay}
 use Rattle.dialogue_core.specs.Phases.{Conditions, Phase, Says, Sequel, FirstAsk, Running, Settling, MoreAsk, Returning, Ending, Closed, Asks, Sends, Finished}
 use Rattle.dialogue_core.specs.Phases as phase
-use Rattle.dialogue_core.specs.Table.{Step, are_units, first_period, replied, sequel, unanswered}
+use Rattle.dialogue_core.specs.Table.{Step, are_units, first_period, on_reply, sequel, on_refusal}
 use Rattle.dialogue_core.specs.declared.fault.DialogueFault.TheVariants.{Unexpected}
 use Rattle.ssf_core.specs.Meters.{Meter}
 use Rattle.tariff_core.specs.Rates.{Rates}
@@ -34,7 +34,7 @@ its_call call (Reserves other plan wanted least moment) of = of
 its_call call (Settles other number info) of = of
 its_call call (Returns other) of = of
 
-pub of_call : (call : ℕ) (meter : Meter) (queued : List Paid) (kept : Known) (phase : Phase) (asked : Asked) → IsAsking call meter queued kept phase asked → IsOfCall call asked
+pub of_call : (call : ℕ) (meter : Meter) (queued : List Paid) (kept : CallFacts) (phase : Phase) (asked : Asked) → IsAsking call meter queued kept phase asked → IsOfCall call asked
 of_call call meter queued kept (FirstAsk t) (Reserves of plan wanted least moment) asks = asks.ours
 of_call call meter queued kept (FirstAsk t) (Credits amount until) asks = absurd asks
 of_call call meter queued kept (FirstAsk t) (Settles of number info) asks = absurd asks
@@ -58,7 +58,7 @@ of_call call meter queued kept Closed asked asks = absurd asks
 -- ---- a reply
 
 -- what is said then fits; a reply that has no place leaves the dialogue where it is
-abbrev pub FitsThen : ℕ → Meter → List Paid → Known → Phase → Step → Type 0
+abbrev pub FitsThen : ℕ → Meter → List Paid → CallFacts → Phase → Step → Type 0
 FitsThen call meter queued kept phase (Ok next) = Fits call meter queued kept next.1 next.0
 FitsThen call meter queued kept phase (Err fault) = Fits call meter queued kept phase Finished
 
@@ -66,7 +66,7 @@ abbrev pub given : Bool → Says → Phase → Step
 given units said phase = if units then Ok (said, phase) else Err Unexpected
 
 -- the first grant covers the first period
-first_covered : (call of : ℕ) (meter : Meter) (queued : List Paid) (kept : Known) (t : Conditions) (asked : Rates) (wanted least units : ℕ) → IsFresh call meter queued kept t asked of
+first_covered : (call of : ℕ) (meter : Meter) (queued : List Paid) (kept : CallFacts) (t : Conditions) (asked : Rates) (wanted least units : ℕ) → IsFresh call meter queued kept t asked of
     → IsGrant kept wanted least units → IsCovered meter (queued ++ record { period = units; switch = t.switch } ∷ []) (known_after kept (known.Grants asked units))
 first_covered call of meter queued kept t asked wanted least units fresh grant =
     rw fresh.none_queued (record {
@@ -81,7 +81,7 @@ first_covered call of meter queued kept t asked wanted least units fresh grant =
     })
 
 -- a further grant covers a further period
-more_covered : (meter : Meter) (queued : List Paid) (kept : Known) (asked : Rates) (wanted least units : ℕ) → IsUsedUp meter queued kept → IsGrant kept wanted least units
+more_covered : (meter : Meter) (queued : List Paid) (kept : CallFacts) (asked : Rates) (wanted least units : ℕ) → IsUsedUp meter queued kept → IsGrant kept wanted least units
     → IsCovered meter (queued ++ record { period = units; switch = None } ∷ []) (known_after kept (known.Grants asked units))
 more_covered meter queued kept asked wanted least units used grant =
     rw used.none_queued (record {
@@ -95,14 +95,14 @@ more_covered meter queued kept asked wanted least units used grant =
       unforfeited = used.covered.unforfeited;
     })
 
-first_given : (b : Bool) (call of : ℕ) (meter : Meter) (queued : List Paid) (kept : Known) (t : Conditions) (asked : Rates) (wanted least units : ℕ) (last : Bool)
+first_given : (b : Bool) (call of : ℕ) (meter : Meter) (queued : List Paid) (kept : CallFacts) (t : Conditions) (asked : Rates) (wanted least units : ℕ) (last : Bool)
     → IsFresh call meter queued kept t asked of → IsGrant kept wanted least units
     → FitsThen call meter queued (known_after kept (known.Grants asked units)) (FirstAsk t) (given b (first_period t units last) (Running t))
 first_given true call of meter queued kept t asked wanted least units last fresh grant =
     (fresh.its_call, first_covered call of meter queued kept t asked wanted least units fresh grant)
 first_given false call of meter queued kept t asked wanted least units last fresh grant = tt
 
-more_given : (b : Bool) (call of : ℕ) (meter : Meter) (queued : List Paid) (kept : Known) (t : Conditions) (asked : Rates) (wanted least units : ℕ) (last : Bool)
+more_given : (b : Bool) (call of : ℕ) (meter : Meter) (queued : List Paid) (kept : CallFacts) (t : Conditions) (asked : Rates) (wanted least units : ℕ) (last : Bool)
     → IsMore call meter queued kept t of → IsGrant kept wanted least units
     → FitsThen call meter queued (known_after kept (known.Grants asked units)) (MoreAsk t) (given b (Sends (Pay units None last ∷ [])) (Running t))
 more_given true call of meter queued kept t asked wanted least units last more grant =
@@ -110,20 +110,20 @@ more_given true call of meter queued kept t asked wanted least units last more g
 more_given false call of meter queued kept t asked wanted least units last more grant = tt
 
 -- what follows a return asks nothing, and settles nothing
-pub sequel_fits : (call : ℕ) (meter : Meter) (queued : List Paid) (kept : Known) (after : Sequel) → Fits call meter queued kept (sequel after).1 (sequel after).0
+pub sequel_fits : (call : ℕ) (meter : Meter) (queued : List Paid) (kept : CallFacts) (after : Sequel) → Fits call meter queued kept (sequel after).1 (sequel after).0
 sequel_fits call meter queued kept phase.Nothing = tt
 sequel_fits call meter queued kept phase.Continues = tt
 sequel_fits call meter queued kept phase.Clears = tt
 sequel_fits call meter queued kept phase.Fails = tt
 sequel_fits call meter queued kept phase.Closes = tt
 
-unsettled : (kept : Known) (info : TimeInfo) → IsSome (accepted_times kept info) → accepted_times kept info ≡ None → ⊥
+unsettled : (kept : CallFacts) (info : TimeInfo) → IsSome (accepted_times kept info) → accepted_times kept info ≡ None → ⊥
 unsettled kept info accepted none = let some = rw none at accepted in absurd (cc)
 
 -- a reply of the port's kind, to what was asked
-pub answered_fits : (call : ℕ) (meter : Meter) (queued : List Paid) (kept : Known) (phase : Phase) (asked : Asked) (reply : Reply)
+pub answered_fits : (call : ℕ) (meter : Meter) (queued : List Paid) (kept : CallFacts) (phase : Phase) (asked : Asked) (reply : Reply)
     → IsAsking call meter queued kept phase asked → IsReplyTo kept asked reply
-    → FitsThen call meter queued (known_after kept (deed_of asked reply)) phase (replied phase reply)
+    → FitsThen call meter queued (known_after kept (deed_of asked reply)) phase (on_reply phase reply)
 answered_fits call meter queued kept (FirstAsk t) (Credits amount until) reply asks kind = absurd asks
 answered_fits call meter queued kept (FirstAsk t) (Reserves of plan wanted least moment) (Credited a) asks kind = absurd kind
 answered_fits call meter queued kept (FirstAsk t) (Reserves of plan wanted least moment) (CreditOver a) asks kind = absurd kind
@@ -181,8 +181,8 @@ answered_fits call meter queued kept Closed asked reply asks kind = absurd asks
 -- ---- a refusal
 
 -- a refusal of the port, of what was asked
-pub refused_fits : (call : ℕ) (meter : Meter) (queued : List Paid) (kept : Known) (phase : Phase) (asked : Asked) → IsAsking call meter queued kept phase asked
-    → FitsThen call meter queued kept phase (unanswered phase)
+pub refused_fits : (call : ℕ) (meter : Meter) (queued : List Paid) (kept : CallFacts) (phase : Phase) (asked : Asked) → IsAsking call meter queued kept phase asked
+    → FitsThen call meter queued kept phase (on_refusal phase)
 refused_fits call meter queued kept (FirstAsk t) (Credits amount until) asks = absurd asks
 refused_fits call meter queued kept (FirstAsk t) (Reserves of plan wanted least moment) asks = tt
 refused_fits call meter queued kept (FirstAsk t) (Settles of number info) asks = absurd asks
@@ -209,7 +209,7 @@ refused_fits call meter queued kept Closed asked asks = absurd asks
 
 -- ---- no forfeit
 
-accepted_in : (call : ℕ) (meter : Meter) (queued : List Paid) (kept : Known) (phase : Phase) (of number : ℕ) (info : TimeInfo)
+accepted_in : (call : ℕ) (meter : Meter) (queued : List Paid) (kept : CallFacts) (phase : Phase) (of number : ℕ) (info : TimeInfo)
     → IsAsking call meter queued kept phase (Settles of number info) → IsSome (accepted_times kept info)
 accepted_in call meter queued kept (FirstAsk t) of number info asks = absurd asks
 accepted_in call meter queued kept (Running t) of number info asks = absurd asks
@@ -220,7 +220,7 @@ accepted_in call meter queued kept Ending of number info asks = absurd asks
 accepted_in call meter queued kept Closed of number info asks = absurd asks
 
 -- no reply of the port's kind is a forfeit
-pub no_forfeit : (call : ℕ) (meter : Meter) (queued : List Paid) (kept : Known) (phase : Phase) (asked : Asked) (reply : Reply) (tally : Tally)
+pub no_forfeit : (call : ℕ) (meter : Meter) (queued : List Paid) (kept : CallFacts) (phase : Phase) (asked : Asked) (reply : Reply) (tally : Tally)
     → IsAsking call meter queued kept phase asked → IsReplyTo kept asked reply → (with_answer tally (Ok reply)).forfeits ≡ tally.forfeits
 no_forfeit call meter queued kept phase asked (Credited a) tally asks kind = refl
 no_forfeit call meter queued kept phase asked (CreditOver a) tally asks kind = refl

@@ -3,7 +3,7 @@ use Rattle.std.proofs.Common.{◌≡◌, ◌+◌, ◌≤◌, ◌++◌, ◌⊎◌
 use Rattle.std.proofs.Math.Nat.{le_trans}
 use Rattle.std.proofs.lemmas.List.{append-nil}
 use Rattle.std.specs.Prelude.{is_some}
-use Rattle.account_core.specs.Known.{Known}
+use Rattle.account_core.specs.Known.{CallFacts}
 use Rattle.cap_values.specs.Orders.{Paid, orders_of, paid_by}
 use Rattle.cap_values.specs.declared.event.Event.{Event}
 use Rattle.cap_values.specs.declared.event.Event.TheVariants as event
@@ -12,7 +12,7 @@ use Rattle.cap_values.specs.declared.message.SsfMsg.TheVariants as msg
 use Rattle.cap_values.specs.declared.mode.Mode.{Mode}
 use Rattle.cap_values.specs.declared.operation.ScfOp.{ScfOp}
 use Rattle.dialogue_core.specs.Phases.{Conditions, Phase, Says, FirstAsk, Running, Settling, MoreAsk, Returning, Ending, Closed}
-use Rattle.dialogue_core.specs.Table.{going_on, reported, told}
+use Rattle.dialogue_core.specs.Table.{going_on, reported, on_message}
 use Rattle.dialogue_core.specs.declared.fault.DialogueFault.{DialogueFault}
 use Rattle.ssf_core.specs.Meters.{EndsWith, Later, Meter, RunsThrough, TakesPeriod}
 use Rattle.ssf_core.specs.Meters as meters
@@ -41,18 +41,18 @@ by_then switched s moment last (inr order) sooner behind = le_trans behind order
 
 told_later : (meter after : Meter) (times : Elapsed) → Later meter after → (times ≡ no_times) ⊎ IsTold meter times → (times ≡ no_times) ⊎ IsTold after times
 told_later meter after times later (inl none) = inl none
-told_later meter after times later (inr told) = inr (record {
-  answer = told.answer;
-  switch = told.switch;
-  moment = told.moment;
-  was_answered = later.keeps_answer told.answer told.was_answered;
-  behind = le_trans told.behind later.no_fall;
-  are = told.are;
-  same_switch = λ s is. later.keeps_switch s (told.same_switch s is);
-  later_switch = λ s none is. by_then meter.switched s told.moment meter.last (later.comes s is) (told.later_switch s none) told.behind;
+told_later meter after times later (inr on_message) = inr (record {
+  answer = on_message.answer;
+  switch = on_message.switch;
+  moment = on_message.moment;
+  was_answered = later.keeps_answer on_message.answer on_message.was_answered;
+  behind = le_trans on_message.behind later.no_fall;
+  are = on_message.are;
+  same_switch = λ s is. later.keeps_switch s (on_message.same_switch s is);
+  later_switch = λ s none is. by_then meter.switched s on_message.moment meter.last (later.comes s is) (on_message.later_switch s none) on_message.behind;
 })
 
-covered_later : (meter after : Meter) (queued : List Paid) (kept : Known) → Later meter after → IsCovered meter queued kept → IsCovered after queued kept
+covered_later : (meter after : Meter) (queued : List Paid) (kept : CallFacts) → Later meter after → IsCovered meter queued kept → IsCovered after queued kept
 covered_later meter after queued kept later covered = record {
   plan = covered.plan;
   is_plan = covered.is_plan;
@@ -64,7 +64,7 @@ covered_later meter after queued kept later covered = record {
   unforfeited = covered.unforfeited;
 }
 
-resting_later : (call : ℕ) (meter after : Meter) (queued : List Paid) (kept : Known) (phase : Phase) → Later meter after → IsResting call meter queued kept phase
+resting_later : (call : ℕ) (meter after : Meter) (queued : List Paid) (kept : CallFacts) (phase : Phase) → Later meter after → IsResting call meter queued kept phase
     → IsResting call after queued kept phase
 resting_later call meter after queued kept (FirstAsk t) later rests = tt
 resting_later call meter after queued kept (Running t) later rests = (rests.0, covered_later meter after queued kept later rests.1)
@@ -74,7 +74,7 @@ resting_later call meter after queued kept (Returning then) later rests = tt
 resting_later call meter after queued kept Ending later rests = tt
 resting_later call meter after queued kept Closed later rests = tt
 
-pub rest_later : (call : ℕ) (meter after : Meter) (queued : List Paid) (standing : Option Known) (phase : Phase) → Later meter after
+pub rest_later : (call : ℕ) (meter after : Meter) (queued : List Paid) (standing : Option CallFacts) (phase : Phase) → Later meter after
     → IsAtRest call meter queued standing phase → IsAtRest call after queued standing phase
 rest_later call meter after queued standing phase later rest = record {
   kept = rest.kept;
@@ -86,22 +86,22 @@ rest_later call meter after queued standing phase later rest = record {
 
 told_taken : (meter after : Meter) (paid : Paid) (times : Elapsed) → TakesPeriod paid meter after → (times ≡ no_times) ⊎ IsTold meter times → (times ≡ no_times) ⊎ IsTold after times
 told_taken meter after paid times takes (inl none) = inl none
-told_taken meter after paid times takes (inr told) = inr (record {
-  answer = told.answer;
-  switch = told.switch;
-  moment = told.moment;
-  was_answered = takes.same_answer ∙ told.was_answered;
-  behind = le_trans told.behind takes.no_fall;
-  are = told.are;
-  same_switch = λ s is. takes.same_switch ∙ told.same_switch s is;
-  later_switch = λ s none is. told.later_switch s none (sym takes.same_switch ∙ is);
+told_taken meter after paid times takes (inr on_message) = inr (record {
+  answer = on_message.answer;
+  switch = on_message.switch;
+  moment = on_message.moment;
+  was_answered = takes.same_answer ∙ on_message.was_answered;
+  behind = le_trans on_message.behind takes.no_fall;
+  are = on_message.are;
+  same_switch = λ s is. takes.same_switch ∙ on_message.same_switch s is;
+  later_switch = λ s none is. on_message.later_switch s none (sym takes.same_switch ∙ is);
 })
 
 rated_taken : (awaited ordered : Bool) (rated : Type 0) → (awaited ≡ true) ⊎ (ordered ≡ true) → (awaited ≡ true → rated) → (ordered ≡ true → rated) → rated
 rated_taken awaited ordered rated (inl was) old new = old was
 rated_taken awaited ordered rated (inr is) old new = new is
 
-covered_taken : (meter after : Meter) (paid : Paid) (kept : Known) → TakesPeriod paid meter after → IsCovered meter (paid ∷ []) kept → IsCovered after [] kept
+covered_taken : (meter after : Meter) (paid : Paid) (kept : CallFacts) → TakesPeriod paid meter after → IsCovered meter (paid ∷ []) kept → IsCovered after [] kept
 covered_taken meter after paid kept takes covered = record {
   plan = covered.plan;
   is_plan = covered.is_plan;
@@ -113,7 +113,7 @@ covered_taken meter after paid kept takes covered = record {
   unforfeited = covered.unforfeited;
 }
 
-covered_refused : (meter after : Meter) (paid : Paid) (kept : Known) → Later meter after → IsCovered meter (paid ∷ []) kept → IsCovered after [] kept
+covered_refused : (meter after : Meter) (paid : Paid) (kept : CallFacts) → Later meter after → IsCovered meter (paid ∷ []) kept → IsCovered after [] kept
 covered_refused meter after paid kept later covered = record {
   plan = covered.plan;
   is_plan = covered.is_plan;
@@ -125,7 +125,7 @@ covered_refused meter after paid kept later covered = record {
   unforfeited = covered.unforfeited;
 }
 
-covered_ends : (handed queued : List Paid) (meter after : Meter) (kept : Known) → EndsWith handed meter after → IsCovered meter (handed ++ queued) kept
+covered_ends : (handed queued : List Paid) (meter after : Meter) (kept : CallFacts) → EndsWith handed meter after → IsCovered meter (handed ++ queued) kept
     → IsCovered after queued kept
 covered_ends [] queued meter after kept later covered = covered_later meter after queued kept later covered
 covered_ends (paid ∷ []) [] meter after kept (inl later) covered = covered_refused meter after paid kept later covered
@@ -133,7 +133,7 @@ covered_ends (paid ∷ []) [] meter after kept (inr takes) covered = covered_tak
 covered_ends (paid ∷ []) (next ∷ queued) meter after kept ends covered = absurd covered.single
 covered_ends (paid ∷ (next ∷ handed)) queued meter after kept ends covered = absurd covered.single
 
-resting_ends : (call : ℕ) (handed queued : List Paid) (meter after : Meter) (kept : Known) (phase : Phase) → EndsWith handed meter after
+resting_ends : (call : ℕ) (handed queued : List Paid) (meter after : Meter) (kept : CallFacts) (phase : Phase) → EndsWith handed meter after
     → IsResting call meter (handed ++ queued) kept phase → IsResting call after queued kept phase
 resting_ends call handed queued meter after kept (FirstAsk t) ends rests = tt
 resting_ends call handed queued meter after kept (Running t) ends rests = (rests.0, covered_ends handed queued meter after kept ends rests.1)
@@ -153,7 +153,7 @@ run_next handed now after outs index out within is run =
     rw front at run
 
 -- all items were heard
-pub rest_ends : (call : ℕ) (handed queued : List Paid) (meter after : Meter) (standing : Option Known) (phase : Phase) → RunsThrough handed meter [] after
+pub rest_ends : (call : ℕ) (handed queued : List Paid) (meter after : Meter) (standing : Option CallFacts) (phase : Phase) → RunsThrough handed meter [] after
     → IsAtRest call meter (handed ++ queued) standing phase → IsAtRest call after queued standing phase
 rest_ends call handed queued meter after standing phase run rest = record {
   kept = rest.kept;
@@ -163,11 +163,11 @@ rest_ends call handed queued meter after standing phase run rest = record {
 
 -- ---- a message is heard
 
-nothing_queued : (call : ℕ) (meter : Meter) (queued : List Paid) (kept : Known) (t : Conditions) → IsResting call meter queued kept (Running t)
+nothing_queued : (call : ℕ) (meter : Meter) (queued : List Paid) (kept : CallFacts) (t : Conditions) → IsResting call meter queued kept (Running t)
     → IsResting call meter (queued ++ paid_by []) kept (Running t)
 nothing_queued call meter queued kept t rests = rw (append-nil queued) rests
 
-event_fits : (call : ℕ) (meter : Meter) (queued : List Paid) (kept : Known) (t : Conditions) (e : Event) (mode : Mode) → IsResting call meter queued kept (Running t)
+event_fits : (call : ℕ) (meter : Meter) (queued : List Paid) (kept : CallFacts) (t : Conditions) (e : Event) (mode : Mode) → IsResting call meter queued kept (Running t)
     → FitsThen call meter queued kept (Running t) (reported t e mode)
 event_fits call meter queued kept t event.CollectedInfo mode rests = rests.0
 event_fits call meter queued kept t event.RouteSelectFailure mode rests = rests.0
@@ -177,8 +177,8 @@ event_fits call meter queued kept t event.Answer mode rests = nothing_queued cal
 event_fits call meter queued kept t event.Disconnect mode rests = rests.0
 event_fits call meter queued kept t event.Abandon mode rests = rests.0
 
-told_fits : (call number moment now : ℕ) (meter after : Meter) (queued : List Paid) (kept : Known) (phase : Phase) (message : SsfMsg) → IsResting call meter queued kept phase
-    → meters.Sends meter now (item.Msg message) after → FitsThen call after queued kept phase (told phase number moment message)
+told_fits : (call number moment now : ℕ) (meter after : Meter) (queued : List Paid) (kept : CallFacts) (phase : Phase) (message : SsfMsg) → IsResting call meter queued kept phase
+    → meters.Sends meter now (item.Msg message) after → FitsThen call after queued kept phase (on_message phase number moment message)
 told_fits call number moment now meter after queued kept (FirstAsk t) message rests sends = tt
 told_fits call number moment now meter after queued kept (Running t) (msg.InitialDp id calling called) rests later = resting_later call meter after queued kept (Running t) later rests
 told_fits call number moment now meter after queued kept (Running t) (msg.EventReport e leg mode) rests later =
@@ -196,8 +196,8 @@ told_fits call number moment now meter after queued kept Ending (msg.ChargingRep
 told_fits call number moment now meter after queued kept Ending msg.Ended rests sends = tt
 told_fits call number moment now meter after queued kept Closed message rests sends = tt
 
-pub heard : (call number moment now : ℕ) (meter after : Meter) (queued : List Paid) (standing : Option Known) (old new : Phase) (said : Says) (message : SsfMsg)
-    → told old number moment message ≡ Ok (said, new) → IsAtRest call meter queued standing old → meters.Sends meter now (item.Msg message) after
+pub heard : (call number moment now : ℕ) (meter after : Meter) (queued : List Paid) (standing : Option CallFacts) (old new : Phase) (said : Says) (message : SsfMsg)
+    → on_message old number moment message ≡ Ok (said, new) → IsAtRest call meter queued standing old → meters.Sends meter now (item.Msg message) after
     → IsReady call after queued standing new said
 heard call number moment now meter after queued standing old new said message is rest sends = record {
   kept = rest.kept;
@@ -205,8 +205,8 @@ heard call number moment now meter after queued standing old new said message is
   fits = rw is at (told_fits call number moment now meter after queued rest.kept old message rest.fits sends);
 }
 
-pub unheard : (call number moment now : ℕ) (meter after : Meter) (queued : List Paid) (standing : Option Known) (old new : Phase) (message : SsfMsg) (fault : DialogueFault)
-    → told old number moment message ≡ Err fault → new ≡ old → IsAtRest call meter queued standing old → meters.Sends meter now (item.Msg message) after
+pub unheard : (call number moment now : ℕ) (meter after : Meter) (queued : List Paid) (standing : Option CallFacts) (old new : Phase) (message : SsfMsg) (fault : DialogueFault)
+    → on_message old number moment message ≡ Err fault → new ≡ old → IsAtRest call meter queued standing old → meters.Sends meter now (item.Msg message) after
     → IsAtRest call after (queued ++ paid_by (orders_of [])) standing new
 unheard call number moment now meter after queued standing old new message fault is same rest sends =
     rw (append-nil queued, same) (record {
@@ -218,7 +218,7 @@ unheard call number moment now meter after queued standing old new message fault
 -- ---- operations are on their way
 
 -- the operations of an answer are queued behind what was
-pub sent_rests : (call at to : ℕ) (meter : Meter) (handed : List Paid) (before after : List Delivery) (ops : List ScfOp) (standing : Option Known) (phase : Phase)
+pub sent_rests : (call at to : ℕ) (meter : Meter) (handed : List Paid) (before after : List Delivery) (ops : List ScfOp) (standing : Option CallFacts) (phase : Phase)
     → after ≡ before ++ deliveries_at at to ops → IsAtRest call meter ((handed ++ queued_in before) ++ paid_by (orders_of ops)) standing phase
     → IsAtRest call meter (handed ++ queued_in after) standing phase
 sent_rests call at to meter handed before after ops standing phase is rest =
@@ -227,7 +227,7 @@ sent_rests call at to meter handed before after ops standing phase is rest =
     rw (queue, ← append_assoc handed (queued_in before) (paid_by (orders_of ops))) rest
 
 -- the first operations are on their way
-pub first_rests : (call at to : ℕ) (meter : Meter) (before after : List Delivery) (ops : List ScfOp) (standing : Option Known) (phase : Phase)
+pub first_rests : (call at to : ℕ) (meter : Meter) (before after : List Delivery) (ops : List ScfOp) (standing : Option CallFacts) (phase : Phase)
     → before ≡ [] → after ≡ before ++ deliveries_at at to ops → IsAtRest call meter ([] ++ paid_by (orders_of ops)) standing phase
     → IsAtRest call meter (queued_in after) standing phase
 first_rests call at to meter before after ops standing phase empty is rest =

@@ -4,7 +4,7 @@ use Rattle.std.proofs.Math.Nat.{le_trans}
 use Rattle.std.proofs.lemmas.Bool.Decides.{nat_tests}
 use Rattle.std.specs.Prelude.{◌&&◌, ◌||◌, ◌==◌, not, is_some, unwrap_or, nat_le, if◌then◌else◌, IsSome}
 use Rattle.account_core.specs.Answers.{accepted_times}
-use Rattle.account_core.specs.Known.{Known, known_after}
+use Rattle.account_core.specs.Known.{CallFacts, known_after}
 use Rattle.account_core.specs.Known as known
 use Rattle.cap_values.specs.Orders.{Paid}
 use Rattle.ssf_core.specs.Meters.{Meter, Reports}
@@ -133,7 +133,7 @@ lawful_at plan old new granted follows rated total =
     (stays_with old.switched new.switched new.before old.before follows.stays) (may_switch new.switched (is_some plan.after) rated)
     (at_most (new.before + new.after) granted total)
 
-accepts : (kept : Known) (info : TimeInfo) (plan : Rates) (new : Elapsed) → kept.forfeited ≡ false → kept.plan ≡ Some plan → times_read kept.times info ≡ Some new
+accepts : (kept : CallFacts) (info : TimeInfo) (plan : Rates) (new : Elapsed) → kept.forfeited ≡ false → kept.plan ≡ Some plan → times_read kept.times info ≡ Some new
     → is_lawful plan kept.times new kept.granted ≡ true → accepted_times kept info ≡ Some new
 unfolding accepted_times
 accepts kept info plan new unforfeited is_plan read lawful = rw (unforfeited, is_plan, read, lawful) refl
@@ -154,12 +154,12 @@ none_queued meter plan (paid ∷ []) single pending = let none : meter.pending �
 none_queued meter plan (paid ∷ (next ∷ queued)) single pending = absurd single
 
 -- a report of a covered call is accepted; then nothing is queued, and where the call goes on all that was granted was talked
-pub record Settles (meter : Meter) (queued : List Paid) (kept : Known) (active : Bool) (info : TimeInfo) (after : Meter) : Type 0 where
+pub record Settles (meter : Meter) (queued : List Paid) (kept : CallFacts) (active : Bool) (info : TimeInfo) (after : Meter) : Type 0 where
   pub accepted : IsSome (accepted_times kept info)
   pub none_queued : queued ≡ []
   pub goes_on : active ≡ true → IsUsedUp after queued (known_after kept (known.Reports info))
 
-used_up : (meter after : Meter) (kept : Known) (now : ℕ) (active : Bool) (info : TimeInfo) (answer : ℕ) (new : Elapsed) (plan : Rates)
+used_up : (meter after : Meter) (kept : CallFacts) (now : ℕ) (active : Bool) (info : TimeInfo) (answer : ℕ) (new : Elapsed) (plan : Rates)
     → meter.answered ≡ Some answer → new ≡ times_at answer meter.switched now → kept.plan ≡ Some plan → kept.forfeited ≡ false → kept.granted ≤ 864000
     → meter.granted ≤ kept.granted → (meter.awaited ≡ true → is_some plan.after ≡ true) → times_read kept.times info ≡ Some new
     → new.before + new.after ≡ now - answer → Reports meter now active info after → active ≡ true → now ≡ answer + meter.granted
@@ -191,7 +191,7 @@ used_up meter after kept now active info answer new plan answered new_is is_plan
       all = rw (times, total, reports.later.same_granted) (omega (arith, whole));
     }
 
-pub every_report_settles : (meter after : Meter) (queued : List Paid) (kept : Known) (now : ℕ) (active : Bool) (info : TimeInfo)
+pub every_report_settles : (meter after : Meter) (queued : List Paid) (kept : CallFacts) (now : ℕ) (active : Bool) (info : TimeInfo)
     → IsCovered meter queued kept → Reports meter now active info after → Settles meter queued kept active info after
 every_report_settles meter after queued kept now active info covered reports =
     let answer : ℕ = reports.answer in

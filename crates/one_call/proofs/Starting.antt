@@ -1,10 +1,10 @@
 -- A gsmSSF that is started, and the first ask of the service.
 use Rattle.std.proofs.Common.{◌≡◌, ℕ, Option, Some, None, List, [], ◌∷◌, refl, sym, subst, ◌∙◌}
 use Rattle.std.specs.Prelude.{is_some}
-use Rattle.account_core.specs.Known.{Known, nothing_known}
+use Rattle.account_core.specs.Known.{CallFacts, nothing_known}
 use Rattle.cap_values.specs.declared.message.SsfMsg.TheVariants as msg
 use Rattle.dialogue_core.specs.Phases.{Phase, Says}
-use Rattle.dialogue_core.specs.Table.{begun, seconds_to}
+use Rattle.dialogue_core.specs.Table.{on_begin, seconds_to}
 use Rattle.ssf_core.specs.Calls.{Stands, View}
 use Rattle.ssf_core.specs.Meters.{Later, Meter, Metered, RunsThrough, Sends, meter_of}
 use Rattle.ssf_core.specs.declared.item.Item.{Item}
@@ -47,8 +47,8 @@ seconds_if now None = refl
 seconds_if now (Some at) = refl
 
 -- the service's first turn fits a gsmSSF that took no period, and a port to which the call is new
-pub begun_ready : (call now wanted least : ℕ) (route : Option Route) (meter : Meter) (standing : Option Known) (phase : Phase) (said : Says)
-    → begun call now wanted least route ≡ (said, phase) → standing ≡ Some nothing_known → IsUnpaid meter → IsReady call meter [] standing phase said
+pub begun_ready : (call now wanted least : ℕ) (route : Option Route) (meter : Meter) (standing : Option CallFacts) (phase : Phase) (said : Says)
+    → on_begin call now wanted least route ≡ (said, phase) → standing ≡ Some nothing_known → IsUnpaid meter → IsReady call meter [] standing phase said
 begun_ready call now wanted least None meter standing phase said is new unpaid =
     let P : (Says × Phase) → Type 0 = λ p. IsReady call meter [] standing p.1 p.0 in
     subst P is (record { kept = nothing_known; stands = new; fits = tt })

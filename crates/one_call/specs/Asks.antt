@@ -1,12 +1,12 @@
 -- The asks of the service, and the answers of the port to them.
 use Rattle.std.specs.Prelude.{◌≡◌, ℕ, suc, Option, Result, Ok, Err, IfSome}
 use Rattle.account_core.specs.Asked.{Asked}
-use Rattle.account_core.specs.Known.{Known}
+use Rattle.account_core.specs.Known.{CallFacts}
 use Rattle.account_core.specs.Standing.{Moves}
 use Rattle.account_core.specs.declared.entry.Reply.{Reply}
 use Rattle.account_core.specs.declared.fault.AccountFault.{AccountFault}
 use Rattle.dialogue_core.specs.Phases.{Phase, Says, Settling, MoreAsk, Asks, Finished}
-use Rattle.dialogue_core.specs.Table.{Step, replied, unanswered}
+use Rattle.dialogue_core.specs.Table.{Step, on_reply, on_refusal}
 use Rattle.one_call.specs.Tallies.{with_answer}
 use Rattle.one_call.specs.declared.tally.Tally.{Tally}
 
@@ -17,11 +17,11 @@ or_done phase (Err fault) = (Finished, phase)
 
 -- what the dialogue says to an answer of the port, a reply or a refusal, and its phase then
 abbrev pub after_answer : Phase → Result Reply AccountFault → Says × Phase
-after_answer phase (Ok reply) = or_done phase (replied phase reply)
-after_answer phase (Err fault) = or_done phase (unanswered phase)
+after_answer phase (Ok reply) = or_done phase (on_reply phase reply)
+after_answer phase (Err fault) = or_done phase (on_refusal phase)
 
 -- the port was asked once: it moved what it keeps of each call, its answer was counted, and the dialogue went on by it
-pub record IsAsked (before after : ℕ → Option Known) (asked : Asked) (old new : Tally) (from to : Phase) (said : Says) : Type 0 where
+pub record IsAsked (before after : ℕ → Option CallFacts) (asked : Asked) (old new : Tally) (from to : Phase) (said : Says) : Type 0 where
   pub answer : Result Reply AccountFault
   pub moves : (call : ℕ) → IfSome (before call) (λ kept. Moves call kept asked answer (after call))
   pub counts : new ≡ with_answer old answer

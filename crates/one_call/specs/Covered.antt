@@ -3,7 +3,7 @@
 use Rattle.std.specs.Prelude.{◌≡◌, ◌+◌, ◌-◌, ◌≤◌, ◌⊎◌, ◌++◌, ℕ, Bool, true, false, Option, Some, None, IsSome, List, [], ◌∷◌, is_some, nat_le, if◌then◌else◌}
 use Rattle.account_core.specs.Answers.{accepted_times}
 use Rattle.account_core.specs.Asked.{Asked, Reserves, Settles, Returns}
-use Rattle.account_core.specs.Known.{Known, Reports, known_after, nothing_known}
+use Rattle.account_core.specs.Known.{CallFacts, Reports, known_after, nothing_known}
 use Rattle.cap_values.specs.Orders.{Paid, paid_by}
 use Rattle.dialogue_core.specs.Phases.{Conditions, Phase, Says, FirstAsk, Running, Settling, MoreAsk, Returning, Asks, Sends, Finished}
 use Rattle.ssf_core.specs.Meters.{Meter}
@@ -42,7 +42,7 @@ pub record IsTold (meter : Meter) (times : Elapsed) : Type 0 where
   pub later_switch : (s : ℕ) → switch ≡ None → meter.switched ≡ Some s → moment ≤ s
 
 -- the periods that the gsmSSF took and those queued are within what the port granted, and its times agree with the call
-pub record IsCovered (meter : Meter) (queued : List Paid) (kept : Known) : Type 0 where
+pub record IsCovered (meter : Meter) (queued : List Paid) (kept : CallFacts) : Type 0 where
   pub plan : Rates
   pub is_plan : kept.plan ≡ Some plan
   pub covers : meter.granted + units_in queued ≤ kept.granted
@@ -53,14 +53,14 @@ pub record IsCovered (meter : Meter) (queued : List Paid) (kept : Known) : Type 
   pub unforfeited : kept.forfeited ≡ false
 
 -- all that was granted was talked, and nothing is queued
-pub record IsUsedUp (meter : Meter) (queued : List Paid) (kept : Known) : Type 0 where
+pub record IsUsedUp (meter : Meter) (queued : List Paid) (kept : CallFacts) : Type 0 where
   pub covered : IsCovered meter queued kept
   pub none_queued : queued ≡ []
   pub none_pending : meter.pending ≡ false
   pub all : kept.times.before + kept.times.after ≡ meter.granted
 
 -- the first time was asked for: nothing was granted, taken or queued
-pub record IsFresh (call : ℕ) (meter : Meter) (queued : List Paid) (kept : Known) (t : Conditions) (plan : Rates) (of : ℕ) : Type 0 where
+pub record IsFresh (call : ℕ) (meter : Meter) (queued : List Paid) (kept : CallFacts) (t : Conditions) (plan : Rates) (of : ℕ) : Type 0 where
   pub ours : of ≡ call
   pub its_call : t.call ≡ call
   pub its_plan : plan ≡ t.plan
@@ -72,20 +72,20 @@ pub record IsFresh (call : ℕ) (meter : Meter) (queued : List Paid) (kept : Kno
   pub rated : is_some t.switch ≡ true → is_some t.plan.after ≡ true
 
 -- a report is settled: it is accepted, and where the call goes on all that was granted was talked
-pub record IsSettled (call : ℕ) (meter : Meter) (queued : List Paid) (kept : Known) (t : Conditions) (active : Bool) (of : ℕ) (info : TimeInfo) : Type 0 where
+pub record IsSettled (call : ℕ) (meter : Meter) (queued : List Paid) (kept : CallFacts) (t : Conditions) (active : Bool) (of : ℕ) (info : TimeInfo) : Type 0 where
   pub ours : of ≡ call
   pub its_call : t.call ≡ call
   pub accepted : IsSome (accepted_times kept info)
   pub goes_on : active ≡ true → IsUsedUp meter queued (known_after kept (Reports info))
 
 -- more time is asked for
-pub record IsMore (call : ℕ) (meter : Meter) (queued : List Paid) (kept : Known) (t : Conditions) (of : ℕ) : Type 0 where
+pub record IsMore (call : ℕ) (meter : Meter) (queued : List Paid) (kept : CallFacts) (t : Conditions) (of : ℕ) : Type 0 where
   pub ours : of ≡ call
   pub its_call : t.call ≡ call
   pub used_up : IsUsedUp meter queued kept
 
 -- the port is asked this, in this phase
-abbrev pub IsAsking : ℕ → Meter → List Paid → Known → Phase → Asked → Type 0
+abbrev pub IsAsking : ℕ → Meter → List Paid → CallFacts → Phase → Asked → Type 0
 IsAsking call meter queued kept (FirstAsk t) (Reserves of plan wanted least moment) = IsFresh call meter queued kept t plan of
 IsAsking call meter queued kept (Settling t active since) (Settles of number info) = IsSettled call meter queued kept t active of info
 IsAsking call meter queued kept (MoreAsk t) (Reserves of plan wanted least moment) = IsMore call meter queued kept t of
@@ -93,22 +93,22 @@ IsAsking call meter queued kept (Returning after) (Returns of) = of ≡ call
 IsAsking call meter queued kept phase asked = ⊥
 
 -- nothing is asked. A call that was granted time is covered; no other is settled any more
-abbrev pub IsResting : ℕ → Meter → List Paid → Known → Phase → Type 0
+abbrev pub IsResting : ℕ → Meter → List Paid → CallFacts → Phase → Type 0
 IsResting call meter queued kept (Running t) = (t.call ≡ call) × IsCovered meter queued kept
 IsResting call meter queued kept phase = Unit {0}
 
 -- what was said fits: the orders that are sent are queued
-abbrev pub Fits : ℕ → Meter → List Paid → Known → Phase → Says → Type 0
+abbrev pub Fits : ℕ → Meter → List Paid → CallFacts → Phase → Says → Type 0
 Fits call meter queued kept phase (Asks asked) = IsAsking call meter queued kept phase asked
 Fits call meter queued kept phase (Sends orders) = IsResting call meter (queued ++ paid_by orders) kept phase
 Fits call meter queued kept phase Finished = IsResting call meter queued kept phase
 
 -- the port keeps something of the call, and what was said fits it
-pub record IsReady (call : ℕ) (meter : Meter) (queued : List Paid) (standing : Option Known) (phase : Phase) (said : Says) : Type 0 where
-  pub kept : Known
+pub record IsReady (call : ℕ) (meter : Meter) (queued : List Paid) (standing : Option CallFacts) (phase : Phase) (said : Says) : Type 0 where
+  pub kept : CallFacts
   pub stands : standing ≡ Some kept
   pub fits : Fits call meter queued kept phase said
 
 -- the same while nothing is asked
-abbrev pub IsAtRest : ℕ → Meter → List Paid → Option Known → Phase → Type 0
+abbrev pub IsAtRest : ℕ → Meter → List Paid → Option CallFacts → Phase → Type 0
 IsAtRest call meter queued standing phase = IsReady call meter queued standing phase Finished

@@ -3,7 +3,7 @@ use Rattle.std.proofs.Common.{◌≡◌, ◌<◌, ℕ, zero, suc, length, arith,
 use Rattle.std.specs.Prelude.{◌≢◌, IfErr, IfOk, OnErr, OnOk}
 use Rattle.std.proofs.lemmas.List.{reverse-append}
 use Rattle.account_core.specs.Asked.{Asked}
-use Rattle.account_core.specs.Events.{Event}
+use Rattle.account_core.specs.Events.{EntryData}
 use Rattle.account_core.specs.Ledger.{IsRefusal, Ledger, answer_of, event_by, refusal_of}
 use Rattle.account_core.specs.declared.entry.Reply.{Reply}
 use Rattle.account_core.specs.declared.fault.AccountFault.{AccountFault}
@@ -27,17 +27,17 @@ has_operation (suc (suc (suc header))) fields one wide = absurd (omega (arith, o
 -- ---- one more ask
 
 -- the history after some asks, newest first
-unfoldable pub history_of : ℕ → Option ℕ → ℕ → List Event → List Asking → List Event
+unfoldable pub history_of : ℕ → Option ℕ → ℕ → List EntryData → List Asking → List EntryData
 history_of opening until limit h [] = h
 history_of opening until limit h (ask ∷ asks) = history_of opening until limit (history_after opening until limit h ask) asks
 
-pub history_more : (opening : ℕ) (until : Option ℕ) (limit : ℕ) (h : List Event) (asks : List Asking) (ask : Asking)
+pub history_more : (opening : ℕ) (until : Option ℕ) (limit : ℕ) (h : List EntryData) (asks : List Asking) (ask : Asking)
     → history_of opening until limit h (asks ++ ask ∷ []) ≡ history_after opening until limit (history_of opening until limit h asks) ask
 unfolding history_of
 history_more opening until limit h [] ask = refl
 history_more opening until limit h (first ∷ asks) ask = history_more opening until limit (history_after opening until limit h first) asks ask
 
-pub lines_more : (opening : ℕ) (until : Option ℕ) (limit : ℕ) (h : List Event) (asks : List Asking) (ask : Asking)
+pub lines_more : (opening : ℕ) (until : Option ℕ) (limit : ℕ) (h : List EntryData) (asks : List Asking) (ask : Asking)
     → replay_lines opening until limit h (asks ++ ask ∷ []) ≡ replay_lines opening until limit h asks ++ line_of_ask opening until limit (history_of opening until limit h asks) ask
 unfolding history_of replay_lines
 lines_more opening until limit h [] ask = append-nil (line_of_ask opening until limit h ask)

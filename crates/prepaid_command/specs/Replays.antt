@@ -1,7 +1,7 @@
 -- What `replay` makes of an ops table: the answers of a sequential account to its rows, in order.
 use Rattle.std.specs.Prelude.{ℕ, Option, Some, None, List, [], ◌∷◌, ◌++◌, Result, Ok}
 use Rattle.account_core.specs.Answers.{answer}
-use Rattle.account_core.specs.Events.{Event}
+use Rattle.account_core.specs.Events.{EntryData}
 use Rattle.account_core.specs.Places.{refusal}
 use Rattle.account_core.specs.declared.entry.Reply.{Reply}
 use Rattle.account_core.specs.declared.fault.AccountFault.{AccountFault}
@@ -16,26 +16,26 @@ line_by (Some why) reply = refused_line why
 line_by None reply = reply_line reply
 
 -- the history after an operation, newest first: a refused one makes no entry
-abbrev pub history_by : Option AccountFault → Event → List Event → List Event
+abbrev pub history_by : Option AccountFault → EntryData → List EntryData → List EntryData
 history_by (Some why) event h = h
 history_by None event h = event ∷ h
 
 -- the line of an operation after a history
-abbrev pub line_of_ask : ℕ → Option ℕ → ℕ → List Event → Asking → List ℕ
+abbrev pub line_of_ask : ℕ → Option ℕ → ℕ → List EntryData → Asking → List ℕ
 line_of_ask opening until limit h ask = line_by (refusal limit h ask.asked) (answer opening until h ask.asked)
 
 -- the history after an operation
-abbrev pub history_after : ℕ → Option ℕ → ℕ → List Event → Asking → List Event
+abbrev pub history_after : ℕ → Option ℕ → ℕ → List EntryData → Asking → List EntryData
 history_after opening until limit h ask =
     history_by (refusal limit h ask.asked) (record { seat = ask.seat; asked = ask.asked; reply = answer opening until h ask.asked }) h
 
 -- the lines of what is asked, from a history on
-unfoldable pub replay_lines : ℕ → Option ℕ → ℕ → List Event → List Asking → List ℕ
+unfoldable pub replay_lines : ℕ → Option ℕ → ℕ → List EntryData → List Asking → List ℕ
 replay_lines opening until limit h [] = []
 replay_lines opening until limit h (ask ∷ asks) = line_of_ask opening until limit h ask ++ replay_lines opening until limit (history_after opening until limit h ask) asks
 
 -- the same, where there are no faults before the lines
-abbrev pub lines_of : ℕ → Option ℕ → ℕ → List Event → Result (List Asking) RowFault → Result (List ℕ) RowFault
+abbrev pub lines_of : ℕ → Option ℕ → ℕ → List EntryData → Result (List Asking) RowFault → Result (List ℕ) RowFault
 lines_of opening until limit h asks = after asks (λ asked. Ok (replay_lines opening until limit h asked))
 
 -- the lines of a table, to an account without a last moment

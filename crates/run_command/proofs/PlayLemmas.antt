@@ -2,8 +2,8 @@
 use Rattle.std.proofs.Common.{◌≡◌, ℕ, true, List, [], ◌++◌, map, refl, sym, ◌∙◌, ap, subst}
 use Rattle.std.proofs.lemmas.List.{append-nil}
 use Rattle.run_command.specs.Plays.{IsAskedFor, IsGivenBy, IsPlayOf}
-use Rattle.run_options.specs.declared.ask.RunAsk.{RunAsk}
-use Rattle.run_texts.specs.Views.{event_of}
+use Rattle.run_options.specs.declared.run_ask.RunAsk.{RunAsk}
+use Rattle.run_texts.specs.Views.{script_event}
 use Rattle.run_texts.specs.declared.script_row.ScriptRow.{ScriptRow}
 use Rattle.script_player.specs.Plays.{IsPlayed, Play}
 use Rattle.script_player.specs.Posts.{Begins, items_of, opening_of, recharges_in, recharges_of}
@@ -24,7 +24,7 @@ play_of config delay taken left rows given play none all reached lives ended giv
 
 -- the plan of a player is the same after a run as before it: the configuration and the delay that were asked for, and the rows of the script
 pub given_by : (ask : RunAsk) (config other : SsfConfig) (delay : ℕ) (rows taken left : List ScriptRow) (given : List (ℕ × Body)) → IsAskedFor ask config
-    → other ≡ config → delay ≡ ask.delay → taken ++ left ≡ rows → ((all : List ScriptRow) → taken ++ left ≡ all → IsPlayOf other delay all given) → IsGivenBy ask (map event_of rows) given
+    → other ≡ config → delay ≡ ask.delay → taken ++ left ≡ rows → ((all : List ScriptRow) → taken ++ left ≡ all → IsPlayOf other delay all given) → IsGivenBy ask (map script_event rows) given
 given_by ask config other delay rows taken left given asked_for same after all plays =
     let Asked : SsfConfig → Type 0 = λ c. IsAskedFor ask c in
     let Plays : ℕ → Type 0 = λ d. IsPlayOf other d rows given in

@@ -5,7 +5,7 @@ use Rattle.book_texts.specs.BookTexts.{book_text}
 use Rattle.book_texts.specs.RunTexts.{IsRunText}
 use Rattle.run_command.specs.Books.{AreBooksOf}
 use Rattle.run_command.specs.Plays.{IsGivenBy}
-use Rattle.run_options.specs.declared.ask.RunAsk.{RunAsk}
+use Rattle.run_options.specs.declared.run_ask.RunAsk.{RunAsk}
 use Rattle.run_texts.specs.InputFaults.{Refuses}
 use Rattle.run_texts.specs.Inputs.{RunInput, input_of}
 use Rattle.run_command.specs.declared.error.RunError.{RunError}

@@ -4,7 +4,7 @@ use Rattle.account_core.specs.Answers.{IsLegal}
 use Rattle.account_core.specs.declared.fault.AccountFault.{AccountFault}
 use Rattle.account_core.specs.declared.limits.TheConstants.{MAX_LIMIT}
 use Rattle.run_texts.specs.Inputs.{RunInput}
-use Rattle.run_options.specs.declared.ask.RunAsk.{RunAsk}
+use Rattle.run_options.specs.declared.run_ask.RunAsk.{RunAsk}
 use Rattle.run_texts.specs.Views.{with_digits}
 use Rattle.runs_core.specs.Closing.{AreServedBy, AreWorked, terms_shown}
 use Rattle.runs_core.specs.Shares.{HaveHandled}

@@ -1,8 +1,8 @@
 -- What the workers of a run are given: what a script says, and what the gsmSSFs of its calls send.
 use Rattle.std.specs.Prelude.{◌≡◌, ℕ, true, List, map}
-use Rattle.run_options.specs.declared.ask.RunAsk.{RunAsk}
-use Rattle.run_texts.specs.Happenings.{Event}
-use Rattle.run_texts.specs.Views.{event_of}
+use Rattle.run_options.specs.declared.run_ask.RunAsk.{RunAsk}
+use Rattle.run_texts.specs.Happenings.{ScriptEvent}
+use Rattle.run_texts.specs.Views.{script_event}
 use Rattle.run_texts.specs.declared.script_row.ScriptRow.{ScriptRow}
 use Rattle.script_player.specs.Plays.{IsPlayed, Play}
 use Rattle.script_player.specs.Posts.{Begins, items_of, opening_of, recharges_in, recharges_of}
@@ -32,9 +32,9 @@ pub record IsAskedFor (ask : RunAsk) (config : SsfConfig) : Type 0 where
   pub default_handling : config.default_handling ≡ ask.default_handling
 
 -- the play of a script as it was asked for
-pub record IsGivenBy (ask : RunAsk) (script : List Event) (given : List (ℕ × Body)) : Type 0 where
+pub record IsGivenBy (ask : RunAsk) (script : List ScriptEvent) (given : List (ℕ × Body)) : Type 0 where
   pub config : SsfConfig
   pub asked_for : IsAskedFor ask config
   pub rows : List ScriptRow
-  pub says : map event_of rows ≡ script
+  pub says : map script_event rows ≡ script
   pub play : IsPlayOf config ask.delay rows given

@@ -7,7 +7,7 @@ ghost use Rattle.run_options.specs.Options.{ask_of};
 ghost use Rattle.run_command.specs.Plays.{IsGivenBy, IsPlayOf};
 ghost use Rattle.run_texts.specs.Inputs.{input_in};
 ghost use Rattle.runs_core.specs.Teams.{are_workers};
-ghost use Rattle.run_texts.specs.Views.{are_in_order, event_of};
+ghost use Rattle.run_texts.specs.Views.{are_in_order, script_event};
 ghost use Rattle.run_texts.specs.declared.script_row.ScriptRow.{ScriptRow};
 ghost use Rattle.run_values.specs.Setups.{IsWithin};
 ghost use Rattle.run_values.specs.declared.post.Body.{Body};
@@ -37,7 +37,7 @@ pub(crate) fn play<R: Wait + Threads + Sync>(
     requires in_order { are_in_order 0 texts.script.items ≡ true }
     ensures workers { IfOk result (λ _. are_workers options.now.workers ≡ true) }
     ensures books { IfOk result (λ books. (given : List (ℕ × Body))
-        × IsGivenBy (ask_of options.now) (map event_of texts.script.items) given
+        × IsGivenBy (ask_of options.now) (map script_event texts.script.items) given
         × AreBooksOf (ask_of options.now) (input_in texts) given books.items) }
     ensures fault { IfErr result (MayFail options.now.workers) }
 {

@@ -1,8 +1,8 @@
 //! The options of the command `run`: what it is asked for, in any numbers, and those in range.
 #![tactic(auto)]
 
-mod ask;
+mod run_ask;
 mod options;
 
-pub use ask::RunAsk;
+pub use run_ask::RunAsk;
 pub use options::RunOptions;

@@ -10,7 +10,7 @@ use Rattle.table_core.specs.Tables.{TableForm, table_form, table_of}
 use Rattle.table_core.specs.declared.fault.RowFault.{RowFault}
 use Rattle.table_core.specs.declared.fault.RowKind.{RowKind}
 use Rattle.table_core.specs.declared.fault.RowKind.TheVariants as kind
-use Rattle.run_texts.specs.Happenings.{Event, Happens, Meets, Recharges, Starts}
+use Rattle.run_texts.specs.Happenings.{ScriptEvent, Happens, Meets, Recharges, Starts}
 use Rattle.run_texts.specs.Setups.{account_in, amount_in, party_in, until_in}
 use Rattle.run_texts.specs.declared.word.Word.{Word}
 use Rattle.run_texts.specs.declared.word.Word.TheVariants as word
@@ -72,17 +72,17 @@ happens_in fields word.Disconnect = disconnect_in fields
 happens_in fields word.Recharge = recharge_in fields
 
 -- what happens in a row, and its moment of 0 to 10^12
-abbrev pub read_in : List (List ℕ) → Result Event RowKind
+abbrev pub read_in : List (List ℕ) → Result ScriptEvent RowKind
 read_in fields = after (word_in fields) (λ word. after (number_in fields 0 LAST_MOMENT) (λ at. after (happens_in fields word) (λ what. Ok (record { at = at; what = what }))))
 
 -- ---- rows; the earlier ones newest first
 
 -- the rows from the first on
-abbrev pub first_to_last : {E : Type 0} → Result (List Event) E → Result (List Event) E
+abbrev pub first_to_last : {E : Type 0} → Result (List ScriptEvent) E → Result (List ScriptEvent) E
 first_to_last events = after events (λ newest_first. Ok (reverse newest_first))
 
 -- the moment of the row before, 0 at the first
-abbrev pub last_moment : List Event → ℕ
+abbrev pub last_moment : List ScriptEvent → ℕ
 last_moment [] = 0
 last_moment (event ∷ earlier) = event.at
 
@@ -93,22 +93,22 @@ starts call (Meets other event) = false
 starts call (Recharges account amount until) = false
 
 -- whether a call has started
-abbrev pub is_started : ℕ → List Event → Bool
+abbrev pub is_started : ℕ → List ScriptEvent → Bool
 is_started call [] = false
 is_started call (event ∷ earlier) = is_started call earlier || starts call event.what
 
 -- a call starts once; only a call that has started meets anything, and only an account of the setup is recharged
-abbrev pub judged_by : List (ℕ × OpeningCredit) → List Event → Event → Happens → Result Event RowKind
+abbrev pub judged_by : List (ℕ × OpeningCredit) → List ScriptEvent → ScriptEvent → Happens → Result ScriptEvent RowKind
 judged_by accounts earlier event (Starts call calling called) = if is_started call earlier then Err kind.Repeated else Ok event
 judged_by accounts earlier event (Meets call met) = if is_started call earlier then Ok event else Err kind.Unknown
 judged_by accounts earlier event (Recharges account amount until) = if has_account account accounts then Ok event else Err kind.Unknown
 
 -- a row may stand after the earlier ones; no moment lies below the one before
-abbrev pub judged : List (ℕ × OpeningCredit) → List Event → Event → Result Event RowKind
+abbrev pub judged : List (ℕ × OpeningCredit) → List ScriptEvent → ScriptEvent → Result ScriptEvent RowKind
 judged accounts earlier event = if nat_lt event.at (last_moment earlier) then Err kind.Order else judged_by accounts earlier event event.what
 
 -- what a row says, after the earlier rows
-unfoldable pub row_at : List (ℕ × OpeningCredit) → List Event → List (List ℕ) → Result Event RowKind
+unfoldable pub row_at : List (ℕ × OpeningCredit) → List ScriptEvent → List (List ℕ) → Result ScriptEvent RowKind
 row_at accounts earlier fields = after (read_in fields) (judged accounts earlier)
 
 -- the headers of a script, the older one first
@@ -118,11 +118,11 @@ script_headers =
     ∷ (codes "moment" ∷ codes "call" ∷ codes "what" ∷ codes "x" ∷ codes "y" ∷ codes "z" ∷ []) ∷ []
 
 -- one of these headers, and 1,000,000 rows at most; each says what happens after the earlier ones
-abbrev pub script_form : List (ℕ × OpeningCredit) → TableForm (List Event) RowKind RowFault
+abbrev pub script_form : List (ℕ × OpeningCredit) → TableForm (List ScriptEvent) RowKind RowFault
 script_form accounts =
     table_form script_headers 1000000 []
     (λ header earlier fields. after (row_at accounts earlier fields) (λ event. Ok (event ∷ earlier)))
 
 -- what a script says, where these are the accounts of the setup
-abbrev pub script_of : List (ℕ × OpeningCredit) → List (List (List ℕ)) → Result (List Event) RowFault
+abbrev pub script_of : List (ℕ × OpeningCredit) → List (List (List ℕ)) → Result (List ScriptEvent) RowFault
 script_of accounts rows = first_to_last (table_of (script_form accounts) rows)

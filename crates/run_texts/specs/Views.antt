@@ -2,7 +2,7 @@
 use Rattle.std.specs.Prelude.{◌&&◌, ℕ, Bool, true, List, [], ◌∷◌, map, nat_le}
 use Rattle.cap_values.specs.NumberDigits.{digits_of}
 use Rattle.cap_values.specs.declared.number.Number.{Number}
-use Rattle.run_texts.specs.Happenings.{Event, Happens, Meets, Recharges, Starts}
+use Rattle.run_texts.specs.Happenings.{ScriptEvent, Happens, Meets, Recharges, Starts}
 use Rattle.run_texts.specs.Parts.{Texts}
 use Rattle.run_texts.specs.Setups.{Setup}
 use Rattle.run_texts.specs.declared.parts.Parts.{Parts}
@@ -30,8 +30,8 @@ happens_of (happening.Meets call event) = Meets call event
 happens_of (happening.Recharge account amount until) = Recharges account amount until
 
 -- what a row of a script says
-abbrev pub event_of : ScriptRow → Event
-event_of row = record { at = row.at; what = happens_of row.what }
+abbrev pub script_event : ScriptRow → ScriptEvent
+script_event row = record { at = row.at; what = happens_of row.what }
 
 -- no moment lies below the one before it, nor the first one below the start
 abbrev pub are_in_order : ℕ → List ScriptRow → Bool

@@ -4,7 +4,7 @@ ghost use Rattle.std.specs.Prelude.{◌≡◌, ◌≤◌, IfOk, length};
 ghost use Rattle.std.specs.Result.{result_map_both};
 ghost use Rattle.csv.specs.Records.{fields_of};
 ghost use Rattle.run_texts.specs.Scripts.{call_in, disconnect_in, event_in, happens_in, leg_of, read_in, recharge_in, start_in, when_blank};
-ghost use Rattle.run_texts.specs.Views.{event_of, happens_of};
+ghost use Rattle.run_texts.specs.Views.{script_event, happens_of};
 
 use crate::fields::{account, amount, is_left_out, party, until};
 use crate::word::{Word, read_word};
@@ -18,7 +18,7 @@ use tariff_core::LAST_MOMENT;
 /// What a row says, wherever it stands: of five fields, or of six under the second header.
 pub(crate) fn read_row(row: &ByteRecord) -> Result<ScriptRow, RowKind>
     requires { 5 ≤ length (fields_of row.now) }
-    ensures says { result_map_both event_of (λ kind. kind) result ≡ read_in (fields_of row.now) }
+    ensures says { result_map_both script_event (λ kind. kind) result ≡ read_in (fields_of row.now) }
     ensures in_range { IfOk result (λ row. row.at ≤ LAST_MOMENT) }
 {
     let word = read_word(row)?;

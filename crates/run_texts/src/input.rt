@@ -6,7 +6,7 @@ ghost use Rattle.run_texts.specs.Inputs.{input_in, input_of, tariff_in, told};
 ghost use Rattle.run_texts.specs.declared.input_fault.InputFault.TheVariants as out;
 ghost use Rattle.run_texts.specs.Scripts.{script_of};
 ghost use Rattle.run_texts.specs.Setups.{setup_of};
-ghost use Rattle.run_texts.specs.Views.{are_in_order, event_of, setup_in};
+ghost use Rattle.run_texts.specs.Views.{are_in_order, script_event, setup_in};
 ghost use Rattle.table_core.specs.Rows.{rows_of};
 ghost use Rattle.run_values.specs.Setups.{IsWithin};
 
@@ -74,7 +74,7 @@ fn read_script(
     directory: &Directory,
     text: &[u8],
 ) -> Result<Vec<ScriptRow>, InputFault>
-    ensures means { Gives (λ rows. map event_of rows.items) result
+    ensures means { Gives (λ rows. map script_event rows.items) result
         (told out.Script (script_of directory.now.accounts (rows_of text.now))) }
     ensures in_range { IfOk result (λ rows. All (λ row. row.at ≤ LAST_MOMENT) rows.items) }
     ensures in_order { IfOk result (λ rows. are_in_order 0 rows.items ≡ true) }

@@ -7,7 +7,7 @@ ghost use Rattle.table_core.specs.Faults.{Gives};
 ghost use Rattle.table_core.specs.Rows.{rows_of};
 ghost use Rattle.run_texts.specs.Scripts.{judged_by, last_moment, row_at, script_of};
 ghost use Rattle.run_texts.specs.Starts.{HasCalls, Notes};
-ghost use Rattle.run_texts.specs.Views.{are_in_order, event_of, happens_of};
+ghost use Rattle.run_texts.specs.Views.{are_in_order, script_event, happens_of};
 
 use crate::happenings::read_row;
 use crate::{Happening, ScriptRow};
@@ -42,7 +42,7 @@ pub fn read_script<I: Read + Drop>(
     reader: I,
 ) -> Result<Vec<ScriptRow>, TableFault>
     ensures means { IfSome (I.remaining reader) (λ text.
-        Gives (λ rows. map event_of rows.items) result
+        Gives (λ rows. map script_event rows.items) result
         (script_of directory.now.accounts (rows_of text))) }
     ensures in_range { IfOk result (λ rows. All (λ row. row.at ≤ LAST_MOMENT) rows.items) }
     ensures in_order { IfOk result (λ rows. are_in_order 0 rows.items ≡ true) }
@@ -78,7 +78,7 @@ fn judge(
 ) -> Result<ScriptRow, RowKind>
     requires { 5 ≤ length (fields_of row.now) }
     ensures says { (earlier : _) → HasCalls calls.now earlier → last ≡ last_moment earlier
-        → result_map_both event_of (λ kind. kind) result
+        → result_map_both script_event (λ kind. kind) result
         ≡ row_at directory.now.accounts earlier (fields_of row.now) }
     ensures in_range { IfOk result (λ row. row.at ≤ LAST_MOMENT) }
     ensures in_order { IfOk result (λ row. last ≤ row.at) }

@@ -4,7 +4,7 @@ use Rattle.std.specs.Map.{keys_of}
 use Rattle.std.proofs.lemmas.List.{append-nil, append_assoc, map-append}
 use Rattle.workers_core.proofs.Chaining.{more_after}
 use Rattle.workers_core.specs.Chains.{AreAnswered, at_first, refusals_in, seat_numbers}
-use Rattle.workers_core.specs.Handled.{Told, told_of}
+use Rattle.workers_core.specs.Handled.{AnswerView, answer_view}
 use Rattle.run_values.specs.declared.answer.Answer.{Answer}
 use Rattle.workers_core.specs.Served.{AreServed}
 use Rattle.run_values.specs.Setups.{Setup}
@@ -29,7 +29,7 @@ goes_none account_number key read desk ready = record {
 }
 
 -- one after the other
-pub goes_more : {K S T : Type 0} (account_number : S → ℕ) (key : S → K) (read : Reads K T) (old : Desk S T) (posts later : List Post) (answers told : List Told) (between new : Desk S T)
+pub goes_more : {K S T : Type 0} (account_number : S → ℕ) (key : S → K) (read : Reads K T) (old : Desk S T) (posts later : List Post) (answers told : List AnswerView) (between new : Desk S T)
     → GoesOn account_number key read old posts answers between → GoesOn account_number key read between later told new
     → GoesOn account_number key read old (posts ++ later) (answers ++ told) new
 goes_more account_number key read old posts later answers told between new first then_on =
@@ -44,11 +44,11 @@ goes_more account_number key read old posts later answers told between new first
       answered = more_after (setup_of old.worker) (map read.number (seats_of old.worker)) posts later answers told (holding read.mine old.worker) (holding read.mine between.worker) (holding read.mine new.worker)
           first.answered (subst (λ ns. Its (setup_of old.worker) ns) first.same_numbers (subst (λ s. Its s (map read.number (seats_of between.worker))) first.same_setup then_on.answered));
       refused = then_on.refused ∙ ap (λ rs. rs ++ refusals_in told) first.refused ∙ append_assoc old.refusals.items (refusals_in answers) (refusals_in told)
-          ∙ ap (λ rs. old.refusals.items ++ rs) (sym (map-append (λ (t : Told). t.refused) answers told));
+          ∙ ap (λ rs. old.refusals.items ++ rs) (sym (map-append (λ (t : AnswerView). t.refused) answers told));
     }
 
 -- from the first post on
-pub answered_more : {K S T : Type 0} (account_number : S → ℕ) (key : S → K) (read : Reads K T) (setup : Setup) (accounts : List S) (number : ℕ) (posts later now : List Post) (answers told : List Told) (old new : Desk S T)
+pub answered_more : {K S T : Type 0} (account_number : S → ℕ) (key : S → K) (read : Reads K T) (setup : Setup) (accounts : List S) (number : ℕ) (posts later now : List Post) (answers told : List AnswerView) (old new : Desk S T)
     → now ≡ posts ++ later → HasAnswered account_number key read setup accounts number posts answers old → GoesOn account_number key read old later told new
     → HasAnswered account_number key read setup accounts number now (answers ++ told) new
 answered_more account_number key read setup accounts number posts later now answers told old new is first then_on =
@@ -63,7 +63,7 @@ answered_more account_number key read setup accounts number posts later now answ
       posts_are = then_on.handled ∙ ap (λ ps. ps ++ later) first.posts_are ∙ sym is;
       answered = subst All_of (sym is) (more_after setup (seat_numbers number setup) posts later answers told (at_first setup) (holding read.mine old.worker) (holding read.mine new.worker)
           first.answered (subst (λ ns. Its setup ns) first.numbers_are (subst (λ s. Its s (map read.number (seats_of old.worker))) first.setup_is then_on.answered)));
-      refused = then_on.refused ∙ ap (λ rs. rs ++ refusals_in told) first.refused ∙ sym (map-append (λ (t : Told). t.refused) answers told);
+      refused = then_on.refused ∙ ap (λ rs. rs ++ refusals_in told) first.refused ∙ sym (map-append (λ (t : AnswerView). t.refused) answers told);
     }
 
 -- a worker with fresh seats has handled nothing
@@ -87,7 +87,7 @@ begins {T = T} account_number key read setup accounts number team desk numbered 
     }
 
 -- what it leaves
-pub left_by : {K S T : Type 0} (account_number : S → ℕ) (key : S → K) (read : Reads K T) (setup : Setup) (accounts : List S) (number : ℕ) (posts : List Post) (answers : List Told) (desk : Desk S T)
+pub left_by : {K S T : Type 0} (account_number : S → ℕ) (key : S → K) (read : Reads K T) (setup : Setup) (accounts : List S) (number : ℕ) (posts : List Post) (answers : List AnswerView) (desk : Desk S T)
     → HasAnswered account_number key read setup accounts number posts answers desk
     → IsLeft read (map key accounts) setup number (posts_of desk.worker) desk.refusals.items answers (seats_of desk.worker)
 left_by account_number key read setup accounts number posts answers desk has =
@@ -108,7 +108,7 @@ left_by account_number key read setup accounts number posts answers desk has =
 pub record AreGoing {K S T : Type 0} (account_number : S → ℕ) (key : S → K) (read : Reads K T) (old : Desk S T) (posts rest : List Post) (answers : List Answer) (now : Desk S T) : Type 0 where
   pub done : List Post
   pub split : done ++ rest ≡ posts
-  pub goes : GoesOn account_number key read old done (map told_of answers) now
+  pub goes : GoesOn account_number key read old done (map answer_view answers) now
 
 pub none_going : {K S T : Type 0} (account_number : S → ℕ) (key : S → K) (read : Reads K T) (old : Desk S T) (posts rest : List Post) (answers : List Answer) → rest ≡ posts → answers ≡ []
     → IsReady account_number key read.key read.number read.mine old.worker → AreGoing account_number key read old posts rest answers old
@@ -116,16 +116,16 @@ none_going account_number key read old posts rest answers whole none ready =
     record { done = []; split = whole; goes = rw (none) (goes_none account_number key read old ready) }
 
 pub one_going : {K S T : Type 0} (account_number : S → ℕ) (key : S → K) (read : Reads K T) (old : Desk S T) (posts : List Post) (post : Post) (rest : List Post) (answers more : List Answer) (answer : Answer) (now next : Desk S T)
-    → AreGoing account_number key read old posts (post ∷ rest) answers now → GoesOn account_number key read now (post ∷ []) (told_of answer ∷ []) next → more ≡ answers ++ answer ∷ []
+    → AreGoing account_number key read old posts (post ∷ rest) answers now → GoesOn account_number key read now (post ∷ []) (answer_view answer ∷ []) next → more ≡ answers ++ answer ∷ []
     → AreGoing account_number key read old posts rest more next
 one_going account_number key read old posts post rest answers more answer now next are then_on grown = record {
   done = are.done ++ post ∷ [];
   split = append_assoc are.done (post ∷ []) rest ∙ are.split;
-  goes = rw (grown, map-append told_of answers (answer ∷ [])) (goes_more account_number key read old are.done (post ∷ []) (map told_of answers) (told_of answer ∷ []) now next are.goes then_on);
+  goes = rw (grown, map-append answer_view answers (answer ∷ [])) (goes_more account_number key read old are.done (post ∷ []) (map answer_view answers) (answer_view answer ∷ []) now next are.goes then_on);
 }
 
 pub all_going : {K S T : Type 0} (account_number : S → ℕ) (key : S → K) (read : Reads K T) (old : Desk S T) (posts rest : List Post) (answers : List Answer) (now : Desk S T) → rest ≡ []
-    → AreGoing account_number key read old posts rest answers now → GoesOn account_number key read old posts (map told_of answers) now
+    → AreGoing account_number key read old posts rest answers now → GoesOn account_number key read old posts (map answer_view answers) now
 all_going account_number key read old posts rest answers now none are =
     let all : are.done ≡ posts = sym (append-nil are.done) ∙ ap (λ r. are.done ++ r) (sym none) ∙ are.split in
-    subst (λ ps. GoesOn account_number key read old ps (map told_of answers) now) all are.goes
+    subst (λ ps. GoesOn account_number key read old ps (map answer_view answers) now) all are.goes

@@ -2,7 +2,7 @@
 use Rattle.std.proofs.Common.{◌≡◌, ◌<◌, ◌+◌, ℕ, suc, List, [], ◌∷◌, length, map, refl, ap, sym, subst, ◌∙◌, arith}
 use Rattle.std.specs.Prelude.{IfOk, Result, Ok, Err, replicate, slice_index_or}
 use Rattle.std.proofs.lemmas.List.{get_or_append_left, get_or_push, length-append, length-map, map-append}
-use Rattle.account_core.specs.Events.{Event}
+use Rattle.account_core.specs.Events.{EntryData}
 use Rattle.shared_account.specs.Closed.{Closed}
 use Rattle.runs_core.proofs.Rows.{map_twice}
 use Rattle.runs_core.specs.Closing.{AreLeftFrom, AreListed, AreWorked, AreWorkedFrom}
@@ -103,20 +103,20 @@ teams_even read keys numbers [] are = tt
 teams_even read keys numbers (one ∷ left) are =
     (length-map one.seats.items read.mine ∙ sym (length-map one.seats.items read.key) ∙ ap length are.0.of_accounts, teams_even read keys numbers left are.1)
 
-in_books : (books : List Closed) (rows : List (List (List Event))) (worker : ℕ) (lists : List (List (List Event))) → map (λ book. book.own) books ≡ rows → AreColumns [] rows worker lists
+in_books : (books : List Closed) (rows : List (List (List EntryData))) (worker : ℕ) (lists : List (List (List EntryData))) → map (λ book. book.own) books ≡ rows → AreColumns [] rows worker lists
     → AreListed books worker lists
 in_books books rows worker [] own are = tt
 in_books books rows worker (one ∷ lists) own are =
     (map_twice (λ (book : Closed). book.own) (λ own. slice_index_or own worker []) books ∙ ap (column [] worker) own ∙ are.0, in_books books rows (worker + 1) lists own are.1)
 
 -- the lists in the books are those that the workers left
-pub listed_by : {K S T X : Type 0} (read : Reads K T) (key : X → K) (accounts : List X) (numbers : List ℕ) (left : List (Left S T)) (books : List Closed) (rows : List (List (List Event)))
+pub listed_by : {K S T X : Type 0} (read : Reads K T) (key : X → K) (accounts : List X) (numbers : List ℕ) (left : List (Left S T)) (books : List Closed) (rows : List (List (List EntryData)))
     → AreLeftFrom read (map key accounts) numbers left → map (λ book. book.own) books ≡ rows
     → rows ≡ laid (replicate (length accounts) []) (map (λ one. map read.mine one.seats.items) left) → AreListed books 0 (map (λ one. map read.mine one.seats.items) left)
 listed_by read key accounts numbers left books rows are own is =
-    let many = length-map accounts key ∙ sym (none_many (List Event) accounts) in
+    let many = length-map accounts key ∙ sym (none_many (List EntryData) accounts) in
     let long = let P : ℕ → Type 0 = λ n. AreEven n (map (λ one. map read.mine one.seats.items) left) in subst P many (teams_even read (map key accounts) numbers left are) in
-    in_books books _ 0 _ (own ∙ is) (columns_of [] 0 (replicate (length accounts) []) (map (λ one. map read.mine one.seats.items) left) (even_none (List Event) accounts) long)
+    in_books books _ 0 _ (own ∙ is) (columns_of [] 0 (replicate (length accounts) []) (map (λ one. map read.mine one.seats.items) left) (even_none (List EntryData) accounts) long)
 
 -- and so those in the books are what handling the posts of the workers comes to
 pub worked_in_books : {K S T : Type 0} (read : Reads K T) (setup : Setup) (books : List Closed) (worker : ℕ) (left : List (Left S T)) → AreWorkedFrom read setup worker left

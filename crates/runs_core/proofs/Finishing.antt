@@ -8,7 +8,7 @@ use Rattle.std.proofs.lemmas.List.{append-nil, append_assoc, length-map, map-app
 use Rattle.run_values.specs.declared.opening_credit.OpeningCredit.{OpeningCredit}
 use Rattle.workers_core.proofs.Chaining.{worked_so}
 use Rattle.workers_core.specs.Chains.{IsWorked}
-use Rattle.workers_core.specs.Handled.{Told, told_of}
+use Rattle.workers_core.specs.Handled.{AnswerView, answer_view}
 use Rattle.run_values.specs.declared.answer.Answer.{Answer}
 use Rattle.run_values.specs.Setups.{Setup}
 use Rattle.runs_core.specs.Sending.{AreLeftBy, ArePromised, IsFirstFault, IsLeftBy, IsPromised, MayBeShut, heard_by, promises_of, sent_by}
@@ -146,12 +146,12 @@ pub all_finished : {K S G T : Type 0} (read : Reads K T) (key : S → K) (may_sh
 all_finished read key may_shut lines [] left fault none finishing = sym (append-nil finishing.done) ∙ finishing.split
 all_finished read key may_shut lines (line ∷ rest) left fault none finishing = absurd (cc)
 
-pub left_as : {K S T : Type 0} (read : Reads K T) (keys : List K) (setup : Setup) (number : ℕ) (answers : List Told) (one : Left S T) → IsLeft read keys setup number one.posts.items one.refusals.items answers one.seats.items
+pub left_as : {K S T : Type 0} (read : Reads K T) (keys : List K) (setup : Setup) (number : ℕ) (answers : List AnswerView) (one : Left S T) → IsLeft read keys setup number one.posts.items one.refusals.items answers one.seats.items
     → IsLeftFrom read keys (keys_of setup.accounts) one
 left_as read keys setup number answers one is = record { of_accounts = is.of_accounts; served = is.served }
 
 -- and that is what handling its posts comes to
-pub worked_as : {K S T : Type 0} (read : Reads K T) (keys : List K) (setup : Setup) (number : ℕ) (answers : List Told) (one : Left S T) → IsLeft read keys setup number one.posts.items one.refusals.items answers one.seats.items
+pub worked_as : {K S T : Type 0} (read : Reads K T) (keys : List K) (setup : Setup) (number : ℕ) (answers : List AnswerView) (one : Left S T) → IsLeft read keys setup number one.posts.items one.refusals.items answers one.seats.items
     → IsWorked setup number one.posts.items one.refusals.items (map read.mine one.seats.items)
 worked_as read keys setup number answers one is = rw (is.refused) (worked_so setup number one.posts.items answers (map read.mine one.seats.items) is.answered)
 
@@ -164,7 +164,7 @@ left_from read key setup accounts gate number (promise ∷ promises) heard [] pr
 left_from read key setup accounts gate number (promise ∷ promises) [] (one ∷ left) promised by = absurd by
 left_from read key setup accounts gate number (promise ∷ promises) (answers ∷ heard) (one ∷ left) promised by = (
   rw (sym promised.0.accounts_are, sym promised.0.setup_is)
-      (left_as read (map key promise.accounts.now) promise.setup.now promise.number (map told_of answers) one by.0),
+      (left_as read (map key promise.accounts.now) promise.setup.now promise.number (map answer_view answers) one by.0),
   left_from read key setup accounts gate (number + 1) promises heard left promised.1 by.1,
 )
 
@@ -176,7 +176,7 @@ worked_from read key setup accounts gate number (promise ∷ promises) heard [] 
 worked_from read key setup accounts gate number (promise ∷ promises) [] (one ∷ left) promised by = absurd by
 worked_from read key setup accounts gate number (promise ∷ promises) (answers ∷ heard) (one ∷ left) promised by =
     let Its : Setup → ℕ → Type 0 = λ s n. IsWorked s n one.posts.items one.refusals.items (map read.mine one.seats.items) in
-    let worked = worked_as read (map key promise.accounts.now) promise.setup.now promise.number (map told_of answers) one by.0 in (
+    let worked = worked_as read (map key promise.accounts.now) promise.setup.now promise.number (map answer_view answers) one by.0 in (
       subst (λ n. Its setup n) promised.0.number_is (subst (λ s. Its s promise.number) promised.0.setup_is worked),
       subst (λ n. All (λ seat. read.number seat ≡ n) one.seats.items) promised.0.number_is by.0.numbered,
       worked_from read key setup accounts gate (number + 1) promises heard left promised.1 by.1,

@@ -2,7 +2,7 @@
 use Rattle.std.proofs.Common.{◌≡◌, ◌<◌, ◌+◌, ◌∙◌, ℕ, zero, suc, Option, List, [], ◌∷◌, length, ap, subst, arith, All}
 use Rattle.std.specs.Prelude.{slice_index_or}
 use Rattle.std.proofs.lemmas.List.{get_or-map}
-use Rattle.account_core.specs.Events.{Event}
+use Rattle.account_core.specs.Events.{EntryData}
 use Rattle.account_core.specs.declared.fault.AccountFault.{AccountFault}
 use Rattle.runs_core.specs.Closing.{AreWorked, lists_of}
 use Rattle.runs_core.specs.Entered.{IsBookOf, RechargesAreInTheBooks, ReservesAreInTheBooks}
@@ -47,5 +47,5 @@ recharges_in_books setup books handled refusals worker account place book are wi
 
 pub reserves_in_books : ReservesAreInTheBooks
 reserves_in_books setup books handled refusals worker account place book are within is =
-    subst (λ (mine : List Event). All (λ event. IsOnTerms setup place (slice_index_or handled worker []) event.asked) mine) (list_in setup books worker account place book is)
+    subst (λ (mine : List EntryData). All (λ event. IsOnTerms setup place (slice_index_or handled worker []) event.asked) mine) (list_in setup books worker account place book is)
     (reserves_are_on_terms setup worker place (slice_index_or handled worker []) (slice_index_or refusals worker []) (lists_of worker books) (worked_by_one setup books worker handled refusals are within))

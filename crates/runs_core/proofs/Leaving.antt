@@ -4,10 +4,10 @@ use Rattle.std.specs.Prelude.{All}
 use Rattle.std.specs.Map.{keys_of}
 use Rattle.std.proofs.lemmas.List.Elements.{All-cons, All-head, All-nil, All-tail}
 use Rattle.std.proofs.lemmas.List.{length-map}
-use Rattle.account_core.specs.Events.{Event}
+use Rattle.account_core.specs.Events.{EntryData}
 use Rattle.workers_core.specs.Chains.{at_first, seat_numbers}
 use Rattle.run_values.specs.Setups.{Setup}
-use Rattle.workers_core.specs.Verdicts.{Standing}
+use Rattle.workers_core.specs.Verdicts.{DialogueAt}
 use Rattle.run_values.specs.declared.opening_credit.OpeningCredit.{OpeningCredit}
 use Rattle.runs_core.specs.Teams.{IsFresh, Reads}
 
@@ -25,7 +25,7 @@ all_one number_of number (seat ∷ team) [] all many = absurd (omega (arith, man
 all_one number_of number (seat ∷ team) (account ∷ accounts) all many =
     rw (All-head (λ s. number_of s ≡ number) seat team all, all_one number_of number team accounts (All-tail (λ s. number_of s ≡ number) seat team all) (omega (arith, many))) refl
 
-all_empty : {T X : Type 0} (mine_of : T → List Event) (team : List T) (accounts : List X) → All (λ seat. mine_of seat ≡ []) team → length team ≡ length accounts
+all_empty : {T X : Type 0} (mine_of : T → List EntryData) (team : List T) (accounts : List X) → All (λ seat. mine_of seat ≡ []) team → length team ≡ length accounts
     → map mine_of team ≡ map (λ account. []) accounts
 all_empty mine_of [] [] all many = refl
 all_empty mine_of [] (account ∷ accounts) all many = absurd (omega (arith, many))
@@ -34,7 +34,7 @@ all_empty mine_of (seat ∷ team) (account ∷ accounts) all many =
     rw (All-head (λ s. mine_of s ≡ []) seat team all, all_empty mine_of team accounts (All-tail (λ s. mine_of s ≡ []) seat team all) (omega (arith, many))) refl
 
 -- a worker with fresh seats, without dialogues
-pub fresh_worker : {K S T : Type 0} (read : Reads K T) (key : S → K) (number_of : S → ℕ) (setup : Setup) (accounts : List S) (number : ℕ) (team : List T) (talks : ℕ → Option Standing)
+pub fresh_worker : {K S T : Type 0} (read : Reads K T) (key : S → K) (number_of : S → ℕ) (setup : Setup) (accounts : List S) (number : ℕ) (team : List T) (talks : ℕ → Option DialogueAt)
     → map number_of accounts ≡ keys_of setup.accounts → IsFresh read (map key accounts) number team → ((call : ℕ) → talks call ≡ None)
     → (map read.number team ≡ seat_numbers number setup) × (record { lists = map read.mine team; talks = talks } ≡ at_first setup)
 fresh_worker read key number_of setup accounts number team talks numbered fresh none =

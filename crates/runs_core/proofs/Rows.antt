@@ -3,7 +3,7 @@ use Rattle.std.proofs.Common.{◌≡◌, ℕ, List, [], ◌∷◌, ◌++◌, len
 use Rattle.std.specs.Prelude.{All, replicate}
 use Rattle.std.proofs.lemmas.List.{length-map, map-append}
 use Rattle.std.proofs.lemmas.List.Elements.{All-cons, All-nil, All-push}
-use Rattle.account_core.specs.Events.{Event}
+use Rattle.account_core.specs.Events.{EntryData}
 use Rattle.shared_account.specs.Closed.{Closed}
 use Rattle.shared_account.specs.Terms.{Terms}
 use Rattle.workers_core.specs.Served.{AreServed, IsServed}
@@ -12,7 +12,7 @@ use Rattle.runs_core.specs.Closing.{AreOf, AreServedBy, terms_shown}
 use Rattle.runs_core.specs.Dealing.{dealt}
 use Rattle.runs_core.specs.Teams.{Reads}
 
-served_more : (account : ℕ) (handled : List (List Post)) (lists : List (List Event)) (posts : List Post) (mine : List Event) → AreServedBy account handled lists → IsServed account posts mine
+served_more : (account : ℕ) (handled : List (List Post)) (lists : List (List EntryData)) (posts : List Post) (mine : List EntryData) → AreServedBy account handled lists → IsServed account posts mine
     → AreServedBy account (handled ++ posts ∷ []) (lists ++ mine ∷ [])
 served_more account [] [] posts mine before one = (one, tt)
 served_more account [] (first ∷ lists) posts mine before one = absurd before

@@ -1,6 +1,6 @@
 -- The books of a run, and where their entries come from.
 use Rattle.std.specs.Prelude.{◌≡◌, ◌+◌, ℕ, Option, true, List, [], ◌∷◌, length, map, All, slice_index_or}
-use Rattle.account_core.specs.Events.{Event}
+use Rattle.account_core.specs.Events.{EntryData}
 use Rattle.account_core.specs.declared.fault.AccountFault.{AccountFault}
 use Rattle.shared_account.specs.Closed.{Closed}
 use Rattle.shared_account.specs.Seats.{are_all}
@@ -41,18 +41,18 @@ AreLeftFrom read keys numbers [] = Unit {0}
 AreLeftFrom read keys numbers (one ∷ left) = IsLeftFrom read keys numbers one × AreLeftFrom read keys numbers left
 
 -- the lists of an account's seats come from the posts of the workers, each from those of its own
-abbrev pub AreServedBy : ℕ → List (List Post) → List (List Event) → Type 0
+abbrev pub AreServedBy : ℕ → List (List Post) → List (List EntryData) → Type 0
 AreServedBy account [] [] = Unit {0}
 AreServedBy account [] (mine ∷ lists) = ⊥
 AreServedBy account (posts ∷ handled) [] = ⊥
 AreServedBy account (posts ∷ handled) (mine ∷ lists) = IsServed account posts mine × AreServedBy account handled lists
 
 -- the lists of a worker's seats, in the order of the books
-abbrev pub lists_of : ℕ → List Closed → List (List Event)
+abbrev pub lists_of : ℕ → List Closed → List (List EntryData)
 lists_of worker books = map (λ book. slice_index_or book.own worker []) books
 
 -- the workers from this number on have these lists in the books
-abbrev pub AreListed : List Closed → ℕ → List (List (List Event)) → Type 0
+abbrev pub AreListed : List Closed → ℕ → List (List (List EntryData)) → Type 0
 AreListed books worker [] = Unit {0}
 AreListed books worker (lists ∷ others) = (lists_of worker books ≡ lists) × AreListed books (worker + 1) others
 

@@ -2,9 +2,9 @@
 use Rattle.std.specs.Prelude.{◌≡◌, ◌+◌, ◌≤◌, ℕ, false, Some, List, ◌++◌, reverse}
 use Rattle.account_core.specs.Answers.{IsLegal}
 use Rattle.account_core.specs.Available.{credits, taken_by_all}
-use Rattle.account_core.specs.Events.{Event}
+use Rattle.account_core.specs.Events.{EntryData}
 use Rattle.account_core.specs.Known.{known}
-use Rattle.account_core.specs.Laws.{AreReported, IsClosed, last_report, told}
+use Rattle.account_core.specs.Laws.{AreReported, IsClosed, last_report, paid_at_return}
 use Rattle.shared_account.specs.Closed.{Closed}
 use Rattle.tariff_core.specs.Price.{price_at}
 use Rattle.tariff_core.specs.Rates.{Rates}
@@ -12,12 +12,12 @@ use Rattle.tariff_core.specs.declared.money.TheConstants.{MAX_MONEY}
 
 -- no balance is negative: at no place do all calls take more than the opening and the credits accepted so far
 abbrev pub IsSolvent : Closed → Type 0
-IsSolvent book = (history later : List Event) → book.history ≡ history ++ later → taken_by_all (reverse history) ≤ book.opening + credits (reverse history)
+IsSolvent book = (history later : List EntryData) → book.history ≡ history ++ later → taken_by_all (reverse history) ≤ book.opening + credits (reverse history)
 
 -- each call that was returned, and never forfeited, has paid exactly the price of its times
 abbrev pub PaysTheTariff : Closed → Type 0
 PaysTheTariff book = (call : ℕ) (plan : Rates) → IsClosed call plan (reverse book.history)
-    → told call (reverse book.history) ≡ Some (price_at plan (known call (reverse book.history)).times)
+    → paid_at_return call (reverse book.history) ≡ Some (price_at plan (known call (reverse book.history)).times)
 
 -- and these are the times that its last report states
 abbrev pub ReportsItsTimes : Closed → Type 0

@@ -9,7 +9,7 @@ use Rattle.runs_core.specs.declared.run_fault.RunFault.{RunFault}
 use Rattle.runs_core.specs.declared.run_fault.RunFault.TheVariants as out
 use Rattle.workers_core.specs.Ends.{sent, taken}
 use Rattle.run_values.specs.Setups.{Setup}
-use Rattle.workers_core.specs.Handled.{told_of}
+use Rattle.workers_core.specs.Handled.{answer_view}
 use Rattle.run_values.specs.declared.answer.Answer.{Answer}
 use Rattle.run_values.specs.declared.post.Post.{Post}
 
@@ -45,7 +45,7 @@ MayBeShut may_shut (promise ∷ promises) = may_shut promise.gate.now ⊎ MayBeS
 -- a worker has left what its thread promised, and these are its answers
 abbrev pub IsLeftBy : {K S G T : Type 0} → Reads K T → (S → K) → Returns S G T → List Answer → Left S T → Type 0
 IsLeftBy read key promise answers left =
-    IsLeft read (map key promise.accounts.now) promise.setup.now promise.number left.posts.items left.refusals.items (map told_of answers) left.seats.items
+    IsLeft read (map key promise.accounts.now) promise.setup.now promise.number left.posts.items left.refusals.items (map answer_view answers) left.seats.items
 
 -- what each worker has left is what it promised
 abbrev pub AreLeftBy : {K S G T : Type 0} → Reads K T → (S → K) → List (Returns S G T) → List (List Answer) → List (Left S T) → Type 0

@@ -1,12 +1,12 @@
 -- The seats of the accounts of a run: a team of each worker's, a row of each account's.
 use Rattle.std.specs.Prelude.{◌≡◌, ◌+◌, ◌&&◌, ℕ, Bool, Option, nat_le, true, List, [], ◌∷◌, map, All, ⊤}
 use Rattle.std.specs.Map.{keys_of}
-use Rattle.account_core.specs.Events.{Event}
+use Rattle.account_core.specs.Events.{EntryData}
 use Rattle.shared_account.specs.Seats.{are_all}
 use Rattle.shared_account.specs.Terms.{Terms}
 use Rattle.account_core.specs.declared.fault.AccountFault.{AccountFault}
 use Rattle.workers_core.specs.Chains.{IsAnswered, refusals_in}
-use Rattle.workers_core.specs.Handled.{Told}
+use Rattle.workers_core.specs.Handled.{AnswerView}
 use Rattle.workers_core.specs.Served.{AreServed}
 use Rattle.run_values.specs.Setups.{Setup}
 use Rattle.run_values.specs.declared.opening_credit.OpeningCredit.{OpeningCredit}
@@ -28,10 +28,10 @@ terms_of limit seats accounts = map (terms_with limit seats) accounts
 pub record Reads (K T : Type 0) : Type 0 where
   pub key : T → K
   pub number : T → ℕ
-  pub mine : T → List Event
+  pub mine : T → List EntryData
 
 -- what the three ghost members of a seat say of it
-abbrev pub reads : {K T : Type 0} → (T → K) → (T → ℕ) → (T → List Event) → Reads K T
+abbrev pub reads : {K T : Type 0} → (T → K) → (T → ℕ) → (T → List EntryData) → Reads K T
 reads key number mine = record { key = key; number = number; mine = mine }
 
 -- all seats of an account, in order and without entries
@@ -53,7 +53,7 @@ AreFresh read keys number (team ∷ teams) = IsFresh read keys number team × Ar
 
 -- what a worker leaves after its posts, with its answers: its seats, one of each account, in order, all of its number, with the entries that
 -- handling the posts made, and the refusals that the answers tell
-pub record IsLeft {K T : Type 0} (read : Reads K T) (keys : List K) (setup : Setup) (number : ℕ) (posts : List Post) (refusals : List (Option AccountFault)) (answers : List Told) (team : List T) : Type 0 where
+pub record IsLeft {K T : Type 0} (read : Reads K T) (keys : List K) (setup : Setup) (number : ℕ) (posts : List Post) (refusals : List (Option AccountFault)) (answers : List AnswerView) (team : List T) : Type 0 where
   pub of_accounts : map read.key team ≡ keys
   pub numbered : All (λ seat. read.number seat ≡ number) team
   pub served : AreServed (keys_of setup.accounts) posts (map read.mine team)

@@ -6,7 +6,7 @@ ghost use Rattle.runs_core.specs.Crews.{count_of, joined, posts_by};
 ghost use Rattle.runs_core.specs.Desks.{GoesOn};
 ghost use Rattle.runs_core.specs.Sending.{promises_of, sent_by};
 ghost use Rattle.runs_core.specs.Teams.{reads};
-ghost use Rattle.workers_core.specs.Handled.{told_of};
+ghost use Rattle.workers_core.specs.Handled.{answer_view};
 ghost use Rattle.workers_core.specs.Workers.{IsReady};
 ghost use Rattle.run_values.specs.declared.post.Post.{Post};
 
@@ -56,7 +56,7 @@ impl<S: Shared, G: Gate> Crew<'_, S, G> {
         ensures goes_on { IfOk result (λ replies. (posts : List Post)
             × GoesOn (λ account. (S.terms account).number)
             S.key (reads S.key_of S.number_of S.mine_of)
-            self.old.desk posts (map told_of replies.first.items) self.new.desk) }
+            self.old.desk posts (map answer_view replies.first.items) self.new.desk) }
         ensures count { count_of self.new ≡ count_of self.old }
         ensures promises { promises_of self.new.lines.items ≡ promises_of self.old.lines.items }
         ensures gate { result ≡ Err RunFault.GateClosed → G.may_shut gate.now }
@@ -91,7 +91,7 @@ impl<S: Shared, G: Gate> Crew<'_, S, G> {
             (map (λ share. share.items) (into_iter_items shares))) }
         ensures goes_on { IfOk result (λ answers. GoesOn (λ account. (S.terms account).number)
             S.key (reads S.key_of S.number_of S.mine_of)
-            self.old.desk mine.items (map told_of answers.items) self.new.desk) }
+            self.old.desk mine.items (map answer_view answers.items) self.new.desk) }
         ensures promises { promises_of self.new.lines.items ≡ promises_of self.old.lines.items }
         ensures gate { result ≡ Err RunFault.GateClosed → G.may_shut gate.now }
         ensures workers { result ≢ Err RunFault.Workers }

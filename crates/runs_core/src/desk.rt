@@ -4,7 +4,7 @@ ghost use Rattle.std.specs.Prelude.{◌≡◌, ◌≢◌, ◌∷◌, [], map, If
 ghost use Rattle.std.specs.Map.{keys_of};
 ghost use Rattle.runs_core.specs.Desks.{GoesOn, HasAnswered};
 ghost use Rattle.runs_core.specs.Teams.{IsFresh, IsLeft, reads};
-ghost use Rattle.workers_core.specs.Handled.{told_of};
+ghost use Rattle.workers_core.specs.Handled.{answer_view};
 ghost use Rattle.workers_core.specs.Workers.{IsReady, accounts_of, holding, number_of, posts_of, seats_of, setup_of};
 
 use crate::RunFault;
@@ -67,7 +67,7 @@ impl<'s, S: Shared> Desk<'s, S> {
             S.key S.key_of S.number_of S.mine_of self.old.worker }
         ensures goes_on { IfOk result (λ answers. GoesOn (λ account. (S.terms account).number)
             S.key (reads S.key_of S.number_of S.mine_of)
-            self.old posts.items (map told_of answers.items) self.new) }
+            self.old posts.items (map answer_view answers.items) self.new) }
         ensures gate { result ≡ Err RunFault.GateClosed → G.may_shut gate.now }
         ensures workers { result ≢ Err RunFault.Workers }
     {
@@ -85,7 +85,7 @@ impl<'s, S: Shared> Desk<'s, S> {
             S.key S.key_of S.number_of S.mine_of self.old.worker }
         ensures goes_on { IfOk result (λ answer. GoesOn (λ account. (S.terms account).number)
             S.key (reads S.key_of S.number_of S.mine_of)
-            self.old (post ∷ []) (told_of answer ∷ []) self.new) }
+            self.old (post ∷ []) (answer_view answer ∷ []) self.new) }
         ensures gate { result ≡ Err RunFault.GateClosed → G.may_shut gate.now }
         ensures workers { result ≢ Err RunFault.Workers }
     {

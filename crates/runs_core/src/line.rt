@@ -5,7 +5,7 @@ ghost use Rattle.std.specs.Map.{keys_of};
 ghost use Rattle.runs_core.specs.Mails.{items_in};
 ghost use Rattle.runs_core.specs.Teams.{IsFresh, IsLeft, reads};
 ghost use Rattle.workers_core.specs.Ends.{ArePaired, IsSameInbox, IsSameOutbox, sent, taken};
-ghost use Rattle.workers_core.specs.Handled.{told_of};
+ghost use Rattle.workers_core.specs.Handled.{answer_view};
 ghost use Rattle.workers_core.specs.Logs.{has_close};
 ghost use Rattle.workers_core.specs.declared.mail.Mail.TheVariants as mail;
 
@@ -82,7 +82,7 @@ pub(crate) fn start<'s, E, S: Shared, R: Wait + Threads + Sync, G: Gate + Sync>(
             × (items_in (taken f.inbox) ≡ f.left.posts.items)
             × IsLeft (reads S.key_of S.number_of S.mine_of) (map S.key accounts.entry.now)
             setup.entry.now number f.left.posts.items f.left.refusals.items
-            (map told_of (items_in (sent f.outbox))) f.left.seats.items)
+            (map answer_view (items_in (sent f.outbox))) f.left.seats.items)
             × (result ≡ Err RunFault.GateClosed → G.may_shut gate.entry.now)
             × (result ≢ Err RunFault.Workers) }
     {
@@ -145,7 +145,7 @@ impl<S: Shared, G: Gate> Line<'_, S, G> {
             (map S.key self.entry.child.promise.accounts.now)
             self.entry.child.promise.setup.now self.entry.child.promise.number
             left.posts.items left.refusals.items
-            (map told_of (items_in (taken self.entry.inbox))) left.seats.items) }
+            (map answer_view (items_in (taken self.entry.inbox))) left.seats.items) }
         ensures gate { result ≡ Err RunFault.GateClosed
             → G.may_shut self.entry.child.promise.gate.now }
         ensures workers { result ≢ Err RunFault.Workers }

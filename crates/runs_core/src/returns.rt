@@ -36,7 +36,7 @@ impl<'s, S: Shared, G: Gate> Promise<Result<Finished<S>, RunFault>> for Returns<
     ghost use Rattle.runs_core.specs.Mails.{items_in};
     ghost use Rattle.runs_core.specs.declared.run_fault.RunFault.TheVariants as out;
     ghost use Rattle.workers_core.specs.Ends.{IsSameInbox, IsSameOutbox, sent, taken};
-    ghost use Rattle.workers_core.specs.Handled.{told_of};
+    ghost use Rattle.workers_core.specs.Handled.{answer_view};
     ghost use Rattle.workers_core.specs.Logs.{has_close};
 
     ghost kept_by = { λ p r. IfOk r (λ f. IsSameInbox p.inbox.value f.inbox
@@ -45,7 +45,7 @@ impl<'s, S: Shared, G: Gate> Promise<Result<Finished<S>, RunFault>> for Returns<
         × (items_in (taken f.inbox) ≡ f.left.posts.items)
         × IsLeft (reads S.key_of S.number_of S.mine_of) (map S.key p.accounts.now)
         p.setup.now p.number f.left.posts.items f.left.refusals.items
-        (map told_of (items_in (sent f.outbox))) f.left.seats.items)
+        (map answer_view (items_in (sent f.outbox))) f.left.seats.items)
         × (r ≡ Err out.GateClosed → G.may_shut p.gate.now)
         × (r ≢ Err out.Workers) };
 }

@@ -6,7 +6,7 @@ ghost use Rattle.runs_core.specs.Desks.{GoesOn};
 ghost use Rattle.runs_core.specs.Mails.{items_in};
 ghost use Rattle.runs_core.specs.Teams.{IsFresh, IsLeft, reads};
 ghost use Rattle.workers_core.specs.Ends.{IsSameInbox, IsSameOutbox, sent, taken};
-ghost use Rattle.workers_core.specs.Handled.{told_of};
+ghost use Rattle.workers_core.specs.Handled.{answer_view};
 ghost use Rattle.workers_core.specs.Logs.{has_close};
 ghost use Rattle.workers_core.specs.Workers.{IsReady};
 ghost use Rattle.run_values.specs.declared.answer.Answer.{Answer};
@@ -45,7 +45,7 @@ pub(crate) fn work<S: Shared, R: Wait, G: Gate>(
         (λ finished. items_in (taken finished.inbox) ≡ finished.left.posts.items) }
     ensures left { IfOk result (λ finished. IsLeft (reads S.key_of S.number_of S.mine_of)
         (map S.key accounts.now) setup.now number finished.left.posts.items
-        finished.left.refusals.items (map told_of (items_in (sent finished.outbox)))
+        finished.left.refusals.items (map answer_view (items_in (sent finished.outbox)))
         finished.left.seats.items) }
     ensures gate { result ≡ Err RunFault.GateClosed → G.may_shut gate.now }
     ensures workers { result ≢ Err RunFault.Workers }
@@ -79,7 +79,7 @@ fn answer_rounds<S: Shared, R: Wait, G: Gate>(
     ensures closed { OnOk result (has_close (taken inbox.new) ≡ true) }
     ensures goes_on { OnOk result (GoesOn (λ account. (S.terms account).number)
         S.key (reads S.key_of S.number_of S.mine_of) desk.old
-        (items_in (taken inbox.new)) (map told_of (items_in (sent outbox.new))) desk.new) }
+        (items_in (taken inbox.new)) (map answer_view (items_in (sent outbox.new))) desk.new) }
     ensures gate { result ≡ Err RunFault.GateClosed → G.may_shut gate.now }
     ensures workers { result ≢ Err RunFault.Workers }
 {
@@ -109,7 +109,7 @@ fn answer_round<S: Shared, R: Wait, G: Gate>(
         × (items_in (sent outbox.new) ≡ items_in (sent outbox.old) ++ answers)
         × GoesOn (λ account. (S.terms account).number)
         S.key (reads S.key_of S.number_of S.mine_of)
-        desk.old posts.items (map told_of answers) desk.new) }
+        desk.old posts.items (map answer_view answers) desk.new) }
     ensures gate { result ≡ Err RunFault.GateClosed → G.may_shut gate.now }
     ensures workers { result ≢ Err RunFault.Workers }
 {

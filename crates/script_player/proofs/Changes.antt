@@ -15,7 +15,7 @@ use Rattle.script_player.specs.Inputs.{IsGiven, IsNext}
 use Rattle.script_player.specs.Networks.{AreTold, Feeds, IsTold, Shown}
 use Rattle.script_player.specs.Posts.{posts_of}
 use Rattle.script_player.specs.Steps.{GetsSsf, GivesTo, StartsCall}
-use Rattle.script_player.specs.declared.feeding.Fed.{Fed}
+use Rattle.script_player.specs.declared.feeding.Sent.{Sent}
 use Rattle.script_player.specs.declared.input.Input.{Input}
 use Rattle.script_player.specs.declared.input.Input.TheVariants as what
 use Rattle.script_player.proofs.Givings.{same_next, waited_next}
@@ -25,12 +25,12 @@ use Rattle.script_player.proofs.Keepings.{dues_on, sets_by, timer_of}
 abbrev pub shown : SsfConfig → BTreeMap ℕ View → List (ℕ × Body) → Bool → Shown
 shown config calls given whole = record { config = config; ssfs = calls.entries; given = given; whole = whole }
 
-told_of : (config : SsfConfig) (before after : BTreeMap ℕ View) (now call : ℕ) (given : List (ℕ × Body)) (input : Input) (fed : Fed) → AreTold config before given
+told_of : (config : SsfConfig) (before after : BTreeMap ℕ View) (now call : ℕ) (given : List (ℕ × Body)) (input : Input) (fed : Sent) → AreTold config before given
     → (feeds : Feeds before after now call input fed) → IsTold config call given feeds.moves.old
 told_of config before after now call given input fed are feeds = rw feeds.moves.was at (are.told call)
 
 -- the moments go on with a gsmSSF that is given an input
-pub dues_fed : (config : SsfConfig) (before after : BTreeMap ℕ View) (dues kept : BTreeSet (ℕ × ℕ)) (now call : ℕ) (given : List (ℕ × Body)) (input : Input) (fed : Fed)
+pub dues_fed : (config : SsfConfig) (before after : BTreeMap ℕ View) (dues kept : BTreeSet (ℕ × ℕ)) (now call : ℕ) (given : List (ℕ × Body)) (input : Input) (fed : Sent)
     → AreTold config before given → AreDues before.entries dues → Feeds before after now call input fed → Replaces dues kept call fed.before fed.after → AreDues after.entries kept
 dues_fed config before after dues kept now call given input fed told are feeds replaces =
     let own : IsTold config call given feeds.moves.old = told_of config before after now call given input fed told feeds in
@@ -40,7 +40,7 @@ dues_fed config before after dues kept now call given input fed told are feeds r
     (λ at timer. same_next feeds.moves.old own.trace fed.before (Some at) own.stands feeds.was_next (timer_of before.entries call at feeds.moves.old feeds.moves.was timer))
 
 -- it is given the input, and its messages are posted
-pub gives_fed : (before after : Shown) (calls now_calls : BTreeMap ℕ View) (now call : ℕ) (input : Input) (fed : Fed) → before.ssfs ≡ calls.entries → after.ssfs ≡ now_calls.entries
+pub gives_fed : (before after : Shown) (calls now_calls : BTreeMap ℕ View) (now call : ℕ) (input : Input) (fed : Sent) → before.ssfs ≡ calls.entries → after.ssfs ≡ now_calls.entries
     → Feeds calls now_calls now call input fed → after.given ≡ before.given ++ posts_of call fed.sent.items → after.config ≡ before.config → after.whole ≡ before.whole
     → GivesTo now call input before after
 gives_fed before after calls now_calls now call input fed was is feeds posts config whole =
@@ -56,7 +56,7 @@ pub gives_none : (before : Shown) (calls : BTreeMap ℕ View) (now call : ℕ) (
 gives_none before calls now call input was absent = rw (was, absent) refl
 
 -- where time has passed for a call, no timer of it is left due
-pub waited : (config : SsfConfig) (before after : BTreeMap ℕ View) (now call at : ℕ) (given : List (ℕ × Body)) (input : Input) (fed : Fed) → AreTold config before given
+pub waited : (config : SsfConfig) (before after : BTreeMap ℕ View) (now call at : ℕ) (given : List (ℕ × Body)) (input : Input) (fed : Sent) → AreTold config before given
     → Feeds before after now call input fed → input ≡ what.Wait → HasTimer after.entries call at → now < at
 waited config before after now call at given input fed told feeds wait timer =
     let own : IsTold config call given feeds.moves.old = told_of config before after now call given input fed told feeds in

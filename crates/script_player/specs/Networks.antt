@@ -9,7 +9,7 @@ use Rattle.ssf_core.specs.declared.item.Out.{Out}
 use Rattle.run_values.specs.declared.post.Body.{Body}
 use Rattle.script_player.specs.Inputs.{IsGiven, IsNext}
 use Rattle.script_player.specs.Posts.{items_of, posts_of, recharges_in}
-use Rattle.script_player.specs.declared.feeding.Fed.{Fed}
+use Rattle.script_player.specs.declared.feeding.Sent.{Sent}
 use Rattle.script_player.specs.declared.input.Input.{Input}
 use Rattle.tariff_core.specs.declared.times.TheConstants.{HORIZON}
 
@@ -54,7 +54,7 @@ pub record Moves (before after : BTreeMap ℕ View) (call : ℕ) (sent : List Ou
   pub goes_on : GoesOn old new sent
 
 -- the gsmSSF of a call is given an input, and its next timer was due then, and is due then
-pub record Feeds (before after : BTreeMap ℕ View) (now call : ℕ) (input : Input) (fed : Fed) : Type 0 where
+pub record Feeds (before after : BTreeMap ℕ View) (now call : ℕ) (input : Input) (fed : Sent) : Type 0 where
   pub moves : Moves before after call fed.sent.items
   pub is_given : IsGiven moves.old moves.new now input fed.sent.items
   pub was_next : IsNext moves.old fed.before

@@ -10,7 +10,7 @@ use tariff_core::HORIZON;
 
 /// A gsmSSF that was started, and what it has sent.
 #[derive(Drop)]
-pub(crate) struct Begun {
+pub(crate) struct Started {
     pub ssf: Ssf,
     pub sent: ArrayVec<Out, 8>,
 }
@@ -22,12 +22,12 @@ pub(crate) fn begin(
     call: u64,
     calling: Number,
     called: Number,
-) -> Begun
+) -> Started
     requires { now ≤ HORIZON }
     ensures { HasBegun config now call calling called result.ssf result.sent.items }
 {
     let mut ssf = Ssf::new(config);
     ssf.invoke(now);
     let sent = ssf.trigger(now, call, calling, called).sent;
-    Begun { ssf, sent }
+    Started { ssf, sent }
 }

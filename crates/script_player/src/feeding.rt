@@ -14,7 +14,7 @@ use tariff_core::HORIZON;
 
 /// What an input came to: what was sent, and when a timer was due before it and after it.
 #[derive(Drop)]
-pub(crate) struct Fed {
+pub(crate) struct Sent {
     pub sent: ArrayVec<Out, 8>,
     pub before: Option<Moment>,
     pub after: Option<Moment>,
@@ -26,7 +26,7 @@ pub(crate) fn feed(
     now: Moment,
     call: u64,
     input: Input,
-) -> Option<Fed>
+) -> Option<Sent>
     requires { now ≤ HORIZON }
     ensures none { IfNone result (calls.new ≡ calls.old) }
     ensures absent { IfNone result (get nat_cmp calls.old call ≡ None) }
@@ -36,7 +36,7 @@ pub(crate) fn feed(
     let before = ssf.next_due();
     let sent = step(ssf, now, input).sent;
     let after = ssf.next_due();
-    Some(Fed {
+    Some(Sent {
         sent,
         before,
         after,

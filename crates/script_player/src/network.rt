@@ -3,7 +3,7 @@
 ghost use Rattle.std.specs.Prelude.{OnOk};
 ghost use Rattle.script_player.specs.Dues.{Replaces};
 
-use crate::beginning::{Begun, begin};
+use crate::beginning::{Started, begin};
 use crate::feeding::feed;
 use crate::input::Input;
 use crate::posting::post;
@@ -111,7 +111,7 @@ impl Network {
             return Ok(());
         }
         self.given.reserve(MOST_SENT)?;
-        let Begun { ssf, sent } = begin(self.config, now, call, calling, called);
+        let Started { ssf, sent } = begin(self.config, now, call, calling, called);
         // Until the moment of its timer is put down, the network isn't whole.
         let whole = self.whole;
         self.whole = false;

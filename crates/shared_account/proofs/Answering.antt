@@ -10,9 +10,9 @@ use Rattle.tariff_core.specs.declared.time_info.TimeInfo.{TimeInfo}
 use Rattle.account_core.specs.Answers.{accepted_times, answer, settle_verdict, showing, units_offered, verdict}
 use Rattle.account_core.specs.Asked.{Asked, Credits, Reserves, Returns, Settles}
 use Rattle.account_core.specs.Available.{available, credits}
-use Rattle.account_core.specs.Events.{Event}
+use Rattle.account_core.specs.Events.{EntryData}
 use Rattle.account_core.specs.Expiry.{is_past, last_moment}
-use Rattle.account_core.specs.Known.{Known, known, plan_in_force, taken_of}
+use Rattle.account_core.specs.Known.{CallFacts, known, plan_in_force, taken_of}
 use Rattle.account_core.specs.declared.entry.Reply.TheVariants as reply
 use Rattle.shared_account.specs.Kinds.{IsReplyTo}
 
@@ -26,7 +26,7 @@ covered_within plan old money zero = omega arith
 covered_within plan old money (suc n) =
     covered_if (nat_le (ceiling_of plan old (suc n)) money) n (units_covered plan old money n) (covered_within plan old money n)
 
-offered_within : (credit : ℕ) (call : Known) (plan : Rates) (wanted : ℕ) → units_offered credit call plan wanted ≤ wanted
+offered_within : (credit : ℕ) (call : CallFacts) (plan : Rates) (wanted : ℕ) → units_offered credit call plan wanted ≤ wanted
 unfolding units_offered
 offered_within credit call plan wanted =
     let most = min wanted (864000 - (call.times.before + call.times.after)) in
@@ -50,12 +50,12 @@ fits_reserve false false false false credit call plan units wanted least at last
     let enough : least ≤ units = grind (arith, nat_tests) in
     (some, enough, within)
 
-fits_settle : (times : Option Elapsed) (known : Known) (credit call number : ℕ) (info : TimeInfo)
+fits_settle : (times : Option Elapsed) (known : CallFacts) (credit call number : ℕ) (info : TimeInfo)
     → IsReplyTo (Settles call number info) (showing credit (settle_verdict known times))
 fits_settle (Some times) known credit call number info = tt
 fits_settle None known credit call number info = tt
 
-fits_showing : (opening : ℕ) (until : Option ℕ) (credit : ℕ) (h : List Event) (asked : Asked) → IsReplyTo asked (showing credit (verdict opening until h asked))
+fits_showing : (opening : ℕ) (until : Option ℕ) (credit : ℕ) (h : List EntryData) (asked : Asked) → IsReplyTo asked (showing credit (verdict opening until h asked))
 fits_showing opening until credit h (Credits amount moment) = fits_credit (nat_le (opening + credits h + amount) 1000000000000000) credit amount moment
 fits_showing opening until credit h (Reserves call plan wanted least at) =
     let units = units_offered (available opening h) (known call h) plan wanted in
@@ -64,6 +64,6 @@ fits_showing opening until credit h (Reserves call plan wanted least at) =
 fits_showing opening until credit h (Settles call number info) = fits_settle (accepted_times (known call h) info) (known call h) credit call number info
 fits_showing opening until credit h (Returns call) = tt
 
-pub answer_fits : (opening : ℕ) (until : Option ℕ) (h : List Event) (asked : Asked) → IsReplyTo asked (answer opening until h asked)
+pub answer_fits : (opening : ℕ) (until : Option ℕ) (h : List EntryData) (asked : Asked) → IsReplyTo asked (answer opening until h asked)
 unfolding answer
 answer_fits opening until h asked = fits_showing opening until _ h asked

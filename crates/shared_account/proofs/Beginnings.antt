@@ -4,29 +4,29 @@ use Rattle.std.specs.Prelude.{◌==◌, if◌then◌else◌, reverse}
 use Rattle.std.proofs.lemmas.List.{reverse-append}
 use Rattle.account_core.specs.Answers.{IsLegal, IsLegalPast}
 use Rattle.std.proofs.lemmas.List.Elements.{filter-append}
-use Rattle.account_core.specs.Events.{Event}
+use Rattle.account_core.specs.Events.{EntryData}
 use Rattle.shared_account.specs.Own.{own}
 use Rattle.shared_account.specs.Prefixes.{IsPrefix}
 
-pub begins_itself : (history : List Event) → IsPrefix history history
+pub begins_itself : (history : List EntryData) → IsPrefix history history
 begins_itself history = record { rest = []; is = sym (append-nil history) }
 
-pub begins_any : (history : List Event) → IsPrefix [] history
+pub begins_any : (history : List EntryData) → IsPrefix [] history
 begins_any history = record { rest = history; is = refl }
 
-pub begins_longer : (history : List Event) (event : Event) → IsPrefix history (history ++ event ∷ [])
+pub begins_longer : (history : List EntryData) (event : EntryData) → IsPrefix history (history ++ event ∷ [])
 begins_longer history event = record { rest = event ∷ []; is = refl }
 
-pub begins_further : (first second third : List Event) → IsPrefix first second → IsPrefix second third → IsPrefix first third
+pub begins_further : (first second third : List EntryData) → IsPrefix first second → IsPrefix second third → IsPrefix first third
 begins_further first second third begins goes_on = record {
   rest = begins.rest ++ goes_on.rest;
-  is = goes_on.is ∙ (ap (λ (h : List Event). h ++ goes_on.rest) begins.is ∙ append_assoc first begins.rest goes_on.rest);
+  is = goes_on.is ∙ (ap (λ (h : List EntryData). h ++ goes_on.rest) begins.is ∙ append_assoc first begins.rest goes_on.rest);
 }
 
-pub begins_within : (earlier later : List Event) → IsPrefix earlier later → length earlier ≤ length later
+pub begins_within : (earlier later : List EntryData) → IsPrefix earlier later → length earlier ≤ length later
 begins_within earlier later begins = omega (arith, ap length begins.is, length-append earlier begins.rest)
 
-both_begin : (first second more further : List Event) → first ++ more ≡ second ++ further → length first ≤ length second → IsPrefix first second
+both_begin : (first second more further : List EntryData) → first ++ more ≡ second ++ further → length first ≤ length second → IsPrefix first second
 both_begin [] second more further same within = begins_any second
 both_begin (event ∷ first) [] more further same within = absurd (omega (arith, within))
 both_begin (event ∷ first) (other ∷ second) more further same within =
@@ -36,33 +36,33 @@ both_begin (event ∷ first) (other ∷ second) more further same within =
     record { rest = begins.rest; is = λ i. head i ∷ begins.is i }
 
 -- of two histories that begin a third, the shorter begins the longer
-pub shorter_begins : (first second third : List Event) → IsPrefix first third → IsPrefix second third → length first ≤ length second → IsPrefix first second
+pub shorter_begins : (first second third : List EntryData) → IsPrefix first third → IsPrefix second third → length first ≤ length second → IsPrefix first second
 shorter_begins first second third begins too within = both_begin first second begins.rest too.rest (sym begins.is ∙ too.is) within
 
-legal_past : (opening : ℕ) (until : Option ℕ) (later history : List Event) → IsLegalPast opening until (later ++ history) → IsLegalPast opening until history
+legal_past : (opening : ℕ) (until : Option ℕ) (later history : List EntryData) → IsLegalPast opening until (later ++ history) → IsLegalPast opening until history
 legal_past opening until [] history legal = legal
 legal_past opening until (event ∷ later) history legal = legal_past opening until later history legal.0
 
 -- what begins a legal history is legal
-pub legal_begins : (opening : ℕ) (until : Option ℕ) (earlier later : List Event) → IsPrefix earlier later → IsLegal opening until later → IsLegal opening until earlier
+pub legal_begins : (opening : ℕ) (until : Option ℕ) (earlier later : List EntryData) → IsPrefix earlier later → IsLegal opening until later → IsLegal opening until earlier
 legal_begins opening until earlier later begins legal =
-    let L : List Event → Type 0 = IsLegalPast opening until in
+    let L : List EntryData → Type 0 = IsLegalPast opening until in
     legal_past opening until (reverse begins.rest) (reverse earlier) (subst L (ap reverse begins.is ∙ reverse-append earlier begins.rest) legal)
 
 -- ---- own entries
 
-pub own_begins : (seat : ℕ) (earlier later : List Event) → IsPrefix earlier later → IsPrefix (own seat earlier) (own seat later)
+pub own_begins : (seat : ℕ) (earlier later : List EntryData) → IsPrefix earlier later → IsPrefix (own seat earlier) (own seat later)
 own_begins seat earlier later begins = record {
   rest = own seat begins.rest;
   is = ap (own seat) begins.is ∙ filter-append (λ event. event.seat == seat) earlier begins.rest;
 }
 
-pub nothing : (history : List Event) → length history ≡ 0 → history ≡ []
+pub nothing : (history : List EntryData) → length history ≡ 0 → history ≡ []
 nothing [] none = refl
 nothing (event ∷ history) none = absurd (omega (arith, none))
 
 -- a history between two with the same own entries has those too
-pub own_between : (seat : ℕ) (first second third : List Event) → IsPrefix first second → IsPrefix second third → own seat first ≡ own seat third
+pub own_between : (seat : ℕ) (first second third : List EntryData) → IsPrefix first second → IsPrefix second third → own seat first ≡ own seat third
     → own seat second ≡ own seat first
 own_between seat first second third begins goes_on same =
     let here = own_begins seat first second begins in
@@ -70,21 +70,21 @@ own_between seat first second third begins goes_on same =
     let more : length (own seat second) ≡ length (own seat first) + length here.rest = ap length here.is ∙ length-append (own seat first) here.rest in
     let further : length (own seat third) ≡ length (own seat second) + length there.rest = ap length there.is ∙ length-append (own seat second) there.rest in
     let none : length here.rest ≡ 0 = omega (arith, more, further, ap length same) in
-    here.is ∙ (ap (λ (h : List Event). own seat first ++ h) (nothing here.rest none) ∙ append-nil (own seat first))
+    here.is ∙ (ap (λ (h : List EntryData). own seat first ++ h) (nothing here.rest none) ∙ append-nil (own seat first))
 
-own_if : (here : Bool) (history : List Event) (event : Event) → here ≡ false → history ++ (if here then event ∷ [] else []) ≡ history
+own_if : (here : Bool) (history : List EntryData) (event : EntryData) → here ≡ false → history ++ (if here then event ∷ [] else []) ≡ history
 own_if true history event not_here = absurd (cc not_here)
 own_if false history event not_here = append-nil history
 
 -- another seat's entry changes nothing of one's own
-pub own_other : (seat : ℕ) (history : List Event) (event : Event) → event.seat ≢ seat → own seat (history ++ event ∷ []) ≡ own seat history
+pub own_other : (seat : ℕ) (history : List EntryData) (event : EntryData) → event.seat ≢ seat → own seat (history ++ event ∷ []) ≡ own seat history
 own_other seat history event other =
     filter-append (λ e. e.seat == seat) history (event ∷ []) ∙ own_if (event.seat == seat) (own seat history) event (ne_eqb event.seat seat other)
 
-own_kept : (here : Bool) (history : List Event) (event : Event) → here ≡ true → history ++ (if here then event ∷ [] else []) ≡ history ++ event ∷ []
+own_kept : (here : Bool) (history : List EntryData) (event : EntryData) → here ≡ true → history ++ (if here then event ∷ [] else []) ≡ history ++ event ∷ []
 own_kept true history event is_here = refl
 own_kept false history event is_here = absurd (cc is_here)
 
-pub own_entry : (seat : ℕ) (history : List Event) (event : Event) → event.seat ≡ seat → own seat (history ++ event ∷ []) ≡ own seat history ++ event ∷ []
+pub own_entry : (seat : ℕ) (history : List EntryData) (event : EntryData) → event.seat ≡ seat → own seat (history ++ event ∷ []) ≡ own seat history ++ event ∷ []
 own_entry seat history event its =
     filter-append (λ e. e.seat == seat) history (event ∷ []) ∙ own_kept (event.seat == seat) (own seat history) event (eq-eqb event.seat seat its)

@@ -4,7 +4,7 @@ use Rattle.std.specs.Prelude.{All, IfOk, OnErr, max, slice_index_or}
 use Rattle.std.proofs.lemmas.List.Elements.{All-push}
 use Rattle.account_core.specs.Answers.{IsLegal}
 use Rattle.account_core.specs.Asked.{Asked}
-use Rattle.account_core.specs.Events.{Event}
+use Rattle.account_core.specs.Events.{EntryData}
 use Rattle.account_core.specs.Ledger.{Ledger, event_by}
 use Rattle.account_core.specs.declared.entry.Reply.{Reply}
 use Rattle.account_core.specs.declared.fault.AccountFault.{AccountFault}
@@ -36,12 +36,12 @@ module _ (before here : View) (seat : SeatView) (account : Ledger) (asked : Aske
   entered : (reply : Reply)
       → HasGone before (seeing here (with_entry account (event_by seat.number asked reply))) (record seat { mine = seat.mine ++ event_by seat.number asked reply ∷ [] })
   entered reply =
-      let event : Event = event_by seat.number asked reply in
+      let event : EntryData = event_by seat.number asked reply in
       let begins : IsPrefix before.seen.history account.history = subst (λ (a : Ledger). IsPrefix before.seen.history a.history) (sym held) later.begins in
       record {
         number = later.number ∙ number;
         begins = begins_further before.seen.history account.history (account.history ++ event ∷ []) begins (begins_longer account.history event);
-        own = own_entry seat.number account.history event refl ∙ ap (λ (h : List Event). h ++ event ∷ []) (ap (λ (a : Ledger). own seat.number a.history) held ∙ here_own);
+        own = own_entry seat.number account.history event refl ∙ ap (λ (h : List EntryData). h ++ event ∷ []) (ap (λ (a : Ledger). own seat.number a.history) held ∙ here_own);
       }
 
   pub gone : (after : View) (place : SeatView) (told : Result Reply AccountFault) → IfOk told (λ reply. after ≡ seeing here (with_entry account (event_by seat.number asked reply)))
@@ -63,7 +63,7 @@ rests_after me before after seat rests gone =
 
 -- ---- a meeting
 
-longer_of : (first second after : List Event) → IsPrefix second after → IsPrefix first after → (after ≡ first) ⊎ (after ≡ second) → max (length first) (length second) ≡ length after
+longer_of : (first second after : List EntryData) → IsPrefix second after → IsPrefix first after → (after ≡ first) ⊎ (after ≡ second) → max (length first) (length second) ≡ length after
 longer_of first second after begins too (inl is) = omega (arith, begins_within second after begins, ap length is)
 longer_of first second after begins too (inr is) = omega (arith, begins_within first after too, ap length is)
 
@@ -84,7 +84,7 @@ met_sits first second heard after other seat n m k sitting rests hears met hands
 
 -- ---- a chair that hears one seat after another
 
-pub heard_more : (seats : List TurnSeatView) (seat : TurnSeatView) (before after : List Event) → All (λ s. IsPrefix s.view.history before) seats → IsPrefix before after
+pub heard_more : (seats : List TurnSeatView) (seat : TurnSeatView) (before after : List EntryData) → All (λ s. IsPrefix s.view.history before) seats → IsPrefix before after
     → IsPrefix seat.view.history after → All (λ s. IsPrefix s.view.history after) (seats ++ seat ∷ [])
 heard_more seats seat before after all begins its =
     All-push (λ s. IsPrefix s.view.history after) seats seat

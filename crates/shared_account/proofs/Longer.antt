@@ -5,8 +5,8 @@ use Rattle.std.proofs.lemmas.Bool.Decides.{nat_tests}
 use Rattle.std.proofs.lemmas.List.{length-reverse, reverse-append}
 use Rattle.account_core.specs.Answers.{IsLegal, IsLegalPast, inadmissible}
 use Rattle.account_core.specs.Asked.{Asked, Credits, Reserves, Returns, Settles, call_of}
-use Rattle.account_core.specs.Events.{Event}
-use Rattle.account_core.specs.Known.{Known, is_open, known}
+use Rattle.account_core.specs.Events.{EntryData}
+use Rattle.account_core.specs.Known.{CallFacts, is_open, known}
 use Rattle.account_core.specs.Ledger.{Ledger, answer_of, refusal_of}
 use Rattle.account_core.specs.Places.{needed_by, or_else, over_limit, owed, owed_to, places_owed, refusal}
 use Rattle.account_core.specs.SharingLaws.{EachIsOwedItsShare}
@@ -26,19 +26,19 @@ within : (limit kept needs : ℕ) (over : Bool) → nat_lt limit (kept + needs) 
 within limit kept needs true is none = absurd (cc none)
 within limit kept needs false is none = grind (arith, nat_tests)
 
-admissible_of : (limit : ℕ) (h : List Event) (asked : Asked) → refusal limit h asked ≡ None → inadmissible h asked ≡ None
+admissible_of : (limit : ℕ) (h : List EntryData) (asked : Asked) → refusal limit h asked ≡ None → inadmissible h asked ≡ None
 unfolding refusal
 admissible_of limit h asked admitted =
     first_none (inadmissible h asked) (over_limit limit (length h + owed h) (needed_by (known (call_of asked) h) asked)) admitted
 
-room_of : (limit : ℕ) (h : List Event) (asked : Asked) → refusal limit h asked ≡ None → length h + owed h + needed_by (known (call_of asked) h) asked ≤ limit
+room_of : (limit : ℕ) (h : List EntryData) (asked : Asked) → refusal limit h asked ≡ None → length h + owed h + needed_by (known (call_of asked) h) asked ≤ limit
 unfolding refusal
 room_of limit h asked admitted =
     let needs = needed_by (known (call_of asked) h) asked in
     within limit (length h + owed h) needs (nat_lt limit (length h + owed h + needs)) refl
     (second_none (inadmissible h asked) (over_limit limit (length h + owed h) needs) admitted)
 
-owed_to_call : (call : Known) → owed_to call ≡ places_owed (is_open call) call.awaits
+owed_to_call : (call : CallFacts) → owed_to call ≡ places_owed (is_open call) call.awaits
 unfolding owed_to
 owed_to_call call = refl
 
@@ -58,13 +58,13 @@ return_takes true true = omega arith
 return_takes true false = omega arith
 return_takes false awaits = omega arith
 
-takes_a_place : (call : Known) (asked : Asked) → 1 ≤ places_owed (is_open call) call.awaits + needed_by call asked
+takes_a_place : (call : CallFacts) (asked : Asked) → 1 ≤ places_owed (is_open call) call.awaits + needed_by call asked
 takes_a_place call (Credits amount moment) = omega arith
 takes_a_place call (Reserves number plan wanted least at) = omega (arith, reserve_takes (is_open call) call.awaits)
 takes_a_place call (Settles number mail info) = settle_takes (is_open call) call.awaits
 takes_a_place call (Returns number) = return_takes (is_open call) call.awaits
 
-module _ (account : Ledger) (event : Event) (admitted : refusal_of account event.asked ≡ None) where
+module _ (account : Ledger) (event : EntryData) (admitted : refusal_of account event.asked ≡ None) where
   pub legal_with : IsLegal account.opening account.until account.history → event.reply ≡ answer_of account event.asked → IsLegal account.opening account.until (with_entry account event).history
   legal_with legal answered =
       subst (IsLegalPast account.opening account.until) (sym (reverse-append account.history (event ∷ [])))

@@ -8,7 +8,7 @@ use lib.Seq.{set-get_or}
 use Rattle.atomic_table.specs.Table.{Allows, Joins, Splits, keeps, step}
 use Rattle.atomic_table.proofs.Lists.{set_again, set_else}
 use Rattle.account_core.specs.Answers.{IsLegal}
-use Rattle.account_core.specs.Events.{Event}
+use Rattle.account_core.specs.Events.{EntryData}
 use Rattle.shared_account.specs.Own.{own}
 use Rattle.shared_account.specs.Plays.{HasMet, Sitter, compared}
 use Rattle.shared_account.specs.Prefixes.{IsPrefix}
@@ -76,7 +76,7 @@ module _ (start : Start) where
 
   -- ---- what was heard is compared with what was seen
 
-  seen_legal : (s : Table) (id : ℕ) (v : View) (kept : Kept start s) → get_elem? s.views id ≡ some v → v.stage ≡ Idles → (history : List Event)
+  seen_legal : (s : Table) (id : ℕ) (v : View) (kept : Kept start s) → get_elem? s.views id ≡ some v → v.stage ≡ Idles → (history : List EntryData)
       → IsPrefix history kept.now.account.history → IsLegal v.seen.opening v.seen.until history
   seen_legal s id v kept there idle history begins =
       let seated = (kept.each id v there).seated (subst IsSeat (sym idle) tt) in
@@ -89,7 +89,7 @@ module _ (start : Start) where
       HasMet v.seen.history v.heard.history v w × Kept start (record { words = s.words; homes = s.homes; views = set s.views id w })
   met_longer s id v kept there idle within =
       let now = kept.now in
-      let H : List Event = now.account.history in
+      let H : List EntryData = now.account.history in
       let w : View = seeing v (record v.seen { history = v.heard.history }) in
       let knew = kept.each id v there in
       let seated = knew.seated (subst IsSeat (sym idle) tt) in
@@ -118,8 +118,8 @@ module _ (start : Start) where
 
   pub compares : (slots id : ℕ) (m : Sitter) → m.0.stage ≡ Idles → Allows (Kept start) slots id m 1 (λ n. n) (compared (step slots 1 0 0 none) m)
   compares slots id m idle s kept count there fits =
-      let seen : List Event = m.0.seen.history in
-      let heard : List Event = m.0.heard.history in
+      let seen : List EntryData = m.0.seen.history in
+      let heard : List EntryData = m.0.heard.history in
       let knew = kept.each id m.0 there in
       dite (dec_le (length seen) (length heard))
       (λ (within : length seen ≤ length heard).

@@ -3,8 +3,8 @@ use Rattle.std.proofs.Common.{◌≡◌, ℕ, Bool, true, false, Option, Some, N
 use Rattle.std.specs.Prelude.{◌+◌, if◌then◌else◌, length, nat_lt, reverse, IfErr, IsOk}
 use Rattle.account_core.specs.Answers.{misplaced}
 use Rattle.account_core.specs.Asked.{Asked, Credits, Reserves, Returns, Settles, call_of, is_in_range}
-use Rattle.account_core.specs.Events.{Event}
-use Rattle.account_core.specs.Known.{Known, is_open, known}
+use Rattle.account_core.specs.Events.{EntryData}
+use Rattle.account_core.specs.Known.{CallFacts, is_open, known}
 use Rattle.account_core.specs.Ledger.{IsRefusal, Ledger, answer_of}
 use Rattle.account_core.specs.Places.{IsClosing, needed_by, or_else, over_limit, owed, refusal}
 use Rattle.account_core.specs.declared.entry.Reply.{Reply}
@@ -30,18 +30,18 @@ first_or : (first second : Option AccountFault) → (first ≡ Some fault.OutOfR
 first_or None second x y is = y is
 first_or (Some why) second x y is = x is
 
-misplaced_ranged : (call : Known) (asked : Asked) → misplaced call asked ≡ Some fault.OutOfRange → ⊥
+misplaced_ranged : (call : CallFacts) (asked : Asked) → misplaced call asked ≡ Some fault.OutOfRange → ⊥
 misplaced_ranged call (Credits amount moment) is = cc
 misplaced_ranged call (Reserves number plan wanted least at) is = either call.returned (Some fault.CallUsed) None (λ e. cc) (λ e. cc) is
 misplaced_ranged call (Settles number mail info) is = either (is_open call) None (Some fault.NotOpen) (λ e. cc) (λ e. cc) is
 misplaced_ranged call (Returns number) is = either (is_open call) None (Some fault.NotOpen) (λ e. cc) (λ e. cc) is
 
-out_of_range : (ranged : Bool) (call : Known) (asked : Asked) (over : Option AccountFault) → (over ≡ Some fault.OutOfRange → ⊥)
+out_of_range : (ranged : Bool) (call : CallFacts) (asked : Asked) (over : Option AccountFault) → (over ≡ Some fault.OutOfRange → ⊥)
     → or_else (if ranged then misplaced call asked else Some fault.OutOfRange) over ≡ Some fault.OutOfRange → ranged ≡ false
 out_of_range true call asked over not_over is = absurd (first_or (misplaced call asked) over (misplaced_ranged call asked) not_over is)
 out_of_range false call asked over not_over is = refl
 
-range_refusal : (limit : ℕ) (h : List Event) (asked : Asked) → refusal limit h asked ≡ Some fault.OutOfRange → is_in_range asked ≡ false
+range_refusal : (limit : ℕ) (h : List EntryData) (asked : Asked) → refusal limit h asked ≡ Some fault.OutOfRange → is_in_range asked ≡ false
 unfolding refusal
 range_refusal limit h asked is =
     let needs = needed_by (known (call_of asked) h) asked in
@@ -73,7 +73,7 @@ return_closed false account call why is never (inr told) =
 fails : (why : AccountFault) → IsOk {T = Reply} {E = AccountFault} (Err why) → ⊥
 fails why is = cc
 
-pub returning_of : (account : Ledger) (mine : List Event) (asked : Asked) (told : Result Reply AccountFault) → IfErr told (IsRefusal account asked)
+pub returning_of : (account : Ledger) (mine : List EntryData) (asked : Asked) (told : Result Reply AccountFault) → IfErr told (IsRefusal account asked)
     → (IsClosing (reverse account.history) asked → IsClosing (reverse mine) asked → IsOk told) → IsReturn asked → IsClosing (reverse mine) asked
     → IfErr told (λ why. why ≡ fault.NotOpen)
 returning_of account mine asked (Ok answered) refused closing return own = tt

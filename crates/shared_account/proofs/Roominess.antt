@@ -13,8 +13,8 @@ use Rattle.tariff_core.specs.Rates.{Rates}
 use Rattle.account_core.specs.Answers.{answer}
 use Rattle.account_core.specs.Asked.{Asked, Credits, IsCredit, IsOfCall, Reserves, Returns, Settles, call_of}
 use Rattle.account_core.specs.CallStages.{stage_of}
-use Rattle.account_core.specs.Events.{Event, event_of}
-use Rattle.account_core.specs.Known.{Known, Rests, deed_of, is_open, known, known_after}
+use Rattle.account_core.specs.Events.{EntryData, entry_data}
+use Rattle.account_core.specs.Known.{CallFacts, Rests, deed_of, is_open, known, known_after}
 use Rattle.account_core.specs.Places.{needed_by, owed, owed_to, places_needed, places_owed}
 use Rattle.account_core.specs.SharingLaws.{EntriesOweToTheirCalls}
 use Rattle.account_core.specs.declared.call_stage.CallStage.{CallStage}
@@ -57,7 +57,7 @@ owes_end (Some plan) false true = omega arith
 owes_end (Some plan) false false = omega arith
 
 -- an entry and what is owed after it take the places that were owed and needed
-owes : (known : Known) (asked : Asked) (told : Reply) → IsReplyTo asked told
+owes : (known : CallFacts) (asked : Asked) (told : Reply) → IsReplyTo asked told
     → 1 + owed_to (known_after known (deed_of asked told)) ≤ owed_to known + needed_by known asked
 unfolding owed_to
 owes known (Credits amount moment) (reply.Credited available) fits = omega arith
@@ -87,7 +87,7 @@ credit_rests (Returns call) told is = absurd is
 apart_at : (call other : ℕ) → (call == other) ≡ false → is_at (nat_cmp call) other ≡ false
 apart_at call other apart = grind (arith, nat_tests)
 
-tells_by : (here : Bool) (old new : BTreeMap ℕ CallStage) (h : List Event) (event : Event) (after : CallStage) (call : ℕ) → (its_call event == call) ≡ here
+tells_by : (here : Bool) (old new : BTreeMap ℕ CallStage) (h : List EntryData) (event : EntryData) (after : CallStage) (call : ℕ) → (its_call event == call) ≡ here
     → Updates nat_cmp old new (its_call event) (Some after) → TellsStages old h → after ≡ stage_of (known (its_call event) (event ∷ h))
     → unwrap_or (get nat_cmp new call) Fresh ≡ stage_of (known call (event ∷ h))
 tells_by true old new h event after call is updates tells after_is =
@@ -99,14 +99,14 @@ tells_by false old new h event after call is updates tells after_is =
 -- ---- the whole
 
 -- what a seat held for a call, with its entry that an account answered, and what it holds then
-pub record IsEntry (h : List Event) (event : Event) (before after : CallStage) (owed_before owed_now needs : ℕ) : Type 0 where
+pub record IsEntry (h : List EntryData) (event : EntryData) (before after : CallStage) (owed_before owed_now needs : ℕ) : Type 0 where
   pub fits : IsReplyTo event.asked event.reply
   pub after_is : after ≡ stage_of (known_after (known (its_call event) h) (its_deed event))
   pub before_owed : owed_before ≡ owed_to (known (its_call event) h)
   pub now_owed : stage_of (known (its_call event) (event ∷ h)) ≡ after → owed_now ≡ owed_to (known (its_call event) (event ∷ h))
   pub needs_are : needs ≡ needed_by (known (its_call event) h) event.asked
 
-module _ (moves : EntriesOweToTheirCalls) (h : List Event) (event : Event) (before after : CallStage) (owed_before owed_now needs : ℕ)
+module _ (moves : EntriesOweToTheirCalls) (h : List EntryData) (event : EntryData) (before after : CallStage) (owed_before owed_now needs : ℕ)
     (entry : IsEntry h event before after owed_before owed_now needs) where
   after_known : after ≡ stage_of (known (its_call event) (event ∷ h))
   after_known = entry.after_is ∙ ap stage_of (sym (known_here h event))
@@ -132,7 +132,7 @@ module _ (moves : EntriesOweToTheirCalls) (h : List Event) (event : Event) (befo
         places_are = now_owed;
       }
 
-pub roomy_resting : EntriesOweToTheirCalls → (h : List Event) (event : Event) (kept : BTreeMap ℕ CallStage) (places capacity capacity' : ℕ) → IsRoomy h kept places capacity
+pub roomy_resting : EntriesOweToTheirCalls → (h : List EntryData) (event : EntryData) (kept : BTreeMap ℕ CallStage) (places capacity capacity' : ℕ) → IsRoomy h kept places capacity
     → its_deed event ≡ Rests → length h + (places + 1) ≤ capacity' → IsRoomy (event ∷ h) kept places capacity'
 roomy_resting moves h event kept places capacity capacity' roomy rests room =
     let same : owed_to (known (its_call event) (event ∷ h)) ≡ owed_to (known (its_call event) h) = ap owed_to (known_resting h event (its_call event) rests) in
@@ -147,50 +147,50 @@ unfolding owed
 nothing_owed = refl
 
 pub roomy_new : (mine : Vec Entry Global) (kept : BTreeMap ℕ CallStage) → mine.items ≡ [] → IsEmpty kept
-    → IsRoomy (reverse (map event_of mine.items)) kept 0 (vec_capacity mine)
+    → IsRoomy (reverse (map entry_data mine.items)) kept 0 (vec_capacity mine)
 roomy_new mine kept none empty =
-    let R : List Entry → Type 0 = λ es. IsRoomy (reverse (map event_of es)) kept 0 (vec_capacity mine) in
+    let R : List Entry → Type 0 = λ es. IsRoomy (reverse (map entry_data es)) kept 0 (vec_capacity mine) in
     subst R (sym none) (record { room = omega arith; tells = λ call. rw empty refl; places_are = sym nothing_owed })
 
 -- ---- the same of a seat's fields
 
-past_pushed : (items : List Entry) (entry : Entry) → reverse (map event_of (items ++ entry ∷ [])) ≡ event_of entry ∷ reverse (map event_of items)
-past_pushed items entry = rw (map-append event_of items (entry ∷ []), reverse-append) refl
+past_pushed : (items : List Entry) (entry : Entry) → reverse (map entry_data (items ++ entry ∷ [])) ≡ entry_data entry ∷ reverse (map entry_data items)
+past_pushed items entry = rw (map-append entry_data items (entry ∷ []), reverse-append) refl
 
 -- a seat's list with an entry at its end
 pub roomy_pushed : (old items : List Entry) (entry : Entry) (kept : BTreeMap ℕ CallStage) (places capacity : ℕ) → items ≡ old ++ entry ∷ []
-    → IsRoomy (event_of entry ∷ reverse (map event_of old)) kept places capacity → IsRoomy (reverse (map event_of items)) kept places capacity
+    → IsRoomy (entry_data entry ∷ reverse (map entry_data old)) kept places capacity → IsRoomy (reverse (map entry_data items)) kept places capacity
 roomy_pushed old items entry kept places capacity is roomy =
-    let R : List Event → Type 0 = λ h. IsRoomy h kept places capacity in
-    subst R (sym (ap (λ es. reverse (map event_of es)) is ∙ past_pushed old entry)) roomy
+    let R : List EntryData → Type 0 = λ h. IsRoomy h kept places capacity in
+    subst R (sym (ap (λ es. reverse (map entry_data es)) is ∙ past_pushed old entry)) roomy
 
-pub length_past : (old : List Entry) → length (reverse (map event_of old)) ≡ length old
-length_past old = length-reverse (map event_of old) ∙ length-map old event_of
+pub length_past : (old : List Entry) → length (reverse (map entry_data old)) ≡ length old
+length_past old = length-reverse (map entry_data old) ∙ length-map old entry_data
 
 -- its list in the words of its callers
-pub past_seen : (s : Inside) (place : SeatView) → record { account = s.account; number = s.number; mine = map event_of s.mine.items } ≡ place
-    → reverse place.mine ≡ reverse (map event_of s.mine.items)
+pub past_seen : (s : Inside) (place : SeatView) → record { account = s.account; number = s.number; mine = map entry_data s.mine.items } ≡ place
+    → reverse place.mine ≡ reverse (map entry_data s.mine.items)
 past_seen s place view_is = ap (λ p. reverse p.mine) (sym view_is)
 
 pub credit_roomy : EntriesOweToTheirCalls → (old : List Entry) (entry : Entry) (kept : BTreeMap ℕ CallStage) (places capacity capacity' : ℕ)
-    → IsRoomy (reverse (map event_of old)) kept places capacity → IsCredit (event_of entry).asked → length old + (places + 1) ≤ capacity'
-    → IsRoomy (event_of entry ∷ reverse (map event_of old)) kept places capacity'
+    → IsRoomy (reverse (map entry_data old)) kept places capacity → IsCredit (entry_data entry).asked → length old + (places + 1) ≤ capacity'
+    → IsRoomy (entry_data entry ∷ reverse (map entry_data old)) kept places capacity'
 credit_roomy moves old entry kept places capacity capacity' roomy credit room =
-    roomy_resting moves (reverse (map event_of old)) (event_of entry) kept places capacity capacity' roomy
-    (credit_rests (event_of entry).asked (event_of entry).reply credit) (omega (arith, room, length_past old))
+    roomy_resting moves (reverse (map entry_data old)) (entry_data entry) kept places capacity capacity' roomy
+    (credit_rests (entry_data entry).asked (entry_data entry).reply credit) (omega (arith, room, length_past old))
 
 -- what an account answered to an operation of a call, by the stages of the call
-pub is_entry : (s : Inside) → IsRoomy (reverse (map event_of s.mine.items)) s.stages s.owed (vec_capacity s.mine)
-    → (opening : ℕ) (until : Option ℕ) (past : List Event) (seat call : ℕ) (asked : Asked) (told : Reply) (before after : CallStage) (owed_before owed_now needs : ℕ)
+pub is_entry : (s : Inside) → IsRoomy (reverse (map entry_data s.mine.items)) s.stages s.owed (vec_capacity s.mine)
+    → (opening : ℕ) (until : Option ℕ) (past : List EntryData) (seat call : ℕ) (asked : Asked) (told : Reply) (before after : CallStage) (owed_before owed_now needs : ℕ)
     → IsOfCall call asked → told ≡ answer opening until past asked → before ≡ unwrap_or (get nat_cmp s.stages call) Fresh
-    → ((known : Known) → stage_of known ≡ before → after ≡ stage_of (known_after known (deed_of asked told)))
-    → ((known : Known) → stage_of known ≡ before → owed_before ≡ owed_to known)
-    → ((known : Known) → stage_of known ≡ after → owed_now ≡ owed_to known)
-    → ((known : Known) → stage_of known ≡ before → needs ≡ needed_by known asked)
-    → IsEntry (reverse (map event_of s.mine.items)) (record { seat = seat; asked = asked; reply = told }) before after owed_before owed_now needs
+    → ((known : CallFacts) → stage_of known ≡ before → after ≡ stage_of (known_after known (deed_of asked told)))
+    → ((known : CallFacts) → stage_of known ≡ before → owed_before ≡ owed_to known)
+    → ((known : CallFacts) → stage_of known ≡ after → owed_now ≡ owed_to known)
+    → ((known : CallFacts) → stage_of known ≡ before → needs ≡ needed_by known asked)
+    → IsEntry (reverse (map entry_data s.mine.items)) (record { seat = seat; asked = asked; reply = told }) before after owed_before owed_now needs
 is_entry s roomy opening until past seat call asked told before after owed_before owed_now needs here told_is before_is after_is before_owed now_owed needs_are =
     let R : Reply → Type 0 = IsReplyTo asked in
-    let h : List Event = reverse (map event_of s.mine.items) in
+    let h : List EntryData = reverse (map entry_data s.mine.items) in
     let C : ℕ → Type 0 = λ c. stage_of (known c h) ≡ before in
     let before_known : stage_of (known (call_of asked) h) ≡ before = subst C (sym (of_call call asked here)) (sym (before_is ∙ roomy.tells call)) in
     record {

@@ -6,7 +6,7 @@ use mathlib.Core.Option as maybe
 use lib.ListN.{get_elem?}
 use Rattle.atomic_table.specs.Table.{Final, Seen, Splits, opening}
 use Rattle.atomic_table.proofs.Lists.{one_turn}
-use Rattle.account_core.specs.Events.{Event}
+use Rattle.account_core.specs.Events.{EntryData}
 use Rattle.account_core.specs.Ledger.{Ledger}
 use Rattle.shared_account.specs.Own.{own}
 use Rattle.shared_account.specs.Prefixes.{IsPrefix}
@@ -46,7 +46,7 @@ module _ (start : Start) where
 
   -- ---- the next seat is made
 
-  own_none : (seat : ℕ) (earlier later : List Event) → IsPrefix earlier later → own seat later ≡ [] → own seat earlier ≡ []
+  own_none : (seat : ℕ) (earlier later : List EntryData) → IsPrefix earlier later → own seat later ≡ [] → own seat earlier ≡ []
   own_none seat earlier later begins without =
       nothing (own seat earlier) (omega (arith, begins_within (own seat earlier) (own seat later) (own_begins seat earlier later begins), ap length without))
 

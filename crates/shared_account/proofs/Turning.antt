@@ -8,7 +8,7 @@ use lib.ListN.{get_elem?}
 use lib.Seq.{set-get_or}
 use Rattle.atomic_table.specs.Table.{Allows, gives, keeps, put_back, step, takes}
 use Rattle.atomic_table.proofs.Lists.{one_turn, set_here}
-use Rattle.account_core.specs.Events.{Event}
+use Rattle.account_core.specs.Events.{EntryData}
 use Rattle.account_core.specs.Ledger.{Ledger, answer_of, refusal_of}
 use Rattle.account_core.specs.SharingLaws.{EachIsOwedItsShare}
 use Rattle.shared_account.specs.Own.{own}
@@ -166,7 +166,7 @@ module _ (start : Start) where
 
   -- ---- an entry is counted
 
-  pub appends : (slots id : ℕ) (m : Sitter) (event : Event) → IsServing m.0.stage → event.seat ≡ m.0.number → refusal_of m.0.seen event.asked ≡ None
+  pub appends : (slots id : ℕ) (m : Sitter) (event : EntryData) → IsServing m.0.stage → event.seat ≡ m.0.number → refusal_of m.0.seen event.asked ≡ None
       → event.reply ≡ answer_of m.0.seen event.asked → EachIsOwedItsShare
       → Allows (Kept start) slots id m 2 (λ n. (n + 1) % 2 ^ 64) (appended event (step slots 2 1 0 none) m)
   appends slots id m event serving its admitted answered share s kept count there fits =
@@ -239,11 +239,11 @@ module _ (start : Start) where
       )
 
   -- the same of an entry under another name
-  pub appends_as : (slots id : ℕ) (m : Sitter) (event named : Event) → named ≡ event → IsServing m.0.stage → event.seat ≡ m.0.number → refusal_of m.0.seen event.asked ≡ None
+  pub appends_as : (slots id : ℕ) (m : Sitter) (event named : EntryData) → named ≡ event → IsServing m.0.stage → event.seat ≡ m.0.number → refusal_of m.0.seen event.asked ≡ None
       → event.reply ≡ answer_of m.0.seen event.asked → EachIsOwedItsShare
       → Allows (Kept start) slots id m 2 (λ n. (n + 1) % 2 ^ 64) (appended named (step slots 2 1 0 none) m)
   appends_as slots id m event named same serving its admitted answered share =
-      subst (λ (e : Event). Allows (Kept start) slots id m 2 (λ n. (n + 1) % 2 ^ 64) (appended e (step slots 2 1 0 none) m)) (sym same)
+      subst (λ (e : EntryData). Allows (Kept start) slots id m 2 (λ n. (n + 1) % 2 ^ 64) (appended e (step slots 2 1 0 none) m)) (sym same)
       (appends slots id m event serving its admitted answered share)
 
   -- ---- the turn is passed on

@@ -1,7 +1,7 @@
 -- The book of an account that was closed.
 use Rattle.std.specs.Prelude.{◌≡◌, ◌≤◌, ℕ, Option, List, length}
 use Rattle.account_core.specs.Answers.{IsLegal}
-use Rattle.account_core.specs.Events.{Event}
+use Rattle.account_core.specs.Events.{EntryData}
 use Rattle.account_core.specs.Ledger.{Ledger}
 use Rattle.shared_account.specs.Own.{IsMerged}
 
@@ -11,11 +11,11 @@ pub record Closed : Type 0 where
   pub opening : ℕ
   pub until : Option ℕ
   pub limit : ℕ
-  pub history : List Event
-  pub own : List (List Event)
+  pub history : List EntryData
+  pub own : List (List EntryData)
 
 -- an account is closed with a book where it is what it was opened as, keeps within its limit, and its history merges the lists of its seats
-pub record IsClosable (opening : ℕ) (until : Option ℕ) (limit : ℕ) (account : Ledger) (lists : List (List Event)) : Type 0 where
+pub record IsClosable (opening : ℕ) (until : Option ℕ) (limit : ℕ) (account : Ledger) (lists : List (List EntryData)) : Type 0 where
   pub opening_is : account.opening ≡ opening
   pub until_is : account.until ≡ until
   pub limit_is : account.limit ≡ limit
@@ -23,7 +23,7 @@ pub record IsClosable (opening : ℕ) (until : Option ℕ) (limit : ℕ) (accoun
   pub merged : IsMerged account.history lists
 
 -- an account that is closed isn't what it was opened as, or its history isn't what its seats have entered
-pub record IsMismatch (opening : ℕ) (until : Option ℕ) (limit : ℕ) (lists : List (List Event)) : Type 0 where
+pub record IsMismatch (opening : ℕ) (until : Option ℕ) (limit : ℕ) (lists : List (List EntryData)) : Type 0 where
   pub account : Ledger
   pub legal : IsLegal account.opening account.until account.history
   pub differs : ¬ IsClosable opening until limit account lists

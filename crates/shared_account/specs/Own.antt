@@ -1,10 +1,10 @@
 -- Whose the entries of a history are.
 use Rattle.std.specs.Prelude.{◌≡◌, ◌==◌, ◌<◌, ℕ, Bool, false, List, [], length, filter, slice_index_or, All}
 use Rattle.account_core.specs.Asked.{Asked, Credits, Reserves, Returns, Settles}
-use Rattle.account_core.specs.Events.{Event}
+use Rattle.account_core.specs.Events.{EntryData}
 
 -- a seat's own entries, in order
-abbrev pub own : ℕ → List Event → List Event
+abbrev pub own : ℕ → List EntryData → List EntryData
 own seat history = filter (λ event. event.seat == seat) history
 
 -- whether an operation is of this call
@@ -15,10 +15,10 @@ is_of call (Settles other number info) = other == call
 is_of call (Returns other) = other == call
 
 -- a call's entries, in order
-abbrev pub of_call : ℕ → List Event → List Event
+abbrev pub of_call : ℕ → List EntryData → List EntryData
 of_call call history = filter (λ event. is_of call event.asked) history
 
 -- a history merges the lists of its seats: list k is the own entries of seat k, and each entry is of one of them
-pub record IsMerged (history : List Event) (lists : List (List Event)) : Type 0 where
+pub record IsMerged (history : List EntryData) (lists : List (List EntryData)) : Type 0 where
   pub each : (seat : ℕ) → seat < length lists → own seat history ≡ slice_index_or lists seat []
   pub no_others : All (λ event. event.seat < length lists) history

@@ -2,7 +2,7 @@
 use Rattle.std.specs.Prelude.{◌≡◌, ◌≢◌, ◌⊎◌, ◌%◌, ◌^◌, ℕ, Option, Some, List, [], ◌∷◌, ◌++◌}
 use Rattle.atomic_table.specs.Table.{Me, Step, rest}
 use Rattle.account_core.specs.Answers.{IsLegal}
-use Rattle.account_core.specs.Events.{Event}
+use Rattle.account_core.specs.Events.{EntryData}
 use Rattle.account_core.specs.Ledger.{Ledger}
 use Rattle.shared_account.specs.Own.{own}
 use Rattle.shared_account.specs.Prefixes.{IsPrefix}
@@ -19,7 +19,7 @@ abbrev pub At : Type 0
 At = Step (Option Ledger)
 
 -- an account with one more entry
-abbrev pub with_entry : Ledger → Event → Ledger
+abbrev pub with_entry : Ledger → EntryData → Ledger
 with_entry account event = record account { history = account.history ++ event ∷ [] }
 
 -- the same seat, later: it has seen a legal history that begins with what it had seen, and has no more entries of its own
@@ -49,7 +49,7 @@ looked step before found after =
     (found ≡ its_ticket before.0.stage % 2 ^ 64 → HasCome before after) × (found ≢ its_ticket before.0.stage % 2 ^ 64 → after ≡ before)
 
 -- an entry is counted
-abbrev pub appended : Event → At → Sitter → ℕ → Sitter → Type 0
+abbrev pub appended : EntryData → At → Sitter → ℕ → Sitter → Type 0
 appended event step before found after = (after.0 ≡ seeing before.0 (with_entry before.0.seen event)) × (after.1 ≡ before.1)
 
 -- the turn is passed on, and what was taken lies in the slot again
@@ -57,7 +57,7 @@ abbrev pub handed : At → Sitter → ℕ → Sitter → Type 0
 handed step before found after = (after.0 ≡ at_stage before.0 Idles) × (after.1 ≡ rest before.1)
 
 -- the longer of what was seen and what was heard, which the other begins
-pub record HasMet (seen heard : List Event) (before after : View) : Type 0 where
+pub record HasMet (seen heard : List EntryData) (before after : View) : Type 0 where
   pub stage : after.stage ≡ before.stage
   pub number : after.number ≡ before.number
   pub opening : after.seen.opening ≡ before.seen.opening

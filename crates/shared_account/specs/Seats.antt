@@ -1,13 +1,13 @@
 -- Seats as their callers see them.
 use Rattle.std.specs.Prelude.{◌+◌, ◌==◌, ◌&&◌, ℕ, Bool, true, List, [], ◌∷◌, ◌++◌, length}
 use Rattle.std.proofs.Common.{zero, suc}
-use Rattle.account_core.specs.Events.{Event}
+use Rattle.account_core.specs.Events.{EntryData}
 
 -- the account that a seat is of, its number there, and its own entries, oldest first
 pub record SeatView : Type 0 where
   pub account : ℕ
   pub number : ℕ
-  pub mine : List Event
+  pub mine : List EntryData
 
 -- the first seats of an account: numbered from 0, without entries
 abbrev pub fresh_seats : ℕ → ℕ → List SeatView

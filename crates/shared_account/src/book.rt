@@ -3,7 +3,7 @@
 ghost use Rattle.std.specs.Prelude.{◌≡◌, ◌≤◌, map, reverse, length, IfOk};
 ghost use Rattle.account_core.specs.Answers.{IsLegal};
 ghost use Rattle.account_core.specs.Available.{available};
-ghost use Rattle.account_core.specs.Events.{event_of};
+ghost use Rattle.account_core.specs.Events.{entry_data};
 ghost use Rattle.account_core.specs.Sums.{AreSums};
 
 use account_core::{Account, CallSum, Entry};
@@ -22,7 +22,7 @@ pub struct Book {
 
 impl Model for Book {
     ghost use Rattle.std.specs.Prelude.{◌≤◌, length, map};
-    ghost use Rattle.account_core.specs.Events.{event_of};
+    ghost use Rattle.account_core.specs.Events.{entry_data};
     ghost use Rattle.shared_account.specs.Closed.{Closed};
 
     ghost Value = { Closed };
@@ -33,7 +33,7 @@ impl Model for Book {
       until = b.account.until;
       limit = b.account.limit;
       history = b.account.history;
-      own = map (λ list. map event_of list.items) b.own.items;
+      own = map (λ list. map entry_data list.items) b.own.items;
     } };
 
     ghost invariant = { λ b. length b.account.history ≤ b.account.limit };
@@ -49,7 +49,7 @@ impl Book {
           until = account.until;
           limit = account.limit;
           history = account.history;
-          own = map (λ list. map event_of list.items) own.items;
+          own = map (λ list. map entry_data list.items) own.items;
         } }
     {
         Book {
@@ -90,7 +90,7 @@ impl Book {
     /// The entries, oldest first. They are a legal history of an account that was opened with at
     /// most `MAX_MONEY`, and no more than its limit.
     pub fn history(&self) -> &[Entry]
-        ensures value { map event_of result.now ≡ self.now.history }
+        ensures value { map entry_data result.now ≡ self.now.history }
         ensures legal { IsLegal self.now.opening self.now.until self.now.history }
         ensures small { self.now.opening ≤ MAX_MONEY }
         ensures within_limit { length self.now.history ≤ self.now.limit }
@@ -100,7 +100,7 @@ impl Book {
 
     /// What each seat has entered, oldest first.
     pub fn own(&self) -> &[Vec<Entry>]
-        ensures { map (λ list. map event_of list.items) result.now ≡ self.now.own }
+        ensures { map (λ list. map entry_data list.items) result.now ≡ self.now.own }
     {
         self.own.as_slice()
     }

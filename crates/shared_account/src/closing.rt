@@ -3,7 +3,7 @@
 ghost use Rattle.std.specs.Prelude.{◌≡◌, ◌↔◌, ◌<◌, true, false, map, All, IfOk, IsTrue};
 ghost use Rattle.shared_account.specs.Closed.{IsClosable};
 ghost use Rattle.account_core.specs.Answers.{IsLegal};
-ghost use Rattle.account_core.specs.Events.{event_of};
+ghost use Rattle.account_core.specs.Events.{entry_data};
 ghost use Rattle.shared_account.specs.Own.{IsMerged, own};
 ghost use Rattle.shared_account.specs.Seats.{are_all, are_numbered};
 ghost use Rattle.shared_account.specs.declared.fault.CloseFault.TheVariants as close;
@@ -85,7 +85,7 @@ fn are_numbered(seats: &[Seat]) -> bool
 fn are_merged(history: &[Entry], seats: &[Seat]) -> bool
     requires { are_numbered 0 (map (λ seat. seat.number) seats.now) ≡ true }
     ensures { IsTrue result
-        ↔ IsMerged (map event_of history.now) (map (λ seat. seat.mine) seats.now) }
+        ↔ IsMerged (map entry_data history.now) (map (λ seat. seat.mine) seats.now) }
 {
     have_own(history, seats) && are_of_seats(history, seats.len())
 }
@@ -93,7 +93,7 @@ fn are_merged(history: &[Entry], seats: &[Seat]) -> bool
 /// Whether each seat's list is the seat's own entries in the history.
 fn have_own(history: &[Entry], seats: &[Seat]) -> bool
     ensures { IsTrue result
-        ↔ All (λ seat. own seat.number (map event_of history.now) ≡ seat.mine) seats.now }
+        ↔ All (λ seat. own seat.number (map entry_data history.now) ≡ seat.mine) seats.now }
 {
     for seat in seats {
         if !is_own(history, seat.number(), seat.mine()) {
@@ -105,7 +105,7 @@ fn have_own(history: &[Entry], seats: &[Seat]) -> bool
 
 /// Whether a list is a seat's own entries in the history.
 fn is_own(history: &[Entry], seat: u32, mine: &[Entry]) -> bool
-    ensures { IsTrue result ↔ (own seat (map event_of history.now) ≡ map event_of mine.now) }
+    ensures { IsTrue result ↔ (own seat (map entry_data history.now) ≡ map entry_data mine.now) }
 {
     let mut at = 0;
     for entry in history {
@@ -133,7 +133,7 @@ fn are_of_seats(history: &[Entry], seats: usize) -> bool
 
 /// The lists of seats that are needed no more.
 fn lists_of(alloc: Global, seats: Vec<Seat>) -> Result<Vec<Vec<Entry>>, AllocError>
-    ensures { IfOk result (λ lists. map (λ list. map event_of list.items) lists.items
+    ensures { IfOk result (λ lists. map (λ list. map entry_data list.items) lists.items
         ≡ map (λ seat. seat.mine) seats.items) }
 {
     let mut lists = Vec::new(alloc);

@@ -2,7 +2,7 @@
 
 ghost use Rattle.std.specs.Prelude.{None};
 ghost use Rattle.account_core.specs.Asked.{Credits};
-ghost use Rattle.account_core.specs.Events.{Event};
+ghost use Rattle.account_core.specs.Events.{EntryData};
 ghost use Rattle.account_core.specs.declared.entry.Reply.TheVariants as reply;
 ghost use Rattle.shared_account.specs.Plays.{appended, compared, drawn, handed, looked};
 ghost use Rattle.shared_account.specs.Views.{hearing, next_seat, note_of, one_more, spent_note};
@@ -28,7 +28,7 @@ impl Play<Option<Account>, View> for Look {
 
 /// The entry that is counted.
 pub(crate) trait Appended {
-    ghost entry: { Event };
+    ghost entry: { EntryData };
 }
 
 impl Appended for Brand {

@@ -1,7 +1,7 @@
 //! Whether two entries say the same.
 
 ghost use Rattle.std.specs.Prelude.{◌≡◌, ◌↔◌, IsTrue};
-ghost use Rattle.account_core.specs.Events.{asked_of, event_of};
+ghost use Rattle.account_core.specs.Events.{asked_of, entry_data};
 ghost use Rattle.tariff_core.specs.RatesOf.{rates_of};
 
 use account_core::{Entry, Op};
@@ -9,7 +9,7 @@ use tariff_core::Plan;
 
 /// Whether two entries are of the same seat, operation and reply.
 pub(crate) fn same_entry(first: &Entry, second: &Entry) -> bool
-    ensures { IsTrue result ↔ (event_of first.now ≡ event_of second.now) }
+    ensures { IsTrue result ↔ (entry_data first.now ≡ entry_data second.now) }
 {
     first.seat == second.seat && same_op(&first.op, &second.op) && first.reply == second.reply
 }

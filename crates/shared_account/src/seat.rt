@@ -2,7 +2,7 @@
 
 ghost use Rattle.std.specs.Prelude.{◌≡◌, ◌≢◌, ◌≤◌, ◌++◌, ◌∷◌, [], None, false, map, reverse, IsOk, OnOk, OnErr, IfOk, IfErr};
 ghost use Rattle.account_core.specs.Asked.{call_of, is_in_range};
-ghost use Rattle.account_core.specs.Events.{asked_of, event_of};
+ghost use Rattle.account_core.specs.Events.{asked_of, entry_data};
 ghost use Rattle.account_core.specs.Ledger.{IsRefusal, answer_of, event_by, refusal_of};
 ghost use Rattle.account_core.specs.Places.{IsClosing};
 ghost use Rattle.shared_account.specs.Kinds.{IsReplyTo, IsReturn};
@@ -32,15 +32,15 @@ pub struct Seat {
 impl Model for Seat {
     ghost use Rattle.std.specs.Prelude.{map, reverse};
     ghost use Rattle.std.specs.Vec.{vec_capacity};
-    ghost use Rattle.account_core.specs.Events.{event_of};
+    ghost use Rattle.account_core.specs.Events.{entry_data};
     ghost use Rattle.shared_account.specs.Room.{IsRoomy};
     ghost use Rattle.shared_account.specs.Seats.{SeatView};
 
     ghost Value = { SeatView };
 
-    ghost view = { λ s. record { account = s.account; number = s.number; mine = map event_of s.mine.items } };
+    ghost view = { λ s. record { account = s.account; number = s.number; mine = map entry_data s.mine.items } };
 
-    ghost invariant = { λ s. IsRoomy (reverse (map event_of s.mine.items)) s.stages s.owed (vec_capacity s.mine) };
+    ghost invariant = { λ s. IsRoomy (reverse (map entry_data s.mine.items)) s.stages s.owed (vec_capacity s.mine) };
 }
 
 impl Seat {
@@ -73,14 +73,14 @@ impl Seat {
 
     /// Its own entries, oldest first.
     pub fn mine(&self) -> &[Entry]
-        ensures { map event_of result.now ≡ self.now.mine }
+        ensures { map entry_data result.now ≡ self.now.mine }
     {
         self.mine.as_slice()
     }
 
     /// Its own entries, oldest first, for whoever needs the seat no more.
     pub fn into_mine(self) -> Vec<Entry>
-        ensures { map event_of result.items ≡ self.mine }
+        ensures { map entry_data result.items ≡ self.mine }
     {
         let Seat { mine, .. } = self;
         mine

@@ -24,7 +24,7 @@ pub trait Shared: Sync + Drop {
     ghost use Rattle.std.specs.Coded.{Coded};
     ghost use Rattle.account_core.specs.Answers.{IsLegal};
     ghost use Rattle.account_core.specs.Asked.{is_in_range};
-    ghost use Rattle.account_core.specs.Events.{Event, asked_of};
+    ghost use Rattle.account_core.specs.Events.{EntryData, asked_of};
     ghost use Rattle.account_core.specs.Ledger.{event_by};
     ghost use Rattle.account_core.specs.declared.fault.AccountFault.TheVariants as out;
     ghost use Rattle.shared_account.specs.Kinds.{IsReplyTo};
@@ -48,7 +48,7 @@ pub trait Shared: Sync + Drop {
 
     ghost number_of: { Self.Seat → ℕ };
 
-    ghost mine_of: { Self.Seat → List Event };
+    ghost mine_of: { Self.Seat → List EntryData };
 
     /// An account with this number, an opening credit of 0 to `MAX_MONEY`, a last moment, if it has
     /// one, an empty history and the number of entries that this may grow to; and its seats, 1 to 16

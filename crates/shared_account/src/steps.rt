@@ -1,7 +1,7 @@
 //! The steps of a turn, one function each.
 
 ghost use Rattle.std.specs.Prelude.{◌≡◌, ◌≢◌, ◌+◌, ◌%◌, ◌^◌, ◌≤◌, ◌<◌, [], ◌∷◌, ◌++◌, None, Some};
-ghost use Rattle.account_core.specs.Events.{event_of};
+ghost use Rattle.account_core.specs.Events.{entry_data};
 ghost use Rattle.account_core.specs.Ledger.{answer_of, refusal_of};
 ghost use Rattle.shared_account.specs.Own.{own};
 ghost use Rattle.shared_account.specs.Plays.{HasCome, HasMet, IsLater, with_entry};
@@ -57,10 +57,10 @@ pub(crate) fn append(board: &Board, chair: &mut Chair, entry: &Entry)
     requires at { IsAt board.now.shared.table_id chair.old.table_id }
     requires serving { IsServing chair.old.me.0.stage }
     requires seat { entry.now.seat ≡ chair.old.me.0.number }
-    requires admitted { refusal_of chair.old.me.0.seen (event_of entry.now).asked ≡ None }
-    requires answered { entry.now.reply ≡ answer_of chair.old.me.0.seen (event_of entry.now).asked }
+    requires admitted { refusal_of chair.old.me.0.seen (entry_data entry.now).asked ≡ None }
+    requires answered { entry.now.reply ≡ answer_of chair.old.me.0.seen (entry_data entry.now).asked }
     ensures table { chair.new.table_id ≡ chair.old.table_id }
-    ensures seen { chair.new.me.0 ≡ seeing chair.old.me.0 (with_entry chair.old.me.0.seen (event_of entry.now)) }
+    ensures seen { chair.new.me.0 ≡ seeing chair.old.me.0 (with_entry chair.old.me.0.seen (entry_data entry.now)) }
     ensures hands { chair.new.me.1 ≡ chair.old.me.1 }
 {
     append_as::<Brand>(board, chair, entry);
@@ -68,14 +68,14 @@ pub(crate) fn append(board: &Board, chair: &mut Chair, entry: &Entry)
 
 /// The same, of an entry that the proof can name.
 fn append_as<E: Appended>(board: &Board, chair: &mut Chair, entry: &Entry)
-    requires entry { E.entry ≡ event_of entry.now }
+    requires entry { E.entry ≡ entry_data entry.now }
     requires at { IsAt board.now.shared.table_id chair.old.table_id }
     requires serving { IsServing chair.old.me.0.stage }
     requires seat { entry.now.seat ≡ chair.old.me.0.number }
-    requires admitted { refusal_of chair.old.me.0.seen (event_of entry.now).asked ≡ None }
-    requires answered { entry.now.reply ≡ answer_of chair.old.me.0.seen (event_of entry.now).asked }
+    requires admitted { refusal_of chair.old.me.0.seen (entry_data entry.now).asked ≡ None }
+    requires answered { entry.now.reply ≡ answer_of chair.old.me.0.seen (entry_data entry.now).asked }
     ensures table { chair.new.table_id ≡ chair.old.table_id }
-    ensures seen { chair.new.me.0 ≡ seeing chair.old.me.0 (with_entry chair.old.me.0.seen (event_of entry.now)) }
+    ensures seen { chair.new.me.0 ≡ seeing chair.old.me.0 (with_entry chair.old.me.0.seen (entry_data entry.now)) }
     ensures hands { chair.new.me.1 ≡ chair.old.me.1 }
 {
     places_go_with_entries();

@@ -1,7 +1,7 @@
 //! Seats of an account that is handed on by turns.
 
 ghost use Rattle.std.specs.Prelude.{◌≡◌, [], map};
-ghost use Rattle.account_core.specs.Events.{event_of};
+ghost use Rattle.account_core.specs.Events.{entry_data};
 ghost use Rattle.shared_account.specs.declared.board.Stage.TheVariants.{Idles};
 
 use crate::Seat;
@@ -69,7 +69,7 @@ impl TurnSeat {
 
     /// Its own entries, oldest first.
     pub fn mine(&self) -> &[Entry]
-        ensures { map event_of result.now ≡ self.now.place.mine }
+        ensures { map entry_data result.now ≡ self.now.place.mine }
     {
         self.seat.mine()
     }

@@ -13,7 +13,7 @@ use Rattle.cap_values.specs.declared.operation.ScfOp.{ScfOp}
 use Rattle.cap_values.specs.declared.operation.ScfOp.TheVariants.{RequestReport, ApplyCharging, Continue, ReleaseCall}
 use Rattle.ssf_core.specs.Calls.{Advances, IsNextDue, RunsUntil, Takes}
 use Rattle.ssf_core.specs.Happenings.{Happening, sent_in}
-use Rattle.ssf_core.specs.Moves.{active_from, charged_active, charged_setup, charging_of, initial_from, met_by, moved, outs_of, period_of, proceeded, setup_from, silently, stage_of}
+use Rattle.ssf_core.specs.Moves.{active_from, charged_active, charged_setup, charging_of, initial_from, met_by, move_of, outs_of, period_of, proceeded, setup_from, silently, stage_of}
 use Rattle.ssf_core.specs.Running.{HasRun}
 use Rattle.ssf_core.specs.Stages.{IsChargingTimely, IsQuiet, IsSwitchTimely, IsBounded, IsTimely, moment_of, next_of, stage_due, started}
 use Rattle.ssf_core.specs.Stands.{StageStands}
@@ -60,8 +60,8 @@ advances_run config last now s0 s t sent quiet run = record {
 -- an input was taken or refused
 pub takes_run : (config : SsfConfig) (last now : ℕ) (s0 s : Stage) (t : List Happening) (input : Input) (sent : List Out) → IsQuiet now s → HasRun config t now s sent
     → Takes (record { config = config; last = last; stage = s0 })
-    (record { config = config; last = now; stage = result_unwrap_or (stage_of (moved config.tssf s now input)) s }) now input t
-    (outs_of sent now (moved config.tssf s now input)) (result_err (stage_of (moved config.tssf s now input)))
+    (record { config = config; last = now; stage = result_unwrap_or (stage_of (move_of config.tssf s now input)) s }) now input t
+    (outs_of sent now (move_of config.tssf s now input)) (result_err (stage_of (move_of config.tssf s now input)))
 takes_run config last now s0 s t input sent quiet run =
     let outcome = taken config now s (run.fired ++ t) input (sent_in t) sent run.stands quiet run.sends in
     record {
@@ -123,7 +123,7 @@ timely_charging : (now total : ℕ) (c : Option Charge) → IsChargingTimely now
 timely_charging now total None = tt
 timely_charging now total (Some c) = omega arith
 
-timely_operated : (tssf : ℕ) (s : Stage) (now : ℕ) (op : ScfOp) → IsTimely now s → IsTimely now (result_unwrap_or (stage_of (moved tssf s now (Operate op))) s)
+timely_operated : (tssf : ℕ) (s : Stage) (now : ℕ) (op : ScfOp) → IsTimely now s → IsTimely now (result_unwrap_or (stage_of (move_of tssf s now (Operate op))) s)
 timely_operated tssf stage.Unused now (RequestReport arms) timely = timely
 timely_operated tssf stage.Requested now (RequestReport arms) timely = timely
 timely_operated tssf (stage.Initial setup d) now (RequestReport arms) timely = (omega arith, timely.1)
@@ -154,7 +154,7 @@ timely_operated tssf (stage.Active active) now (ReleaseCall cause) timely = tt
 timely_operated tssf (stage.Down d) now (ReleaseCall cause) timely = tt
 timely_operated tssf stage.Ended now (ReleaseCall cause) timely = timely
 
-timely_met_event : (tssf : ℕ) (s : Stage) (now : ℕ) (e : BcsmEvent) → IsTimely now s → IsTimely now (result_unwrap_or (stage_of (moved tssf s now (Meet e))) s)
+timely_met_event : (tssf : ℕ) (s : Stage) (now : ℕ) (e : BcsmEvent) → IsTimely now s → IsTimely now (result_unwrap_or (stage_of (move_of tssf s now (Meet e))) s)
 timely_met_event tssf (stage.Initial setup d) now met.Abandon timely = tt
 timely_met_event tssf (stage.Setup setup) now met.RouteSelectFailure timely = timely_met tssf now event.RouteSelectFailure None _
 timely_met_event tssf (stage.Setup setup) now met.Busy timely = timely_met tssf now event.CalledPartyBusy None _
@@ -204,7 +204,7 @@ timely_met_event tssf stage.Ended now (met.Disconnect leg) timely = timely
 timely_met_event tssf stage.Ended now met.Abandon timely = timely
 
 -- a stage is timely after an input, taken or refused
-pub timely_moved : (tssf : ℕ) (s : Stage) (now : ℕ) (input : Input) → IsTimely now s → IsTimely now (result_unwrap_or (stage_of (moved tssf s now input)) s)
+pub timely_moved : (tssf : ℕ) (s : Stage) (now : ℕ) (input : Input) → IsTimely now s → IsTimely now (result_unwrap_or (stage_of (move_of tssf s now input)) s)
 timely_moved tssf stage.Unused now Invoke timely = tt
 timely_moved tssf stage.Requested now Invoke timely = timely
 timely_moved tssf (stage.Initial setup d) now Invoke timely = timely

@@ -19,7 +19,7 @@ use Rattle.cap_values.specs.declared.message.SsfMsg.TheVariants as message
 use Rattle.ssf_core.specs.Calls.{fault_in, with_input}
 use Rattle.ssf_core.specs.Happenings.{Happening, Took, sent_at, sent_in}
 use Rattle.ssf_core.specs.Modes.{armed_modes, modes_at}
-use Rattle.ssf_core.specs.Moves.{Move, charged_active, charged_setup, charging_of, active_from, initial_from, last_report_of, met_by, moved, outs_of, period_of, proceeded, report_in, report_of, reporting, send_all, setup_from, silently, stage_of}
+use Rattle.ssf_core.specs.Moves.{Move, charged_active, charged_setup, charging_of, active_from, initial_from, last_report_of, met_by, move_of, outs_of, period_of, proceeded, report_in, report_of, reporting, send_all, setup_from, silently, stage_of}
 use Rattle.ssf_core.specs.Quantities.{granted, mode_at, pending, period_end, switch_due, switched}
 use Rattle.ssf_core.specs.Stages.{IsQuiet, passed, started, switch_due_of, tccd_due_of}
 use Rattle.ssf_core.specs.Quantities.{started_switch}
@@ -216,7 +216,7 @@ no_wait-charging_of (Some c) = refl
 
 -- the operations
 operates : (config : SsfConfig) (t : List Happening) (s : Stage) (now : ℕ) (op : ScfOp) → StageMatches config s t
-    → TakesAlike config t now (Operate op) (on_input t (phase_of s) now (Operate op)) (moved config.tssf s now (Operate op))
+    → TakesAlike config t now (Operate op) (on_input t (phase_of s) now (Operate op)) (move_of config.tssf s now (Operate op))
 operates config t stage.Unused now (RequestReport arms) m = refl
 operates config t stage.Requested now (RequestReport arms) m = refl
 operates config t (stage.Initial setup d) now (RequestReport arms) m = record { same_sent = refl; same_next = refl; matches = λ items. (armed_setup config t now arms setup items m.0, refl) }
@@ -258,7 +258,7 @@ operates config t stage.Ended now (ReleaseCall cause) m = refl
 
 -- the events
 meets : (config : SsfConfig) (t : List Happening) (s : Stage) (now : ℕ) (e : BcsmEvent) → StageMatches config s t
-    → TakesAlike config t now (Meet e) (on_input t (phase_of s) now (Meet e)) (moved config.tssf s now (Meet e))
+    → TakesAlike config t now (Meet e) (on_input t (phase_of s) now (Meet e)) (move_of config.tssf s now (Meet e))
 meets config t stage.Unused now met.RouteSelectFailure m = refl
 meets config t stage.Unused now met.Busy m = refl
 meets config t stage.Unused now met.NoAnswer m = refl
@@ -325,7 +325,7 @@ meets config t stage.Ended now met.Abandon m = refl
 
 -- every input
 pub takes : (config : SsfConfig) (t : List Happening) (s : Stage) (now : ℕ) (input : Input) → StageMatches config s t
-    → TakesAlike config t now input (on_input t (phase_of s) now input) (moved config.tssf s now input)
+    → TakesAlike config t now input (on_input t (phase_of s) now input) (move_of config.tssf s now input)
 takes config t stage.Unused now Invoke m = record { same_sent = refl; same_next = refl; matches = λ items. m }
 takes config t stage.Requested now Invoke m = refl
 takes config t (stage.Initial setup d) now Invoke m = refl
@@ -387,7 +387,7 @@ taken_as config now s t input before sent (Err f) (Err g) st quiet so_far is ali
 }
 
 pub taken : (config : SsfConfig) (now : ℕ) (s : Stage) (t : List Happening) (input : Input) (before sent : List Out) → StageStands config now s t → IsQuiet now s → sent_in t ≡ before ++ sent
-    → Taken config now s t input before sent (on_input t (phase_after config t) now input) (moved config.tssf s now input)
+    → Taken config now s t input before sent (on_input t (phase_after config t) now input) (move_of config.tssf s now input)
 taken config now s t input before sent st quiet so_far =
     taken_as config now s t input before sent _ _ st quiet so_far refl
-    (subst (λ p. TakesAlike config t now input (on_input t p now input) (moved config.tssf s now input)) (sym st.phase) (takes config t s now input st.data'))
+    (subst (λ p. TakesAlike config t now input (on_input t p now input) (move_of config.tssf s now input)) (sym st.phase) (takes config t s now input st.data'))

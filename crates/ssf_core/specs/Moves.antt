@@ -20,7 +20,7 @@ use Rattle.ssf_core.specs.Stages.{blank, passed, started}
 use Rattle.cap_values.specs.declared.number.Number.{Number}
 use Rattle.ssf_core.specs.declared.input.Input.{Input}
 use Rattle.ssf_core.specs.declared.input.Input.TheVariants.{Invoke, Trigger, Operate, Meet}
-use Rattle.ssf_core.specs.Table.{any_watched, is_fitting, notified, told}
+use Rattle.ssf_core.specs.Table.{any_watched, is_fitting, notified, event_report}
 use Rattle.ssf_core.specs.declared.bcsm_event.BcsmEvent.{BcsmEvent}
 use Rattle.ssf_core.specs.declared.bcsm_event.BcsmEvent.TheVariants as met
 use Rattle.ssf_core.specs.declared.config.DefaultHandling.{DefaultHandling}
@@ -90,7 +90,7 @@ last_report_of active now = report_in active.charging (report_of active now fals
 
 -- a call that ends by itself, by the mode of its event
 abbrev pub met_by : ℕ → ℕ → Event → Option Leg → Mode → Move
-met_by tssf now event leg Interrupted = sending (told event leg Interrupted) (stage.Down (now + tssf))
+met_by tssf now event leg Interrupted = sending (event_report event leg Interrupted) (stage.Down (now + tssf))
 met_by tssf now event leg NotifyAndContinue =
     sending (Msg (message.EventReport event leg NotifyAndContinue) ∷ Msg message.Ended ∷ []) stage.Ended
 met_by tssf now event leg Transparent = sending (Msg message.Ended ∷ []) stage.Ended
@@ -283,8 +283,8 @@ triggered tssf stage.Requested now call calling called =
 triggered tssf _ now call calling called = Err UnexpectedComponentSequence
 
 -- an input
-abbrev pub moved : ℕ → Stage → ℕ → Input → Result Move SsfFault
-moved tssf from now Invoke = invoked from
-moved tssf from now (Trigger call calling called) = triggered tssf from now call calling called
-moved tssf from now (Operate op) = operated tssf from now op
-moved tssf from now (Meet event) = met_event tssf from now event
+abbrev pub move_of : ℕ → Stage → ℕ → Input → Result Move SsfFault
+move_of tssf from now Invoke = invoked from
+move_of tssf from now (Trigger call calling called) = triggered tssf from now call calling called
+move_of tssf from now (Operate op) = operated tssf from now op
+move_of tssf from now (Meet event) = met_event tssf from now event

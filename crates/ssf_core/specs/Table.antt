@@ -63,19 +63,19 @@ abbrev pub last_report : List Happening → ℕ → List Item
 last_report trace now = if is_some (pending trace) then report trace now false ∷ [] else []
 
 -- an event, reported with its mode
-abbrev pub told : Event → Option Leg → Mode → List Item
-told event leg mode = Msg (message.EventReport event leg mode) ∷ []
+abbrev pub event_report : Event → Option Leg → Mode → List Item
+event_report event leg mode = Msg (message.EventReport event leg mode) ∷ []
 
 -- an event, reported where its mode is NotifyAndContinue
 abbrev pub notified : Event → Mode → List Item
 notified event Interrupted = []
-notified event NotifyAndContinue = told event None NotifyAndContinue
+notified event NotifyAndContinue = event_report event None NotifyAndContinue
 notified event Transparent = []
 
 -- by mode. Transparent: ends. NotifyAndContinue: reported, ends. Interrupted: reported, and the service is asked
 abbrev pub by_mode : Event → Option Leg → Mode → Effect
-by_mode event leg Interrupted = goes (told event leg Interrupted) Down
-by_mode event leg NotifyAndContinue = ends (told event leg NotifyAndContinue)
+by_mode event leg Interrupted = goes (event_report event leg Interrupted) Down
+by_mode event leg NotifyAndContinue = ends (event_report event leg NotifyAndContinue)
 by_mode event leg Transparent = ends []
 
 -- a mode in which the service is told of the event

@@ -2,7 +2,7 @@
 
 ghost use Rattle.std.specs.Prelude.{◌≡◌, ◌≤◌};
 ghost use Rattle.arrayvec.specs.ArrayVec.{array_vec_len};
-ghost use Rattle.ssf_core.specs.Moves.{invoked, moved, outs_of, stage_of, triggered};
+ghost use Rattle.ssf_core.specs.Moves.{invoked, move_of, outs_of, stage_of, triggered};
 ghost use Rattle.ssf_core.specs.Stages.{IsTimely};
 
 use crate::events::meet;
@@ -27,8 +27,8 @@ pub(crate) fn take(
     requires moment { now ≤ HORIZON }
     requires room { array_vec_len sent.old ≤ 5 }
     requires timely { IsTimely now stage }
-    ensures stage { result ≡ stage_of (moved config.now.tssf stage now input) }
-    ensures items { sent.new.items ≡ outs_of sent.old.items now (moved config.now.tssf stage now input) }
+    ensures stage { result ≡ stage_of (move_of config.now.tssf stage now input) }
+    ensures items { sent.new.items ≡ outs_of sent.old.items now (move_of config.now.tssf stage now input) }
 {
     match input {
         Input::Invoke => invoke(stage),

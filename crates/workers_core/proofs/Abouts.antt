@@ -4,7 +4,7 @@ use Rattle.std.specs.Prelude.{Contains, if◌then◌else◌}
 use Rattle.std.proofs.lemmas.Grind.{flat_map-append}
 use Rattle.std.proofs.lemmas.List.Elements.{All-append, All-cons, All-nil}
 use Rattle.account_core.specs.Asked.{Credits, IsOfCall, Reserves, Returns, Settles}
-use Rattle.account_core.specs.Events.{Event}
+use Rattle.account_core.specs.Events.{EntryData}
 use Rattle.account_core.specs.declared.entry.Reply.{Reply}
 use Rattle.account_core.specs.declared.entry.Reply.TheVariants.{Granted, Denied, Settled, Forfeit, Returned}
 use Rattle.cap_values.specs.Orders.{Order}
@@ -14,7 +14,7 @@ use Rattle.cap_values.specs.declared.message.SsfMsg.TheVariants as msg
 use Rattle.cap_values.specs.declared.mode.Mode.TheVariants.{Interrupted, NotifyAndContinue, Transparent}
 use Rattle.dialogue_core.specs.Phases.{Phase, Says, Sequel, FirstAsk, Running, Settling, MoreAsk, Returning, Ending, Closed, Asks, Sends, Finished}
 use Rattle.dialogue_core.specs.Phases as phase
-use Rattle.dialogue_core.specs.Table.{Step, are_units, begun, replied, sequel, told, unanswered}
+use Rattle.dialogue_core.specs.Table.{Step, are_units, on_begin, on_reply, sequel, on_message, on_refusal}
 use Rattle.dialogue_core.specs.declared.fault.DialogueFault.TheVariants.{Unexpected}
 use Rattle.tariff_core.specs.declared.route.Route.{Route}
 use Rattle.workers_core.specs.Served.{IsPart, Report, credited_in, credits_of, held_in, held_of, report_in, settled_in, settles_of}
@@ -50,7 +50,7 @@ keeps_sequel call phase.Clears = (tt, tt, refl)
 keeps_sequel call phase.Fails = (tt, tt, refl)
 keeps_sequel call phase.Closes = (tt, tt, refl)
 
-keeps_replied : (call : ℕ) (phase : Phase) (reply : Reply) → IsAbout call phase → KeepsTo call (replied phase reply)
+keeps_replied : (call : ℕ) (phase : Phase) (reply : Reply) → IsAbout call phase → KeepsTo call (on_reply phase reply)
 keeps_replied call (FirstAsk t) (Granted units last a) about = keeps_given call (are_units units) _ (Running t) about
 keeps_replied call (FirstAsk t) (Denied a) about = (tt, tt, refl)
 keeps_replied call (FirstAsk t) reply about = tt
@@ -69,7 +69,7 @@ keeps_replied call (Returning after) reply about = tt
 keeps_replied call Ending reply about = tt
 keeps_replied call Closed reply about = tt
 
-keeps_unanswered : (call : ℕ) (phase : Phase) → IsAbout call phase → KeepsTo call (unanswered phase)
+keeps_unanswered : (call : ℕ) (phase : Phase) → IsAbout call phase → KeepsTo call (on_refusal phase)
 keeps_unanswered call (FirstAsk t) about = (tt, tt, refl)
 keeps_unanswered call (Running t) about = tt
 keeps_unanswered call (Settling t true since) about = (tt, about, refl)
@@ -84,8 +84,8 @@ kept_or_done call phase (Ok next) about keeps = keeps
 kept_or_done call phase (Err fault) about keeps = (about, tt, refl)
 
 kept_got : (call : ℕ) (phase : Phase) (got : Got) → IsAbout call phase → KeepsTo call (Ok (after_got phase got))
-kept_got call phase (Ok reply) about = kept_or_done call phase (replied phase reply) about (keeps_replied call phase reply about)
-kept_got call phase (Err fault) about = kept_or_done call phase (unanswered phase) about (keeps_unanswered call phase about)
+kept_got call phase (Ok reply) about = kept_or_done call phase (on_reply phase reply) about (keeps_replied call phase reply about)
+kept_got call phase (Err fault) about = kept_or_done call phase (on_refusal phase) about (keeps_unanswered call phase about)
 
 -- ---- in a talk
 
@@ -113,7 +113,7 @@ pub talk_held : (seat call : ℕ) (calls : List ℕ) (first : Says × Phase) (go
     → All (λ c. Contains calls c) (held_of (entries_of seat first gots))
 talk_held seat call calls first [] about says has = All-nil (λ c. Contains calls c)
 talk_held seat call calls first (got ∷ earlier) about says has =
-    rw (flat_map-append (λ (e : Event). held_in e.asked) (entries_of seat first earlier) (entry_of seat (talked first earlier).0 got))
+    rw (flat_map-append (λ (e : EntryData). held_in e.asked) (entries_of seat first earlier) (entry_of seat (talked first earlier).0 got))
     (All-append (λ c. Contains calls c) (held_of (entries_of seat first earlier)) (held_of (entry_of seat (talked first earlier).0 got)) (talk_held seat call calls first earlier about says has)
     (entry_held seat call calls (talked first earlier).0 got (says_of_call call first earlier about says) has))
 
@@ -132,7 +132,7 @@ no_credit seat call Finished got says = refl
 pub talk_credits : (seat call : ℕ) (first : Says × Phase) (gots : List Got) → IsAbout call first.1 → SaysOf call first.0 → credits_of (entries_of seat first gots) ≡ []
 talk_credits seat call first [] about says = refl
 talk_credits seat call first (got ∷ earlier) about says =
-    flat_map-append (λ (e : Event). credited_in e.asked) (entries_of seat first earlier) (entry_of seat (talked first earlier).0 got)
+    flat_map-append (λ (e : EntryData). credited_in e.asked) (entries_of seat first earlier) (entry_of seat (talked first earlier).0 got)
     ∙ ap (λ l. l ++ credits_of (entry_of seat (talked first earlier).0 got)) (talk_credits seat call first earlier about says)
     ∙ no_credit seat call (talked first earlier).0 got (says_of_call call first earlier about says)
 
@@ -160,22 +160,22 @@ talk_settles seat call first (got ∷ (last ∷ earlier)) about =
     let before = entries_of seat first (last ∷ earlier) in
     let none : settled_by (talked first (last ∷ earlier)).0 ≡ [] = (kept_got call (talked first earlier).1 last (talked_about call first earlier about)).2 in
     let same : settles_of (before ++ entry_of seat (talked first (last ∷ earlier)).0 got) ≡ settles_of before =
-    flat_map-append (λ (e : Event). settled_in e.asked) before (entry_of seat (talked first (last ∷ earlier)).0 got)
+    flat_map-append (λ (e : EntryData). settled_in e.asked) before (entry_of seat (talked first (last ∷ earlier)).0 got)
     ∙ ap (λ l. settles_of before ++ l) (no_settle seat (talked first (last ∷ earlier)).0 got none) ∙ append-nil (settles_of before) in
     let P : List Report → Type 0 = λ l. IsPart l (settled_by first.0) in
     subst P (sym same) (talk_settles seat call first (last ∷ earlier) about)
 
 -- ---- how a talk begins
 
-pub begun_about : (call now wanted least : ℕ) (route : Option Route) → IsAbout call (begun call now wanted least route).1
+pub begun_about : (call now wanted least : ℕ) (route : Option Route) → IsAbout call (on_begin call now wanted least route).1
 begun_about call now wanted least None = tt
 begun_about call now wanted least (Some route) = refl
 
-pub begun_says : (call now wanted least : ℕ) (route : Option Route) → SaysOf call (begun call now wanted least route).0
+pub begun_says : (call now wanted least : ℕ) (route : Option Route) → SaysOf call (on_begin call now wanted least route).0
 begun_says call now wanted least None = tt
 begun_says call now wanted least (Some route) = refl
 
-pub begun_settles : (call now wanted least : ℕ) (route : Option Route) → settled_by (begun call now wanted least route).0 ≡ []
+pub begun_settles : (call now wanted least : ℕ) (route : Option Route) → settled_by (on_begin call now wanted least route).0 ≡ []
 begun_settles call now wanted least None = refl
 begun_settles call now wanted least (Some route) = refl
 
@@ -184,7 +184,7 @@ abbrev pub TakesTo : ℕ → ℕ → SsfMsg → Step → Type 0
 TakesTo call number message (Ok next) = IsAbout call next.1 × SaysOf call next.0 × IsPart (settled_by next.0) (report_in number call message)
 TakesTo call number message (Err fault) = Unit {0}
 
-pub takes_told : (call number at : ℕ) (phase : Phase) (message : SsfMsg) → IsAbout call phase → TakesTo call number message (told phase number at message)
+pub takes_told : (call number at : ℕ) (phase : Phase) (message : SsfMsg) → IsAbout call phase → TakesTo call number message (on_message phase number at message)
 takes_told call number at (FirstAsk t) message about = tt
 takes_told call number at (Running t) (msg.InitialDp other calling called) about = tt
 takes_told call number at (Running t) (msg.EventReport event.Answer leg mode) about = (about, tt, tt)

@@ -5,7 +5,7 @@ use Rattle.std.specs.Map.{keys_of}
 use Rattle.std.proofs.lemmas.List.{append_assoc, map-append}
 use Rattle.std.proofs.lemmas.List.Elements.{All-head, All-tail, Contains-append_left, Contains-append_right, Contains-push}
 use Rattle.account_core.specs.Asked.{Asked, Returns, Settles}
-use Rattle.account_core.specs.Events.{Event}
+use Rattle.account_core.specs.Events.{EntryData}
 use Rattle.account_core.specs.declared.fault.AccountFault.{AccountFault}
 use Rattle.cap_values.specs.NumberDigits.{digits_of}
 use Rattle.cap_values.specs.declared.event.Event.TheVariants as event
@@ -13,18 +13,18 @@ use Rattle.cap_values.specs.declared.message.SsfMsg.{SsfMsg}
 use Rattle.cap_values.specs.declared.message.SsfMsg.TheVariants as msg
 use Rattle.cap_values.specs.declared.number.Number.{Number}
 use Rattle.dialogue_core.specs.Phases.{Conditions, Phase, Says, Sequel, FirstAsk, Running, Settling, Returning, Nothing, Closes, Asks}
-use Rattle.dialogue_core.specs.Table.{begun, conditions, going_on, reserve, told}
+use Rattle.dialogue_core.specs.Table.{on_begin, conditions, going_on, reserve, on_message}
 use Rattle.tariff_core.specs.Routes.{HasNoRoute}
 use Rattle.tariff_core.specs.declared.route.Route.{Route}
 use Rattle.workers_core.proofs.Chaining.{first_sound, once_sound}
 use Rattle.workers_core.proofs.Entering.{place_within}
 use Rattle.workers_core.proofs.Handling.{Means, home_within, many_keys, means_on, own_of, same_number}
 use Rattle.workers_core.specs.Chains.{AreHandled, IsHandledOnce, at_first, seat_numbers}
-use Rattle.workers_core.specs.Handled.{Holding, IsBegun, IsDone, IsRouted, IsTalked, Told, grown}
+use Rattle.workers_core.specs.Handled.{Holding, IsBegun, IsDone, IsRouted, IsTalked, AnswerView, grown}
 use Rattle.workers_core.specs.Laws.{CallsAreReserved, CallsAreReturned, HasNoDialogue, IsHandledAfter, IsReserved, IsRunning, PostsAreHandled, ReportsAreSettled, asked_at, ends_call}
 use Rattle.run_values.specs.Setups.{Setup, account_of}
 use Rattle.workers_core.specs.Talks.{Got, entries_of, entry_of, is_ask, last_fault, talked}
-use Rattle.workers_core.specs.Verdicts.{Standing, Verdict, Strays, Rejects, Recharges, Begins, GoesOn, begins, goes_on, home_of, spoken, verdict_on}
+use Rattle.workers_core.specs.Verdicts.{DialogueAt, Verdict, Strays, Rejects, Recharges, Begins, GoesOn, begins, goes_on, home_of, spoken, verdict_on}
 use Rattle.workers_core.specs.Workers.{IsSound}
 use Rattle.run_values.specs.declared.post.Body.TheVariants.{Ssf}
 use Rattle.run_values.specs.declared.post.Post.{Post}
@@ -84,15 +84,15 @@ posts_are_handled setup number before post after refusals lists is none =
 
 -- ---- an entry stays
 
-stays_grown : (lists : List (List Event)) (at place : ℕ) (entries : List Event) (asked : Asked) → Contains (asked_at lists place) asked → Contains (asked_at (grown lists at entries) place) asked
+stays_grown : (lists : List (List EntryData)) (at place : ℕ) (entries : List EntryData) (asked : Asked) → Contains (asked_at lists place) asked → Contains (asked_at (grown lists at entries) place) asked
 stays_grown [] at place entries asked has = has
 stays_grown (mine ∷ lists) zero zero entries asked has =
-    rw (map-append (λ (e : Event). e.asked) mine entries) (Contains-append_left (map (λ (e : Event). e.asked) mine) (map (λ (e : Event). e.asked) entries) asked has)
+    rw (map-append (λ (e : EntryData). e.asked) mine entries) (Contains-append_left (map (λ (e : EntryData). e.asked) mine) (map (λ (e : EntryData). e.asked) entries) asked has)
 stays_grown (mine ∷ lists) zero (suc place) entries asked has = has
 stays_grown (mine ∷ lists) (suc at) zero entries asked has = has
 stays_grown (mine ∷ lists) (suc at) (suc place) entries asked has = stays_grown lists at place entries asked has
 
-stays_by : (setup : Setup) (numbers : List ℕ) (at : ℕ) (v : Verdict) (old new : Holding) (t : Told) (place : ℕ) (asked : Asked) → IsDone setup numbers at v old new t
+stays_by : (setup : Setup) (numbers : List ℕ) (at : ℕ) (v : Verdict) (old new : Holding) (t : AnswerView) (place : ℕ) (asked : Asked) → IsDone setup numbers at v old new t
     → Contains (asked_at old.lists place) asked → Contains (asked_at new.lists place) asked
 stays_by setup numbers at Strays old new t place asked done has = rw done.lists has
 stays_by setup numbers at Rejects old new t place asked done has = rw done.lists has
@@ -113,30 +113,30 @@ stays_after setup numbers (post ∷ posts) (refusal ∷ refusals) old new place 
 
 -- with no fault, each ask got a reply, the first too
 first_entered : (seat : ℕ) (asked : Asked) (to : Phase) (got : Got) (earlier : List Got) → last_fault (got ∷ earlier) ≡ None
-    → Contains (map (λ (e : Event). e.asked) (entries_of seat (Asks asked, to) (got ∷ earlier))) asked
+    → Contains (map (λ (e : EntryData). e.asked) (entries_of seat (Asks asked, to) (got ∷ earlier))) asked
 first_entered seat asked to (Err fault) earlier none = absurd (cc)
 first_entered seat asked to (Ok reply) [] none = Contains-push [] asked
 first_entered seat asked to (Ok reply) (last ∷ earlier) none =
     let before = entries_of seat (Asks asked, to) (last ∷ earlier) in
     let more = entry_of seat (talked (Asks asked, to) (last ∷ earlier)).0 (Ok reply) in
-    rw (map-append (λ (e : Event). e.asked) before more)
-    (Contains-append_left (map (λ (e : Event). e.asked) before) (map (λ (e : Event). e.asked) more) asked (first_entered seat asked to last earlier none))
+    rw (map-append (λ (e : EntryData). e.asked) before more)
+    (Contains-append_left (map (λ (e : EntryData). e.asked) before) (map (λ (e : EntryData). e.asked) more) asked (first_entered seat asked to last earlier none))
 
 -- a talk that begins with an ask isn't over before the ask got something
 talk_enters : (seat : ℕ) (asked : Asked) (to phase : Phase) (last : Says) (gots : List Got) → talked (Asks asked, to) gots ≡ (last, phase) → is_ask last ≡ false → last_fault gots ≡ None
-    → Contains (map (λ (e : Event). e.asked) (entries_of seat (Asks asked, to) gots)) asked
+    → Contains (map (λ (e : EntryData). e.asked) (entries_of seat (Asks asked, to) gots)) asked
 talk_enters seat asked to phase last [] talk rests none =
     let is : Asks asked ≡ last = ap (λ (p : Says × Phase). p.0) talk in let never : true ≡ false = ap is_ask is ∙ rests in absurd (cc)
 talk_enters seat asked to phase last (got ∷ earlier) talk rests none = first_entered seat asked to got earlier none
 
-here_grown : (lists : List (List Event)) (place : ℕ) (entries : List Event) (asked : Asked) → place < length lists → Contains (map (λ (e : Event). e.asked) entries) asked
+here_grown : (lists : List (List EntryData)) (place : ℕ) (entries : List EntryData) (asked : Asked) → place < length lists → Contains (map (λ (e : EntryData). e.asked) entries) asked
     → Contains (asked_at (grown lists place entries) place) asked
 here_grown [] place entries asked within has = absurd (omega (arith, within))
 here_grown (mine ∷ lists) zero entries asked within has =
-    rw (map-append (λ (e : Event). e.asked) mine entries) (Contains-append_right (map (λ (e : Event). e.asked) mine) (map (λ (e : Event). e.asked) entries) asked has)
+    rw (map-append (λ (e : EntryData). e.asked) mine entries) (Contains-append_right (map (λ (e : EntryData). e.asked) mine) (map (λ (e : EntryData). e.asked) entries) asked has)
 here_grown (mine ∷ lists) (suc place) entries asked within has = here_grown lists place entries asked (omega (arith, within)) has
 
-asks_first : (numbers : List ℕ) (call place : ℕ) (asked : Asked) (to : Phase) (old new : Holding) (t : Told) → place < length old.lists → t.refused ≡ None
+asks_first : (numbers : List ℕ) (call place : ℕ) (asked : Asked) (to : Phase) (old new : Holding) (t : AnswerView) → place < length old.lists → t.refused ≡ None
     → IsTalked numbers call place (Asks asked, to) old new t → Contains (asked_at new.lists place) asked
 asks_first numbers call place asked to old new t within none is =
     rw is.lists
@@ -153,11 +153,11 @@ sound_all setup numbers done (post ∷ posts) (refusal ∷ refusals) old new sou
     let P : List Post → Type 0 = λ all. IsSound (keys_of setup.accounts) all new in
     subst P (append_assoc done (post ∷ []) posts) (sound_all setup numbers (done ++ post ∷ []) posts refusals are.0 new (once_sound setup numbers done post refusal old are.0 sound are.1) are.2)
 
-none_yet : (call its : ℕ) (b : Bool) (standing : Standing) (found after : Option Standing) → (call == its) ≡ b → after ≡ (if b then Some standing else found) → found ≡ None → (call ≡ its → ⊥) → after ≡ None
+none_yet : (call its : ℕ) (b : Bool) (standing : DialogueAt) (found after : Option DialogueAt) → (call == its) ≡ b → after ≡ (if b then Some standing else found) → found ≡ None → (call ≡ its → ⊥) → after ≡ None
 none_yet call its true standing found after is now none not = absurd (not (same_number call its is))
 none_yet call its false standing found after is now none not = now ∙ none
 
-none_once : (setup : Setup) (numbers : List ℕ) (call : ℕ) (post : Post) (v : Verdict) (old new : Holding) (t : Told) → Means setup old.talks post.number post.at post.body v
+none_once : (setup : Setup) (numbers : List ℕ) (call : ℕ) (post : Post) (v : Verdict) (old new : Holding) (t : AnswerView) → Means setup old.talks post.number post.at post.body v
     → IsDone setup numbers post.at v old new t → ((other : ℕ) (calling called : Number) → post.body ≡ Ssf call (msg.InitialDp other calling called) → home_of calling setup ≡ None)
     → old.talks call ≡ None → new.talks call ≡ None
 none_once setup numbers call post Strays old new t m done fresh none = done.talks call ∙ none
@@ -183,9 +183,9 @@ none_after setup numbers call (post ∷ posts) (refusal ∷ refusals) old new fr
 
 -- ---- a call begins
 
-reserved_by : (setup : Setup) (numbers : List ℕ) (call place at : ℕ) (called : Number) (route : Option Route) (old new : Holding) (t : Told) → place < length old.lists → t.refused ≡ None
+reserved_by : (setup : Setup) (numbers : List ℕ) (call place at : ℕ) (called : Number) (route : Option Route) (old new : Holding) (t : AnswerView) → place < length old.lists → t.refused ≡ None
     → (HasNoRoute setup.tariff (digits_of called) → ⊥) → IsRouted setup.tariff (digits_of called) at route
-    → IsTalked numbers call place (begun call at setup.service.wanted setup.service.least route) old new t → IsReserved setup call called at (asked_at new.lists place)
+    → IsTalked numbers call place (on_begin call at setup.service.wanted setup.service.least route) old new t → IsReserved setup call called at (asked_at new.lists place)
 reserved_by setup numbers call place at called None old new t within none has routed talk = absurd (has routed)
 reserved_by setup numbers call place at called (Some route) old new t within none has routed talk = record {
   route = route;
@@ -202,10 +202,10 @@ calls_are_reserved setup number before post lists old call other place calling c
     let none : old.talks call ≡ None = none_after setup numbers call before is.refused (at_first setup) old fresh is.begins refl in
     let verdict_is : verdict_on setup old.talks post.number post.at post.body ≡ Begins call place called =
     ap (verdict_on setup old.talks post.number post.at) body ∙ ap (spoken setup post.number post.at call (msg.InitialDp other calling called)) none ∙ ap (begins call called) home in
-    let begun : IsBegun setup numbers post.at call place called old is.between is.handles.told =
+    let begins : IsBegun setup numbers post.at call place called old is.between is.handles.told =
     subst (λ v. IsDone setup numbers post.at v old is.between is.handles.told) verdict_is is.handles.handled.done in
-    let reserved = reserved_by setup numbers call place post.at called begun.route old is.between is.handles.told
-    (place_within setup before old place sound (home_within setup (account_of calling setup.subscribers) place home)) is.handles.refused has begun.routed begun.talked in
+    let reserved = reserved_by setup numbers call place post.at called begins.route old is.between is.handles.told
+    (place_within setup before old place sound (home_within setup (account_of calling setup.subscribers) place home)) is.handles.refused has begins.routed begins.talked in
     record {
       route = reserved.route;
       routed = reserved.routed;
@@ -215,13 +215,13 @@ calls_are_reserved setup number before post lists old call other place calling c
 -- ---- a call that goes on
 
 -- where its dialogue takes a message and asks for something, that is entered
-taken_on : (setup : Setup) (number : ℕ) (before : List Post) (post : Post) (lists : List (List Event)) (old : Holding) (call place : ℕ) (message : SsfMsg) (asked : Conditions → Asked) (to : Conditions → Phase)
+taken_on : (setup : Setup) (number : ℕ) (before : List Post) (post : Post) (lists : List (List EntryData)) (old : Holding) (call place : ℕ) (message : SsfMsg) (asked : Conditions → Asked) (to : Conditions → Phase)
     → IsHandledAfter setup number before post lists old → (running : IsRunning old call place) → post.body ≡ Ssf call message
-    → told (Running running.terms) post.number post.at message ≡ Ok (Asks (asked running.terms), to running.terms)
+    → on_message (Running running.terms) post.number post.at message ≡ Ok (Asks (asked running.terms), to running.terms)
     → Contains (asked_at lists place) (asked running.terms) × (running.terms.call ≡ call)
 taken_on setup number before post lists old call place message asked to is running body takes =
     let numbers = seat_numbers number setup in
-    let standing : Standing = record { phase = Running running.terms; place = place } in
+    let standing : DialogueAt = record { phase = Running running.terms; place = place } in
     let sound = sound_all setup numbers [] before is.refused (at_first setup) old (first_sound setup) is.begins in
     let own = own_of (length (keys_of setup.accounts)) before call standing (old.talks call) running.is (sound.talks call) in
     let verdict_is : verdict_on setup old.talks post.number post.at post.body ≡ GoesOn call place (Asks (asked running.terms)) (to running.terms) =
@@ -245,7 +245,7 @@ sequel_to (msg.EventReport event leg mode) = going_on mode
 sequel_to (msg.ChargingReport active info) = Nothing
 sequel_to msg.Ended = Closes
 
-gives_back : (t : Conditions) (number at : ℕ) (message : SsfMsg) → ends_call message ≡ true → told (Running t) number at message ≡ Ok (Asks (Returns t.call), Returning (sequel_to message))
+gives_back : (t : Conditions) (number at : ℕ) (message : SsfMsg) → ends_call message ≡ true → on_message (Running t) number at message ≡ Ok (Asks (Returns t.call), Returning (sequel_to message))
 unfolding sequel_to
 gives_back t number at (msg.InitialDp other calling called) ends = absurd (cc)
 gives_back t number at (msg.EventReport event.Answer leg mode) ends = absurd (cc)

@@ -1,12 +1,12 @@
 -- Posts are handled one after another, and what a worker holds stays in order.
 use Rattle.std.proofs.Common.{◌++◌, ℕ, Option, List, [], ◌∷◌, map, refl, sym, subst}
 use Rattle.std.specs.Map.{keys_of}
-use Rattle.account_core.specs.Events.{Event}
+use Rattle.account_core.specs.Events.{EntryData}
 use Rattle.account_core.specs.declared.fault.AccountFault.{AccountFault}
 use Rattle.std.proofs.lemmas.List.Elements.{All-nil}
 use Rattle.workers_core.proofs.Handling.{sound_after}
 use Rattle.workers_core.specs.Chains.{AreAnswered, AreHandled, IsAnswered, IsHandledOnce, IsWorked, at_first, refusals_in}
-use Rattle.workers_core.specs.Handled.{Holding, IsHandled, Told}
+use Rattle.workers_core.specs.Handled.{Holding, IsHandled, AnswerView}
 use Rattle.workers_core.specs.Served.{AreServed}
 use Rattle.run_values.specs.Setups.{Setup}
 use Rattle.workers_core.specs.Workers.{IsSound}
@@ -14,7 +14,7 @@ use Rattle.run_values.specs.declared.opening_credit.OpeningCredit.{OpeningCredit
 use Rattle.run_values.specs.declared.post.Post.{Post}
 
 -- one post more
-pub one_more : (setup : Setup) (numbers : List ℕ) (posts : List Post) (answers : List Told) (post : Post) (told : Told) (old between new : Holding)
+pub one_more : (setup : Setup) (numbers : List ℕ) (posts : List Post) (answers : List AnswerView) (post : Post) (told : AnswerView) (old between new : Holding)
     → AreAnswered setup numbers posts answers old between → IsHandled setup numbers post between new told
     → AreAnswered setup numbers (posts ++ post ∷ []) (answers ++ told ∷ []) old new
 one_more setup numbers [] [] post told old between new are is =
@@ -25,7 +25,7 @@ one_more setup numbers (p ∷ posts) (t ∷ answers) post told old between new a
     (are.0, are.1, one_more setup numbers posts answers post told are.0 between new are.2 is)
 
 -- posts after posts
-pub more_after : (setup : Setup) (numbers : List ℕ) (posts later : List Post) (answers told : List Told) (old between new : Holding)
+pub more_after : (setup : Setup) (numbers : List ℕ) (posts later : List Post) (answers told : List AnswerView) (old between new : Holding)
     → AreAnswered setup numbers posts answers old between → AreAnswered setup numbers later told between new
     → AreAnswered setup numbers (posts ++ later) (answers ++ told) old new
 more_after setup numbers [] later [] told old between new are then_are =
@@ -36,7 +36,7 @@ more_after setup numbers (p ∷ posts) later (t ∷ answers) told old between ne
     (are.0, are.1, more_after setup numbers posts later answers told are.0 between new are.2 then_are)
 
 -- posts that were answered were handled, and those were refused of which the answers tell it
-handled_so : (setup : Setup) (numbers : List ℕ) (posts : List Post) (answers : List Told) (old new : Holding) → AreAnswered setup numbers posts answers old new
+handled_so : (setup : Setup) (numbers : List ℕ) (posts : List Post) (answers : List AnswerView) (old new : Holding) → AreAnswered setup numbers posts answers old new
     → AreHandled setup numbers posts (refusals_in answers) old new
 handled_so setup numbers [] [] old new are = are
 handled_so setup numbers [] (t ∷ answers) old new are = absurd are
@@ -44,7 +44,7 @@ handled_so setup numbers (p ∷ posts) [] old new are = absurd are
 handled_so setup numbers (p ∷ posts) (t ∷ answers) old new are =
     (are.0, record { told = t; handled = are.1; refused = refl }, handled_so setup numbers posts answers are.0 new are.2)
 
-pub worked_so : (setup : Setup) (number : ℕ) (posts : List Post) (answers : List Told) (lists : List (List Event)) → IsAnswered setup number posts answers lists
+pub worked_so : (setup : Setup) (number : ℕ) (posts : List Post) (answers : List AnswerView) (lists : List (List EntryData)) → IsAnswered setup number posts answers lists
     → IsWorked setup number posts (refusals_in answers) lists
 worked_so setup number posts answers lists is = record { talks = is.talks; chain = handled_so setup _ posts answers _ _ is.chain }
 

@@ -6,15 +6,15 @@ use Rattle.std.specs.Ordering.{nat_cmp}
 use Rattle.std.proofs.Math.Seq.{map-set_same}
 use Rattle.std.proofs.lemmas.List.{get_or-map, length-map, map-set}
 use Rattle.account_core.specs.Asked.{Credits}
-use Rattle.account_core.specs.Events.{Event}
+use Rattle.account_core.specs.Events.{EntryData}
 use Rattle.account_core.specs.declared.fault.AccountFault.{AccountFault}
 use Rattle.cap_values.specs.Orders.{Order}
 use Rattle.dialogue_core.specs.Phases.{Phase, Says, Asks}
 use Rattle.workers_core.proofs.Talking.{fault_after}
 use Rattle.workers_core.specs.Cases.{IsCredited}
-use Rattle.workers_core.specs.Handled.{IsRecharged, IsTalked, StandsNow, Told, grown}
+use Rattle.workers_core.specs.Handled.{IsRecharged, IsTalked, StandsNow, AnswerView, grown}
 use Rattle.workers_core.specs.Talks.{IsTalk, entries_of, entry_of}
-use Rattle.workers_core.specs.Verdicts.{Standing}
+use Rattle.workers_core.specs.Verdicts.{DialogueAt}
 use Rattle.workers_core.specs.Workers.{standing_of, standings_in}
 use Rattle.workers_core.specs.declared.talk.Talk.{Talk}
 
@@ -38,7 +38,7 @@ pub same_seats : {T K : Type 0} (key_of : T → K) (seats : List T) (place : ℕ
     → map key_of (slice_set seats place after) ≡ map key_of seats
 same_seats key_of seats place before after is same = map-set_same key_of seats place after before (same ∙ ap key_of is)
 
-pub grown_at : {T : Type 0} (mine_of : T → List Event) (seats : List T) (place : ℕ) (before after : T) (entries : List Event) → place < length seats → before ≡ get_or seats place before
+pub grown_at : {T : Type 0} (mine_of : T → List EntryData) (seats : List T) (place : ℕ) (before after : T) (entries : List EntryData) → place < length seats → before ≡ get_or seats place before
     → mine_of after ≡ mine_of before ++ entries → map mine_of (slice_set seats place after) ≡ grown (map mine_of seats) place entries
 grown_at mine_of seats place before after entries within is enters =
     let was : get_or (map mine_of seats) place [] ≡ mine_of before = get_or-map mine_of seats place before [] within ∙ ap mine_of (sym is) in
@@ -60,9 +60,9 @@ stands_now old new call talk kept other = ap (option_map standing_of) (kept othe
 
 -- ---- what is done
 
-pub recharged_by : (numbers : List ℕ) (place amount : ℕ) (until : Option ℕ) (seat : ℕ) (lists grew : List (List Event)) (talks : ℕ → Option Standing) (before after : List Event) (told : Told)
+pub recharged_by : (numbers : List ℕ) (place amount : ℕ) (until : Option ℕ) (seat : ℕ) (lists grew : List (List EntryData)) (talks : ℕ → Option DialogueAt) (before after : List EntryData) (told : AnswerView)
     → IsCredited seat (Credits amount until) before after told → seat ≡ slice_index_or numbers place 0
-    → ((entries : List Event) → after ≡ before ++ entries → grew ≡ grown lists place entries)
+    → ((entries : List EntryData) → after ≡ before ++ entries → grew ≡ grown lists place entries)
     → IsRecharged numbers place amount until (record { lists = lists; talks = talks }) (record { lists = grew; talks = talks }) told
 recharged_by numbers place amount until seat lists grew talks before after told is number grows = record {
   got = is.got;
@@ -73,10 +73,10 @@ recharged_by numbers place amount until seat lists grew talks before after told 
   talks = λ call. refl;
 }
 
-pub talked_by : (numbers : List ℕ) (call place seat : ℕ) (first : Says × Phase) (phase : Phase) (lists grew : List (List Event)) (talks now : ℕ → Option Standing)
-    (before after : List Event) (orders : List Order) (refused : Option AccountFault) (told : Told)
+pub talked_by : (numbers : List ℕ) (call place seat : ℕ) (first : Says × Phase) (phase : Phase) (lists grew : List (List EntryData)) (talks now : ℕ → Option DialogueAt)
+    (before after : List EntryData) (orders : List Order) (refused : Option AccountFault) (told : AnswerView)
     → IsTalk seat first before after phase orders refused → seat ≡ slice_index_or numbers place 0
-    → ((entries : List Event) → after ≡ before ++ entries → grew ≡ grown lists place entries)
+    → ((entries : List EntryData) → after ≡ before ++ entries → grew ≡ grown lists place entries)
     → StandsNow call (record { phase = phase; place = place }) talks now → told.orders ≡ orders → told.stray ≡ false → told.refused ≡ refused
     → IsTalked numbers call place first (record { lists = lists; talks = talks }) (record { lists = grew; talks = now }) told
 talked_by numbers call place seat first phase lists grew talks now before after orders refused told is number grows stands ordered stray why = record {

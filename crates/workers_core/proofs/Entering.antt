@@ -6,16 +6,16 @@ use Rattle.std.proofs.lemmas.Bool.Decides.{nat_tests}
 use Rattle.std.proofs.lemmas.Grind.{flat_map-append}
 use Rattle.std.proofs.lemmas.List.{append_assoc}
 use Rattle.account_core.specs.Asked.{Credits}
-use Rattle.account_core.specs.Events.{Event}
+use Rattle.account_core.specs.Events.{EntryData}
 use Rattle.account_core.specs.declared.fault.AccountFault.{AccountFault}
 use Rattle.cap_values.specs.declared.message.SsfMsg.{SsfMsg}
 use Rattle.dialogue_core.specs.Phases.{Says, Asks}
-use Rattle.dialogue_core.specs.Table.{Step, begun}
+use Rattle.dialogue_core.specs.Table.{Step, on_begin}
 use Rattle.workers_core.proofs.Abouts.{TakesTo, begun_about, begun_says, takes_told, talk_credits}
 use Rattle.workers_core.proofs.Chaining.{first_sound, once_sound}
 use Rattle.workers_core.proofs.Handling.{Means, at_place, many_keys, means_on, own_of, same_number}
 use Rattle.workers_core.specs.Chains.{AreHandled, at_first}
-use Rattle.workers_core.specs.Handled.{Holding, IsDone, IsTalked, Told, grown}
+use Rattle.workers_core.specs.Handled.{Holding, IsDone, IsTalked, AnswerView, grown}
 use Rattle.workers_core.specs.Laws.{RechargesAreEntered, accepted_of, credited_by}
 use Rattle.run_values.specs.Openings.{no_credit}
 use Rattle.workers_core.specs.Served.{AreServed, Money, credited_in, credits_of}
@@ -30,7 +30,7 @@ use Rattle.run_values.specs.declared.post.Post.{Post}
 
 -- ---- the list of one account
 
-served_many : (accounts : List ℕ) (posts : List Post) (lists : List (List Event)) → AreServed accounts posts lists → length lists ≡ length accounts
+served_many : (accounts : List ℕ) (posts : List Post) (lists : List (List EntryData)) → AreServed accounts posts lists → length lists ≡ length accounts
 served_many [] posts [] are = refl
 served_many [] posts (mine ∷ lists) are = absurd are
 served_many (account ∷ accounts) posts [] are = absurd are
@@ -41,11 +41,11 @@ pub place_within : (setup : Setup) (posts : List Post) (old : Holding) (place : 
 place_within setup posts old place sound within = rw (served_many (keys_of setup.accounts) posts old.lists sound.served, many_keys setup) within
 
 -- the Credits of one list, where another or this one has grown
-credits_grown : (lists : List (List Event)) (at place : ℕ) (entries : List Event) (more : List Money) → place < length lists → (at ≡ place → credits_of entries ≡ more) → (at ≢ place → more ≡ [])
+credits_grown : (lists : List (List EntryData)) (at place : ℕ) (entries : List EntryData) (more : List Money) → place < length lists → (at ≡ place → credits_of entries ≡ more) → (at ≢ place → more ≡ [])
     → credits_of (slice_index_or (grown lists at entries) place []) ≡ credits_of (slice_index_or lists place []) ++ more
 credits_grown [] at place entries more within here elsewhere = absurd (omega (arith, within))
 credits_grown (mine ∷ lists) zero zero entries more within here elsewhere =
-    flat_map-append (λ (e : Event). credited_in e.asked) mine entries ∙ ap (λ l. credits_of mine ++ l) (here refl)
+    flat_map-append (λ (e : EntryData). credited_in e.asked) mine entries ∙ ap (λ l. credits_of mine ++ l) (here refl)
 credits_grown (mine ∷ lists) zero (suc place) entries more within here elsewhere =
     sym (append-nil (credits_of (slice_index_or lists place []))) ∙ ap (λ l. credits_of (slice_index_or lists place []) ++ l) (sym (elsewhere (λ is. omega (arith, is))))
 credits_grown (mine ∷ lists) (suc at) zero entries more within here elsewhere =
@@ -55,13 +55,13 @@ credits_grown (mine ∷ lists) (suc at) (suc place) entries more within here els
 
 -- ---- a message of a call adds no Credit
 
-none_more : (setup : Setup) (numbers : List ℕ) (call at place : ℕ) (first : Says × _) (old new : Holding) (t : Told) → place < length old.lists
+none_more : (setup : Setup) (numbers : List ℕ) (call at place : ℕ) (first : Says × _) (old new : Holding) (t : AnswerView) → place < length old.lists
     → ((seat : ℕ) (gots : List Got) → credits_of (entries_of seat first gots) ≡ []) → IsTalked numbers call at first old new t
     → credits_of (slice_index_or new.lists place []) ≡ credits_of (slice_index_or old.lists place []) ++ []
 none_more setup numbers call at place first old new t within none is =
     rw is.lists (credits_grown old.lists at place (entries_of (slice_index_or numbers at 0) first is.gots) [] within (λ here. none (slice_index_or numbers at 0) is.gots) (λ elsewhere. refl))
 
-message_adds : (setup : Setup) (numbers : List ℕ) (posts : List Post) (place number at call : ℕ) (message : SsfMsg) (v : Verdict) (old new : Holding) (t : Told) → place < length old.lists
+message_adds : (setup : Setup) (numbers : List ℕ) (posts : List Post) (place number at call : ℕ) (message : SsfMsg) (v : Verdict) (old new : Holding) (t : AnswerView) → place < length old.lists
     → IsSound (keys_of setup.accounts) posts old → Means setup old.talks number at (Ssf call message) v → IsDone setup numbers at v old new t
     → credits_of (slice_index_or new.lists place []) ≡ credits_of (slice_index_or old.lists place []) ++ []
 message_adds setup numbers posts place number at call message Strays old new t within sound m done = rw (done.lists, append-nil (credits_of (slice_index_or old.lists place []))) refl
@@ -70,8 +70,8 @@ message_adds setup numbers posts place number at call message (Recharges other a
 message_adds setup numbers posts place number at call message (Begins its there called) old new t within sound m done =
     let wanted : ℕ = setup.service.wanted in
     let least : ℕ = setup.service.least in
-    none_more setup numbers its there place (begun its at wanted least done.route) old new t within
-    (λ seat gots. talk_credits seat its (begun its at wanted least done.route) gots (begun_about its at wanted least done.route) (begun_says its at wanted least done.route)) done.talked
+    none_more setup numbers its there place (on_begin its at wanted least done.route) old new t within
+    (λ seat gots. talk_credits seat its (on_begin its at wanted least done.route) gots (begun_about its at wanted least done.route) (begun_says its at wanted least done.route)) done.talked
 message_adds setup numbers posts place number at call message (GoesOn its there said phase) old new t within sound m done =
     let own = own_of (length (keys_of setup.accounts)) posts its m.standing (old.talks its) m.stands (sound.talks its) in
     let takes : TakesTo its number m.message (Ok (said, phase)) =
@@ -111,7 +111,7 @@ its_money : (account other amount : ℕ) (until : Option ℕ) (seat : ℕ) (refu
 its_money account other amount until seat refusal (Ok reply) is refused = rw (refused, is) refl
 its_money account other amount until seat refusal (Err fault) is refused = rw refused refl
 
-recharge_adds : (setup : Setup) (numbers : List ℕ) (account other place amount at : ℕ) (until : Option ℕ) (found : Option ℕ) (refusal : Option AccountFault) (old new : Holding) (t : Told)
+recharge_adds : (setup : Setup) (numbers : List ℕ) (account other place amount at : ℕ) (until : Option ℕ) (found : Option ℕ) (refusal : Option AccountFault) (old new : Holding) (t : AnswerView)
     → place < length old.lists → place_of account setup ≡ Some place → place_of other setup ≡ found → t.refused ≡ refusal → IsDone setup numbers at (recharged amount until found) old new t
     → credits_of (slice_index_or new.lists place []) ≡ credits_of (slice_index_or old.lists place []) ++ credited_by account (Recharge other amount until) refusal
 recharge_adds setup numbers account other place amount at until None refusal old new t within its found refused done =
@@ -125,7 +125,7 @@ recharge_adds setup numbers account other place amount at until (Some there) ref
 
 -- ---- a post, and all posts
 
-adds : (setup : Setup) (numbers : List ℕ) (posts : List Post) (account place number at : ℕ) (body : Body) (refusal : Option AccountFault) (old new : Holding) (t : Told) → place < length old.lists
+adds : (setup : Setup) (numbers : List ℕ) (posts : List Post) (account place number at : ℕ) (body : Body) (refusal : Option AccountFault) (old new : Holding) (t : AnswerView) → place < length old.lists
     → place_of account setup ≡ Some place → IsSound (keys_of setup.accounts) posts old → t.refused ≡ refusal → IsDone setup numbers at (verdict_on setup old.talks number at body) old new t
     → credits_of (slice_index_or new.lists place []) ≡ credits_of (slice_index_or old.lists place []) ++ credited_by account body refusal
 adds setup numbers posts account place number at (Ssf call message) refusal old new t within its sound refused done =
@@ -149,7 +149,7 @@ adds_after setup numbers account place done (post ∷ posts) (refusal ∷ refusa
     ∙ append_assoc (credits_of (slice_index_or old.lists place [])) (credited_by account post.body refusal) (accepted_of account posts refusals)
 
 -- no account has an entry at first
-pub none_at_first : (accounts : List (ℕ × OpeningCredit)) (place : ℕ) → slice_index_or {A = List Event} (map (λ account. []) accounts) place [] ≡ []
+pub none_at_first : (accounts : List (ℕ × OpeningCredit)) (place : ℕ) → slice_index_or {A = List EntryData} (map (λ account. []) accounts) place [] ≡ []
 none_at_first [] place = refl
 none_at_first (account ∷ accounts) zero = refl
 none_at_first (account ∷ accounts) (suc place) = none_at_first accounts place

@@ -7,23 +7,23 @@ use Rattle.std.proofs.lemmas.List.{flat_map_more, get_or-map, length-map}
 use Rattle.std.proofs.lemmas.List.Elements.{All-nil, Contains-push}
 use Rattle.std.proofs.lemmas.List.Quantifiers.{position-Some}
 use Rattle.account_core.specs.Asked.{Credits}
-use Rattle.account_core.specs.Events.{Event}
+use Rattle.account_core.specs.Events.{EntryData}
 use Rattle.cap_values.specs.Orders.{Release}
 use Rattle.cap_values.specs.declared.message.SsfMsg.{SsfMsg}
 use Rattle.cap_values.specs.declared.message.SsfMsg.TheVariants as msg
 use Rattle.cap_values.specs.declared.number.Number.{Number}
 use Rattle.dialogue_core.specs.Phases.{Phase, Says, Asks}
-use Rattle.dialogue_core.specs.Table.{Step, begun, told}
+use Rattle.dialogue_core.specs.Table.{Step, on_begin, on_message}
 use Rattle.dialogue_core.specs.Views.{phase_of, says_of}
 use Rattle.workers_core.proofs.Abouts.{SaysOf, TakesTo, begun_about, begun_says, begun_settles, settled_by, takes_told, talk_credits, talk_held, talk_settles, talked_about}
 use Rattle.workers_core.proofs.Parts.{IsEntered, all_served_grown, all_served_more, begun_more, part_through}
 use Rattle.workers_core.specs.Cases.{IsActed, IsCase, IsWithin, with_room}
-use Rattle.workers_core.specs.Handled.{Holding, IsDone, IsRecharged, IsTalked, IsUnasked, Stay, Told}
+use Rattle.workers_core.specs.Handled.{Holding, IsDone, IsRecharged, IsTalked, IsUnasked, Stay, AnswerView}
 use Rattle.workers_core.specs.Served.{IsPart, Money, Report, begun_by, begun_of, recharged_in, reported_in, settles_of}
 use Rattle.run_values.specs.Openings.{no_credit}
 use Rattle.run_values.specs.Setups.{Setup, account_of, place_of}
 use Rattle.workers_core.specs.Talks.{Got, entries_of, entry_of}
-use Rattle.workers_core.specs.Verdicts.{Standing, Verdict, Strays, Rejects, Recharges, Begins, GoesOn, begins, fresh, goes_on, home_of, recharged, spoken, strays, verdict, verdict_on}
+use Rattle.workers_core.specs.Verdicts.{DialogueAt, Verdict, Strays, Rejects, Recharges, Begins, GoesOn, begins, fresh, goes_on, home_of, recharged, spoken, strays, verdict, verdict_on}
 use Rattle.workers_core.specs.Workers.{IsAbout, IsOwn, IsSound, standing_of}
 use Rattle.workers_core.specs.declared.case.Case.{Case}
 use Rattle.workers_core.specs.declared.case.Case.TheVariants as case
@@ -39,7 +39,7 @@ pub record IsOfAccount (setup : Setup) (body : Body) (place amount : ℕ) (until
   pub is : body ≡ Recharge account amount until
   pub at : place_of account setup ≡ Some place
 
-pub record IsOfBeginning (setup : Setup) (talks : ℕ → Option Standing) (body : Body) (call place : ℕ) (called : Number) : Type 0 where
+pub record IsOfBeginning (setup : Setup) (talks : ℕ → Option DialogueAt) (body : Body) (call place : ℕ) (called : Number) : Type 0 where
   pub other : ℕ
   pub calling : Number
   pub none : talks call ≡ None
@@ -48,15 +48,15 @@ pub record IsOfBeginning (setup : Setup) (talks : ℕ → Option Standing) (body
   pub begins : begun_by body ≡ call ∷ []
   pub within : place < length setup.accounts
 
-pub record IsOfDialogue (talks : ℕ → Option Standing) (number at : ℕ) (body : Body) (call place : ℕ) (said : Says) (phase : Phase) : Type 0 where
-  pub standing : Standing
+pub record IsOfDialogue (talks : ℕ → Option DialogueAt) (number at : ℕ) (body : Body) (call place : ℕ) (said : Says) (phase : Phase) : Type 0 where
+  pub standing : DialogueAt
   pub message : SsfMsg
   pub stands : talks call ≡ Some standing
   pub same : standing.place ≡ place
   pub is : body ≡ Ssf call message
-  pub takes : told standing.phase number at message ≡ Ok (said, phase)
+  pub takes : on_message standing.phase number at message ≡ Ok (said, phase)
 
-abbrev pub Means : Setup → (ℕ → Option Standing) → ℕ → ℕ → Body → Verdict → Type 0
+abbrev pub Means : Setup → (ℕ → Option DialogueAt) → ℕ → ℕ → Body → Verdict → Type 0
 Means setup talks number at body Strays = Unit {0}
 Means setup talks number at body Rejects = Unit {0}
 Means setup talks number at body (Recharges place amount until) = IsOfAccount setup body place amount until
@@ -71,12 +71,12 @@ pub home_within : (setup : Setup) (account : Option ℕ) (place : ℕ) → optio
 home_within setup None place at = cc
 home_within setup (Some account) place at = (at_place setup account place at).0
 
-means_recharged : (setup : Setup) (talks : ℕ → Option Standing) (number at account amount : ℕ) (until : Option ℕ) (place : Option ℕ) → place_of account setup ≡ place
+means_recharged : (setup : Setup) (talks : ℕ → Option DialogueAt) (number at account amount : ℕ) (until : Option ℕ) (place : Option ℕ) → place_of account setup ≡ place
     → Means setup talks number at (Recharge account amount until) (recharged amount until place)
 means_recharged setup talks number at account amount until None found = tt
 means_recharged setup talks number at account amount until (Some place) found = record { account = account; is = refl; at = found }
 
-means_begins : (setup : Setup) (talks : ℕ → Option Standing) (number at call other : ℕ) (calling called : Number) (place : Option ℕ) → talks call ≡ None → home_of calling setup ≡ place
+means_begins : (setup : Setup) (talks : ℕ → Option DialogueAt) (number at call other : ℕ) (calling called : Number) (place : Option ℕ) → talks call ≡ None → home_of calling setup ≡ place
     → Means setup talks number at (Ssf call (msg.InitialDp other calling called)) (begins call called place)
 means_begins setup talks number at call other calling called None none found = tt
 means_begins setup talks number at call other calling called (Some place) none found = record {
@@ -89,33 +89,33 @@ means_begins setup talks number at call other calling called (Some place) none f
   within = home_within setup (account_of calling setup.subscribers) place found;
 }
 
-means_fresh : (setup : Setup) (talks : ℕ → Option Standing) (number at call : ℕ) (message : SsfMsg) → talks call ≡ None → Means setup talks number at (Ssf call message) (fresh setup call message)
+means_fresh : (setup : Setup) (talks : ℕ → Option DialogueAt) (number at call : ℕ) (message : SsfMsg) → talks call ≡ None → Means setup talks number at (Ssf call message) (fresh setup call message)
 means_fresh setup talks number at call (msg.InitialDp other calling called) none = means_begins setup talks number at call other calling called (home_of calling setup) none refl
 means_fresh setup talks number at call (msg.EventReport event leg mode) none = tt
 means_fresh setup talks number at call (msg.ChargingReport active info) none = tt
 means_fresh setup talks number at call msg.Ended none = tt
 
-means_goes_on : (setup : Setup) (talks : ℕ → Option Standing) (number at call : ℕ) (message : SsfMsg) (standing : Standing) (step : Step) → talks call ≡ Some standing
-    → told standing.phase number at message ≡ step → Means setup talks number at (Ssf call message) (goes_on call standing.place step)
+means_goes_on : (setup : Setup) (talks : ℕ → Option DialogueAt) (number at call : ℕ) (message : SsfMsg) (standing : DialogueAt) (step : Step) → talks call ≡ Some standing
+    → on_message standing.phase number at message ≡ step → Means setup talks number at (Ssf call message) (goes_on call standing.place step)
 means_goes_on setup talks number at call message standing (Ok next) stands takes =
     record { standing = standing; message = message; stands = stands; same = refl; is = refl; takes = takes }
 means_goes_on setup talks number at call message standing (Err fault) stands takes = tt
 
-means_spoken : (setup : Setup) (talks : ℕ → Option Standing) (number at call : ℕ) (message : SsfMsg) (standing : Option Standing) → talks call ≡ standing
+means_spoken : (setup : Setup) (talks : ℕ → Option DialogueAt) (number at call : ℕ) (message : SsfMsg) (standing : Option DialogueAt) → talks call ≡ standing
     → Means setup talks number at (Ssf call message) (spoken setup number at call message standing)
 means_spoken setup talks number at call message None stands = means_fresh setup talks number at call message stands
-means_spoken setup talks number at call message (Some standing) stands = means_goes_on setup talks number at call message standing (told standing.phase number at message) stands refl
+means_spoken setup talks number at call message (Some standing) stands = means_goes_on setup talks number at call message standing (on_message standing.phase number at message) stands refl
 
-pub means_on : (setup : Setup) (talks : ℕ → Option Standing) (number at : ℕ) (body : Body) → Means setup talks number at body (verdict_on setup talks number at body)
+pub means_on : (setup : Setup) (talks : ℕ → Option DialogueAt) (number at : ℕ) (body : Body) → Means setup talks number at body (verdict_on setup talks number at body)
 means_on setup talks number at (Ssf call message) = means_spoken setup talks number at call message (talks call) refl
 means_on setup talks number at (Recharge account amount until) = means_recharged setup talks number at account amount until (place_of account setup) refl
 
 -- ---- the place of a case
 
-pub own_of : (count : ℕ) (posts : List Post) (call : ℕ) (standing : Standing) (found : Option Standing) → found ≡ Some standing → IfSome found (λ s. IsOwn count posts call s)
+pub own_of : (count : ℕ) (posts : List Post) (call : ℕ) (standing : DialogueAt) (found : Option DialogueAt) → found ≡ Some standing → IfSome found (λ s. IsOwn count posts call s)
     → IsOwn count posts call standing
 own_of count posts call standing None is own = cc
-own_of count posts call standing (Some other) is own = let same : other ≡ standing = cc in let P : Standing → Type 0 = λ s. IsOwn count posts call s in subst P same own
+own_of count posts call standing (Some other) is own = let same : other ≡ standing = cc in let P : DialogueAt → Type 0 = λ s. IsOwn count posts call s in subst P same own
 
 pub many_keys : (setup : Setup) → length (keys_of setup.accounts) ≡ length setup.accounts
 many_keys setup = length-map setup.accounts (λ (e : ℕ × OpeningCredit). e.0)
@@ -144,16 +144,16 @@ case_within setup posts old post case sound is =
 
 -- ---- what is done, by the verdict
 
-both_so : (b : Bool) (last first other : Option Standing) → (if b then last else (if b then first else other)) ≡ (if b then last else other)
+both_so : (b : Bool) (last first other : Option DialogueAt) → (if b then last else (if b then first else other)) ≡ (if b then last else other)
 both_so true last first other = refl
 both_so false last first other = refl
 
-unasked_past : (orders : List _) (stray : Bool) (lists : List (List Event)) (talks between : ℕ → Option Standing) (new : Holding) (t : Told) → ((call : ℕ) → between call ≡ talks call)
+unasked_past : (orders : List _) (stray : Bool) (lists : List (List EntryData)) (talks between : ℕ → Option DialogueAt) (new : Holding) (t : AnswerView) → ((call : ℕ) → between call ≡ talks call)
     → IsUnasked orders stray (record { lists = lists; talks = between }) new t → IsUnasked orders stray (record { lists = lists; talks = talks }) new t
 unasked_past orders stray lists talks between new t same is =
     record { orders_are = is.orders_are; stray_is = is.stray_is; refused = is.refused; lists = is.lists; talks = λ call. is.talks call ∙ same call }
 
-talked_past : (numbers : List ℕ) (call place : ℕ) (first : Says × Phase) (standing : Standing) (lists : List (List Event)) (talks between : ℕ → Option Standing) (new : Holding) (t : Told)
+talked_past : (numbers : List ℕ) (call place : ℕ) (first : Says × Phase) (standing : DialogueAt) (lists : List (List EntryData)) (talks between : ℕ → Option DialogueAt) (new : Holding) (t : AnswerView)
     → ((other : ℕ) → between other ≡ (if other == call then Some standing else talks other))
     → IsTalked numbers call place first (record { lists = lists; talks = between }) new t → IsTalked numbers call place first (record { lists = lists; talks = talks }) new t
 talked_past numbers call place first standing lists talks between new t same is = record {
@@ -172,7 +172,7 @@ talked_past numbers call place first standing lists talks between new t same is 
       ∙ both_so (other == call) (Some (record { phase = is.phase; place = place })) (Some standing) (talks other);
 }
 
-pub done_by : (setup : Setup) (numbers : List ℕ) (at : ℕ) (v : Verdict) (case : Case) (lists : List (List Event)) (talks between : ℕ → Option Standing) (new : Holding) (t : Told)
+pub done_by : (setup : Setup) (numbers : List ℕ) (at : ℕ) (v : Verdict) (case : Case) (lists : List (List EntryData)) (talks between : ℕ → Option DialogueAt) (new : Holding) (t : AnswerView)
     → IsCase setup at v case → ((call : ℕ) → between call ≡ with_room case talks call) → IsActed numbers case (record { lists = lists; talks = between }) new t
     → IsDone setup numbers at v (record { lists = lists; talks = talks }) new t
 done_by setup numbers at v case.Stray lists talks between new t is room acted = rw is (unasked_past [] true lists talks between new t room acted)
@@ -196,39 +196,39 @@ done_by setup numbers at v (case.Talk call talk turn) lists talks between new t 
 
 -- ---- what follows for the clauses of their own
 
-pub stray_is : (setup : Setup) (numbers : List ℕ) (at : ℕ) (v : Verdict) (old new : Holding) (t : Told) → IsDone setup numbers at v old new t → t.stray ≡ strays v
+pub stray_is : (setup : Setup) (numbers : List ℕ) (at : ℕ) (v : Verdict) (old new : Holding) (t : AnswerView) → IsDone setup numbers at v old new t → t.stray ≡ strays v
 stray_is setup numbers at Strays old new t done = done.stray_is
 stray_is setup numbers at Rejects old new t done = done.stray_is
 stray_is setup numbers at (Recharges place amount until) old new t done = done.stray
 stray_is setup numbers at (Begins call place called) old new t done = done.talked.stray
 stray_is setup numbers at (GoesOn call place said phase) old new t done = done.stray
 
-pub stray_lists : (setup : Setup) (numbers : List ℕ) (at : ℕ) (v : Verdict) (old new : Holding) (t : Told) → IsDone setup numbers at v old new t → t.stray ≡ true → new.lists ≡ old.lists
+pub stray_lists : (setup : Setup) (numbers : List ℕ) (at : ℕ) (v : Verdict) (old new : Holding) (t : AnswerView) → IsDone setup numbers at v old new t → t.stray ≡ true → new.lists ≡ old.lists
 stray_lists setup numbers at Strays old new t done is = done.lists
 stray_lists setup numbers at Rejects old new t done is = done.lists
 stray_lists setup numbers at (Recharges place amount until) old new t done is = let not = done.stray in cc
 stray_lists setup numbers at (Begins call place called) old new t done is = let not = done.talked.stray in cc
 stray_lists setup numbers at (GoesOn call place said phase) old new t done is = let not = done.stray in cc
 
-pub rejected_so : (setup : Setup) (numbers : List ℕ) (at : ℕ) (v : Verdict) (old new : Holding) (t : Told) → IsDone setup numbers at v old new t → v ≡ Rejects
+pub rejected_so : (setup : Setup) (numbers : List ℕ) (at : ℕ) (v : Verdict) (old new : Holding) (t : AnswerView) → IsDone setup numbers at v old new t → v ≡ Rejects
     → (t.orders ≡ Release 21 ∷ []) × (new.lists ≡ old.lists)
 rejected_so setup numbers at v old new t done is =
     let P : Verdict → Type 0 = λ w. IsDone setup numbers at w old new t in let u : IsUnasked (Release 21 ∷ []) false old new t = subst P is done in (u.orders_are, u.lists)
 
-pub recharged_so : (setup : Setup) (numbers : List ℕ) (at : ℕ) (v : Verdict) (old new : Holding) (t : Told) (place amount : ℕ) (until : Option ℕ) → IsDone setup numbers at v old new t → v ≡ Recharges place amount until
+pub recharged_so : (setup : Setup) (numbers : List ℕ) (at : ℕ) (v : Verdict) (old new : Holding) (t : AnswerView) (place amount : ℕ) (until : Option ℕ) → IsDone setup numbers at v old new t → v ≡ Recharges place amount until
     → IsRecharged numbers place amount until old new t
 recharged_so setup numbers at v old new t place amount until done is = let P : Verdict → Type 0 = λ w. IsDone setup numbers at w old new t in subst P is done
 
 -- ---- what a worker holds stays in order
 
-own_more : (count : ℕ) (posts : List Post) (post : Post) (call : ℕ) (found : Option Standing) → IfSome found (λ s. IsOwn count posts call s) → IfSome found (λ s. IsOwn count (posts ++ post ∷ []) call s)
+own_more : (count : ℕ) (posts : List Post) (post : Post) (call : ℕ) (found : Option DialogueAt) → IfSome found (λ s. IsOwn count posts call s) → IfSome found (λ s. IsOwn count (posts ++ post ∷ []) call s)
 own_more count posts post call None own = tt
 own_more count posts post call (Some standing) own = record { placed = own.placed; about = own.about; begun = begun_more posts post call own.begun }
 
-own_same : (count : ℕ) (posts : List Post) (post : Post) (call : ℕ) (found after : Option Standing) → after ≡ found → IfSome found (λ s. IsOwn count posts call s)
+own_same : (count : ℕ) (posts : List Post) (post : Post) (call : ℕ) (found after : Option DialogueAt) → after ≡ found → IfSome found (λ s. IsOwn count posts call s)
     → IfSome after (λ s. IsOwn count (posts ++ post ∷ []) call s)
 own_same count posts post call found after same own =
-    let P : Option Standing → Type 0 = λ f. IfSome f (λ s. IsOwn count (posts ++ post ∷ []) call s) in subst P (sym same) (own_more count posts post call found own)
+    let P : Option DialogueAt → Type 0 = λ f. IfSome f (λ s. IsOwn count (posts ++ post ∷ []) call s) in subst P (sym same) (own_more count posts post call found own)
 
 unasked_sound : (accounts : List ℕ) (posts : List Post) (post : Post) (old new : Holding) → IsSound accounts posts old → new.lists ≡ old.lists → Stay old.talks new.talks
     → IsSound accounts (posts ++ post ∷ []) new
@@ -243,16 +243,16 @@ same_number s t is = grind (arith, nat_tests, is)
 pub is_itself : (n : ℕ) → (n == n) ≡ true
 is_itself n = grind (arith, nat_tests)
 
-own_now : (count : ℕ) (posts : List Post) (post : Post) (call other : ℕ) (b : Bool) (standing : Standing) (found after : Option Standing) → (other == call) ≡ b
+own_now : (count : ℕ) (posts : List Post) (post : Post) (call other : ℕ) (b : Bool) (standing : DialogueAt) (found after : Option DialogueAt) → (other == call) ≡ b
     → after ≡ (if b then Some standing else found) → IsOwn count (posts ++ post ∷ []) call standing → IfSome found (λ s. IsOwn count posts other s)
     → IfSome after (λ s. IsOwn count (posts ++ post ∷ []) other s)
 own_now count posts post call other true standing found after is now own before =
-    let P : Option Standing → Type 0 = λ f. IfSome f (λ s. IsOwn count (posts ++ post ∷ []) other s) in
+    let P : Option DialogueAt → Type 0 = λ f. IfSome f (λ s. IsOwn count (posts ++ post ∷ []) other s) in
     let Q : ℕ → Type 0 = λ c. IsOwn count (posts ++ post ∷ []) c standing in
     subst P (sym now) (subst Q (sym (same_number other call is)) own)
 own_now count posts post call other false standing found after is now own before = own_same count posts post other found after now before
 
-talked_sound : (accounts numbers : List ℕ) (call place : ℕ) (first : Says × Phase) (posts : List Post) (post : Post) (old new : Holding) (t : Told) → IsSound accounts posts old
+talked_sound : (accounts numbers : List ℕ) (call place : ℕ) (first : Says × Phase) (posts : List Post) (post : Post) (old new : Holding) (t : AnswerView) → IsSound accounts posts old
     → place < length accounts → Contains (begun_of (posts ++ post ∷ [])) call → IsAbout call first.1 → SaysOf call first.0
     → IsPart (settled_by first.0) (reported_in post.number post.body) → IsTalked numbers call place first old new t → IsSound accounts (posts ++ post ∷ []) new
 talked_sound accounts numbers call place first posts post old new t sound within has about says settles is =
@@ -288,7 +288,7 @@ of_account setup body place amount until m =
     get_or-map (λ (e : ℕ × OpeningCredit). e.0) setup.accounts place (0, no_credit) 0 found.0 ∙ same_number (get_or setup.accounts place (0, no_credit)).0 m.account found.1 in
     rw (key, m.is, is_itself m.account) refl
 
-sound_by : (setup : Setup) (numbers : List ℕ) (posts : List Post) (post : Post) (v : Verdict) (old new : Holding) (t : Told) → IsSound (keys_of setup.accounts) posts old
+sound_by : (setup : Setup) (numbers : List ℕ) (posts : List Post) (post : Post) (v : Verdict) (old new : Holding) (t : AnswerView) → IsSound (keys_of setup.accounts) posts old
     → Means setup old.talks post.number post.at post.body v → IsDone setup numbers post.at v old new t → IsSound (keys_of setup.accounts) (posts ++ post ∷ []) new
 sound_by setup numbers posts post Strays old new t sound m done = unasked_sound (keys_of setup.accounts) posts post old new sound done.lists done.talks
 sound_by setup numbers posts post Rejects old new t sound m done = unasked_sound (keys_of setup.accounts) posts post old new sound done.lists done.talks
@@ -307,10 +307,10 @@ sound_by setup numbers posts post (Begins call place called) old new t sound m d
     let has : Contains (begun_of (posts ++ post ∷ [])) call =
     let P : List ℕ → Type 0 = λ calls. Contains calls call in
     subst P (flat_map_more (λ (p : Post). begun_by p.body) [] posts post) (rw m.begins (Contains-push (begun_of posts) call)) in
-    let settles : IsPart (settled_by (begun call post.at setup.service.wanted setup.service.least done.route).0) (reported_in post.number post.body) =
+    let settles : IsPart (settled_by (on_begin call post.at setup.service.wanted setup.service.least done.route).0) (reported_in post.number post.body) =
     let P : List Report → Type 0 = λ l. IsPart l (reported_in post.number post.body) in
     subst P (sym (begun_settles call post.at setup.service.wanted setup.service.least done.route)) tt in
-    talked_sound (keys_of setup.accounts) numbers call place (begun call post.at setup.service.wanted setup.service.least done.route) posts post old new t sound within has
+    talked_sound (keys_of setup.accounts) numbers call place (on_begin call post.at setup.service.wanted setup.service.least done.route) posts post old new t sound within has
     (begun_about call post.at setup.service.wanted setup.service.least done.route) (begun_says call post.at setup.service.wanted setup.service.least done.route) settles done.talked
 sound_by setup numbers posts post (GoesOn call place said phase) old new t sound m done =
     let own = own_of (length (keys_of setup.accounts)) posts call m.standing (old.talks call) m.stands (sound.talks call) in
@@ -321,7 +321,7 @@ sound_by setup numbers posts post (GoesOn call place said phase) old new t sound
     talked_sound (keys_of setup.accounts) numbers call place (said, phase) posts post old new t sound within (begun_more posts post call own.begun) takes.0 takes.1 (rw m.is takes.2) done
 
 -- what a worker holds stays in order
-pub sound_after : (setup : Setup) (numbers : List ℕ) (posts : List Post) (post : Post) (old new : Holding) (t : Told) → IsSound (keys_of setup.accounts) posts old
+pub sound_after : (setup : Setup) (numbers : List ℕ) (posts : List Post) (post : Post) (old new : Holding) (t : AnswerView) → IsSound (keys_of setup.accounts) posts old
     → IsDone setup numbers post.at (verdict setup old.talks post) old new t → IsSound (keys_of setup.accounts) (posts ++ post ∷ []) new
 sound_after setup numbers posts post old new t sound done =
     sound_by setup numbers posts post (verdict setup old.talks post) old new t sound (means_on setup old.talks post.number post.at post.body) done

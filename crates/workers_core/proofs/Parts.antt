@@ -4,7 +4,7 @@ use Rattle.std.specs.Prelude.{Contains, flat_map}
 use Rattle.std.proofs.lemmas.Grind.{flat_map-append}
 use Rattle.std.proofs.lemmas.List.{flat_map_more}
 use Rattle.std.proofs.lemmas.List.Elements.{All-append, All-head, All-nil, All-tail, All-weaker, Contains-append_left}
-use Rattle.account_core.specs.Events.{Event}
+use Rattle.account_core.specs.Events.{EntryData}
 use Rattle.workers_core.specs.Handled.{grown}
 use Rattle.workers_core.specs.Served.{AreServed, IsPart, IsServed, begun_by, begun_of, credited_in, credits_of, held_in, held_of, recharged_in, recharges_of, reported_in, reports_of, settled_in, settles_of}
 use Rattle.run_values.specs.declared.post.Post.{Post}
@@ -50,7 +50,7 @@ begun_more posts post call has =
     let P : List ℕ → Type 0 = λ calls. Contains calls call in
     subst P (flat_map_more (λ (p : Post). begun_by p.body) [] posts post) (Contains-append_left (begun_of posts) (begun_by post.body) call has)
 
-pub served_more : (account : ℕ) (posts : List Post) (post : Post) (mine : List Event) → IsServed account posts mine → IsServed account (posts ++ post ∷ []) mine
+pub served_more : (account : ℕ) (posts : List Post) (post : Post) (mine : List EntryData) → IsServed account posts mine → IsServed account (posts ++ post ∷ []) mine
 served_more account posts post mine is = record {
   settles =
       part_of_posts (λ (p : Post). reported_in p.number p.body) (settles_of mine) posts post (part_more (settles_of mine) (reports_of posts) (reported_in post.number post.body) is.settles);
@@ -60,7 +60,7 @@ served_more account posts post mine is = record {
   calls = All-weaker (λ call. Contains (begun_of posts) call) (λ call. Contains (begun_of (posts ++ post ∷ [])) call) (λ call. begun_more posts post call) (held_of mine) is.calls;
 }
 
-pub all_served_more : (accounts : List ℕ) (posts : List Post) (post : Post) (lists : List (List Event)) → AreServed accounts posts lists → AreServed accounts (posts ++ post ∷ []) lists
+pub all_served_more : (accounts : List ℕ) (posts : List Post) (post : Post) (lists : List (List EntryData)) → AreServed accounts posts lists → AreServed accounts (posts ++ post ∷ []) lists
 all_served_more [] posts post [] are = tt
 all_served_more [] posts post (mine ∷ lists) are = are
 all_served_more (account ∷ accounts) posts post [] are = are
@@ -70,28 +70,28 @@ all_served_more (account ∷ accounts) posts post (mine ∷ lists) are =
 -- ---- entries for one more post
 
 -- the entries that a seat of an account makes for a post
-pub record IsEntered (account : ℕ) (posts : List Post) (post : Post) (entries : List Event) : Type 0 where
+pub record IsEntered (account : ℕ) (posts : List Post) (post : Post) (entries : List EntryData) : Type 0 where
   pub settles : IsPart (settles_of entries) (reported_in post.number post.body)
   pub credits : IsPart (credits_of entries) (recharged_in account post.body)
   pub calls : All (λ call. Contains (begun_of (posts ++ post ∷ [])) call) (held_of entries)
 
-served_grown : (account : ℕ) (posts : List Post) (post : Post) (mine entries : List Event) → IsServed account posts mine → IsEntered account posts post entries
+served_grown : (account : ℕ) (posts : List Post) (post : Post) (mine entries : List EntryData) → IsServed account posts mine → IsEntered account posts post entries
     → IsServed account (posts ++ post ∷ []) (mine ++ entries)
 served_grown account posts post mine entries is entered = record {
   settles =
-      rw (flat_map-append (λ (e : Event). settled_in e.asked) mine entries)
+      rw (flat_map-append (λ (e : EntryData). settled_in e.asked) mine entries)
       (part_of_posts (λ (p : Post). reported_in p.number p.body) (settles_of mine ++ settles_of entries) posts post
       (part_both (settles_of mine) (reports_of posts) (settles_of entries) (reported_in post.number post.body) is.settles entered.settles));
   credits =
-      rw (flat_map-append (λ (e : Event). credited_in e.asked) mine entries)
+      rw (flat_map-append (λ (e : EntryData). credited_in e.asked) mine entries)
       (part_of_posts (λ (p : Post). recharged_in account p.body) (credits_of mine ++ credits_of entries) posts post
       (part_both (credits_of mine) (recharges_of account posts) (credits_of entries) (recharged_in account post.body) is.credits entered.credits));
   calls =
-      rw (flat_map-append (λ (e : Event). held_in e.asked) mine entries)
+      rw (flat_map-append (λ (e : EntryData). held_in e.asked) mine entries)
       (All-append (λ call. Contains (begun_of (posts ++ post ∷ [])) call) (held_of mine) (held_of entries) (All-weaker (λ call. Contains (begun_of posts) call) (λ call. Contains (begun_of (posts ++ post ∷ [])) call) (λ call. begun_more posts post call) (held_of mine) is.calls) entered.calls);
 }
 
-pub all_served_grown : (accounts : List ℕ) (posts : List Post) (post : Post) (lists : List (List Event)) (place : ℕ) (entries : List Event) → AreServed accounts posts lists
+pub all_served_grown : (accounts : List ℕ) (posts : List Post) (post : Post) (lists : List (List EntryData)) (place : ℕ) (entries : List EntryData) → AreServed accounts posts lists
     → place < length accounts → IsEntered (get_or accounts place 0) posts post entries → AreServed accounts (posts ++ post ∷ []) (grown lists place entries)
 all_served_grown [] posts post lists place entries are within entered = absurd (omega (arith, within))
 all_served_grown (account ∷ accounts) posts post [] place entries are within entered = are
@@ -100,7 +100,7 @@ all_served_grown (account ∷ accounts) posts post (mine ∷ lists) zero entries
 all_served_grown (account ∷ accounts) posts post (mine ∷ lists) (suc place) entries are within entered =
     (served_more account posts post mine are.0, all_served_grown accounts posts post lists place entries are.1 (omega (arith, within)) entered)
 
-pub none_served : {T : Type 0} (mine_of : T → List Event) (accounts : List ℕ) (seats : List T) → length seats ≡ length accounts → All (λ seat. mine_of seat ≡ []) seats
+pub none_served : {T : Type 0} (mine_of : T → List EntryData) (accounts : List ℕ) (seats : List T) → length seats ≡ length accounts → All (λ seat. mine_of seat ≡ []) seats
     → AreServed accounts [] (map mine_of seats)
 none_served mine_of [] [] many none = tt
 none_served mine_of [] (seat ∷ seats) many none = absurd (omega (arith, many))

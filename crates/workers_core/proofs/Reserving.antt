@@ -4,7 +4,7 @@ use Rattle.std.specs.Prelude.{◌==◌, IfSome, if◌then◌else◌, slice_index
 use Rattle.std.proofs.lemmas.List.{append_assoc}
 use Rattle.std.proofs.lemmas.List.Elements.{All-append, All-cons, All-nil, All-weaker, Contains-append_left, Contains-push}
 use Rattle.account_core.specs.Asked.{Asked, Credits, Reserves, Returns, Settles}
-use Rattle.account_core.specs.Events.{Event}
+use Rattle.account_core.specs.Events.{EntryData}
 use Rattle.account_core.specs.declared.entry.Reply.{Reply}
 use Rattle.account_core.specs.declared.entry.Reply.TheVariants.{Granted, Denied, Settled, Forfeit, Returned}
 use Rattle.account_core.specs.declared.fault.AccountFault.{AccountFault}
@@ -16,7 +16,7 @@ use Rattle.cap_values.specs.declared.number.Number.{Number}
 use Rattle.cap_values.specs.declared.mode.Mode.TheVariants.{Interrupted, NotifyAndContinue, Transparent}
 use Rattle.dialogue_core.specs.Phases.{Conditions, Phase, Says, Sequel, FirstAsk, Running, Settling, MoreAsk, Returning, Ending, Closed, Asks, Sends, Finished}
 use Rattle.dialogue_core.specs.Phases as phase
-use Rattle.dialogue_core.specs.Table.{Step, are_units, begun, replied, sequel, told, unanswered}
+use Rattle.dialogue_core.specs.Table.{Step, are_units, on_begin, on_reply, sequel, on_message, on_refusal}
 use Rattle.dialogue_core.specs.declared.fault.DialogueFault.TheVariants.{Unexpected}
 use Rattle.tariff_core.specs.Rates.{Rates}
 use Rattle.tariff_core.specs.RatesOf.{rates_of}
@@ -24,11 +24,11 @@ use Rattle.tariff_core.specs.declared.route.Route.{Route}
 use Rattle.workers_core.proofs.Entering.{none_at_first}
 use Rattle.workers_core.proofs.Handling.{Means, means_on, same_number}
 use Rattle.workers_core.specs.Chains.{AreHandled, at_first}
-use Rattle.workers_core.specs.Handled.{Holding, IsDone, IsRouted, IsTalked, Stay, Told, grown}
+use Rattle.workers_core.specs.Handled.{Holding, IsDone, IsRouted, IsTalked, Stay, AnswerView, grown}
 use Rattle.workers_core.specs.Laws.{HasBegun, IsOnTerms, ReservesAreOnTerms}
 use Rattle.run_values.specs.Setups.{Setup}
 use Rattle.workers_core.specs.Talks.{Got, after_got, entries_of, entry_of, or_done, talked}
-use Rattle.workers_core.specs.Verdicts.{Standing, Verdict, Strays, Rejects, Recharges, Begins, GoesOn, home_of, verdict_on}
+use Rattle.workers_core.specs.Verdicts.{DialogueAt, Verdict, Strays, Rejects, Recharges, Begins, GoesOn, home_of, verdict_on}
 use Rattle.run_values.specs.declared.post.Body.TheVariants.{Ssf}
 use Rattle.run_values.specs.declared.post.Post.{Post}
 
@@ -99,7 +99,7 @@ sequel_on Holds now phase.Clears = (tt, tt)
 sequel_on Holds now phase.Fails = (tt, tt)
 sequel_on Holds now phase.Closes = (tt, tt)
 
-replied_on : (Holds : Fact) (now : ℕ) (phase : Phase) (reply : Reply) → InTalk Holds now phase → OfStep Holds now (replied phase reply)
+replied_on : (Holds : Fact) (now : ℕ) (phase : Phase) (reply : Reply) → InTalk Holds now phase → OfStep Holds now (on_reply phase reply)
 replied_on Holds now (FirstAsk t) (Granted units last a) holds = given_on Holds now (are_units units) _ (Running t) holds
 replied_on Holds now (FirstAsk t) (Denied a) holds = (tt, tt)
 replied_on Holds now (FirstAsk t) reply holds = tt
@@ -118,7 +118,7 @@ replied_on Holds now (Returning after) reply holds = tt
 replied_on Holds now Ending reply holds = tt
 replied_on Holds now Closed reply holds = tt
 
-unanswered_on : (Holds : Fact) (now : ℕ) (phase : Phase) → InTalk Holds now phase → OfStep Holds now (unanswered phase)
+unanswered_on : (Holds : Fact) (now : ℕ) (phase : Phase) → InTalk Holds now phase → OfStep Holds now (on_refusal phase)
 unanswered_on Holds now (FirstAsk t) holds = (tt, tt)
 unanswered_on Holds now (Running t) holds = tt
 unanswered_on Holds now (Settling t true since) holds = (tt, tt)
@@ -128,7 +128,7 @@ unanswered_on Holds now (Returning after) holds = sequel_on Holds now after
 unanswered_on Holds now Ending holds = tt
 unanswered_on Holds now Closed holds = tt
 
-told_on : (Holds : Fact) (number now : ℕ) (phase : Phase) (message : SsfMsg) → AtRest Holds phase → OfStep Holds now (told phase number now message)
+told_on : (Holds : Fact) (number now : ℕ) (phase : Phase) (message : SsfMsg) → AtRest Holds phase → OfStep Holds now (on_message phase number now message)
 told_on Holds number now (FirstAsk t) message holds = tt
 told_on Holds number now (Running t) (msg.InitialDp other calling called) holds = tt
 told_on Holds number now (Running t) (msg.EventReport event.Answer leg mode) holds = (tt, holds)
@@ -151,23 +151,23 @@ or_done_on Holds now phase (Ok next) holds is = is
 or_done_on Holds now phase (Err fault) holds is = (tt, holds)
 
 got_on : (Holds : Fact) (now : ℕ) (phase : Phase) (got : Got) → InTalk Holds now phase → OfNext Holds now (after_got phase got)
-got_on Holds now phase (Ok reply) holds = or_done_on Holds now phase (replied phase reply) holds (replied_on Holds now phase reply holds)
-got_on Holds now phase (Err fault) holds = or_done_on Holds now phase (unanswered phase) holds (unanswered_on Holds now phase holds)
+got_on Holds now phase (Ok reply) holds = or_done_on Holds now phase (on_reply phase reply) holds (replied_on Holds now phase reply holds)
+got_on Holds now phase (Err fault) holds = or_done_on Holds now phase (on_refusal phase) holds (unanswered_on Holds now phase holds)
 
 talked_on : (Holds : Fact) (now : ℕ) (first : Says × Phase) (gots : List Got) → OfNext Holds now first → OfNext Holds now (talked first gots)
 talked_on Holds now first [] holds = holds
 talked_on Holds now first (got ∷ earlier) holds = got_on Holds now (talked first earlier).1 got (talked_on Holds now first earlier holds).1
 
-entry_on : (Holds : Fact) (now seat : ℕ) (said : Says) (got : Got) → OfSays Holds now said → All (λ (e : Event). OfAsked Holds now e.asked) (entry_of seat said got)
-entry_on Holds now seat (Asks asked) (Ok reply) holds = All-cons (λ (e : Event). OfAsked Holds now e.asked) _ [] holds (All-nil (λ (e : Event). OfAsked Holds now e.asked))
-entry_on Holds now seat (Asks asked) (Err fault) holds = All-nil (λ (e : Event). OfAsked Holds now e.asked)
-entry_on Holds now seat (Sends orders) got holds = All-nil (λ (e : Event). OfAsked Holds now e.asked)
-entry_on Holds now seat Finished got holds = All-nil (λ (e : Event). OfAsked Holds now e.asked)
+entry_on : (Holds : Fact) (now seat : ℕ) (said : Says) (got : Got) → OfSays Holds now said → All (λ (e : EntryData). OfAsked Holds now e.asked) (entry_of seat said got)
+entry_on Holds now seat (Asks asked) (Ok reply) holds = All-cons (λ (e : EntryData). OfAsked Holds now e.asked) _ [] holds (All-nil (λ (e : EntryData). OfAsked Holds now e.asked))
+entry_on Holds now seat (Asks asked) (Err fault) holds = All-nil (λ (e : EntryData). OfAsked Holds now e.asked)
+entry_on Holds now seat (Sends orders) got holds = All-nil (λ (e : EntryData). OfAsked Holds now e.asked)
+entry_on Holds now seat Finished got holds = All-nil (λ (e : EntryData). OfAsked Holds now e.asked)
 
-entries_on : (Holds : Fact) (now seat : ℕ) (first : Says × Phase) (gots : List Got) → OfNext Holds now first → All (λ (e : Event). OfAsked Holds now e.asked) (entries_of seat first gots)
-entries_on Holds now seat first [] holds = All-nil (λ (e : Event). OfAsked Holds now e.asked)
+entries_on : (Holds : Fact) (now seat : ℕ) (first : Says × Phase) (gots : List Got) → OfNext Holds now first → All (λ (e : EntryData). OfAsked Holds now e.asked) (entries_of seat first gots)
+entries_on Holds now seat first [] holds = All-nil (λ (e : EntryData). OfAsked Holds now e.asked)
 entries_on Holds now seat first (got ∷ earlier) holds =
-    All-append (λ (e : Event). OfAsked Holds now e.asked) (entries_of seat first earlier) (entry_of seat (talked first earlier).0 got) (entries_on Holds now seat first earlier holds)
+    All-append (λ (e : EntryData). OfAsked Holds now e.asked) (entries_of seat first earlier) (entry_of seat (talked first earlier).0 got) (entries_on Holds now seat first earlier holds)
     (entry_on Holds now seat (talked first earlier).0 got (talked_on Holds now first earlier holds).0)
 
 -- ---- one post more
@@ -219,16 +219,16 @@ its_more setup place posts post call Closed holds = tt
 
 -- what a worker holds, on the terms of its calls
 record IsOnItsTerms (setup : Setup) (posts : List Post) (h : Holding) : Type 0 where
-  lists : (place : ℕ) → All (λ (e : Event). IsOnTerms setup place posts e.asked) (slice_index_or h.lists place [])
+  lists : (place : ℕ) → All (λ (e : EntryData). IsOnTerms setup place posts e.asked) (slice_index_or h.lists place [])
   talks : (call : ℕ) → IfSome (h.talks call) (λ s. AtRest (Its setup s.place posts call) s.phase)
 
-list_more : (setup : Setup) (place : ℕ) (posts : List Post) (post : Post) (mine : List Event) → All (λ (e : Event). IsOnTerms setup place posts e.asked) mine
-    → All (λ (e : Event). IsOnTerms setup place (posts ++ post ∷ []) e.asked) mine
+list_more : (setup : Setup) (place : ℕ) (posts : List Post) (post : Post) (mine : List EntryData) → All (λ (e : EntryData). IsOnTerms setup place posts e.asked) mine
+    → All (λ (e : EntryData). IsOnTerms setup place (posts ++ post ∷ []) e.asked) mine
 list_more setup place posts post mine all =
-    All-weaker (λ (e : Event). IsOnTerms setup place posts e.asked) (λ (e : Event). IsOnTerms setup place (posts ++ post ∷ []) e.asked) (λ e is. terms_more setup place posts post e.asked is) mine all
+    All-weaker (λ (e : EntryData). IsOnTerms setup place posts e.asked) (λ (e : EntryData). IsOnTerms setup place (posts ++ post ∷ []) e.asked) (λ e is. terms_more setup place posts post e.asked is) mine all
 
 -- the lists after one of them has grown
-list_grown : (Fits : ℕ → List Event → Type 0) (lists : List (List Event)) (at : ℕ) (entries : List Event) → ((mine : List Event) → Fits at mine → Fits at (mine ++ entries))
+list_grown : (Fits : ℕ → List EntryData → Type 0) (lists : List (List EntryData)) (at : ℕ) (entries : List EntryData) → ((mine : List EntryData) → Fits at mine → Fits at (mine ++ entries))
     → ((place : ℕ) → Fits place (slice_index_or lists place [])) → (place : ℕ) → Fits place (slice_index_or (grown lists at entries) place [])
 list_grown Fits [] at entries more fits place = fits place
 list_grown Fits (mine ∷ lists) zero entries more fits zero = more mine (fits zero)
@@ -236,7 +236,7 @@ list_grown Fits (mine ∷ lists) zero entries more fits (suc place) = fits (suc 
 list_grown Fits (mine ∷ lists) (suc at) entries more fits zero = fits zero
 list_grown Fits (mine ∷ lists) (suc at) entries more fits (suc place) = list_grown (λ n. Fits (suc n)) lists at entries more (λ n. fits (suc n)) place
 
-same_more : (setup : Setup) (posts : List Post) (post : Post) (call : ℕ) (found after : Option Standing) → after ≡ found → IfSome found (λ s. AtRest (Its setup s.place posts call) s.phase)
+same_more : (setup : Setup) (posts : List Post) (post : Post) (call : ℕ) (found after : Option DialogueAt) → after ≡ found → IfSome found (λ s. AtRest (Its setup s.place posts call) s.phase)
     → IfSome after (λ s. AtRest (Its setup s.place (posts ++ post ∷ []) call) s.phase)
 same_more setup posts post call None after same holds = rw same tt
 same_more setup posts post call (Some standing) after same holds = rw same (its_more setup standing.place posts post call standing.phase holds)
@@ -264,7 +264,7 @@ entered_on setup place posts post call message (Reserves other plan wanted least
 entered_on setup place posts post call message (Settles other number info) is on = tt
 entered_on setup place posts post call message (Returns other) is on = tt
 
-stands_now : (setup : Setup) (posts : List Post) (post : Post) (call other : ℕ) (b : Bool) (standing : Standing) (found after : Option Standing) → (other == call) ≡ b
+stands_now : (setup : Setup) (posts : List Post) (post : Post) (call other : ℕ) (b : Bool) (standing : DialogueAt) (found after : Option DialogueAt) → (other == call) ≡ b
     → after ≡ (if b then Some standing else found) → AtRest (Its setup standing.place (posts ++ post ∷ []) call) standing.phase
     → IfSome found (λ s. AtRest (Its setup s.place posts other) s.phase) → IfSome after (λ s. AtRest (Its setup s.place (posts ++ post ∷ []) other) s.phase)
 stands_now setup posts post call other true standing found after is now its before =
@@ -272,19 +272,19 @@ stands_now setup posts post call other true standing found after is now its befo
     rw now (subst P (sym (same_number other call is)) its)
 stands_now setup posts post call other false standing found after is now its before = same_more setup posts post other found after now before
 
-talk_on : (setup : Setup) (numbers : List ℕ) (call place : ℕ) (first : Says × Phase) (posts : List Post) (post : Post) (message : SsfMsg) (old new : Holding) (t : Told) → IsOnItsTerms setup posts old
+talk_on : (setup : Setup) (numbers : List ℕ) (call place : ℕ) (first : Says × Phase) (posts : List Post) (post : Post) (message : SsfMsg) (old new : Holding) (t : AnswerView) → IsOnItsTerms setup posts old
     → post.body ≡ Ssf call message → OfNext (Its setup place (posts ++ post ∷ []) call) post.at first → IsTalked numbers call place first old new t → IsOnItsTerms setup (posts ++ post ∷ []) new
 talk_on setup numbers call place first posts post message old new t on is begins talk =
     let Holds : Fact = Its setup place (posts ++ post ∷ []) call in
     let entries = entries_of (slice_index_or numbers place 0) first talk.gots in
-    let fits = All-weaker (λ (e : Event). OfAsked Holds post.at e.asked) (λ (e : Event). IsOnTerms setup place (posts ++ post ∷ []) e.asked)
+    let fits = All-weaker (λ (e : EntryData). OfAsked Holds post.at e.asked) (λ (e : EntryData). IsOnTerms setup place (posts ++ post ∷ []) e.asked)
     (λ e its. entered_on setup place posts post call message e.asked is its) entries (entries_on Holds post.at (slice_index_or numbers place 0) first talk.gots begins) in
     let stands : AtRest Holds talk.phase =
     at_rest Holds post.at talk.phase (let P : (Says × Phase) → Type 0 = λ p. InTalk Holds post.at p.1 in subst P talk.talk (talked_on Holds post.at first talk.gots begins).1) in
     record {
       lists = λ q. rw talk.lists
-          (list_grown (λ n mine. All (λ (e : Event). IsOnTerms setup n (posts ++ post ∷ []) e.asked) mine) old.lists place entries
-          (λ mine all. All-append (λ (e : Event). IsOnTerms setup place (posts ++ post ∷ []) e.asked) mine entries all fits)
+          (list_grown (λ n mine. All (λ (e : EntryData). IsOnTerms setup n (posts ++ post ∷ []) e.asked) mine) old.lists place entries
+          (λ mine all. All-append (λ (e : EntryData). IsOnTerms setup place (posts ++ post ∷ []) e.asked) mine entries all fits)
           (λ n. list_more setup n posts post (slice_index_or old.lists n []) (on.lists n)) q);
       talks = λ other. stands_now setup posts post call other (other == call) (record { phase = talk.phase; place = place }) (old.talks other) (new.talks other) refl (talk.talks other) stands (on.talks other);
     }
@@ -292,10 +292,10 @@ talk_on setup numbers call place first posts post message old new t on is begins
 -- the terms on which a call begins
 begins_on : (setup : Setup) (place : ℕ) (posts : List Post) (post : Post) (call other : ℕ) (calling called : Number) (route : Option Route) → post.body ≡ Ssf call (msg.InitialDp other calling called)
     → home_of calling setup ≡ Some place → IsRouted setup.tariff (digits_of called) post.at route
-    → OfNext (Its setup place (posts ++ post ∷ []) call) post.at (begun call post.at setup.service.wanted setup.service.least route)
+    → OfNext (Its setup place (posts ++ post ∷ []) call) post.at (on_begin call post.at setup.service.wanted setup.service.least route)
 begins_on setup place posts post call other calling called None is home routed = (tt, tt)
 begins_on setup place posts post call other calling called (Some route) is home routed =
-    let begun : HasBegun setup place (posts ++ post ∷ []) call (rates_of route.plan) setup.service.wanted setup.service.least = record {
+    let began : HasBegun setup place (posts ++ post ∷ []) call (rates_of route.plan) setup.service.wanted setup.service.least = record {
       post = post;
       stands = Contains-push posts post;
       other = other;
@@ -309,30 +309,30 @@ begins_on setup place posts post call other calling called (Some route) is home 
       wanted_is = refl;
       least_is = refl;
     } in
-    (((refl, begun), refl), (refl, begun))
+    (((refl, began), refl), (refl, began))
 
-goes_on_from : (setup : Setup) (posts : List Post) (call : ℕ) (standing : Standing) (found : Option Standing) → found ≡ Some standing → IfSome found (λ s. AtRest (Its setup s.place posts call) s.phase)
+goes_on_from : (setup : Setup) (posts : List Post) (call : ℕ) (standing : DialogueAt) (found : Option DialogueAt) → found ≡ Some standing → IfSome found (λ s. AtRest (Its setup s.place posts call) s.phase)
     → AtRest (Its setup standing.place posts call) standing.phase
 goes_on_from setup posts call standing None is on = cc
-goes_on_from setup posts call standing (Some other) is on = let same : other ≡ standing = cc in let P : Standing → Type 0 = λ s. AtRest (Its setup s.place posts call) s.phase in subst P same on
+goes_on_from setup posts call standing (Some other) is on = let same : other ≡ standing = cc in let P : DialogueAt → Type 0 = λ s. AtRest (Its setup s.place posts call) s.phase in subst P same on
 
-on_by : (setup : Setup) (numbers : List ℕ) (posts : List Post) (post : Post) (v : Verdict) (old new : Holding) (t : Told) → IsOnItsTerms setup posts old
+on_by : (setup : Setup) (numbers : List ℕ) (posts : List Post) (post : Post) (v : Verdict) (old new : Holding) (t : AnswerView) → IsOnItsTerms setup posts old
     → Means setup old.talks post.number post.at post.body v → IsDone setup numbers post.at v old new t → IsOnItsTerms setup (posts ++ post ∷ []) new
 on_by setup numbers posts post Strays old new t on m done = unasked_on setup posts post old new on done.lists done.talks
 on_by setup numbers posts post Rejects old new t on m done = unasked_on setup posts post old new on done.lists done.talks
 on_by setup numbers posts post (Recharges place amount until) old new t on m done = record {
   lists = λ q. rw done.lists
-      (list_grown (λ n mine. All (λ (e : Event). IsOnTerms setup n (posts ++ post ∷ []) e.asked) mine) old.lists place (entry_of (slice_index_or numbers place 0) (Asks (Credits amount until)) done.got)
-      (λ mine all. All-append (λ (e : Event). IsOnTerms setup place (posts ++ post ∷ []) e.asked) mine _ all (credit_on setup place (posts ++ post ∷ []) (slice_index_or numbers place 0) amount until done.got))
+      (list_grown (λ n mine. All (λ (e : EntryData). IsOnTerms setup n (posts ++ post ∷ []) e.asked) mine) old.lists place (entry_of (slice_index_or numbers place 0) (Asks (Credits amount until)) done.got)
+      (λ mine all. All-append (λ (e : EntryData). IsOnTerms setup place (posts ++ post ∷ []) e.asked) mine _ all (credit_on setup place (posts ++ post ∷ []) (slice_index_or numbers place 0) amount until done.got))
       (λ n. list_more setup n posts post (slice_index_or old.lists n []) (on.lists n)) q);
   talks = λ call. same_more setup posts post call (old.talks call) (new.talks call) (done.talks call) (on.talks call);
 }
   where
-    credit_on : (setup : Setup) (place : ℕ) (posts : List Post) (seat amount : ℕ) (until : Option ℕ) (got : Got) → All (λ (e : Event). IsOnTerms setup place posts e.asked) (entry_of seat (Asks (Credits amount until)) got)
-    credit_on setup place posts seat amount until (Ok reply) = All-cons (λ (e : Event). IsOnTerms setup place posts e.asked) _ [] tt (All-nil (λ (e : Event). IsOnTerms setup place posts e.asked))
-    credit_on setup place posts seat amount until (Err fault) = All-nil (λ (e : Event). IsOnTerms setup place posts e.asked)
+    credit_on : (setup : Setup) (place : ℕ) (posts : List Post) (seat amount : ℕ) (until : Option ℕ) (got : Got) → All (λ (e : EntryData). IsOnTerms setup place posts e.asked) (entry_of seat (Asks (Credits amount until)) got)
+    credit_on setup place posts seat amount until (Ok reply) = All-cons (λ (e : EntryData). IsOnTerms setup place posts e.asked) _ [] tt (All-nil (λ (e : EntryData). IsOnTerms setup place posts e.asked))
+    credit_on setup place posts seat amount until (Err fault) = All-nil (λ (e : EntryData). IsOnTerms setup place posts e.asked)
 on_by setup numbers posts post (Begins call place called) old new t on m done =
-    talk_on setup numbers call place (begun call post.at setup.service.wanted setup.service.least done.route) posts post (msg.InitialDp m.other m.calling called) old new t on m.is
+    talk_on setup numbers call place (on_begin call post.at setup.service.wanted setup.service.least done.route) posts post (msg.InitialDp m.other m.calling called) old new t on m.is
     (begins_on setup place posts post call m.other m.calling called done.route m.is m.home done.routed) done.talked
 on_by setup numbers posts post (GoesOn call place said phase) old new t on m done =
     let stands = goes_on_from setup posts call m.standing (old.talks call) m.stands (on.talks call) in
@@ -355,4 +355,4 @@ on_after setup numbers done (post ∷ posts) (refusal ∷ refusals) old new on a
 pub reserves_are_on_terms : ReservesAreOnTerms
 reserves_are_on_terms setup number place posts refusals lists is =
     (on_after setup _ [] posts refusals (at_first setup) (record { lists = lists; talks = is.talks })
-    (record { lists = λ place. rw (none_at_first setup.accounts place) (All-nil (λ (e : Event). IsOnTerms setup place [] e.asked)); talks = λ call. tt }) is.chain).lists place
+    (record { lists = λ place. rw (none_at_first setup.accounts place) (All-nil (λ (e : EntryData). IsOnTerms setup place [] e.asked)); talks = λ call. tt }) is.chain).lists place

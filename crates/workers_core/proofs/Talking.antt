@@ -1,14 +1,14 @@
 -- The talk of a dialogue with its account, ask by ask.
 use Rattle.std.proofs.Common.{◌≡◌, ◌≤◌, ◌++◌, ◌∙◌, ℕ, suc, Bool, true, false, Option, None, Ok, Err, List, [], ◌∷◌, refl, sym, ap, subst, append_assoc, append-nil, arith}
 use Rattle.account_core.specs.Asked.{Asked}
-use Rattle.account_core.specs.Events.{Event}
+use Rattle.account_core.specs.Events.{EntryData}
 use Rattle.account_core.specs.declared.entry.Reply.{Reply}
 use Rattle.account_core.specs.declared.entry.Reply.TheVariants.{Granted, Settled, Returned}
 use Rattle.account_core.specs.declared.fault.AccountFault.{AccountFault}
 use Rattle.cap_values.specs.Orders.{Order}
 use Rattle.dialogue_core.specs.Phases.{Phase, Says, Sequel, FirstAsk, Running, Settling, MoreAsk, Returning, Ending, Closed, Asks, Sends, Finished}
 use Rattle.dialogue_core.specs.Phases as phase
-use Rattle.dialogue_core.specs.Table.{Step, are_units, replied, sequel, unanswered}
+use Rattle.dialogue_core.specs.Table.{Step, are_units, on_reply, sequel, on_refusal}
 use Rattle.dialogue_core.specs.declared.fault.DialogueFault.TheVariants.{Unexpected}
 use Rattle.std.specs.Prelude.{if◌then◌else◌}
 use Rattle.workers_core.specs.Cases.{IsAsked, or_fault}
@@ -17,21 +17,21 @@ use Rattle.workers_core.specs.Talks.{AllAsk, Got, IsTalk, after_got, entries_of,
 -- ---- how far a talk has come
 
 -- the asks so far got these, the newest first, and were entered; this is said now
-pub record IsSoFar (seat : ℕ) (first : Says × Phase) (before after : List Event) (now : Says × Phase) (refused : Option AccountFault) : Type 0 where
+pub record IsSoFar (seat : ℕ) (first : Says × Phase) (before after : List EntryData) (now : Says × Phase) (refused : Option AccountFault) : Type 0 where
   pub gots : List Got
   pub asked : AllAsk first gots
   pub talks : talked first gots ≡ now
   pub enters : after ≡ before ++ entries_of seat first gots
   pub refuses : refused ≡ last_fault gots
 
-pub so_begun : (seat : ℕ) (first : Says × Phase) (mine : List Event) → IsSoFar seat first mine mine first None
+pub so_begun : (seat : ℕ) (first : Says × Phase) (mine : List EntryData) → IsSoFar seat first mine mine first None
 so_begun seat first mine = record { gots = []; asked = tt; talks = refl; enters = sym (append-nil mine); refuses = refl }
 
 pub fault_after : (gots : List Got) (got : Got) → or_fault (last_fault gots) got ≡ last_fault (got ∷ gots)
 fault_after gots (Ok reply) = refl
 fault_after gots (Err fault) = refl
 
-pub so_asked : (seat : ℕ) (first : Says × Phase) (before between after : List Event) (asked : Asked) (from to : Phase) (said : Says) (old new : Option AccountFault)
+pub so_asked : (seat : ℕ) (first : Says × Phase) (before between after : List EntryData) (asked : Asked) (from to : Phase) (said : Says) (old new : Option AccountFault)
     → IsSoFar seat first before between (Asks asked, from) old → IsAsked seat asked between after from to said old new → IsSoFar seat first before after (said, to) new
 so_asked seat first before between after asked from to said old new so is = record {
   gots = is.got ∷ so.gots;
@@ -41,7 +41,7 @@ so_asked seat first before between after asked from to said old new so is = reco
   refuses = is.refuses ∙ ap (λ r. or_fault r is.got) so.refuses ∙ fault_after so.gots is.got;
 }
 
-pub so_ended : (seat : ℕ) (first : Says × Phase) (before after : List Event) (last : Says) (phase : Phase) (orders : List Order) (refused : Option AccountFault)
+pub so_ended : (seat : ℕ) (first : Says × Phase) (before after : List EntryData) (last : Says) (phase : Phase) (orders : List Order) (refused : Option AccountFault)
     → IsSoFar seat first before after (last, phase) refused → is_ask last ≡ false → orders ≡ sent_by last → IsTalk seat first before after phase orders refused
 so_ended seat first before after last phase orders refused so rests sends = record {
   gots = so.gots;
@@ -87,7 +87,7 @@ fewer_sequel phase.Clears = omega arith
 fewer_sequel phase.Fails = omega arith
 fewer_sequel phase.Closes = omega arith
 
-fewer_replied : (phase : Phase) (reply : Reply) → left_by (replied phase reply) ≤ asks_after phase
+fewer_replied : (phase : Phase) (reply : Reply) → left_by (on_reply phase reply) ≤ asks_after phase
 fewer_replied (FirstAsk t) (Granted units last a) = fewer_given (are_units units) _ (Running t) 0
 fewer_replied (FirstAsk t) reply = omega arith
 fewer_replied (Running t) reply = omega arith
@@ -102,7 +102,7 @@ fewer_replied (Returning after) reply = omega arith
 fewer_replied Ending reply = omega arith
 fewer_replied Closed reply = omega arith
 
-fewer_unanswered : (phase : Phase) → left_by (unanswered phase) ≤ asks_after phase
+fewer_unanswered : (phase : Phase) → left_by (on_refusal phase) ≤ asks_after phase
 fewer_unanswered (FirstAsk t) = omega arith
 fewer_unanswered (Running t) = omega arith
 fewer_unanswered (Settling t true since) = omega arith
@@ -117,10 +117,10 @@ fewer_done phase (Ok next) fewer = fewer
 fewer_done phase (Err fault) fewer = omega arith
 
 fewer_got : (phase : Phase) (got : Got) → asks_left (after_got phase got).0 (after_got phase got).1 ≤ asks_after phase
-fewer_got phase (Ok reply) = fewer_done phase (replied phase reply) (fewer_replied phase reply)
-fewer_got phase (Err fault) = fewer_done phase (unanswered phase) (fewer_unanswered phase)
+fewer_got phase (Ok reply) = fewer_done phase (on_reply phase reply) (fewer_replied phase reply)
+fewer_got phase (Err fault) = fewer_done phase (on_refusal phase) (fewer_unanswered phase)
 
-pub fewer_asked : (seat : ℕ) (asked : Asked) (before after : List Event) (from to : Phase) (said : Says) (old new : Option AccountFault)
+pub fewer_asked : (seat : ℕ) (asked : Asked) (before after : List EntryData) (from to : Phase) (said : Says) (old new : Option AccountFault)
     → IsAsked seat asked before after from to said old new → asks_left said to ≤ asks_after from
 fewer_asked seat asked before after from to said old new is =
     let P : (Says × Phase) → Type 0 = λ p. asks_left p.0 p.1 ≤ asks_after from in subst P is.says (fewer_got from is.got)

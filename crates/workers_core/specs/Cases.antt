@@ -3,19 +3,19 @@ use Rattle.std.specs.Prelude.{◌≡◌, ◌==◌, ◌<◌, ◌++◌, ◌⊎◌,
 use Rattle.std.specs.BTreeMap.{BTreeMap, get}
 use Rattle.std.specs.Ordering.{nat_cmp}
 use Rattle.account_core.specs.Asked.{Asked}
-use Rattle.account_core.specs.Events.{Event}
+use Rattle.account_core.specs.Events.{EntryData}
 use Rattle.account_core.specs.declared.fault.AccountFault.{AccountFault}
 use Rattle.cap_values.specs.NumberDigits.{digits_of}
 use Rattle.cap_values.specs.Orders.{Release}
 use Rattle.cap_values.specs.declared.number.Number.{Number}
 use Rattle.dialogue_core.specs.Phases.{Phase, Says, Asks}
-use Rattle.dialogue_core.specs.Table.{begun}
+use Rattle.dialogue_core.specs.Table.{on_begin}
 use Rattle.dialogue_core.specs.Views.{phase_of, says_of}
 use Rattle.tariff_core.specs.declared.route.Route.{Route}
-use Rattle.workers_core.specs.Handled.{Holding, IsRecharged, IsRouted, IsTalked, IsUnasked, Told}
+use Rattle.workers_core.specs.Handled.{Holding, IsRecharged, IsRouted, IsTalked, IsUnasked, AnswerView}
 use Rattle.run_values.specs.Setups.{Setup}
 use Rattle.workers_core.specs.Talks.{Got, after_got, entry_of}
-use Rattle.workers_core.specs.Verdicts.{Standing, Verdict, Strays, Rejects, Recharges, Begins, GoesOn}
+use Rattle.workers_core.specs.Verdicts.{DialogueAt, Verdict, Strays, Rejects, Recharges, Begins, GoesOn}
 use Rattle.workers_core.specs.Workers.{standing_of}
 use Rattle.workers_core.specs.declared.case.Case.{Case}
 use Rattle.workers_core.specs.declared.case.Case.TheVariants as case
@@ -27,7 +27,7 @@ pub record IsFirst (setup : Setup) (at : ℕ) (verdict : Verdict) (call place : 
   pub is : verdict ≡ Begins call place called
   pub route : Option Route
   pub routed : IsRouted setup.tariff (digits_of called) at route
-  pub begins : begun call at setup.service.wanted setup.service.least route ≡ first
+  pub begins : on_begin call at setup.service.wanted setup.service.least route ≡ first
 
 -- the case of a verdict
 abbrev pub IsCase : Setup → ℕ → Verdict → Case → Type 0
@@ -52,14 +52,14 @@ HasRoom (case.Recharge place amount until) talks = Unit {0}
 HasRoom (case.Talk call talk turn) talks = IsSome (get nat_cmp talks call)
 
 -- where dialogues stand with that of a case among them
-abbrev pub with_room : Case → (ℕ → Option Standing) → ℕ → Option Standing
+abbrev pub with_room : Case → (ℕ → Option DialogueAt) → ℕ → Option DialogueAt
 with_room case.Stray talks other = talks other
 with_room case.Rejected talks other = talks other
 with_room (case.Recharge place amount until) talks other = talks other
 with_room (case.Talk call talk turn) talks other = if other == call then Some (standing_of talk) else talks other
 
 -- what is done in a case
-abbrev pub IsActed : List ℕ → Case → Holding → Holding → Told → Type 0
+abbrev pub IsActed : List ℕ → Case → Holding → Holding → AnswerView → Type 0
 IsActed numbers case.Stray old new told = IsUnasked [] true old new told
 IsActed numbers case.Rejected old new told = IsUnasked (Release 21 ∷ []) false old new told
 IsActed numbers (case.Recharge place amount until) old new told = IsRecharged numbers place amount until old new told
@@ -71,14 +71,14 @@ or_fault refused (Ok reply) = refused
 or_fault refused (Err fault) = Some fault
 
 -- an account was asked once, from a seat: what it got was entered, and the dialogue went on by it
-pub record IsAsked (seat : ℕ) (asked : Asked) (before after : List Event) (from to : Phase) (said : Says) (old new : Option AccountFault) : Type 0 where
+pub record IsAsked (seat : ℕ) (asked : Asked) (before after : List EntryData) (from to : Phase) (said : Says) (old new : Option AccountFault) : Type 0 where
   pub got : Got
   pub enters : after ≡ before ++ entry_of seat (Asks asked) got
   pub says : after_got from got ≡ (said, to)
   pub refuses : new ≡ or_fault old got
 
 -- an account was asked for a Credit
-pub record IsCredited (seat : ℕ) (asked : Asked) (before after : List Event) (told : Told) : Type 0 where
+pub record IsCredited (seat : ℕ) (asked : Asked) (before after : List EntryData) (told : AnswerView) : Type 0 where
   pub got : Got
   pub enters : after ≡ before ++ entry_of seat (Asks asked) got
   pub orders : told.orders ≡ []

@@ -1,15 +1,15 @@
 -- What the posts of a worker come to, handled one after another.
 use Rattle.std.specs.Prelude.{◌≡◌, ℕ, Option, None, List, [], ◌∷◌, map}
-use Rattle.account_core.specs.Events.{Event}
+use Rattle.account_core.specs.Events.{EntryData}
 use Rattle.account_core.specs.declared.fault.AccountFault.{AccountFault}
-use Rattle.workers_core.specs.Handled.{Holding, IsHandled, Told}
+use Rattle.workers_core.specs.Handled.{Holding, IsHandled, AnswerView}
 use Rattle.run_values.specs.Setups.{Setup}
-use Rattle.workers_core.specs.Verdicts.{Standing}
+use Rattle.workers_core.specs.Verdicts.{DialogueAt}
 use Rattle.run_values.specs.declared.post.Post.{Post}
 
 -- a post is handled, and this is the last fault that an ask for it got, or none, where every ask for it was entered
 pub record IsHandledOnce (setup : Setup) (numbers : List ℕ) (post : Post) (refusal : Option AccountFault) (old new : Holding) : Type 0 where
-  pub told : Told
+  pub told : AnswerView
   pub handled : IsHandled setup numbers post old new told
   pub refused : told.refused ≡ refusal
 
@@ -30,14 +30,14 @@ abbrev pub seat_numbers : ℕ → Setup → List ℕ
 seat_numbers number setup = map (λ account. number) setup.accounts
 
 -- the lists of a worker's seats, in the ascending order of the accounts, are what its posts made of empty ones, and these of the posts were refused
-pub record IsWorked (setup : Setup) (number : ℕ) (posts : List Post) (refusals : List (Option AccountFault)) (lists : List (List Event)) : Type 0 where
-  pub talks : ℕ → Option Standing
+pub record IsWorked (setup : Setup) (number : ℕ) (posts : List Post) (refusals : List (Option AccountFault)) (lists : List (List EntryData)) : Type 0 where
+  pub talks : ℕ → Option DialogueAt
   pub chain : AreHandled setup (seat_numbers number setup) posts refusals (at_first setup) (record { lists = lists; talks = talks })
 
 -- ---- with all that the answers tell
 
 -- posts, in order, lead from what a worker holds to what it holds then, with these answers, one for each
-abbrev pub AreAnswered : Setup → List ℕ → List Post → List Told → Holding → Holding → Type 0
+abbrev pub AreAnswered : Setup → List ℕ → List Post → List AnswerView → Holding → Holding → Type 0
 AreAnswered setup numbers [] [] old new = old ≡ new
 AreAnswered setup numbers [] (told ∷ answers) old new = ⊥
 AreAnswered setup numbers (post ∷ posts) [] old new = ⊥
@@ -45,10 +45,10 @@ AreAnswered setup numbers (post ∷ posts) (told ∷ answers) old new =
     (between : Holding) × IsHandled setup numbers post old between told × AreAnswered setup numbers posts answers between new
 
 -- which posts were refused, as their answers tell
-abbrev pub refusals_in : List Told → List (Option AccountFault)
+abbrev pub refusals_in : List AnswerView → List (Option AccountFault)
 refusals_in answers = map (λ told. told.refused) answers
 
 -- the lists of a worker's seats are what its posts made of empty ones, and these are its answers
-pub record IsAnswered (setup : Setup) (number : ℕ) (posts : List Post) (answers : List Told) (lists : List (List Event)) : Type 0 where
-  pub talks : ℕ → Option Standing
+pub record IsAnswered (setup : Setup) (number : ℕ) (posts : List Post) (answers : List AnswerView) (lists : List (List EntryData)) : Type 0 where
+  pub talks : ℕ → Option DialogueAt
   pub chain : AreAnswered setup (seat_numbers number setup) posts answers (at_first setup) (record { lists = lists; talks = talks })

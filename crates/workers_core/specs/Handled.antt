@@ -1,52 +1,52 @@
 -- What the handling of a post does.
 use Rattle.std.specs.Prelude.{◌≡◌, ◌++◌, ◌==◌, ℕ, Bool, true, false, Option, Some, None, List, [], ◌∷◌, if◌then◌else◌, slice_set, slice_index_or}
 use Rattle.account_core.specs.Asked.{Credits}
-use Rattle.account_core.specs.Events.{Event}
+use Rattle.account_core.specs.Events.{EntryData}
 use Rattle.account_core.specs.declared.fault.AccountFault.{AccountFault}
 use Rattle.cap_values.specs.NumberDigits.{digits_of}
 use Rattle.cap_values.specs.Orders.{Order, Release, orders_of}
 use Rattle.cap_values.specs.declared.number.Number.{Number}
 use Rattle.dialogue_core.specs.Phases.{Phase, Says, Asks}
-use Rattle.dialogue_core.specs.Table.{begun}
+use Rattle.dialogue_core.specs.Table.{on_begin}
 use Rattle.tariff_core.specs.Bands.{Band}
 use Rattle.tariff_core.specs.Routes.{HasNoRoute, IsRoute}
 use Rattle.tariff_core.specs.declared.route.Route.{Route}
 use Rattle.run_values.specs.Setups.{Setup}
 use Rattle.workers_core.specs.Talks.{AllAsk, Got, entries_of, entry_of, is_ask, last_fault, sent_by, talked}
-use Rattle.workers_core.specs.Verdicts.{Standing, Verdict, Strays, Rejects, Recharges, Begins, GoesOn, verdict}
+use Rattle.workers_core.specs.Verdicts.{DialogueAt, Verdict, Strays, Rejects, Recharges, Begins, GoesOn, verdict}
 use Rattle.run_values.specs.declared.answer.Answer.{Answer}
 use Rattle.run_values.specs.declared.post.Post.{Post}
 
 -- what a worker holds beside the posts that it has handled: its seats' entries, in the ascending order of the accounts, and its dialogues
 pub record Holding : Type 0 where
-  pub lists : List (List Event)
-  pub talks : ℕ → Option Standing
+  pub lists : List (List EntryData)
+  pub talks : ℕ → Option DialogueAt
 
 -- what an answer tells
-pub record Told : Type 0 where
+pub record AnswerView : Type 0 where
   pub number : ℕ
   pub orders : List Order
   pub stray : Bool
   pub refused : Option AccountFault
 
 -- what an answer of the code tells
-abbrev pub told_of : Answer → Told
-told_of answer = record { number = answer.number; orders = orders_of answer.ops.items; stray = answer.stray; refused = answer.refused }
+abbrev pub answer_view : Answer → AnswerView
+answer_view answer = record { number = answer.number; orders = orders_of answer.ops.items; stray = answer.stray; refused = answer.refused }
 
 -- the list at a place has gained entries, and no other list has grown
-abbrev pub grown : List (List Event) → ℕ → List Event → List (List Event)
+abbrev pub grown : List (List EntryData) → ℕ → List EntryData → List (List EntryData)
 grown lists place entries = slice_set lists place (slice_index_or lists place [] ++ entries)
 
 -- each dialogue stands as before
-abbrev pub Stay : (ℕ → Option Standing) → (ℕ → Option Standing) → Type 0
+abbrev pub Stay : (ℕ → Option DialogueAt) → (ℕ → Option DialogueAt) → Type 0
 Stay old new = (call : ℕ) → new call ≡ old call
 
 -- the dialogue of a call stands so, and each other one as before
-abbrev pub StandsNow : ℕ → Standing → (ℕ → Option Standing) → (ℕ → Option Standing) → Type 0
+abbrev pub StandsNow : ℕ → DialogueAt → (ℕ → Option DialogueAt) → (ℕ → Option DialogueAt) → Type 0
 StandsNow call standing old new = (other : ℕ) → new other ≡ (if other == call then Some standing else old other)
 
 -- these operations are sent, and no account is asked
-pub record IsUnasked (orders : List Order) (stray : Bool) (old new : Holding) (told : Told) : Type 0 where
+pub record IsUnasked (orders : List Order) (stray : Bool) (old new : Holding) (told : AnswerView) : Type 0 where
   pub orders_are : told.orders ≡ orders
   pub stray_is : told.stray ≡ stray
   pub refused : told.refused ≡ None
@@ -54,7 +54,7 @@ pub record IsUnasked (orders : List Order) (stray : Bool) (old new : Holding) (t
   pub talks : Stay old.talks new.talks
 
 -- the account at a place is asked for one Credit
-pub record IsRecharged (numbers : List ℕ) (place amount : ℕ) (until : Option ℕ) (old new : Holding) (told : Told) : Type 0 where
+pub record IsRecharged (numbers : List ℕ) (place amount : ℕ) (until : Option ℕ) (old new : Holding) (told : AnswerView) : Type 0 where
   pub got : Got
   pub orders : told.orders ≡ []
   pub stray : told.stray ≡ false
@@ -63,7 +63,7 @@ pub record IsRecharged (numbers : List ℕ) (place amount : ℕ) (until : Option
   pub talks : Stay old.talks new.talks
 
 -- the dialogue of a call talks with the account at a place, from what it says first until no ask is left
-pub record IsTalked (numbers : List ℕ) (call place : ℕ) (first : Says × Phase) (old new : Holding) (told : Told) : Type 0 where
+pub record IsTalked (numbers : List ℕ) (call place : ℕ) (first : Says × Phase) (old new : Holding) (told : AnswerView) : Type 0 where
   pub gots : List Got
   pub asked : AllAsk first gots
   pub last : Says
@@ -82,13 +82,13 @@ IsRouted bands called at None = HasNoRoute bands called
 IsRouted bands called at (Some route) = IsRoute bands called at route
 
 -- the dialogue of a call begins
-pub record IsBegun (setup : Setup) (numbers : List ℕ) (at call place : ℕ) (called : Number) (old new : Holding) (told : Told) : Type 0 where
+pub record IsBegun (setup : Setup) (numbers : List ℕ) (at call place : ℕ) (called : Number) (old new : Holding) (told : AnswerView) : Type 0 where
   pub route : Option Route
   pub routed : IsRouted setup.tariff (digits_of called) at route
-  pub talked : IsTalked numbers call place (begun call at setup.service.wanted setup.service.least route) old new told
+  pub talked : IsTalked numbers call place (on_begin call at setup.service.wanted setup.service.least route) old new told
 
 -- what is done, by the verdict on the post
-abbrev pub IsDone : Setup → List ℕ → ℕ → Verdict → Holding → Holding → Told → Type 0
+abbrev pub IsDone : Setup → List ℕ → ℕ → Verdict → Holding → Holding → AnswerView → Type 0
 IsDone setup numbers at Strays old new told = IsUnasked [] true old new told
 IsDone setup numbers at Rejects old new told = IsUnasked (Release 21 ∷ []) false old new told
 IsDone setup numbers at (Recharges place amount until) old new told = IsRecharged numbers place amount until old new told
@@ -96,6 +96,6 @@ IsDone setup numbers at (Begins call place called) old new told = IsBegun setup 
 IsDone setup numbers at (GoesOn call place said phase) old new told = IsTalked numbers call place (said, phase) old new told
 
 -- a post is handled, where the seats have these numbers
-pub record IsHandled (setup : Setup) (numbers : List ℕ) (post : Post) (old new : Holding) (told : Told) : Type 0 where
+pub record IsHandled (setup : Setup) (numbers : List ℕ) (post : Post) (old new : Holding) (told : AnswerView) : Type 0 where
   pub number : told.number ≡ post.number
   pub done : IsDone setup numbers post.at (verdict setup old.talks post) old new told

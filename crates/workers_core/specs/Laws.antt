@@ -1,7 +1,7 @@
 -- What holds of every talk, and of all that a worker has handled.
 use Rattle.std.specs.Prelude.{◌≡◌, ◌++◌, ℕ, Bool, true, false, Option, Some, None, List, [], ◌∷◌, All, Contains, length, map, slice_index_or}
 use Rattle.account_core.specs.Asked.{Asked, Credits, Reserves, Returns, Settles}
-use Rattle.account_core.specs.Events.{Event}
+use Rattle.account_core.specs.Events.{EntryData}
 use Rattle.account_core.specs.declared.fault.AccountFault.{AccountFault}
 use Rattle.cap_values.specs.NumberDigits.{digits_of}
 use Rattle.cap_values.specs.declared.message.SsfMsg.{SsfMsg}
@@ -15,7 +15,7 @@ use Rattle.tariff_core.specs.Routes.{HasNoRoute, IsRoute}
 use Rattle.tariff_core.specs.declared.route.Route.{Route}
 use Rattle.tariff_core.specs.declared.time_info.TimeInfo.{TimeInfo}
 use Rattle.workers_core.specs.Chains.{AreHandled, IsHandledOnce, IsWorked, at_first, seat_numbers}
-use Rattle.workers_core.specs.Handled.{Holding, IsTalked, Told}
+use Rattle.workers_core.specs.Handled.{Holding, IsTalked, AnswerView}
 use Rattle.workers_core.specs.Served.{Money, credits_of, recharged_in}
 use Rattle.run_values.specs.Setups.{Setup, place_of}
 use Rattle.workers_core.specs.Talks.{is_ask, sent_by}
@@ -27,7 +27,7 @@ use Rattle.run_values.specs.declared.post.Post.{Post}
 -- where a dialogue asks nothing at first, what it says is sent just so, and no ask was refused
 abbrev pub WhatIsSaidIsSent : Type 0
 WhatIsSaidIsSent =
-    (numbers : List ℕ) (call place : ℕ) (first : Says × Phase) (old new : Holding) (told : Told) → is_ask first.0 ≡ false
+    (numbers : List ℕ) (call place : ℕ) (first : Says × Phase) (old new : Holding) (told : AnswerView) → is_ask first.0 ≡ false
     → IsTalked numbers call place first old new told → (told.orders ≡ sent_by first.0) × (told.refused ≡ None)
 
 -- ---- recharges
@@ -46,7 +46,7 @@ accepted_of account (post ∷ posts) (refusal ∷ refusals) = credited_by accoun
 -- the Credits of an account by a worker are just the recharges of it that the worker handled and that weren't refused, in order
 abbrev pub RechargesAreEntered : Type 0
 RechargesAreEntered =
-    (setup : Setup) (number account place : ℕ) (posts : List Post) (refusals : List (Option AccountFault)) (lists : List (List Event))
+    (setup : Setup) (number account place : ℕ) (posts : List Post) (refusals : List (Option AccountFault)) (lists : List (List EntryData))
     → IsWorked setup number posts refusals lists → place_of account setup ≡ Some place
     → credits_of (slice_index_or lists place []) ≡ accepted_of account posts refusals
 
@@ -86,13 +86,13 @@ IsOnTerms setup place posts (Returns call) = Unit {0}
 -- each Reserve by a worker is on the terms of its call
 abbrev pub ReservesAreOnTerms : Type 0
 ReservesAreOnTerms =
-    (setup : Setup) (number place : ℕ) (posts : List Post) (refusals : List (Option AccountFault)) (lists : List (List Event))
+    (setup : Setup) (number place : ℕ) (posts : List Post) (refusals : List (Option AccountFault)) (lists : List (List EntryData))
     → IsWorked setup number posts refusals lists → All (λ event. IsOnTerms setup place posts event.asked) (slice_index_or lists place [])
 
 -- ---- what a dialogue asks first
 
 -- a worker handles a post after others, and nothing that it asks for it is refused: what it holds before it, and its lists once it has handled all posts
-pub record IsHandledAfter (setup : Setup) (number : ℕ) (before : List Post) (post : Post) (lists : List (List Event)) (old : Holding) : Type 0 where
+pub record IsHandledAfter (setup : Setup) (number : ℕ) (before : List Post) (post : Post) (lists : List (List EntryData)) (old : Holding) : Type 0 where
   pub refused : List (Option AccountFault)
   pub begins : AreHandled setup (seat_numbers number setup) before refused (at_first setup) old
   pub between : Holding
@@ -106,12 +106,12 @@ pub record IsHandledAfter (setup : Setup) (number : ℕ) (before : List Post) (p
 -- each post of a worker that wasn't refused is handled after those before it
 abbrev pub PostsAreHandled : Type 0
 PostsAreHandled =
-    (setup : Setup) (number : ℕ) (before : List Post) (post : Post) (after : List Post) (refusals : List (Option AccountFault)) (lists : List (List Event))
+    (setup : Setup) (number : ℕ) (before : List Post) (post : Post) (after : List Post) (refusals : List (Option AccountFault)) (lists : List (List EntryData))
     → IsWorked setup number (before ++ post ∷ after) refusals lists → slice_index_or refusals (length before) None ≡ None
     → (old : Holding) × IsHandledAfter setup number before post lists old
 
 -- what the entries of an account's list ask
-abbrev pub asked_at : List (List Event) → ℕ → List Asked
+abbrev pub asked_at : List (List EntryData) → ℕ → List Asked
 asked_at lists place = map (λ event. event.asked) (slice_index_or lists place [])
 
 -- no dialogue of a call began with these posts: none is an InitialDp of it from a subscriber
@@ -128,7 +128,7 @@ pub record IsReserved (setup : Setup) (call : ℕ) (called : Number) (at : ℕ) 
 -- the first InitialDp of a call from a subscriber to a number with a route has its Reserve, at the subscriber's account, or was refused
 abbrev pub CallsAreReserved : Type 0
 CallsAreReserved =
-    (setup : Setup) (number : ℕ) (before : List Post) (post : Post) (lists : List (List Event)) (old : Holding) (call other place : ℕ) (calling called : Number)
+    (setup : Setup) (number : ℕ) (before : List Post) (post : Post) (lists : List (List EntryData)) (old : Holding) (call other place : ℕ) (calling called : Number)
     → IsHandledAfter setup number before post lists old → HasNoDialogue setup before call → post.body ≡ Ssf call (InitialDp other calling called)
     → home_of calling setup ≡ Some place → (HasNoRoute setup.tariff (digits_of called) → ⊥) → IsReserved setup call called post.at (asked_at lists place)
 
@@ -140,7 +140,7 @@ pub record IsRunning (h : Holding) (call place : ℕ) : Type 0 where
 -- a report of a call that goes on is settled, with the number of its post, or was refused
 abbrev pub ReportsAreSettled : Type 0
 ReportsAreSettled =
-    (setup : Setup) (number : ℕ) (before : List Post) (post : Post) (lists : List (List Event)) (old : Holding) (call place : ℕ) (active : Bool) (info : TimeInfo)
+    (setup : Setup) (number : ℕ) (before : List Post) (post : Post) (lists : List (List EntryData)) (old : Holding) (call place : ℕ) (active : Bool) (info : TimeInfo)
     → IsHandledAfter setup number before post lists old → IsRunning old call place → post.body ≡ Ssf call (ChargingReport active info)
     → Contains (asked_at lists place) (Settles call post.number info)
 
@@ -155,6 +155,6 @@ ends_call Ended = true
 -- a call that goes on and is ended by a message is returned, or its Return was refused
 abbrev pub CallsAreReturned : Type 0
 CallsAreReturned =
-    (setup : Setup) (number : ℕ) (before : List Post) (post : Post) (lists : List (List Event)) (old : Holding) (call place : ℕ) (message : SsfMsg)
+    (setup : Setup) (number : ℕ) (before : List Post) (post : Post) (lists : List (List EntryData)) (old : Holding) (call place : ℕ) (message : SsfMsg)
     → IsHandledAfter setup number before post lists old → IsRunning old call place → post.body ≡ Ssf call message → ends_call message ≡ true
     → Contains (asked_at lists place) (Returns call)

@@ -1,7 +1,7 @@
 -- What the entries of a worker's seats have to do with the posts that it handled.
 use Rattle.std.specs.Prelude.{◌≡◌, ◌==◌, ◌⊎◌, ℕ, Option, List, [], ◌∷◌, All, Contains, flat_map, if◌then◌else◌}
 use Rattle.account_core.specs.Asked.{Asked, Credits, Reserves, Settles, Returns}
-use Rattle.account_core.specs.Events.{Event}
+use Rattle.account_core.specs.Events.{EntryData}
 use Rattle.cap_values.specs.declared.message.SsfMsg.{SsfMsg}
 use Rattle.cap_values.specs.declared.message.SsfMsg.TheVariants.{InitialDp, EventReport, ChargingReport, Ended}
 use Rattle.tariff_core.specs.declared.time_info.TimeInfo.{TimeInfo}
@@ -43,7 +43,7 @@ settled_in (Settles call number info) = (number, call, info) ∷ []
 settled_in (Returns call) = []
 
 -- the Settles among entries: the number, the call and the times of each
-abbrev pub settles_of : List Event → List Report
+abbrev pub settles_of : List EntryData → List Report
 settles_of mine = flat_map (λ event. settled_in event.asked) mine
 
 -- money for an account: how much, and its last moment from then on, if it is moved
@@ -67,7 +67,7 @@ credited_in (Settles call number info) = []
 credited_in (Returns call) = []
 
 -- the money of the Credits among entries
-abbrev pub credits_of : List Event → List Money
+abbrev pub credits_of : List EntryData → List Money
 credits_of mine = flat_map (λ event. credited_in event.asked) mine
 
 -- the call that a message begins
@@ -94,18 +94,18 @@ held_in (Settles call number info) = []
 held_in (Returns call) = call ∷ []
 
 -- the calls of the Reserves and the Returns among entries
-abbrev pub held_of : List Event → List ℕ
+abbrev pub held_of : List EntryData → List ℕ
 held_of mine = flat_map (λ event. held_in event.asked) mine
 
 -- the entries that a seat of an account made for posts: each Settle is of a charging report and carries its post's number, each Credit is of a
 -- recharge of the account, both in the order of the posts, and each Reserve or Return is of a call that had an InitialDp
-pub record IsServed (account : ℕ) (posts : List Post) (mine : List Event) : Type 0 where
+pub record IsServed (account : ℕ) (posts : List Post) (mine : List EntryData) : Type 0 where
   pub settles : IsPart (settles_of mine) (reports_of posts)
   pub credits : IsPart (credits_of mine) (recharges_of account posts)
   pub calls : All (λ call. Contains (begun_of posts) call) (held_of mine)
 
 -- each account's list is served by the posts
-abbrev pub AreServed : List ℕ → List Post → List (List Event) → Type 0
+abbrev pub AreServed : List ℕ → List Post → List (List EntryData) → Type 0
 AreServed [] posts [] = Unit {0}
 AreServed [] posts (mine ∷ lists) = ⊥
 AreServed (account ∷ accounts) posts [] = ⊥

@@ -1,12 +1,12 @@
 -- The talk of a dialogue with its account: what is asked, what each ask gets, and what is entered.
 use Rattle.std.specs.Prelude.{◌≡◌, ◌++◌, ℕ, Bool, true, false, Option, Some, None, Result, Ok, Err, List, [], ◌∷◌}
-use Rattle.account_core.specs.Events.{Event}
+use Rattle.account_core.specs.Events.{EntryData}
 use Rattle.account_core.specs.Ledger.{event_by}
 use Rattle.account_core.specs.declared.entry.Reply.{Reply}
 use Rattle.account_core.specs.declared.fault.AccountFault.{AccountFault}
 use Rattle.cap_values.specs.Orders.{Order}
 use Rattle.dialogue_core.specs.Phases.{Phase, Says, Asks, Sends, Finished}
-use Rattle.dialogue_core.specs.Table.{Step, replied, unanswered}
+use Rattle.dialogue_core.specs.Table.{Step, on_reply, on_refusal}
 
 -- what an ask gets: the account's reply, or its refusal
 abbrev pub Got : Type 0
@@ -19,8 +19,8 @@ or_done phase (Err fault) = (Finished, phase)
 
 -- what the dialogue says to what its ask got, and where it stands then: by the table of the service
 abbrev pub after_got : Phase → Got → Says × Phase
-after_got phase (Ok reply) = or_done phase (replied phase reply)
-after_got phase (Err fault) = or_done phase (unanswered phase)
+after_got phase (Ok reply) = or_done phase (on_reply phase reply)
+after_got phase (Err fault) = or_done phase (on_refusal phase)
 
 -- what the dialogue says, and where it stands, once its asks got these, the newest first
 abbrev pub talked : Says × Phase → List Got → Says × Phase
@@ -28,14 +28,14 @@ talked first [] = first
 talked first (got ∷ earlier) = after_got (talked first earlier).1 got
 
 -- the entry of an ask that got a reply
-abbrev pub entry_of : ℕ → Says → Got → List Event
+abbrev pub entry_of : ℕ → Says → Got → List EntryData
 entry_of seat (Asks asked) (Ok reply) = event_by seat asked reply ∷ []
 entry_of seat (Asks asked) (Err fault) = []
 entry_of seat (Sends orders) got = []
 entry_of seat Finished got = []
 
 -- the entries of a talk, oldest first: just the asks that got a reply, with those replies
-abbrev pub entries_of : ℕ → Says × Phase → List Got → List Event
+abbrev pub entries_of : ℕ → Says × Phase → List Got → List EntryData
 entries_of seat first [] = []
 entries_of seat first (got ∷ earlier) = entries_of seat first earlier ++ entry_of seat (talked first earlier).0 got
 
@@ -64,7 +64,7 @@ sent_by Finished = []
 
 -- a talk from what is said first until no ask is left: where the dialogue stands then, what it sends, what the seat has entered, and why
 -- the account refused an ask last, if it did
-pub record IsTalk (seat : ℕ) (first : Says × Phase) (before after : List Event) (phase : Phase) (orders : List Order) (refused : Option AccountFault) : Type 0 where
+pub record IsTalk (seat : ℕ) (first : Says × Phase) (before after : List EntryData) (phase : Phase) (orders : List Order) (refused : Option AccountFault) : Type 0 where
   pub gots : List Got
   pub asked : AllAsk first gots
   pub last : Says

@@ -4,14 +4,14 @@ use Rattle.cap_values.specs.declared.message.SsfMsg.{SsfMsg}
 use Rattle.cap_values.specs.declared.message.SsfMsg.TheVariants.{InitialDp, EventReport, ChargingReport, Ended}
 use Rattle.cap_values.specs.declared.number.Number.{Number}
 use Rattle.dialogue_core.specs.Phases.{Phase, Says}
-use Rattle.dialogue_core.specs.Table.{Step, told}
+use Rattle.dialogue_core.specs.Table.{Step, on_message}
 use Rattle.run_values.specs.Setups.{Setup, account_of, place_of}
 use Rattle.run_values.specs.declared.post.Body.{Body}
 use Rattle.run_values.specs.declared.post.Body.TheVariants.{Ssf, Recharge}
 use Rattle.run_values.specs.declared.post.Post.{Post}
 
 -- a dialogue of a worker: where it stands, and the place of its account in the ascending order
-pub record Standing : Type 0 where
+pub record DialogueAt : Type 0 where
   pub phase : Phase
   pub place : ℕ
 
@@ -51,17 +51,17 @@ goes_on call place (Ok next) = GoesOn call place next.0 next.1
 goes_on call place (Err fault) = Strays
 
 -- a message, by the call's dialogue
-abbrev pub spoken : Setup → ℕ → ℕ → ℕ → SsfMsg → Option Standing → Verdict
+abbrev pub spoken : Setup → ℕ → ℕ → ℕ → SsfMsg → Option DialogueAt → Verdict
 spoken setup number at call message None = fresh setup call message
-spoken setup number at call message (Some standing) = goes_on call standing.place (told standing.phase number at message)
+spoken setup number at call message (Some standing) = goes_on call standing.place (on_message standing.phase number at message)
 
 -- what a post is about, by the setup and the dialogues
-abbrev pub verdict_on : Setup → (ℕ → Option Standing) → ℕ → ℕ → Body → Verdict
+abbrev pub verdict_on : Setup → (ℕ → Option DialogueAt) → ℕ → ℕ → Body → Verdict
 verdict_on setup talks number at (Ssf call message) = spoken setup number at call message (talks call)
 verdict_on setup talks number at (Recharge account amount until) = recharged amount until (place_of account setup)
 
 -- by the setup and the dialogues of the worker
-abbrev pub verdict : Setup → (ℕ → Option Standing) → Post → Verdict
+abbrev pub verdict : Setup → (ℕ → Option DialogueAt) → Post → Verdict
 verdict setup talks post = verdict_on setup talks post.number post.at post.body
 
 -- whether a post has no place

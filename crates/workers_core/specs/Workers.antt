@@ -3,23 +3,23 @@ use Rattle.std.specs.Prelude.{◌≡◌, ◌<◌, ℕ, Option, List, All, Contai
 use Rattle.std.specs.BTreeMap.{BTreeMap, get}
 use Rattle.std.specs.Map.{keys_of}
 use Rattle.std.specs.Ordering.{nat_cmp}
-use Rattle.account_core.specs.Events.{Event}
+use Rattle.account_core.specs.Events.{EntryData}
 use Rattle.dialogue_core.specs.Phases.{Phase, FirstAsk, Running, Settling, MoreAsk, Returning, Ending, Closed}
 use Rattle.dialogue_core.specs.Views.{phase_of}
 use Rattle.workers_core.specs.Handled.{Holding}
 use Rattle.workers_core.specs.Served.{AreServed, begun_of}
 use Rattle.run_values.specs.Setups.{Setup}
-use Rattle.workers_core.specs.Verdicts.{Standing}
+use Rattle.workers_core.specs.Verdicts.{DialogueAt}
 use Rattle.run_values.specs.declared.post.Post.{Post}
 use Rattle.workers_core.specs.declared.talk.Talk.{Talk}
 use Rattle.workers_core.specs.declared.worker.Worker.{Worker}
 
 -- where a talk stands
-abbrev pub standing_of : Talk → Standing
+abbrev pub standing_of : Talk → DialogueAt
 standing_of talk = record { phase = phase_of talk.dialogue; place = talk.place }
 
 -- where the dialogues of a map stand
-abbrev pub standings_in : BTreeMap ℕ Talk → ℕ → Option Standing
+abbrev pub standings_in : BTreeMap ℕ Talk → ℕ → Option DialogueAt
 standings_in talks call = option_map standing_of (get nat_cmp talks call)
 
 -- the number of a worker, the setup of its run, the accounts, its seats and the posts that it has handled
@@ -43,11 +43,11 @@ abbrev pub posts_of : {S T : Type 0} → Worker S T → List Post
 posts_of worker = worker.posts.items
 
 -- where the dialogue of each call stands
-abbrev pub talks_of : {S T : Type 0} → Worker S T → ℕ → Option Standing
+abbrev pub talks_of : {S T : Type 0} → Worker S T → ℕ → Option DialogueAt
 talks_of worker = standings_in worker.talks
 
 -- what a worker holds beside its posts
-abbrev pub holding : {S T : Type 0} → (T → List Event) → Worker S T → Holding
+abbrev pub holding : {S T : Type 0} → (T → List EntryData) → Worker S T → Holding
 holding mine_of worker = record { lists = map mine_of (seats_of worker); talks = talks_of worker }
 
 -- a dialogue is about a call
@@ -61,7 +61,7 @@ IsAbout call Ending = Unit {0}
 IsAbout call Closed = Unit {0}
 
 -- a dialogue of a call: its account is one of so many, it is about the call, and the call had an InitialDp among the posts
-pub record IsOwn (count : ℕ) (posts : List Post) (call : ℕ) (standing : Standing) : Type 0 where
+pub record IsOwn (count : ℕ) (posts : List Post) (call : ℕ) (standing : DialogueAt) : Type 0 where
   pub placed : standing.place < count
   pub about : IsAbout call standing.phase
   pub begun : Contains (begun_of posts) call
@@ -73,7 +73,7 @@ pub record IsSound (accounts : List ℕ) (posts : List Post) (h : Holding) : Typ
 
 -- a worker can handle a post: the accounts are those of the setup, each seat is of its account and has the worker's number, and what it holds is in
 -- order
-pub record IsReady {S T K : Type 0} (account_number : S → ℕ) (key : S → K) (key_of : T → K) (seat_number : T → ℕ) (mine_of : T → List Event) (worker : Worker S T) : Type 0 where
+pub record IsReady {S T K : Type 0} (account_number : S → ℕ) (key : S → K) (key_of : T → K) (seat_number : T → ℕ) (mine_of : T → List EntryData) (worker : Worker S T) : Type 0 where
   pub accounts : map account_number (accounts_of worker) ≡ keys_of (setup_of worker).accounts
   pub keys : map key_of (seats_of worker) ≡ map key (accounts_of worker)
   pub numbers : All (λ number. number ≡ number_of worker) (map seat_number (seats_of worker))

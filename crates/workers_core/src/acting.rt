@@ -7,7 +7,7 @@ ghost use Rattle.account_core.specs.Events.{asked_of};
 ghost use Rattle.cap_values.specs.Orders.{Release, orders_of};
 ghost use Rattle.dialogue_core.specs.Views.{phase_of, says_of};
 ghost use Rattle.workers_core.specs.Cases.{HasRoom, IsActed, IsCredited, IsWithin, with_room};
-ghost use Rattle.workers_core.specs.Handled.{IsRecharged, IsTalked, told_of};
+ghost use Rattle.workers_core.specs.Handled.{IsRecharged, IsTalked, answer_view};
 ghost use Rattle.workers_core.specs.Workers.{standing_of, standings_in};
 
 use crate::case::Case;
@@ -80,7 +80,7 @@ pub(crate) fn act<S: Shared, R: Wait, G: Gate>(
     ensures acted { IfOk result (λ answer. IsActed (map S.number_of seats.old.items) case
         (record { lists = map S.mine_of seats.old.items; talks = standings_in talks.old })
         (record { lists = map S.mine_of seats.new.items; talks = standings_in talks.new })
-        (told_of answer)) }
+        (answer_view answer)) }
     ensures fault { IfErr result (λ fault. fault ≡ WorkerFault.GateClosed) }
     ensures gate { result ≡ Err WorkerFault.GateClosed → G.may_shut gate.now }
 {
@@ -160,7 +160,7 @@ fn recharge<S: Shared, R: Wait, G: Gate>(
     ensures same_number { S.number_of seat.new ≡ S.number_of seat.old }
     ensures number { IfOk result (λ answer. answer.number ≡ number) }
     ensures credited { IfOk result (λ answer. IsCredited (S.number_of seat.old)
-        (asked_of credit) (S.mine_of seat.old) (S.mine_of seat.new) (told_of answer)) }
+        (asked_of credit) (S.mine_of seat.old) (S.mine_of seat.new) (answer_view answer)) }
     ensures fault { IfErr result (λ fault. fault ≡ WorkerFault.GateClosed) }
     ensures gate { result ≡ Err WorkerFault.GateClosed → G.may_shut gate.now }
 {

@@ -1,7 +1,7 @@
 //! What a post comes to, judged before anything is asked.
 
 ghost use Rattle.std.specs.Prelude.{◌≡◌, ◌<◌, ◌≤◌, IfSome, IfNone, length};
-ghost use Rattle.dialogue_core.specs.Table.{told};
+ghost use Rattle.dialogue_core.specs.Table.{on_message};
 ghost use Rattle.dialogue_core.specs.Views.{phase_of};
 ghost use Rattle.run_values.specs.Setups.{place_of};
 ghost use Rattle.workers_core.specs.Cases.{IsCase};
@@ -73,7 +73,7 @@ fn recharge(setup: &RunSetup, account: u32, amount: u64, until: Option<u64>) -> 
 /// A message of a call that has a dialogue: the dialogue takes it, or refuses it.
 fn go_on(talk: Talk, number: u64, at: u64, call: u64, msg: SsfMsg) -> Case
     ensures { (setup : _) → IsCase setup at (goes_on call talk.place
-        (told (phase_of talk.dialogue) number at msg)) result }
+        (on_message (phase_of talk.dialogue) number at msg)) result }
 {
     let Talk {
         mut dialogue,

@@ -17,7 +17,7 @@ use std::sync::Wait;
 
 /// What a talk comes to.
 #[derive(Drop)]
-pub(crate) struct Said {
+pub(crate) struct TalkEnd {
     /// The operations that are sent.
     pub ops: ArrayVec<ScfOp, 4>,
     /// The last fault that an ask got.
@@ -32,7 +32,7 @@ pub(crate) fn converse<S: Shared, R: Wait, G: Gate>(
     seat: &mut S::Seat,
     dialogue: &mut Dialogue,
     turn: Turn,
-) -> Result<Said, WorkerFault>
+) -> Result<TalkEnd, WorkerFault>
     requires { S.key_of seat.old ≡ S.key account.now }
     ensures same_key { S.key_of seat.new ≡ S.key_of seat.old }
     ensures same_number { S.number_of seat.new ≡ S.number_of seat.old }
@@ -48,7 +48,7 @@ pub(crate) fn converse<S: Shared, R: Wait, G: Gate>(
     while let Turn::Ask(op) = turn {
         turn = ask(rt, gate, account, seat, dialogue, &mut refused, op)?;
     }
-    Ok(Said {
+    Ok(TalkEnd {
         ops: sent(turn),
         refused,
     })

@@ -8,7 +8,7 @@ mod inbox;
 mod laws;
 mod log;
 mod mail;
-mod opening;
+mod mailboxes;
 mod outbox;
 mod talk;
 mod worker;
@@ -20,7 +20,7 @@ pub use laws::{
     reports_are_settled, reserves_are_on_terms, what_is_said_is_sent,
 };
 pub use mail::Mail;
-pub use opening::{compare, mailbox};
+pub use mailboxes::{compare, mailbox};
 pub use outbox::Outbox;
 pub use worker::Worker;
 pub use worker_fault::WorkerFault;

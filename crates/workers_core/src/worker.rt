@@ -2,7 +2,7 @@
 
 ghost use Rattle.std.specs.Prelude.{◌≡◌, ◌++◌, ◌∷◌, ◌≤◌, ℕ, [], None, Option, true, map, All, IfErr, IfOk, OnOk};
 ghost use Rattle.std.specs.Map.{keys_of};
-ghost use Rattle.workers_core.specs.Handled.{IsHandled, IsRecharged, told_of};
+ghost use Rattle.workers_core.specs.Handled.{IsHandled, IsRecharged, answer_view};
 ghost use Rattle.workers_core.specs.Served.{AreServed};
 ghost use Rattle.cap_values.specs.Orders.{Release, orders_of};
 ghost use Rattle.workers_core.specs.Verdicts.{Recharges, Rejects, strays, verdict};
@@ -86,7 +86,7 @@ impl<'s, S: Shared> Worker<'s, S> {
         ensures number { IfOk result (λ answer. answer.number ≡ post.number) }
         ensures handled { IfOk result (λ answer. IsHandled (setup_of self.old) (map
             S.number_of (seats_of self.old)) post
-            (holding S.mine_of self.old) (holding S.mine_of self.new) (told_of answer)) }
+            (holding S.mine_of self.old) (holding S.mine_of self.new) (answer_view answer)) }
         ensures stray { IfOk result (λ answer. answer.stray ≡ strays
             (verdict (setup_of self.old) (talks_of self.old) post)) }
         ensures stray_asks_nothing { IfOk result (λ answer. answer.stray ≡ true
@@ -99,7 +99,7 @@ impl<'s, S: Shared> Worker<'s, S> {
             → verdict (setup_of self.old) (talks_of self.old) post
             ≡ Recharges place amount until
             → IsRecharged (map S.number_of (seats_of self.old)) place amount until
-            (holding S.mine_of self.old) (holding S.mine_of self.new) (told_of answer)) }
+            (holding S.mine_of self.old) (holding S.mine_of self.new) (answer_view answer)) }
         ensures posts { OnOk result (posts_of self.new ≡ posts_of self.old ++ post ∷ []) }
         ensures setup { OnOk result (setup_of self.new ≡ setup_of self.old) }
         ensures accounts { OnOk result (accounts_of self.new ≡ accounts_of self.old) }

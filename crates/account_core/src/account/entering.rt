@@ -3,7 +3,7 @@
 ghost use Rattle.std.specs.Prelude.{◌≡◌, ◌+◌, ◌≤◌, ◌++◌, ◌∷◌, [], None, Some, nat_eq, reverse, vec_capacity, vec_len, IsOk, OnErr, OnOk};
 ghost use Rattle.std.specs.HashMap.{IsUnchanged, Updates, get};
 ghost use Rattle.account_core.specs.Asked.{IsCredit, IsOfCall, call_of};
-ghost use Rattle.account_core.specs.Events.{asked_of, event_of};
+ghost use Rattle.account_core.specs.Events.{asked_of, entry_data};
 ghost use Rattle.account_core.specs.Kept.{known_of};
 ghost use Rattle.account_core.specs.Known.{known};
 ghost use Rattle.account_core.specs.Ledger.{answer_of, refusal_of};
@@ -24,7 +24,7 @@ impl Account {
         requires admitted { refusal_of self.old (asked_of entry.op) ≡ None }
         requires answered { entry.reply ≡ answer_of self.old (asked_of entry.op) }
         ensures ok { OnOk result (self.new ≡
-            record self.old { history = self.old.history ++ event_of entry ∷ [] }) }
+            record self.old { history = self.old.history ++ entry_data entry ∷ [] }) }
         ensures kept { OnErr result (self.new ≡ self.old) }
         ensures closing { IsClosing (reverse self.old.history) (asked_of entry.op) → IsOk result }
     {
@@ -42,7 +42,7 @@ impl Account {
         requires admitted { refusal_of self.old (asked_of entry.op) ≡ None }
         requires answered { entry.reply ≡ answer_of self.old (asked_of entry.op) }
         ensures ok { OnOk result (self.new ≡
-            record self.old { history = self.old.history ++ event_of entry ∷ [] }) }
+            record self.old { history = self.old.history ++ entry_data entry ∷ [] }) }
         ensures kept { OnErr result (self.new ≡ self.old) }
     {
         self.history_is_sound();
@@ -62,7 +62,7 @@ impl Account {
         requires admitted { refusal_of self.old (asked_of entry.op) ≡ None }
         requires answered { entry.reply ≡ answer_of self.old (asked_of entry.op) }
         ensures ok { OnOk result (self.new ≡
-            record self.old { history = self.old.history ++ event_of entry ∷ [] }) }
+            record self.old { history = self.old.history ++ entry_data entry ∷ [] }) }
         ensures kept { OnErr result (self.new ≡ self.old) }
         ensures closing { IsClosing (reverse self.old.history) (asked_of entry.op) → IsOk result }
     {

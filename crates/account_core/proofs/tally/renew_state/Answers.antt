@@ -1,6 +1,6 @@
 use Rattle.std.proofs.Common.{◌≡◌, ◌∙◌, ℕ, ap, subst}
 use Rattle.account_core.specs.CallStates.{Renews, state_of}
-use Rattle.account_core.specs.Events.{event_of}
+use Rattle.account_core.specs.Events.{entry_data}
 use Rattle.account_core.proofs.Moves.{its_call}
 use Rattle.account_core.proofs.Tallying.{tells_after, told_by}
 use Rattle.account_core.proofs.tally.renew_state.Goals as goal
@@ -8,7 +8,7 @@ use Rattle.account_core.proofs.tally.renew_state.Goals as goal
 pub returns-clause-legal : goal.returns-clause-legal
 returns-clause-legal c = λ yes opening until h tallied.
     let calls = c.args.calls.now in
-    let event = event_of c.args.entry in
+    let event = entry_data c.args.entry in
     let here : c.call-call.result ≡ its_call event = c.call-call.ensures in
     let state_is : c.state-state.result ≡ state_of calls (its_call event) = c.state-state.ensures ∙ ap (state_of calls) here in
     let (answered, after_is) =

@@ -1,6 +1,6 @@
 use Rattle.std.proofs.Common.{arith, ◌+◌, ◌≡◌, ap, length, map, reverse, sym, ◌∙◌}
 use Rattle.account_core.specs.Places.{owed, owed_to}
-use Rattle.account_core.specs.Events.{event_of}
+use Rattle.account_core.specs.Events.{entry_data}
 use Rattle.account_core.specs.Known.{known}
 use Rattle.account_core.proofs.Walking.{opening_to, sum_begun, sum_rested, sum_whole, owed_whole, sum_within}
 use Rattle.account_core.proofs.walks.owed_in.Goals as goal
@@ -12,7 +12,7 @@ begins_call-requires c = opening_to c.args.history.now c.loop-at.at c.requires.o
 pub overflow_add-owed : goal.overflow_add-owed
 overflow_add-owed c =
     let xs = c.args.history.now in
-    let past = reverse (map event_of xs) in
+    let past = reverse (map entry_data xs) in
     let value = c.owed-owed.ensures.value ∙ ap owed_to (c.state_in.ensures ∙ ap (λ call. known call past) c.call.ensures) in
     omega (
       arith,
@@ -26,7 +26,7 @@ overflow_add-owed c =
 pub loop-at-preserved : goal.loop-at-preserved
 loop-at-preserved c =
     let xs = c.args.history.now in
-    let past = reverse (map event_of xs) in
+    let past = reverse (map entry_data xs) in
     elim c.if-begins_call.branch [
       | then-begins_call w ↦
           let value = w.owed-owed.ensures.value ∙ ap owed_to (w.state_in.ensures ∙ ap (λ call. known call past) w.call.ensures) in
@@ -50,4 +50,4 @@ pub returns : goal.returns
 unfolding owed
 returns c =
     let ended : c.loop-at.at ≡ length c.args.history.now = omega (arith, c.loop-at-test.false, c.loop-at.auto.at-end) in
-    c.loop-at.invariant ∙ sum_whole (λ call. owed_to (known call (reverse (map event_of c.args.history.now)))) c.args.history.now c.loop-at.at ended
+    c.loop-at.invariant ∙ sum_whole (λ call. owed_to (known call (reverse (map entry_data c.args.history.now)))) c.args.history.now c.loop-at.at ended

@@ -1,5 +1,5 @@
 use Rattle.std.proofs.Common.{ap, sym, ◌∙◌}
-use Rattle.account_core.specs.Events.{event_of}
+use Rattle.account_core.specs.Events.{entry_data}
 use Rattle.account_core.specs.Kept.{known_of}
 use Rattle.account_core.specs.Known.{known}
 use Rattle.account_core.proofs.Walking.{answered_at, known_skip, known_walk, legal_to, past_more, past_to, placed_walk, room_walk, sound_walk}
@@ -15,10 +15,10 @@ after-state-requires c =
     record {
       sound = sound_walk c.legal_pasts_are_sound.ensures.sound c.requires.opening c.requires.until (past_to xs i) c.requires.small legal
           (known_of c.loop-entry.state) c.args.call c.loop-entry.invariant;
-      placed = placed_walk (past_to xs i) (event_of c.entry-item.result) answered.admissible (known_of c.loop-entry.state) c.args.call c.loop-entry.invariant
+      placed = placed_walk (past_to xs i) (entry_data c.entry-item.result) answered.admissible (known_of c.loop-entry.state) c.args.call c.loop-entry.invariant
           (sym c.call.ensures ∙ c.if-call.true);
       room = room_walk c.legal_pasts_are_sound.ensures.sound c.legal_pasts_are_sound.ensures.fitting c.requires.opening c.requires.until (past_to xs i) c.requires.small legal
-          (event_of c.entry-item.result) answered (known_of c.loop-entry.state) c.args.call c.loop-entry.invariant (sym c.call.ensures ∙ c.if-call.true);
+          (entry_data c.entry-item.result) answered (known_of c.loop-entry.state) c.args.call c.loop-entry.invariant (sym c.call.ensures ∙ c.if-call.true);
     }
 
 pub loop-entry-preserved : goal.loop-entry-preserved
@@ -27,8 +27,8 @@ loop-entry-preserved c =
     let i = c.loop-entry.entry-index in
     let more = ap (λ h. known c.args.call h) (sym (past_more xs i c.entry-item.result c.loop-entry-test.true c.entry-item.is)) in
     elim c.if-call.branch [
-      | then-call w ↦ ap known_of w.state-is ∙ (known_walk (past_to xs i) (event_of c.entry-item.result) (known_of c.loop-entry.state)
+      | then-call w ↦ ap known_of w.state-is ∙ (known_walk (past_to xs i) (entry_data c.entry-item.result) (known_of c.loop-entry.state)
           (known_of w.after-state.result) c.args.call c.loop-entry.invariant (sym c.call.ensures ∙ w.if-call.true) w.after-state.ensures ∙ more)
-      | else-call w ↦ ap known_of w.state-is ∙ (known_skip (past_to xs i) (event_of c.entry-item.result) (known_of c.loop-entry.state) c.args.call
+      | else-call w ↦ ap known_of w.state-is ∙ (known_skip (past_to xs i) (entry_data c.entry-item.result) (known_of c.loop-entry.state) c.args.call
           c.loop-entry.invariant (λ same. w.if-call.false (c.call.ensures ∙ same)) ∙ more)
     ]

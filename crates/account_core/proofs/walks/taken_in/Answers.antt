@@ -1,6 +1,6 @@
 use Rattle.std.proofs.Common.{arith, ◌+◌, ◌≡◌, ap, length, map, reverse, sym, ◌∙◌}
 use Rattle.account_core.specs.Available.{taken_by_all}
-use Rattle.account_core.specs.Events.{event_of}
+use Rattle.account_core.specs.Events.{entry_data}
 use Rattle.account_core.specs.Known.{known, taken_of}
 use Rattle.account_core.proofs.Walking.{opening_to, sum_begun, sum_rested, sum_whole, sum_within, taken_whole}
 use Rattle.account_core.proofs.walks.taken_in.Goals as goal
@@ -12,7 +12,7 @@ begins_call-requires c = opening_to c.args.history.now c.loop-at.at c.requires
 pub overflow_add-taken : goal.overflow_add-taken
 overflow_add-taken c =
     let xs = c.args.history.now in
-    let past = reverse (map event_of xs) in
+    let past = reverse (map entry_data xs) in
     let value = c.taken-taken.ensures ∙ ap taken_of (c.state_in.ensures ∙ ap (λ call. known call past) c.call.ensures) in
     omega (
       arith,
@@ -26,7 +26,7 @@ overflow_add-taken c =
 pub loop-at-preserved : goal.loop-at-preserved
 loop-at-preserved c =
     let xs = c.args.history.now in
-    let past = reverse (map event_of xs) in
+    let past = reverse (map entry_data xs) in
     elim c.if-begins_call.branch [
       | then-begins_call w ↦
           let value = w.taken-taken.ensures ∙ ap taken_of (w.state_in.ensures ∙ ap (λ call. known call past) w.call.ensures) in
@@ -50,4 +50,4 @@ pub returns : goal.returns
 unfolding taken_by_all
 returns c =
     let ended : c.loop-at.at ≡ length c.args.history.now = omega (arith, c.loop-at-test.false, c.loop-at.auto.at-end) in
-    c.loop-at.invariant ∙ sum_whole (λ call. taken_of (known call (reverse (map event_of c.args.history.now)))) c.args.history.now c.loop-at.at ended
+    c.loop-at.invariant ∙ sum_whole (λ call. taken_of (known call (reverse (map entry_data c.args.history.now)))) c.args.history.now c.loop-at.at ended

@@ -2,7 +2,7 @@ use Rattle.std.proofs.Common.{◌≡◌, ◌∷◌, [], ◌++◌, Some, refl, sy
 use Rattle.std.proofs.lemmas.List.{reverse-append}
 use Rattle.std.specs.HashMap.{get}
 use Rattle.std.specs.Prelude.{nat_eq}
-use Rattle.account_core.specs.Events.{event_of}
+use Rattle.account_core.specs.Events.{entry_data}
 use Rattle.book_texts.proofs.CheckLemmas.{is_found, not_found}
 use Rattle.book_texts.proofs.Ordered.{found_check, hears_check}
 use Rattle.book_texts.proofs.checks.enter.Goals as goal
@@ -22,7 +22,7 @@ pub returns : goal.returns
 returns c = λ books are.
     let had : get nat_eq c.args.checks.now c.args.account ≡ Some c.in-Some.check.now = sym c.in-Some.ensures.value in
     let (told, is, heard) = is_found _ _ c.in-Some.check.now (found_check books c.args.checks.now c.args.account are) had in
-    let event = event_of c.args.entry in
+    let event = entry_data c.args.entry in
     let after = c.in_ok-hear.ensures.heard told.opening told.until (reverse told.history) heard in
     rw is
     (hears_check books c.args.checks.now _ c.args.account (record told { history = told.history ++ event ∷ [] }) c.in-Some.check.now c.hear.new.self

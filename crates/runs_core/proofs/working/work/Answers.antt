@@ -1,6 +1,6 @@
 use Rattle.std.proofs.Common.{◌++◌, [], map, ap, sym, ◌∙◌}
 use Rattle.workers_core.specs.Ends.{sent, taken}
-use Rattle.workers_core.specs.Handled.{told_of}
+use Rattle.workers_core.specs.Handled.{answer_view}
 use Rattle.workers_core.specs.Workers.{posts_of}
 use Rattle.runs_core.specs.Mails.{items_in}
 use Rattle.runs_core.specs.Teams.{reads}
@@ -16,7 +16,7 @@ pub returns-clause-left : goal.returns-clause-left
 returns-clause-left g c =
     let read = (reads g.S.Shared.key_of g.S.Shared.number_of g.S.Shared.mine_of) in
     let desk = c.answer_rounds.new.desk in
-    let told = map told_of (items_in (sent c.answer_rounds.new.outbox)) in
+    let told = map answer_view (items_in (sent c.answer_rounds.new.outbox)) in
     let has = answered_more (λ account. (g.S.Shared.terms account).number) g.S.Shared.key read c.args.setup.now c.args.accounts.now c.args.number [] _ _ [] told c.in_ok-desk.desk desk
     (c.in_ok-answer_rounds.ensures.goes_on.handled ∙ ap (λ ps. ps ++ items_in (taken c.answer_rounds.new.inbox)) c.in_ok-desk.ensures.begins.posts_are)
     c.in_ok-desk.ensures.begins c.in_ok-answer_rounds.ensures.goes_on in

@@ -1,5 +1,5 @@
 use Rattle.std.proofs.Common.{rules, arith, ap, ◌∙◌}
-use Rattle.account_core.specs.Events.{event_of}
+use Rattle.account_core.specs.Events.{entry_data}
 use Rattle.shared_account.proofs.Merging.{next_own}
 use Rattle.shared_account.proofs.closing.is_own.Goals.{then-at-mine-via-then-at-mine, then-at-mine-via-else-at-mine+then-not-same_entry}
 use Rattle.shared_account.proofs.closing.is_own.Goals as goal
@@ -13,7 +13,7 @@ returns-then-at-mine c = (
       absurd (elim c.then-at-mine.branch [
         | then-at-mine-via-then-at-mine w ↦ omega (arith, next.0, w.if-at-mine.true)
         | then-at-mine-via-else-at-mine+then-not-same_entry w ↦
-            let is = w.same_entry.ensures.1 (ap event_of w.index-mine-at.is ∙ next.1 w.index-mine-at.result) in
+            let is = w.same_entry.ensures.1 (ap entry_data w.index-mine-at.is ∙ next.1 w.index-mine-at.result) in
             cc (is, w.if-not-same_entry.true)
       ]),
 )

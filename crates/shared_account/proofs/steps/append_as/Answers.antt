@@ -1,5 +1,5 @@
 use Rattle.std.proofs.Common.{rules}
-use Rattle.account_core.specs.Events.{event_of}
+use Rattle.account_core.specs.Events.{entry_data}
 use Rattle.shared_account.proofs.Turning.{appends_as}
 use Rattle.shared_account.proofs.steps.append_as.Goals as goal
 
@@ -7,6 +7,6 @@ pub fetch_add-requires : goal.fetch_add-requires
 fetch_add-requires g c = (
   search rules,
   search rules,
-  appends_as _ _ _ _ (event_of c.args.entry.now) _ c.requires.entry c.requires.serving c.requires.seat c.requires.admitted c.requires.answered
+  appends_as _ _ _ _ (entry_data c.args.entry.now) _ c.requires.entry c.requires.serving c.requires.seat c.requires.admitted c.requires.answered
       c.places_go_with_entries.ensures.share,
 )

@@ -2,7 +2,7 @@ use Rattle.std.proofs.Common.{◌<◌, length, refl, map}
 use Rattle.std.proofs.lemmas.Result.{IfOk-weaker}
 use Rattle.cap_values.specs.Orders.{orders_of}
 use Rattle.dialogue_core.specs.Views.{phase_of, says_of}
-use Rattle.workers_core.specs.Handled.{told_of}
+use Rattle.workers_core.specs.Handled.{answer_view}
 use Rattle.workers_core.specs.Workers.{standings_in}
 use Rattle.workers_core.proofs.Doings.{as_many, grown_at, numbered_at, on_ok, own_account, recharged_by, same_seats, stands_now, talked_by}
 use Rattle.workers_core.proofs.acting.act.Goals as goal
@@ -34,7 +34,7 @@ returns-in-Recharge-clause-acted g c =
     let there : c.in-Recharge.place < length c.args.seats.now.items =
     rw (as_many g.S.Shared.key_of g.S.Shared.key c.args.seats.now.items c.args.accounts.now c.requires.keys) (rw c.in-Recharge.is at c.requires.within) in
     recharged_by (map g.S.Shared.number_of c.args.seats.now.items) c.in-Recharge.place c.in-Recharge.amount c.in-Recharge.until (g.S.Shared.number_of c.index_mut.result.now) _ _ (standings_in c.args.talks.now)
-    (g.S.Shared.mine_of c.index_mut.result.now) (g.S.Shared.mine_of c.recharge.new.seat) (told_of answer) is
+    (g.S.Shared.mine_of c.index_mut.result.now) (g.S.Shared.mine_of c.recharge.new.seat) (answer_view answer) is
     (numbered_at g.S.Shared.number_of c.args.seats.now.items c.in-Recharge.place c.index_mut.result.now there c.index_mut.ensures.value)
     (λ entries. grown_at g.S.Shared.mine_of c.args.seats.now.items c.in-Recharge.place c.index_mut.result.now c.recharge.new.seat entries there c.index_mut.ensures.value))
     c.recharge.ensures.credited)

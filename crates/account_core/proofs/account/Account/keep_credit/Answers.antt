@@ -1,6 +1,6 @@
 use Rattle.std.proofs.Common.{arith, ◌≤◌, ◌+◌, ◌++◌, ◌∷◌, [], ap, length, reverse, ◌∙◌}
 use Rattle.std.specs.Vec.{vec_capacity}
-use Rattle.account_core.specs.Events.{asked_of, event_of}
+use Rattle.account_core.specs.Events.{asked_of, entry_data}
 use Rattle.account_core.proofs.Entering.{admitted, credit_entered, entered_inside, funds_fit, kept_of, length_past}
 use Rattle.account_core.proofs.account.Account.keep_credit.Goals as goal
 
@@ -13,7 +13,7 @@ overflow_add-self c =
       arith,
       kept.funds_are,
       c.credited.ensures,
-      funds_fit c.args.self.now.opening c.args.self.now.until past (event_of c.args.entry) c.history_is_sound.ensures.sound (record { admissible = admissible; answered = c.requires.answered }),
+      funds_fit c.args.self.now.opening c.args.self.now.until past (entry_data c.args.entry) c.history_is_sound.ensures.sound (record { admissible = admissible; answered = c.requires.answered }),
     )
 
 pub invariant_of-self-2 : goal.invariant_of-self-2
@@ -33,5 +33,5 @@ invariant_of-self-2 c =
     entered_inside c.self.inside c.args.self.now c.self.view_is c.self.invariant c.args.entry c.push_reserved.new.self.items c.self.inside.calls
     (c.self.inside.funds + c.credited.result) c.available-self-inside.result c.last_moment-self-inside.result c.self.inside.owed capacity c.requires.admitted c.requires.answered
     (c.push_reserved.ensures.items ∙ ap (λ items. items ++ c.args.entry ∷ []) c.make_room.ensures.items) c.available-self-inside.ensures
-    (credit_entered past (event_of c.args.entry) c.self.inside.calls c.self.inside.funds (c.self.inside.funds + c.credited.result) c.self.inside.last_moment c.last_moment-self-inside.result
+    (credit_entered past (entry_data c.args.entry) c.self.inside.calls c.self.inside.funds (c.self.inside.funds + c.credited.result) c.self.inside.last_moment c.last_moment-self-inside.result
     c.self.inside.owed capacity c.requires.credit kept.tells (ap (λ n. c.self.inside.funds + n) c.credited.ensures) c.last_moment-self-inside.ensures kept.places_are room)

@@ -2,13 +2,13 @@ use Rattle.std.proofs.Common.{◌≡◌, ℕ, List, Option, ap, rules}
 use Rattle.std.proofs.lemmas.Result.{IfErr-weaker, IfOk-weaker}
 use Rattle.account_core.specs.Asked.{call_of}
 use Rattle.account_core.specs.Checked.{IsCheckOf}
-use Rattle.account_core.specs.Events.{Event, asked_of}
+use Rattle.account_core.specs.Events.{EntryData, asked_of}
 use Rattle.account_core.specs.Known.{known, nothing_known}
 use Rattle.account_core.proofs.history_check.HistoryCheck.hear.Goals as goal
 
 pub returns-in_err-begin-clause-fresh : goal.returns-in_err-begin-clause-fresh
 returns-in_err-begin-clause-fresh c =
-    let new : (opening : ℕ) (until : Option ℕ) (h : List Event) → IsCheckOf opening until h c.args.self.now → known (call_of (asked_of c.args.entry.op)) h ≡ nothing_known =
+    let new : (opening : ℕ) (until : Option ℕ) (h : List EntryData) → IsCheckOf opening until h c.args.self.now → known (call_of (asked_of c.args.entry.op)) h ≡ nothing_known =
     λ opening until h check. ap (known (call_of (asked_of c.args.entry.op))) (c.in_err-begin.ensures.empty opening until h check) in
     search rules
 

@@ -1,6 +1,6 @@
 use Rattle.std.proofs.Common.{arith, rules, ◌+◌, ◌-◌, ◌++◌, ◌∷◌, [], ap, length, map, reverse, ◌∙◌}
 use Rattle.std.specs.Vec.{vec_capacity}
-use Rattle.account_core.specs.Events.{asked_of, event_of}
+use Rattle.account_core.specs.Events.{asked_of, entry_data}
 use Rattle.account_core.specs.declared.entry.Entry.{Entry}
 use Rattle.shared_account.proofs.Roominess.{is_entry, length_past, of_call, owed_after, roomy_after, roomy_pushed}
 use Rattle.shared_account.proofs.seat.Seat.enter_call.Goals as goal
@@ -14,7 +14,7 @@ push_reserved-requires c =
       arith,
       c.in_ok-make_room.ensures.ok,
       c.self.invariant.places_are,
-      owed_after c.places_go_with_entries.ensures.moves (reverse (map event_of c.self.inside.mine.items))
+      owed_after c.places_go_with_entries.ensures.moves (reverse (map entry_data c.self.inside.mine.items))
           (record { seat = c.self.inside.number; asked = asked_of c.op-op.result; reply = c.in_ok-reply.reply }) c.or_insert-stage.result.now c.after-after.result c.owed-2.result c.owed.result c.needed.result entered,
     )
 
@@ -32,7 +32,7 @@ invariant_of-self-2 c =
     let same = of_call c.args.call (asked_of c.op-op.result) (rw c.op-op.ensures c.requires.of_call) in
     roomy_pushed old c.push_reserved.new.self.items entry _ places capacity
     (c.push_reserved.ensures.items ∙ ap (λ items. items ++ entry ∷ []) c.make_room.ensures.items)
-    (roomy_after c.places_go_with_entries.ensures.moves (reverse (map event_of old)) (event_of entry) before after c.owed-2.result c.owed.result c.needed.result entered
+    (roomy_after c.places_go_with_entries.ensures.moves (reverse (map entry_data old)) (entry_data entry) before after c.owed-2.result c.owed.result c.needed.result entered
     c.args.call c.self.inside.stages _ c.self.inside.owed places (vec_capacity c.self.inside.mine) capacity
     same c.self.invariant (search rules)
     (omega arith)

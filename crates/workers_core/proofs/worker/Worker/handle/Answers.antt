@@ -1,6 +1,6 @@
 use Rattle.std.proofs.Common.{◌≡◌, ◌∙◌, ℕ, List, All, length, map, ap, sym, subst}
 use Rattle.std.proofs.lemmas.List.{length-map}
-use Rattle.workers_core.specs.Handled.{told_of}
+use Rattle.workers_core.specs.Handled.{answer_view}
 use Rattle.workers_core.specs.Verdicts.{verdict}
 use Rattle.workers_core.specs.Workers.{holding, standings_in}
 use Rattle.workers_core.proofs.Handling.{case_within, done_by, recharged_so, rejected_so, sound_after, stray_is, stray_lists}
@@ -13,7 +13,7 @@ done g c = record {
   done =
       done_by c.args.self.now.setup.now (map g.S.Shared.number_of c.args.self.now.seats.items) c.args.post.at
       (verdict c.args.self.now.setup.now (standings_in c.args.self.now.talks) c.args.post) c.judge-case.result (map g.S.Shared.mine_of c.args.self.now.seats.items)
-      (standings_in c.args.self.now.talks) (standings_in c.make_room.new.talks) _ (told_of c.in_ok-answer.answer) c.judge-case.ensures c.in_ok-make_room.ensures.others
+      (standings_in c.args.self.now.talks) (standings_in c.make_room.new.talks) _ (answer_view c.in_ok-answer.answer) c.judge-case.ensures c.in_ok-make_room.ensures.others
       c.in_ok-answer.ensures.acted;
 }
 
@@ -38,17 +38,17 @@ returns-clause-ready g c = record {
   sound =
       rw c.in_ok-push.ensures.items
       (sound_after c.args.self.now.setup.now (map g.S.Shared.number_of c.args.self.now.seats.items) c.args.self.now.posts.items c.args.post
-      (holding g.S.Shared.mine_of c.args.self.now) _ (told_of c.in_ok-answer.answer) c.requires.ready.sound (done g c).done);
+      (holding g.S.Shared.mine_of c.args.self.now) _ (answer_view c.in_ok-answer.answer) c.requires.ready.sound (done g c).done);
 }
 
 pub returns-clause-stray : goal.returns-clause-stray
-returns-clause-stray g c = stray_is _ _ _ _ _ _ (told_of c.in_ok-answer.answer) (done g c).done
+returns-clause-stray g c = stray_is _ _ _ _ _ _ (answer_view c.in_ok-answer.answer) (done g c).done
 
 pub returns-clause-stray_asks_nothing : goal.returns-clause-stray_asks_nothing
-returns-clause-stray_asks_nothing g c = λ is. stray_lists _ _ _ _ _ _ (told_of c.in_ok-answer.answer) (done g c).done is
+returns-clause-stray_asks_nothing g c = λ is. stray_lists _ _ _ _ _ _ (answer_view c.in_ok-answer.answer) (done g c).done is
 
 pub returns-clause-rejected : goal.returns-clause-rejected
-returns-clause-rejected g c = λ is. rejected_so _ _ _ _ _ _ (told_of c.in_ok-answer.answer) (done g c).done is
+returns-clause-rejected g c = λ is. rejected_so _ _ _ _ _ _ (answer_view c.in_ok-answer.answer) (done g c).done is
 
 pub returns-clause-recharged : goal.returns-clause-recharged
-returns-clause-recharged g c = λ place amount until is. recharged_so _ _ _ _ _ _ (told_of c.in_ok-answer.answer) place amount until (done g c).done is
+returns-clause-recharged g c = λ place amount until is. recharged_so _ _ _ _ _ _ (answer_view c.in_ok-answer.answer) place amount until (done g c).done is

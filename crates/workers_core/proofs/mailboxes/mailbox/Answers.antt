@@ -2,7 +2,7 @@ use Rattle.std.proofs.Common.{ap}
 use Rattle.crossbeam_channel.specs.Claims.{view}
 use Rattle.workers_core.specs.declared.log.Log.{Log}
 use Rattle.workers_core.proofs.Orders.{begins, parts}
-use Rattle.workers_core.proofs.opening.mailbox.Goals as goal
+use Rattle.workers_core.proofs.mailboxes.mailbox.Goals as goal
 
 pub bounded_with-requires-clause-rule : goal.bounded_with-requires-clause-rule
 bounded_with-requires-clause-rule g c = begins
