@@ -12,18 +12,18 @@ ghost use Rattle.run_texts.specs.declared.script_row.ScriptRow.{ScriptRow};
 ghost use Rattle.run_values.specs.Setups.{IsWithin};
 ghost use Rattle.run_values.specs.declared.post.Body.{Body};
 
-use crate::RunError;
+use crate::{RunError, laws};
 use account_core::MAX_LIMIT;
 use run_options::RunOptions;
 use run_texts::RunTexts;
-use runs_core::{Books, Driver, serve};
+use run_values::RunSetup;
+use runs_core::{Books, serve};
 use script_player::ScriptPlayer;
 use shared_account::{Book, OpenGate};
 use std::alloc::Global;
 use std::sync::Wait;
 use std::thread::Threads;
 use tariff_core::LAST_MOMENT;
-use run_values::RunSetup;
 
 /// Plays a script over its accounts, and gives their books.
 pub(crate) fn play<R: Wait + Threads + Sync>(
@@ -50,16 +50,6 @@ pub(crate) fn play<R: Wait + Threads + Sync>(
     let mut player = ScriptPlayer::new(alloc, script, options.ssf, options.delay)?;
     let workers = options.workers;
     let Books { books, .. } = serve(rt, alloc, &setup, &mut player, workers, &OpenGate)?;
-    is_played(&player);
+    laws::is_played(&player);
     Ok(books)
-}
-
-/// What a player that has ended has given is the play of its rows.
-fn is_played(player: &ScriptPlayer)
-    requires { player.now.ended ≡ true }
-    ensures { (rows : List ScriptRow) → player.now.taken ++ player.now.left ≡ rows
-        → IsPlayOf player.now.network.config player.now.delay rows player.now.network.given }
-{
-    let _ = player.ended();
-    let _ = player.given();
 }
