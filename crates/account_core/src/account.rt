@@ -60,7 +60,8 @@ impl Model for Account {
       history = map entry_data a.entries.items;
     } };
 
-    ghost invariant = { λ a. IsKept a.opening a.until a.limit (reverse (map entry_data a.entries.items))
+    ghost invariant = { λ a. IsKept a.opening a.until a.limit
+        (reverse (map entry_data a.entries.items))
         a.calls a.funds a.available a.last_moment a.owed (vec_capacity a.entries) };
 }
 
@@ -94,7 +95,8 @@ impl Account {
     pub fn apply(&mut self, seat: u32, op: Op) -> Result<Reply, AccountFault>
         ensures answered { IfOk result (λ reply. reply ≡ answer_of self.old (asked_of op)) }
         ensures entered { IfOk result (λ reply. self.new ≡
-            record self.old { history = self.old.history ++ event_by seat (asked_of op) reply ∷ [] }) }
+            record self.old { history = self.old.history ++ event_by seat (asked_of op) reply
+            ∷ [] }) }
         ensures admitted { OnOk result (refusal_of self.old (asked_of op) ≡ None) }
         ensures kept { OnErr result (self.new ≡ self.old) }
         ensures refused { IfErr result (λ fault. IsRefusal self.old (asked_of op) fault) }
@@ -128,12 +130,14 @@ impl Account {
     #[inline(always)]
     pub fn enter(&mut self, seat: u32, admitted: Admitted) -> Result<Reply, AllocError>
         requires { IsAdmitted self.old admitted }
-        ensures answered { IfOk result (λ reply. reply ≡ answer_of self.old (asked_of admitted.op)) }
+        ensures answered { IfOk result (λ reply. reply
+            ≡ answer_of self.old (asked_of admitted.op)) }
         ensures entered { IfOk result (λ reply. self.new ≡ record self.old {
           history = self.old.history ++ event_by seat (asked_of admitted.op) reply ∷ [];
         }) }
         ensures kept { OnErr result (self.new ≡ self.old) }
-        ensures closing { IsClosing (reverse self.old.history) (asked_of admitted.op) → IsOk result }
+        ensures closing { IsClosing (reverse self.old.history) (asked_of admitted.op)
+            → IsOk result }
     {
         let Admitted { op, call } = admitted;
         let reply = self.answer(op, &call);

@@ -37,14 +37,16 @@ impl Port for AccountPort {
     fn ask(&mut self, op: Op) -> Result<Reply, AccountFault>
         ensures answered { IfOk result (λ reply. reply ≡ answer_of self.old.account (asked_of op)) }
         ensures entered { IfOk result (λ reply. self.new.account ≡
-            record self.old.account { history = self.old.account.history ++ event_by self.old.seat (asked_of op) reply ∷ [] }) }
+            record self.old.account { history = self.old.account.history
+            ++ event_by self.old.seat (asked_of op) reply ∷ [] }) }
         ensures admitted { OnOk result (refusal_of self.old.account (asked_of op) ≡ None) }
         ensures kept { OnErr result (self.new.account ≡ self.old.account) }
         ensures refused { IfErr result (λ fault. IsRefusal self.old.account (asked_of op) fault) }
         ensures ungated { result ≢ Err AccountFault.GateClosed }
         ensures closing { IsClosing (reverse self.old.account.history) (asked_of op) → IsOk result }
         ensures seat { self.new.seat ≡ self.old.seat }
-        ensures moves { (call : ℕ) → Moves call (known call (reverse self.old.account.history)) (asked_of op) result
+        ensures moves { (call : ℕ) → Moves call (known call (reverse self.old.account.history))
+            (asked_of op) result
             (Some (known call (reverse self.new.account.history))) }
     {
         answers_are_kindly();

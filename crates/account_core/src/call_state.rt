@@ -76,7 +76,8 @@ impl CallState {
     pub fn reserve(&self, plan: Plan, wanted: u32, least: u32, late: bool, available: u64) -> Reply
         requires sound { IsSound (known_of self.now) }
         requires money { available + taken_of (known_of self.now) ≤ MAX_MONEY }
-        ensures { result ≡ reserve_reply available (known_of self.now) (rates_of plan) wanted least late
+        ensures { result ≡ reserve_reply available (known_of self.now)
+            (rates_of plan) wanted least late
             (units_offered available (known_of self.now) (rates_of plan) wanted) }
     {
         afforded_is_greatest();
@@ -98,7 +99,8 @@ impl CallState {
     /// The reply to a Settle.
     #[inline(always)]
     pub fn settle(&self, info: TimeInfo, available: u64) -> Reply
-        ensures { result ≡ settle_reply available (known_of self.now) (accepted_times (known_of self.now) info) }
+        ensures { result ≡ settle_reply available (known_of self.now)
+            (accepted_times (known_of self.now) info) }
     {
         match self {
             CallState::Fresh => Reply::Forfeit { paid: 0, available },

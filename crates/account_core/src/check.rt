@@ -21,7 +21,8 @@ impl Account {
     ) -> Result<bool, AllocError>
         requires { opening ≤ MAX_MONEY }
         ensures legal { result ≡ Ok true → IsLegal opening until (map entry_data entries.now) }
-        ensures illegal { result ≡ Ok false → IsLegal opening until (map entry_data entries.now) → ⊥ }
+        ensures illegal { result ≡ Ok false → IsLegal opening until (map entry_data entries.now)
+            → ⊥ }
     {
         let mut check = HistoryCheck::new(alloc, opening, until);
         for entry in entries {

@@ -55,13 +55,16 @@ impl HistoryCheck {
     /// Takes one entry more, from any seat. The only error is want of memory, which is taken for the
     /// first entry and for a call that is new; the check is then still that of the entries before.
     pub fn hear(&mut self, entry: Entry) -> Result<(), AllocError>
-        requires { (opening : ℕ) × (until : Option ℕ) × (h : List EntryData) × IsCheckOf opening until h self.old }
+        requires { (opening : ℕ) × (until : Option ℕ) × (h : List EntryData)
+            × IsCheckOf opening until h self.old }
         ensures heard { OnOk result ((opening : ℕ) (until : Option ℕ) (h : List EntryData) →
-            IsCheckOf opening until h self.old → IsCheckOf opening until (entry_data entry ∷ h) self.new) }
+            IsCheckOf opening until h self.old
+            → IsCheckOf opening until (entry_data entry ∷ h) self.new) }
         ensures kept { OnErr result ((opening : ℕ) (until : Option ℕ) (h : List EntryData) →
             IsCheckOf opening until h self.old → IsCheckOf opening until h self.new) }
         ensures fresh { OnErr result ((opening : ℕ) (until : Option ℕ) (h : List EntryData) →
-            IsCheckOf opening until h self.old → known (call_of (asked_of entry.op)) h ≡ nothing_known) }
+            IsCheckOf opening until h self.old → known (call_of (asked_of entry.op)) h
+            ≡ nothing_known) }
     {
         self.begin()?;
         self.judge(entry)
@@ -69,7 +72,8 @@ impl HistoryCheck {
 
     /// Whether the entries so far are a legal history.
     pub fn is_legal(&self) -> bool
-        ensures { (opening : ℕ) (until : Option ℕ) (h : List EntryData) → IsCheckOf opening until h self.now →
+        ensures { (opening : ℕ) (until : Option ℕ) (h : List EntryData)
+            → IsCheckOf opening until h self.now →
             Decides result (IsLegalPast opening until h) }
     {
         !matches!(self.heard, Heard::Illegal)
@@ -78,13 +82,16 @@ impl HistoryCheck {
     /// Takes one entry more, where there is a tally, or no need of one.
     fn judge(&mut self, entry: Entry) -> Result<(), AllocError>
         requires begun { HasBegun self.old }
-        requires of { (opening : ℕ) × (until : Option ℕ) × (h : List EntryData) × IsCheckOf opening until h self.old }
+        requires of { (opening : ℕ) × (until : Option ℕ) × (h : List EntryData)
+            × IsCheckOf opening until h self.old }
         ensures heard { OnOk result ((opening : ℕ) (until : Option ℕ) (h : List EntryData) →
-            IsCheckOf opening until h self.old → IsCheckOf opening until (entry_data entry ∷ h) self.new) }
+            IsCheckOf opening until h self.old
+            → IsCheckOf opening until (entry_data entry ∷ h) self.new) }
         ensures kept { OnErr result ((opening : ℕ) (until : Option ℕ) (h : List EntryData) →
             IsCheckOf opening until h self.old → IsCheckOf opening until h self.new) }
         ensures fresh { OnErr result ((opening : ℕ) (until : Option ℕ) (h : List EntryData) →
-            IsCheckOf opening until h self.old → known (call_of (asked_of entry.op)) h ≡ nothing_known) }
+            IsCheckOf opening until h self.old → known (call_of (asked_of entry.op)) h
+            ≡ nothing_known) }
     {
         if let Heard::Legal(tally) = &mut self.heard {
             if !tally.hear(entry)? {
@@ -96,7 +103,8 @@ impl HistoryCheck {
 
     /// Makes the tally where there is none yet.
     fn begin(&mut self) -> Result<(), AllocError>
-        requires { (opening : ℕ) × (until : Option ℕ) × (h : List EntryData) × IsCheckOf opening until h self.old }
+        requires { (opening : ℕ) × (until : Option ℕ) × (h : List EntryData)
+            × IsCheckOf opening until h self.old }
         ensures same { (opening : ℕ) (until : Option ℕ) (h : List EntryData) →
             IsCheckOf opening until h self.old → IsCheckOf opening until h self.new }
         ensures begun { OnOk result (HasBegun self.new) }

@@ -16,5 +16,6 @@ pub trait Port {
 
     /// Asks the account, and gives its reply or its refusal.
     fn ask(&mut self, op: Op) -> Result<Reply, AccountFault>
-        ensures moves { (call : ℕ) → IfSome (state self.old call) (λ before. Moves call before (asked_of op) result (state self.new call)) };
+        ensures moves { (call : ℕ) → IfSome (state self.old call)
+            (λ before. Moves call before (asked_of op) result (state self.new call)) };
 }

@@ -55,7 +55,8 @@ impl Tally {
         ensures legal { IfOk result (λ legal. legal ≡ true → (h : List EntryData) →
             IsTallied h self.old → IsTallied (entry_data entry ∷ h) self.new) }
         ensures illegal { IfOk result (λ legal. legal ≡ false → (h : List EntryData) →
-            IsTallied h self.old → IsAnswered self.old.opening self.old.until h (entry_data entry) → ⊥) }
+            IsTallied h self.old → IsAnswered self.old.opening self.old.until h (entry_data entry)
+            → ⊥) }
         ensures opening { self.new.opening ≡ self.old.opening }
         ensures until { self.new.until ≡ self.old.until }
         ensures kept { OnErr result ((h : List EntryData) →
@@ -94,13 +95,15 @@ fn renew_state(
     ensures legal { IfOk result (λ legal. legal ≡ true
         → (opening : ℕ) (until : Option ℕ) (h : List EntryData)
         → IsTallied h (tally_of opening until calls.old funds available last_moment)
-        → IsAnswered opening until h (entry_data entry) × TellsCalls calls.new (entry_data entry ∷ h)) }
+        → IsAnswered opening until h (entry_data entry)
+        × TellsCalls calls.new (entry_data entry ∷ h)) }
     ensures illegal { IfOk result (λ legal. legal ≡ false
         → (opening : ℕ) (until : Option ℕ) (h : List EntryData)
         → IsTallied h (tally_of opening until calls.old funds available last_moment)
         → IsAnswered opening until h (entry_data entry) → ⊥) }
     ensures kept { OnErr result (AreSame calls.old calls.new) }
-    ensures fresh { OnErr result (state_of calls.old (call_of (asked_of entry.op)) ≡ CallState.Fresh) }
+    ensures fresh { OnErr result (state_of calls.old (call_of (asked_of entry.op))
+        ≡ CallState.Fresh) }
 {
     let call = entry.op.call();
     let state = calls.state(call);

@@ -119,7 +119,8 @@ fn enter(
 ) -> Result<Option<RowKind>, AllocError>
     requires { (books : Books) × HasChecks books checks.old }
     ensures { IfOk result (λ refused. (books : Books) → HasChecks books checks.old
-        → Comes refused (entered account (entry_data entry) books (told_of account books)) checks.new) }
+        → Comes refused
+        (entered account (entry_data entry) books (told_of account books)) checks.new) }
 {
     let Some(check) = checks.get_mut(&account) else {
         return Ok(Some(RowKind::Unknown));

@@ -69,7 +69,8 @@ impl Arms {
 
     /// Watches a point in a mode.
     fn arm(&mut self, point: Point, mode: Mode)
-        ensures { (p : APoint) → arm_at self.new p ≡ option_or (asked_at p (Ok point) mode) (arm_at self.old p) }
+        ensures { (p : APoint) → arm_at self.new p
+            ≡ option_or (asked_at p (Ok point) mode) (arm_at self.old p) }
     {
         match point {
             Point::RouteSelectFailure => self.route_select_failure = Some(mode),

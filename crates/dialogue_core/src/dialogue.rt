@@ -33,7 +33,8 @@ impl Dialogue {
         route: Option<Route>,
         config: &ServiceConfig,
     ) -> (Dialogue, Turn)
-        requires { ForSome route (λ route. ForSome route.switch_at (λ at. (now < at) × (at ≤ now + DAY))) }
+        requires { ForSome route (λ route. ForSome route.switch_at (λ at. (now < at)
+            × (at ≤ now + DAY))) }
         ensures { on_begin call now config.now.wanted config.now.least route
             ≡ (says_of result.1, phase_of result.0) }
     {
@@ -60,7 +61,8 @@ impl Dialogue {
     /// asked for after a report, it is asked for at the report's moment.
     pub fn take(&mut self, number: u64, at: u64, message: SsfMsg) -> Result<Turn, DialogueFault>
         ensures ok { IfOk result (λ turn.
-            on_message (phase_of self.old) number at message ≡ Ok (says_of turn, phase_of self.new)) }
+            on_message (phase_of self.old) number at message
+            ≡ Ok (says_of turn, phase_of self.new)) }
         ensures fault { IfErr result (λ fault.
             on_message (phase_of self.old) number at message ≡ Err fault) }
         ensures unchanged { IfErr result (λ fault. self.new ≡ self.old) }

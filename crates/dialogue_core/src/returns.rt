@@ -13,7 +13,8 @@ use cap_values::Cause;
 
 /// What the call holds is returned.
 pub(crate) fn give_back(terms: Terms, next: Then) -> (Turn, State)
-    ensures { give_back (conditions_of terms) (sequel_of next) ≡ Ok (says_of result.0, phase_at result.1) }
+    ensures { give_back (conditions_of terms) (sequel_of next)
+        ≡ Ok (says_of result.0, phase_at result.1) }
 {
     let ask = Turn::Ask(Op::Return { call: terms.call });
     (ask, State::Returning(next))

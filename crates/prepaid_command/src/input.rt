@@ -14,7 +14,8 @@ pub const MAX_INPUT: u64 = 16_777_216;
 
 /// All the bytes of the input, or `TooLong` where they are more than `MAX_INPUT`.
 pub fn read_input<I: Read + Drop>(alloc: Global, input: I) -> Result<Vec<u8>, Fault>
-    ensures { IfSome (I.remaining input) (λ text. Gives (λ bytes. bytes.items) result (sized text)) }
+    ensures { IfSome (I.remaining input)
+        (λ text. Gives (λ bytes. bytes.items) result (sized text)) }
 {
     let mut bytes = Vec::new(alloc);
     let mut input = input.take(MAX_INPUT + 1);

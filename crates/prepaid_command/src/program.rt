@@ -44,7 +44,8 @@ pub fn command<R, S: AsStr, I: Read + Drop, O: Write, E: Write>(
 where
     R: AllocGlobal + Wait + Threads + Sync,
     ensures answers { IfSome (I.remaining input) (λ text.
-        Answers (map S.text words.now) text result (O.contents output.old) (O.contents output.new)) }
+        Answers (map S.text words.now) text result (O.contents output.old)
+        (O.contents output.new)) }
     ensures silent { result ≡ 1 → Keeps (O.contents output.old) (O.contents output.new) }
 {
     match answer(rt, words, input) {

@@ -32,7 +32,8 @@ pub(crate) fn print_quote(
 
 /// Adds the lines of a quote.
 fn write_quote(text: &mut String, ask: &QuoteAsk, quote: &Quote<'_>) -> Result<(), AllocError>
-    requires { IfSome quote.now.route.switch_at (λ at. (ask.now.at < at) × (at ≤ ask.now.at + DAY)) }
+    requires { IfSome quote.now.route.switch_at (λ at. (ask.now.at < at)
+        × (at ≤ ask.now.at + DAY)) }
     ensures { OnOk result (string_bytes text.new ≡ string_bytes text.old
         ++ quote_lines (wish_of ask.now) quote.now.prefix.now quote.now.start quote.now.route) }
 {

@@ -18,7 +18,8 @@ use tariff_core::LAST_MOMENT;
 /// What a row says, wherever it stands: of five fields, or of six under the second header.
 pub(crate) fn read_row(row: &ByteRecord) -> Result<ScriptRow, RowKind>
     requires { 5 ≤ length (fields_of row.now) }
-    ensures says { result_map_both script_event (λ kind. kind) result ≡ read_in (fields_of row.now) }
+    ensures says { result_map_both script_event (λ kind. kind) result
+        ≡ read_in (fields_of row.now) }
     ensures in_range { IfOk result (λ row. row.at ≤ LAST_MOMENT) }
 {
     let word = read_word(row)?;
@@ -85,7 +86,8 @@ fn read_disconnect(row: &ByteRecord) -> Result<Happening, RowKind>
 
 /// What happens, where the fields that must be empty are.
 fn when_blank(blank: bool, what: Happening) -> Result<Happening, RowKind>
-    ensures { result_map_both happens_of (λ kind. kind) result ≡ when_blank blank (happens_of what) }
+    ensures { result_map_both happens_of (λ kind. kind) result
+        ≡ when_blank blank (happens_of what) }
 {
     if blank { Ok(what) } else { Err(RowKind::Empty) }
 }

@@ -191,7 +191,8 @@ impl RunSetup {
 
 /// Whether a limit and the counts of accounts and subscribers are in their ranges.
 fn are_in_range(limit: u32, accounts: usize, subscribers: usize) -> bool
-    ensures { counts_fault limit accounts subscribers ≡ (if result then None else Some SetupFault.OutOfRange) }
+    ensures { counts_fault limit accounts subscribers
+        ≡ (if result then None else Some SetupFault.OutOfRange) }
 {
     MIN_LIMIT <= limit
         && limit <= MAX_LIMIT

@@ -58,7 +58,8 @@ impl<'a> Rounds<'a> {
     }
 
     fn give(&mut self, body: Body) -> Result<(), AllocError>
-        ensures given { OnOk result (self.new.given.items ≡ self.old.given.items ++ (0, body) ∷ []) }
+        ensures given { OnOk result (self.new.given.items ≡ self.old.given.items ++ (0, body)
+            ∷ []) }
         ensures ended { self.new.ended ≡ self.old.ended }
     {
         self.given.push((0, body))?;

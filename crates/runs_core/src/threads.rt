@@ -66,7 +66,8 @@ fn start_one<'s, E, S: Shared, R: Wait + Threads + Sync, G: Gate + Sync>(
         (map S.key accounts.now) number seats.items }
     requires count { length lines.old.items + 1 ≡ number }
     requires silent { All (λ line. sent_by line ≡ []) lines.old.items }
-    requires promised { ArePromised setup.now accounts.now gate.now 1 (promises_of lines.old.items) }
+    requires promised { ArePromised setup.now accounts.now gate.now 1
+        (promises_of lines.old.items) }
     ensures count { OnOk result (length lines.new.items ≡ number) }
     ensures silent { All (λ line. sent_by line ≡ []) lines.new.items }
     ensures promised { ArePromised setup.now accounts.now gate.now 1 (promises_of lines.new.items) }

@@ -112,7 +112,8 @@ impl Book {
         ensures available { IfOk result (λ summary.
             summary.available ≡ available self.now.opening (reverse self.now.history)) }
         ensures entries { IfOk result (λ summary. summary.entries ≡ length self.now.history) }
-        ensures calls { IfOk result (λ summary. AreSums (reverse self.now.history) summary.calls.items) }
+        ensures calls { IfOk result
+            (λ summary. AreSums (reverse self.now.history) summary.calls.items) }
     {
         let calls = self.account.sums(alloc)?;
         Ok(Summary {

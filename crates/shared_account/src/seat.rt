@@ -40,7 +40,8 @@ impl Model for Seat {
 
     ghost view = { λ s. record { account = s.account; number = s.number; mine = map entry_data s.mine.items } };
 
-    ghost invariant = { λ s. IsRoomy (reverse (map entry_data s.mine.items)) s.stages s.owed (vec_capacity s.mine) };
+    ghost invariant = { λ s. IsRoomy (reverse (map entry_data s.mine.items)) s.stages s.owed
+        (vec_capacity s.mine) };
 }
 
 impl Seat {

@@ -22,7 +22,8 @@ pub(crate) fn next_chair(board: &Board, first: &mut Chair) -> Chair
     requires idle { first.old.me.0.stage ≡ Idles }
     requires number { first.old.me.0.number ≡ 0 }
     requires few { first.old.me.0.made < 16 }
-    ensures tables { (first.new.table_id ≡ first.old.table_id) × (result.table_id ≡ first.old.table_id) }
+    ensures tables { (first.new.table_id ≡ first.old.table_id)
+        × (result.table_id ≡ first.old.table_id) }
     ensures first { first.new.me ≡ (one_more first.old.me.0, first.old.me.1) }
     ensures next { result.me ≡ (next_seat first.old.me.0, []) }
 {
@@ -35,7 +36,8 @@ pub(crate) fn draw(board: &Board, chair: &mut Chair) -> u64
     requires idle { chair.old.me.0.stage ≡ Idles }
     ensures table { chair.new.table_id ≡ chair.old.table_id }
     ensures ticket { result ≡ its_ticket chair.new.me.0.stage % 2 ^ 64 }
-    ensures waits { chair.new.me.0 ≡ at_stage chair.old.me.0 (Waits (its_ticket chair.new.me.0.stage)) }
+    ensures waits { chair.new.me.0 ≡ at_stage chair.old.me.0
+        (Waits (its_ticket chair.new.me.0.stage)) }
     ensures hands { chair.new.me.1 ≡ chair.old.me.1 }
 {
     board.shared.fetch_add::<Draw>(chair, TICKET, 1)
@@ -46,8 +48,10 @@ pub(crate) fn look(board: &Board, chair: &mut Chair) -> u64
     requires at { IsAt board.now.shared.table_id chair.old.table_id }
     requires waits { chair.old.me.0.stage ≡ Waits (its_ticket chair.old.me.0.stage) }
     ensures table { chair.new.table_id ≡ chair.old.table_id }
-    ensures come { result ≡ its_ticket chair.old.me.0.stage % 2 ^ 64 → HasCome chair.old.me chair.new.me }
-    ensures waits { result ≢ its_ticket chair.old.me.0.stage % 2 ^ 64 → chair.new.me ≡ chair.old.me }
+    ensures come { result ≡ its_ticket chair.old.me.0.stage % 2 ^ 64
+        → HasCome chair.old.me chair.new.me }
+    ensures waits { result ≢ its_ticket chair.old.me.0.stage % 2 ^ 64 → chair.new.me
+        ≡ chair.old.me }
 {
     board.shared.load::<Look>(chair, SERVING)
 }
@@ -58,9 +62,11 @@ pub(crate) fn append(board: &Board, chair: &mut Chair, entry: &Entry)
     requires serving { IsServing chair.old.me.0.stage }
     requires seat { entry.now.seat ≡ chair.old.me.0.number }
     requires admitted { refusal_of chair.old.me.0.seen (entry_data entry.now).asked ≡ None }
-    requires answered { entry.now.reply ≡ answer_of chair.old.me.0.seen (entry_data entry.now).asked }
+    requires answered { entry.now.reply ≡ answer_of chair.old.me.0.seen
+        (entry_data entry.now).asked }
     ensures table { chair.new.table_id ≡ chair.old.table_id }
-    ensures seen { chair.new.me.0 ≡ seeing chair.old.me.0 (with_entry chair.old.me.0.seen (entry_data entry.now)) }
+    ensures seen { chair.new.me.0
+        ≡ seeing chair.old.me.0 (with_entry chair.old.me.0.seen (entry_data entry.now)) }
     ensures hands { chair.new.me.1 ≡ chair.old.me.1 }
 {
     append_as::<Brand>(board, chair, entry);
@@ -73,9 +79,11 @@ fn append_as<E: Appended>(board: &Board, chair: &mut Chair, entry: &Entry)
     requires serving { IsServing chair.old.me.0.stage }
     requires seat { entry.now.seat ≡ chair.old.me.0.number }
     requires admitted { refusal_of chair.old.me.0.seen (entry_data entry.now).asked ≡ None }
-    requires answered { entry.now.reply ≡ answer_of chair.old.me.0.seen (entry_data entry.now).asked }
+    requires answered { entry.now.reply ≡ answer_of chair.old.me.0.seen
+        (entry_data entry.now).asked }
     ensures table { chair.new.table_id ≡ chair.old.table_id }
-    ensures seen { chair.new.me.0 ≡ seeing chair.old.me.0 (with_entry chair.old.me.0.seen (entry_data entry.now)) }
+    ensures seen { chair.new.me.0
+        ≡ seeing chair.old.me.0 (with_entry chair.old.me.0.seen (entry_data entry.now)) }
     ensures hands { chair.new.me.1 ≡ chair.old.me.1 }
 {
     places_go_with_entries();
@@ -99,7 +107,8 @@ pub(crate) fn hear(board: &Board, first: &mut Chair, second: &mut Chair)
     requires first { first.old.table_id ≡ board.now.shared.table_id }
     requires second { second.old.table_id ≡ board.now.shared.table_id }
     requires words { 0 < board.now.shared.table_id.words }
-    ensures tables { (first.new.table_id ≡ first.old.table_id) × (second.new.table_id ≡ second.old.table_id) }
+    ensures tables { (first.new.table_id ≡ first.old.table_id)
+        × (second.new.table_id ≡ second.old.table_id) }
     ensures first { first.new.me ≡ first.old.me }
     ensures second { second.new.me ≡ (hearing second.old.me.0 first.old.me.0, second.old.me.1) }
 {

@@ -41,7 +41,8 @@ impl SsfConfig {
         ensures made { IsOk result ↔ (IsTimer tssf × IsTimer tccd) }
         ensures tssf { IfOk result (λ config. config.tssf ≡ tssf) }
         ensures tccd { IfOk result (λ config. config.tccd ≡ tccd) }
-        ensures default_handling { IfOk result (λ config. config.default_handling ≡ default_handling) }
+        ensures default_handling { IfOk result (λ config. config.default_handling
+            ≡ default_handling) }
         ensures fault { IfErr result (λ fault. fault ≡ SsfFault.ParameterOutOfRange) }
     {
         if !is_timer(tssf) || !is_timer(tccd) {

@@ -26,7 +26,8 @@ pub(crate) fn meet(
     requires room { array_vec_len sent.old ≤ 5 }
     requires timely { IsTimely now stage }
     ensures stage { result ≡ stage_of (met_event config.now.tssf stage now event) }
-    ensures items { sent.new.items ≡ outs_of sent.old.items now (met_event config.now.tssf stage now event) }
+    ensures items { sent.new.items ≡ outs_of sent.old.items now
+        (met_event config.now.tssf stage now event) }
 {
     match event {
         BcsmEvent::RouteSelectFailure => {
@@ -118,7 +119,8 @@ fn fail(
     requires moment { now ≤ HORIZON }
     requires room { array_vec_len sent.old ≤ 5 }
     ensures stage { result ≡ stage_of (failed config.now.tssf stage now event point) }
-    ensures items { sent.new.items ≡ outs_of sent.old.items now (failed config.now.tssf stage now event point) }
+    ensures items { sent.new.items ≡ outs_of sent.old.items now
+        (failed config.now.tssf stage now event point) }
 {
     let Stage::Setup(setup) = stage else {
         return Err(SsfFault::NoSuchEvent);
@@ -166,7 +168,8 @@ fn disconnect(
     requires room { array_vec_len sent.old ≤ 5 }
     requires timely { IsTimely now stage }
     ensures stage { result ≡ stage_of (disconnected config.now.tssf stage now leg) }
-    ensures items { sent.new.items ≡ outs_of sent.old.items now (disconnected config.now.tssf stage now leg) }
+    ensures items { sent.new.items ≡ outs_of sent.old.items now
+        (disconnected config.now.tssf stage now leg) }
 {
     let Stage::Active(active) = stage else {
         return Err(SsfFault::NoSuchEvent);

@@ -172,7 +172,8 @@ pub(crate) fn expire(
     requires room { array_vec_len sent.old ≤ 5 }
     requires timely { IsTimely expiry.due stage }
     ensures stage { result ≡ (expired config.now stage expiry.due expiry.timer).stage }
-    ensures items { sent.new.items ≡ send_all sent.old.items expiry.due (expired config.now stage expiry.due expiry.timer).sent }
+    ensures items { sent.new.items ≡ send_all sent.old.items expiry.due
+        (expired config.now stage expiry.due expiry.timer).sent }
 {
     match expiry.timer {
         Timer::Tsw => switch_over(stage, expiry.due),
@@ -210,7 +211,8 @@ fn end_period(config: &SsfConfig, stage: Stage, sent: &mut ArrayVec<Out, 8>, now
     requires room { array_vec_len sent.old ≤ 5 }
     requires timely { IsTimely now stage }
     ensures stage { result ≡ (period_over_in config.now.tccd stage now).stage }
-    ensures items { sent.new.items ≡ send_all sent.old.items now (period_over_in config.now.tccd stage now).sent }
+    ensures items { sent.new.items ≡ send_all sent.old.items now
+        (period_over_in config.now.tccd stage now).sent }
 {
     match stage {
         Stage::Active(active) => end_active_period(config, active, sent, now),
@@ -228,7 +230,8 @@ fn end_active_period(
     requires room { array_vec_len sent.old ≤ 5 }
     requires timely { IsActiveTimely now active }
     ensures stage { result ≡ (period_over config.now.tccd active now active.charging).stage }
-    ensures items { sent.new.items ≡ send_all sent.old.items now (period_over config.now.tccd active now active.charging).sent }
+    ensures items { sent.new.items ≡ send_all sent.old.items now
+        (period_over config.now.tccd active now active.charging).sent }
 {
     let Charging::Running { release } = active.charging else {
         return Stage::Active(active);
@@ -247,7 +250,8 @@ fn end_active_period(
 fn handle_by_default(config: &SsfConfig, sent: &mut ArrayVec<Out, 8>, now: Moment) -> Stage
     requires { array_vec_len sent.old ≤ 5 }
     ensures stage { result ≡ (defaulted config.now.default_handling).stage }
-    ensures items { sent.new.items ≡ send_all sent.old.items now (defaulted config.now.default_handling).sent }
+    ensures items { sent.new.items ≡ send_all sent.old.items now
+        (defaulted config.now.default_handling).sent }
 {
     match config.default_handling {
         DefaultHandling::Proceed => proceed(sent, now),

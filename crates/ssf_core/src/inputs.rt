@@ -28,7 +28,8 @@ pub(crate) fn take(
     requires room { array_vec_len sent.old ≤ 5 }
     requires timely { IsTimely now stage }
     ensures stage { result ≡ stage_of (move_of config.now.tssf stage now input) }
-    ensures items { sent.new.items ≡ outs_of sent.old.items now (move_of config.now.tssf stage now input) }
+    ensures items { sent.new.items ≡ outs_of sent.old.items now
+        (move_of config.now.tssf stage now input) }
 {
     match input {
         Input::Invoke => invoke(stage),
@@ -65,7 +66,8 @@ fn trigger(
     requires moment { now ≤ HORIZON }
     requires room { array_vec_len sent.old ≤ 5 }
     ensures stage { result ≡ stage_of (triggered config.now.tssf stage now call calling called) }
-    ensures items { sent.new.items ≡ outs_of sent.old.items now (triggered config.now.tssf stage now call calling called) }
+    ensures items { sent.new.items ≡ outs_of sent.old.items now
+        (triggered config.now.tssf stage now call calling called) }
 {
     let Stage::Requested = stage else {
         return Err(SsfFault::UnexpectedComponentSequence);

@@ -28,7 +28,8 @@ pub(crate) fn operate(
     requires room { array_vec_len sent.old ≤ 5 }
     requires timely { IsTimely now stage }
     ensures stage { result ≡ stage_of (operated config.now.tssf stage now op) }
-    ensures items { sent.new.items ≡ outs_of sent.old.items now (operated config.now.tssf stage now op) }
+    ensures items { sent.new.items ≡ outs_of sent.old.items now
+        (operated config.now.tssf stage now op) }
 {
     match op {
         ScfOp::RequestReport(arms) => request_report(config, stage, now, &arms),
@@ -117,7 +118,8 @@ fn charge_active(active: Active, now: Moment, charge: Charge) -> Result<Active, 
     requires moment { now ≤ HORIZON }
     requires answered { active.answered ≤ now }
     requires granted { active.granted ≤ DAY }
-    ensures { result ≡ charged_active active.charging (is_fitting active.answered active.granted charge.period now) active now charge }
+    ensures { result ≡ charged_active active.charging
+        (is_fitting active.answered active.granted charge.period now) active now charge }
 {
     match active.charging {
         Charging::Over { .. } => lengthened(active, now, charge),
@@ -129,7 +131,8 @@ fn lengthened(active: Active, now: Moment, charge: Charge) -> Result<Active, Ssf
     requires moment { now ≤ HORIZON }
     requires answered { active.answered ≤ now }
     requires granted { active.granted ≤ DAY }
-    ensures { result ≡ charged_active (Charging.Over 0) (is_fitting active.answered active.granted charge.period now) active now charge }
+    ensures { result ≡ charged_active (Charging.Over 0)
+        (is_fitting active.answered active.granted charge.period now) active now charge }
 {
     if !fits(&active, now, charge.period) {
         return Err(SsfFault::ParameterOutOfRange);
@@ -173,8 +176,10 @@ fn resume(stage: Stage, sent: &mut ArrayVec<Out, 8>, now: Moment) -> Result<Stag
 
 fn go_on(setup: Setup, sent: &mut ArrayVec<Out, 8>, now: Moment) -> Stage
     requires { array_vec_len sent.old ≤ 5 }
-    ensures stage { result ≡ (proceeded (any_watched (modes_at setup.modes) || is_some setup.charge) setup).stage }
-    ensures items { sent.new.items ≡ send_move sent.old.items now (proceeded (any_watched (modes_at setup.modes) || is_some setup.charge) setup) }
+    ensures stage { result ≡
+        (proceeded (any_watched (modes_at setup.modes) || is_some setup.charge) setup).stage }
+    ensures items { sent.new.items ≡ send_move sent.old.items now
+        (proceeded (any_watched (modes_at setup.modes) || is_some setup.charge) setup) }
 {
     if watch_any(&setup.modes) || setup.charge.is_some() {
         send(sent, now, Item::Proceed);

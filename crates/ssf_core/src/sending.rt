@@ -37,7 +37,8 @@ pub(crate) fn end(sent: &mut ArrayVec<Out, 8>, now: Moment) -> Stage
 pub(crate) fn clear(sent: &mut ArrayVec<Out, 8>, now: Moment, cause: Cause) -> Stage
     requires { array_vec_len sent.old ≤ 6 }
     ensures stage { result ≡ Stage.Ended }
-    ensures items { sent.new.items ≡ send_all sent.old.items now (item.Clear cause ∷ item.Msg message.Ended ∷ []) }
+    ensures items { sent.new.items ≡ send_all sent.old.items now
+        (item.Clear cause ∷ item.Msg message.Ended ∷ []) }
     ensures room { array_vec_len sent.new ≡ array_vec_len sent.old + 2 }
 {
     send(sent, now, Item::Clear(cause));
@@ -48,7 +49,8 @@ pub(crate) fn clear(sent: &mut ArrayVec<Out, 8>, now: Moment, cause: Cause) -> S
 pub(crate) fn proceed(sent: &mut ArrayVec<Out, 8>, now: Moment) -> Stage
     requires { array_vec_len sent.old ≤ 6 }
     ensures stage { result ≡ Stage.Ended }
-    ensures items { sent.new.items ≡ send_all sent.old.items now (item.Proceed ∷ item.Msg message.Ended ∷ []) }
+    ensures items { sent.new.items ≡ send_all sent.old.items now
+        (item.Proceed ∷ item.Msg message.Ended ∷ []) }
     ensures room { array_vec_len sent.new ≡ array_vec_len sent.old + 2 }
 {
     send(sent, now, Item::Proceed);
@@ -64,7 +66,8 @@ pub(crate) fn tell(
     mode: Mode,
 )
     requires { array_vec_len sent.old < 8 }
-    ensures items { sent.new.items ≡ send_all sent.old.items now (item.Msg (message.EventReport event leg mode) ∷ []) }
+    ensures items { sent.new.items ≡ send_all sent.old.items now
+        (item.Msg (message.EventReport event leg mode) ∷ []) }
     ensures room { array_vec_len sent.new ≡ array_vec_len sent.old + 1 }
 {
     send(
@@ -99,7 +102,8 @@ pub(crate) fn by_mode(
     requires moment { now ≤ HORIZON }
     requires room { array_vec_len sent.old ≤ 6 }
     ensures stage { result ≡ (met_by config.now.tssf now event leg mode).stage }
-    ensures items { sent.new.items ≡ send_all sent.old.items now (met_by config.now.tssf now event leg mode).sent }
+    ensures items { sent.new.items ≡ send_all sent.old.items now
+        (met_by config.now.tssf now event leg mode).sent }
     ensures room { array_vec_len sent.new ≤ array_vec_len sent.old + 2 }
 {
     match mode {

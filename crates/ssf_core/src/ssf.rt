@@ -63,7 +63,8 @@ impl Ssf {
 
     /// The state of the call.
     pub fn state(&self) -> State
-        ensures { (t : List Happening) → Stands self.now t → result ≡ state_in (phase_after self.now.config t) }
+        ensures { (t : List Happening) → Stands self.now t → result
+            ≡ state_in (phase_after self.now.config t) }
     {
         state_of(&self.stage)
     }
@@ -81,9 +82,12 @@ impl Ssf {
     /// The switch invokes it.
     pub fn invoke(&mut self, now: Moment) -> Step
         requires { now ≤ HORIZON }
-        ensures backwards { now < self.old.last → (self.new ≡ self.old) × (result.fault ≡ Some SsfFault.TimeBackwards) × (result.sent.items ≡ []) }
-        ensures moment { self.old.last ≤ now → (self.new.last ≡ now) × (self.new.config ≡ self.old.config) }
-        ensures trace { self.old.last ≤ now → (t : List Happening) → Stands self.old t → Takes self.old self.new now taken.Invoke t result.sent.items result.fault }
+        ensures backwards { now < self.old.last → (self.new ≡ self.old)
+            × (result.fault ≡ Some SsfFault.TimeBackwards) × (result.sent.items ≡ []) }
+        ensures moment { self.old.last ≤ now → (self.new.last ≡ now)
+            × (self.new.config ≡ self.old.config) }
+        ensures trace { self.old.last ≤ now → (t : List Happening) → Stands self.old t
+            → Takes self.old self.new now taken.Invoke t result.sent.items result.fault }
         ensures metered { Metered [] self.old result.sent.items self.new }
     {
         self.input(now, Input::Invoke)
@@ -92,9 +96,13 @@ impl Ssf {
     /// A call triggers it: InitialDp is sent.
     pub fn trigger(&mut self, now: Moment, call: u64, calling: Number, called: Number) -> Step
         requires { now ≤ HORIZON }
-        ensures backwards { now < self.old.last → (self.new ≡ self.old) × (result.fault ≡ Some SsfFault.TimeBackwards) × (result.sent.items ≡ []) }
-        ensures moment { self.old.last ≤ now → (self.new.last ≡ now) × (self.new.config ≡ self.old.config) }
-        ensures trace { self.old.last ≤ now → (t : List Happening) → Stands self.old t → Takes self.old self.new now (taken.Trigger call calling called) t result.sent.items result.fault }
+        ensures backwards { now < self.old.last → (self.new ≡ self.old)
+            × (result.fault ≡ Some SsfFault.TimeBackwards) × (result.sent.items ≡ []) }
+        ensures moment { self.old.last ≤ now → (self.new.last ≡ now)
+            × (self.new.config ≡ self.old.config) }
+        ensures trace { self.old.last ≤ now → (t : List Happening) → Stands self.old t
+            → Takes self.old self.new now
+            (taken.Trigger call calling called) t result.sent.items result.fault }
         ensures metered { Metered [] self.old result.sent.items self.new }
     {
         self.input(
@@ -110,9 +118,12 @@ impl Ssf {
     /// The service sends an operation.
     pub fn operation(&mut self, now: Moment, op: ScfOp) -> Step
         requires { now ≤ HORIZON }
-        ensures backwards { now < self.old.last → (self.new ≡ self.old) × (result.fault ≡ Some SsfFault.TimeBackwards) × (result.sent.items ≡ []) }
-        ensures moment { self.old.last ≤ now → (self.new.last ≡ now) × (self.new.config ≡ self.old.config) }
-        ensures trace { self.old.last ≤ now → (t : List Happening) → Stands self.old t → Takes self.old self.new now (taken.Operate op) t result.sent.items result.fault }
+        ensures backwards { now < self.old.last → (self.new ≡ self.old)
+            × (result.fault ≡ Some SsfFault.TimeBackwards) × (result.sent.items ≡ []) }
+        ensures moment { self.old.last ≤ now → (self.new.last ≡ now)
+            × (self.new.config ≡ self.old.config) }
+        ensures trace { self.old.last ≤ now → (t : List Happening) → Stands self.old t
+            → Takes self.old self.new now (taken.Operate op) t result.sent.items result.fault }
         ensures metered { Metered (paid_by (order_of op ∷ [])) self.old result.sent.items self.new }
     {
         self.input(now, Input::Operate(op))
@@ -121,9 +132,12 @@ impl Ssf {
     /// The call meets an event.
     pub fn event(&mut self, now: Moment, event: BcsmEvent) -> Step
         requires { now ≤ HORIZON }
-        ensures backwards { now < self.old.last → (self.new ≡ self.old) × (result.fault ≡ Some SsfFault.TimeBackwards) × (result.sent.items ≡ []) }
-        ensures moment { self.old.last ≤ now → (self.new.last ≡ now) × (self.new.config ≡ self.old.config) }
-        ensures trace { self.old.last ≤ now → (t : List Happening) → Stands self.old t → Takes self.old self.new now (taken.Meet event) t result.sent.items result.fault }
+        ensures backwards { now < self.old.last → (self.new ≡ self.old)
+            × (result.fault ≡ Some SsfFault.TimeBackwards) × (result.sent.items ≡ []) }
+        ensures moment { self.old.last ≤ now → (self.new.last ≡ now)
+            × (self.new.config ≡ self.old.config) }
+        ensures trace { self.old.last ≤ now → (t : List Happening) → Stands self.old t
+            → Takes self.old self.new now (taken.Meet event) t result.sent.items result.fault }
         ensures metered { Metered [] self.old result.sent.items self.new }
     {
         self.input(now, Input::Meet(event))
@@ -132,9 +146,12 @@ impl Ssf {
     /// Time passes.
     pub fn advance(&mut self, now: Moment) -> Step
         requires { now ≤ HORIZON }
-        ensures backwards { now < self.old.last → (self.new ≡ self.old) × (result.fault ≡ Some SsfFault.TimeBackwards) × (result.sent.items ≡ []) }
-        ensures moment { self.old.last ≤ now → (self.new.last ≡ now) × (self.new.config ≡ self.old.config) × (result.fault ≡ None) }
-        ensures trace { self.old.last ≤ now → (t : List Happening) → Stands self.old t → Advances self.old self.new now t result.sent.items }
+        ensures backwards { now < self.old.last → (self.new ≡ self.old)
+            × (result.fault ≡ Some SsfFault.TimeBackwards) × (result.sent.items ≡ []) }
+        ensures moment { self.old.last ≤ now → (self.new.last ≡ now)
+            × (self.new.config ≡ self.old.config) × (result.fault ≡ None) }
+        ensures trace { self.old.last ≤ now → (t : List Happening) → Stands self.old t
+            → Advances self.old self.new now t result.sent.items }
         ensures metered { Metered [] self.old result.sent.items self.new }
     {
         let mut sent = ArrayVec::new();
@@ -151,9 +168,12 @@ impl Ssf {
 
     fn input(&mut self, now: Moment, input: Input) -> Step
         requires { now ≤ HORIZON }
-        ensures backwards { now < self.old.last → (self.new ≡ self.old) × (result.fault ≡ Some SsfFault.TimeBackwards) × (result.sent.items ≡ []) }
-        ensures moment { self.old.last ≤ now → (self.new.last ≡ now) × (self.new.config ≡ self.old.config) }
-        ensures trace { self.old.last ≤ now → (t : List Happening) → Stands self.old t → Takes self.old self.new now input t result.sent.items result.fault }
+        ensures backwards { now < self.old.last → (self.new ≡ self.old)
+            × (result.fault ≡ Some SsfFault.TimeBackwards) × (result.sent.items ≡ []) }
+        ensures moment { self.old.last ≤ now → (self.new.last ≡ now)
+            × (self.new.config ≡ self.old.config) }
+        ensures trace { self.old.last ≤ now → (t : List Happening) → Stands self.old t
+            → Takes self.old self.new now input t result.sent.items result.fault }
     {
         let mut sent = ArrayVec::new();
         if now < self.last {

@@ -40,7 +40,8 @@ impl Plan {
     pub fn new(fee: u64, before: u64, after: Option<u64>) -> Result<Plan, PlanRange>
         ensures made { IsOk result ↔ AreRates fee before after }
         ensures rates { IfOk result
-            (λ plan. rates_of plan ≡ record { fee = fee; before = before; after = after; free = 0 }) }
+            (λ plan. rates_of plan
+            ≡ record { fee = fee; before = before; after = after; free = 0 }) }
     {
         if fee > MAX_RATE || before > MAX_RATE || after.unwrap_or(0) > MAX_RATE {
             return Err(PlanRange);

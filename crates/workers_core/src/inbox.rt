@@ -33,7 +33,8 @@ impl<T: Drop> Inbox<T> {
     pub fn take_mail<R: Wait>(&mut self, rt: &R) -> Result<Mail<T>, Gone>
         ensures same { IsSameInbox self.old self.new }
         ensures closed { has_close (taken self.old) ≡ true → IsErr result }
-        ensures taken { MatchResult result (λ mail. taken self.new ≡ taken self.old ++ mail ∷ []) (λ _. taken self.new ≡ taken self.old) }
+        ensures taken { MatchResult result (λ mail. taken self.new ≡ taken self.old ++ mail
+            ∷ []) (λ _. taken self.new ≡ taken self.old) }
     {
         match self.receiver.recv_as::<Taken, R>(rt, &mut self.pass) {
             Ok(mail) => Ok(mail),

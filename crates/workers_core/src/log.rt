@@ -69,7 +69,8 @@ impl<T> Outcome<Mail<T>, Log<T>> for Taken {
     ghost use Rattle.std.specs.Prelude.{◌≡◌, ◌++◌, ◌∷◌, [], false};
     ghost use Rattle.workers_core.specs.Logs.{has_close, log};
 
-    ghost then = { λ v mail w. (w ≡ log v.sends v.takes v.sent (v.taken ++ mail ∷ [])) × (has_close v.taken ≡ false) };
+    ghost then = { λ v mail w. (w ≡ log v.sends v.takes v.sent (v.taken ++ mail ∷ []))
+        × (has_close v.taken ≡ false) };
 }
 
 impl<T> Lesson<Mail<T>, Log<T>> for Taken {

@@ -14,7 +14,8 @@ use std::alloc::{AllocError, Global};
 pub fn mailbox<T: Drop>(alloc: Global, capacity: u32) -> Result<(Outbox<T>, Inbox<T>), AllocError>
     requires least { 0 < capacity }
     requires most { capacity ≤ 1024 }
-    ensures { IfOk result (λ ends. ArePaired ends.0 ends.1 × (sent ends.0 ≡ []) × (taken ends.1 ≡ [])) }
+    ensures { IfOk result (λ ends. ArePaired ends.0 ends.1 × (sent ends.0 ≡ [])
+        × (taken ends.1 ≡ [])) }
 {
     let (sender, receiver, mut sending) = bounded_with::<Mail<T>, Log<T>, InOrder, Global>(
         alloc,

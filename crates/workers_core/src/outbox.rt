@@ -31,7 +31,8 @@ impl<T: Drop> Outbox<T> {
     /// is gone.
     pub fn send_mail<R: Wait>(&mut self, rt: &R, mail: Mail<T>) -> Result<(), Mail<T>>
         ensures same { IsSameOutbox self.old self.new }
-        ensures sent { MatchResult result (λ _. sent self.new ≡ sent self.old ++ mail ∷ []) (λ back. (back ≡ mail) × (sent self.new ≡ sent self.old)) }
+        ensures sent { MatchResult result (λ _. sent self.new ≡ sent self.old ++ mail
+            ∷ []) (λ back. (back ≡ mail) × (sent self.new ≡ sent self.old)) }
         ensures closed { has_close (sent self.old) ≡ true → IsErr result }
     {
         if self.closed {

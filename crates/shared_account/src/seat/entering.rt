@@ -23,9 +23,11 @@ impl Seat {
         admitted: Admitted,
     ) -> Result<Reply, AllocError>
         requires { IsAdmitted account.old admitted }
-        ensures answered { IfOk result (λ reply. reply ≡ answer_of account.old (asked_of admitted.op)) }
+        ensures answered { IfOk result (λ reply. reply
+            ≡ answer_of account.old (asked_of admitted.op)) }
         ensures entered { IfOk result (λ reply. account.new ≡ record account.old {
-          history = account.old.history ++ event_by self.old.number (asked_of admitted.op) reply ∷ [];
+          history = account.old.history ++ event_by self.old.number (asked_of admitted.op) reply
+          ∷ [];
         }) }
         ensures mine { IfOk result (λ reply. self.new ≡ record self.old {
           mine = self.old.mine ++ event_by self.old.number (asked_of admitted.op) reply ∷ [];
@@ -51,9 +53,11 @@ impl Seat {
     ) -> Result<Reply, AllocError>
         requires credit { IsCredit (asked_of admitted.op) }
         requires admitted { IsAdmitted account.old admitted }
-        ensures answered { IfOk result (λ reply. reply ≡ answer_of account.old (asked_of admitted.op)) }
+        ensures answered { IfOk result (λ reply. reply
+            ≡ answer_of account.old (asked_of admitted.op)) }
         ensures entered { IfOk result (λ reply. account.new ≡ record account.old {
-          history = account.old.history ++ event_by self.old.number (asked_of admitted.op) reply ∷ [];
+          history = account.old.history ++ event_by self.old.number (asked_of admitted.op) reply
+          ∷ [];
         }) }
         ensures mine { IfOk result (λ reply. self.new ≡ record self.old {
           mine = self.old.mine ++ event_by self.old.number (asked_of admitted.op) reply ∷ [];
@@ -79,9 +83,11 @@ impl Seat {
     ) -> Result<Reply, AllocError>
         requires of_call { IsOfCall call (asked_of admitted.op) }
         requires admitted { IsAdmitted account.old admitted }
-        ensures answered { IfOk result (λ reply. reply ≡ answer_of account.old (asked_of admitted.op)) }
+        ensures answered { IfOk result (λ reply. reply
+            ≡ answer_of account.old (asked_of admitted.op)) }
         ensures entered { IfOk result (λ reply. account.new ≡ record account.old {
-          history = account.old.history ++ event_by self.old.number (asked_of admitted.op) reply ∷ [];
+          history = account.old.history ++ event_by self.old.number (asked_of admitted.op) reply
+          ∷ [];
         }) }
         ensures mine { IfOk result (λ reply. self.new ≡ record self.old {
           mine = self.old.mine ++ event_by self.old.number (asked_of admitted.op) reply ∷ [];
