@@ -37,8 +37,10 @@ impl Port for AccountPort {
     fn ask(&mut self, op: Op) -> Result<Reply, AccountFault>
         ensures answered { IfOk result (λ reply. reply ≡ answer_of self.old.account (asked_of op)) }
         ensures entered { IfOk result (λ reply. self.new.account ≡
-            record self.old.account { history = self.old.account.history
-            ++ event_by self.old.seat (asked_of op) reply ∷ [] }) }
+            record self.old.account {
+              history = self.old.account.history
+                  ++ event_by self.old.seat (asked_of op) reply ∷ [];
+            }) }
         ensures admitted { OnOk result (refusal_of self.old.account (asked_of op) ≡ None) }
         ensures kept { OnErr result (self.new.account ≡ self.old.account) }
         ensures refused { IfErr result (λ fault. IsRefusal self.old.account (asked_of op) fault) }

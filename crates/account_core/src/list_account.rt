@@ -69,8 +69,10 @@ impl ListAccount {
     pub fn apply(&mut self, seat: u32, op: Op) -> Result<Reply, AccountFault>
         ensures answered { IfOk result (λ reply. reply ≡ answer_of self.old (asked_of op)) }
         ensures entered { IfOk result (λ reply. self.new ≡
-            record self.old { history = self.old.history ++ event_by seat (asked_of op) reply
-            ∷ [] }) }
+            record self.old {
+              history = self.old.history ++ event_by seat (asked_of op) reply
+                  ∷ [];
+            }) }
         ensures admitted { OnOk result (refusal_of self.old (asked_of op) ≡ None) }
         ensures kept { OnErr result (self.new ≡ self.old) }
         ensures refused { IfErr result (λ fault. IsRefusal self.old (asked_of op) fault) }

@@ -8,12 +8,12 @@ use anyhow::Result;
 use book_texts::run_lines;
 use cap_values::Number;
 use dialogue_core::ServiceConfig;
+use run_values::{OpeningCredit, RunSetup};
 use runs_core::serve;
 use shared_account::OpenGate;
 use std::alloc::Global;
 use switch::Switch;
 use tariff_core::Tariff;
-use run_values::{OpeningCredit, RunSetup};
 
 const TARIFF: &[u8] = b"prefix,from,fee,rate\n49,00:00,50,1000\n";
 

@@ -3,6 +3,7 @@
 use account_core::AccountFault;
 use cap_values::ValueFault;
 use one_call::DriveFault;
+use run_values::SetupFault;
 use runs_core::RunFault;
 use shared_account::CloseFault;
 use std::alloc::{AllocError, AllocFailed};
@@ -10,7 +11,6 @@ use std::io;
 use table_core::TableFault;
 use tariff_core::{TariffFault, TariffKind};
 use workers_core::WorkerFault;
-use run_values::SetupFault;
 
 /// How a call went. It is the program's exit status.
 #[derive(Clone, Copy, Debug, PartialEq, Eq)]

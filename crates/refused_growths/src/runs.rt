@@ -10,13 +10,13 @@ use crate::workers::{lasting, set_up};
 use account_core::{AccountFault, Entry, Reply};
 use cap_values::SsfMsg;
 use run_texts::read_script;
+use run_values::{Answer, Body, Directory};
 use runs_core::{Books, Driver, serve};
 use script_player::ScriptPlayer;
 use shared_account::OpenGate;
 use std::alloc::Global;
 use std::sync::Wait;
 use std::thread::Threads;
-use run_values::{Answer, Body, Directory};
 
 /// A call that is answered after ten seconds, and ends after forty.
 const SCRIPT: &[u8] = b"moment,call,what,x,y

@@ -19,9 +19,9 @@ pub(crate) struct Desk<'a, S: Form, R: Wait> {
     first: S::Seat,
     second: S::Seat,
     ghost has_first: { S.key_of first ≡ S.key account } by { Coded-set S.key_code (S.key_of first)
-    (S.key account) },
+        (S.key account) },
     ghost has_second: { S.key_of second ≡ S.key account } by { Coded-set S.key_code
-    (S.key_of second) (S.key account) },
+        (S.key_of second) (S.key account) },
 }
 
 impl<'a, S: Form, R: Wait> Desk<'a, S, R> {

@@ -12,12 +12,12 @@ use crate::service::{
 };
 use account_core::AccountFault;
 use cap_values::{Cause, Number, ScfOp, SsfMsg};
+use run_values::{Body, OpeningCredit, Post, RunSetup};
 use shared_account::{OpenGate, Seat, SharedAccount};
 use std::alloc::Global;
 use std::sync::Wait;
 use tariff_core::Tariff;
 use workers_core::{Gone, Mail, Worker, mailbox};
-use run_values::{Body, OpeningCredit, Post, RunSetup};
 
 /// Sends two mails, and takes them.
 pub(crate) fn mails<R: Wait>(rt: &R, alloc: Global) -> Course {

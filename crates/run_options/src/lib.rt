@@ -1,8 +1,8 @@
 //! The options of the command `run`: what it is asked for, in any numbers, and those in range.
 #![tactic(auto)]
 
-mod run_ask;
 mod options;
+mod run_ask;
 
-pub use run_ask::RunAsk;
 pub use options::RunOptions;
+pub use run_ask::RunAsk;

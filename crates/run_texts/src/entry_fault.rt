@@ -4,8 +4,8 @@ ghost use Rattle.std.specs.Prelude.{◌≡◌};
 ghost use Rattle.run_texts.specs.Entries.{told_of};
 ghost use Rattle.run_texts.specs.declared.entry_fault.EntryFault.TheVariants as out;
 
-use table_core::RowKind;
 use run_values::SetupFault;
+use table_core::RowKind;
 
 /// Why a row of a setup isn't entered.
 #[derive(Clone, Copy, Debug)]

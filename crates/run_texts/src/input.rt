@@ -11,9 +11,9 @@ ghost use Rattle.table_core.specs.Rows.{rows_of};
 ghost use Rattle.run_values.specs.Setups.{IsWithin};
 
 use crate::{InputFault, Parts, ScriptRow, divide, script, setup};
+use run_values::Directory;
 use std::alloc::Global;
 use tariff_core::{LAST_MOMENT, Tariff};
-use run_values::Directory;
 
 /// What the input of a run says.
 #[derive(Drop)]

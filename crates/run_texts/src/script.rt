@@ -12,13 +12,13 @@ ghost use Rattle.run_texts.specs.Views.{are_in_order, script_event, happens_of};
 use crate::happenings::read_row;
 use crate::{Happening, ScriptRow};
 use csv::ByteRecord;
+use run_values::Directory;
 use ssf_core::Moment;
 use std::alloc::{AllocError, Global};
 use std::collections::BTreeSet;
 use std::io::Read;
 use table_core::{RowKind, Table, TableFault};
 use tariff_core::LAST_MOMENT;
-use run_values::Directory;
 
 /// The most rows of a script, its header not counted.
 const MAX_ROWS: u32 = 1_000_000;

@@ -12,10 +12,10 @@ ghost use Rattle.run_values.specs.Setups.{IsWithin};
 use crate::entry_fault::EntryFault;
 use crate::fields::{account, amount, is_left_out, party, until};
 use csv::ByteRecord;
+use run_values::{Directory, MAX_ACCOUNTS, OpeningCredit};
 use std::alloc::Global;
 use std::io::Read;
 use table_core::{RowKind, Table, TableFault, is_word};
-use run_values::{Directory, MAX_ACCOUNTS, OpeningCredit};
 
 /// The most rows of a setup, its header not counted.
 const MAX_ROWS: u32 = 10_000;

@@ -7,6 +7,7 @@ use crate::scripts::{returned, settled};
 use crate::setups::{BAND, set_up};
 use account_core::{AccountFault, Reply};
 use cap_values::{Cause, Charge, Event, Number, ScfOp, SsfMsg};
+use run_values::Body;
 use runs_core::serve;
 use shared_account::OpenGate;
 use std::alloc::Global;
@@ -14,7 +15,6 @@ use std::process::Abort;
 use std::sync::Wait;
 use std::test::Fail;
 use std::thread::Threads;
-use run_values::Body;
 
 /// An answer to a post that has a place, with this operation, if any.
 fn sent(last: Option<ScfOp>) -> Heard {

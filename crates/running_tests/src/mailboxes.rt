@@ -1,9 +1,9 @@
 //! A mailbox of two places.
 
 use crate::messages::recharge;
+use run_values::Post;
 use std::test::Fail;
 use workers_core::{Gone, Mail, compare, mailbox};
-use run_values::Post;
 
 fn work(number: u64) -> Mail<Post> {
     Mail::Work(Post {

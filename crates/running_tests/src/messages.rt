@@ -1,9 +1,9 @@
 //! Messages of calls, and what the service sends to begin one.
 
 use cap_values::{Arming, Arms, Charge, Event, Leg, Mode, Number, ScfOp, SsfMsg};
+use run_values::Body;
 use std::test::Fail;
 use tariff_core::TimeInfo;
-use run_values::Body;
 
 /// A message of a call.
 pub(crate) fn of_call(call: u64, msg: SsfMsg) -> Body {

@@ -7,13 +7,13 @@ use crate::setups::list;
 use arrayvec::ArrayVec;
 use cap_values::{Cause, Event, Leg, Mode, ScfOp, SsfMsg};
 use run_texts::read_script;
+use run_values::{Answer, Body};
 use runs_core::Driver;
 use script_player::ScriptPlayer;
 use ssf_core::{DefaultHandling, SsfConfig};
 use std::alloc::Global;
 use std::process::Abort;
 use std::test::Fail;
-use run_values::{Answer, Body};
 
 /// What the service says to an item: it grants calls 1 and 2 one period, and no further one, clears
 /// call 3, and has nothing to say to the start of another call.

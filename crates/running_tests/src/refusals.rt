@@ -5,6 +5,7 @@ use crate::rounds::Rounds;
 use crate::setups::{BAND, set_up};
 use account_core::AccountFault;
 use cap_values::{Number, SsfMsg};
+use run_values::Body;
 use runs_core::serve;
 use shared_account::OpenGate;
 use std::alloc::Global;
@@ -12,7 +13,6 @@ use std::process::Abort;
 use std::sync::Wait;
 use std::test::Fail;
 use std::thread::Threads;
-use run_values::Body;
 
 /// The limit of the accounts' histories, the posts, one in each round, and the refusals of the posts
 /// of worker 0, and of those of worker 1.

@@ -5,10 +5,10 @@ ghost use Rattle.tariff_core.specs.declared.times.TheConstants.{HORIZON};
 
 use account_core::AccountFault;
 use cap_values::ScfOp;
+use run_values::{Answer, Body};
 use runs_core::Driver;
 use std::alloc::{AllocError, Global};
 use tariff_core::HORIZON;
-use run_values::{Answer, Body};
 
 /// What an answer says.
 #[derive(Clone, Copy, Debug, PartialEq, Eq)]

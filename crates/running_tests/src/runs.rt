@@ -7,6 +7,7 @@ use crate::setups::set_up;
 use crate::shutting::Holding;
 use account_core::{Entry, Reply};
 use cap_values::{Event, Number};
+use run_values::{Body, RunSetup};
 use runs_core::{Books, RunFault, serve, serve_over};
 use shared_account::{Gate, OpenGate, SharedAccount};
 use std::alloc::Global;
@@ -14,7 +15,6 @@ use std::process::Abort;
 use std::sync::Wait;
 use std::test::Fail;
 use std::thread::Threads;
-use run_values::{Body, RunSetup};
 
 const TABLE: &[u8] = b"prefix,from,fee,rate\n49,00:00,50,1000\n49,00:01,0,400\n";
 

@@ -4,10 +4,10 @@ use account_core::MIN_LIMIT;
 use cap_values::Number;
 use dialogue_core::ServiceConfig;
 use run_texts::read_setup;
+use run_values::{Directory, OpeningCredit, RunSetup, SetupFault};
 use std::alloc::Global;
 use std::test::Fail;
 use tariff_core::{LAST_MOMENT, Tariff};
-use run_values::{Directory, OpeningCredit, RunSetup, SetupFault};
 
 /// One band for called numbers that begin with 49.
 pub(crate) const BAND: &[u8] = b"prefix,from,fee,rate\n49,00:00,50,1000\n";

@@ -2,11 +2,11 @@
 
 use crate::setups::list;
 use run_texts::{read_script, read_setup};
+use run_values::Directory;
 use std::alloc::{AllocError, Global};
 use std::process::Abort;
 use std::test::Fail;
 use table_core::{RowFault, RowKind, TableFault};
-use run_values::Directory;
 
 /// A row's number and its fault, if there is one.
 type Told = Option<(u32, RowKind)>;

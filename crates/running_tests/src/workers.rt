@@ -9,13 +9,13 @@ use crate::setups::{BAND, set_up};
 use crate::shutting::{ALWAYS, Shutting};
 use account_core::AccountFault;
 use cap_values::{Cause, Charge, Number, ScfOp, SsfMsg};
+use run_values::{Body, Post, RunSetup};
 use shared_account::{OpenGate, Seat, SharedAccount};
 use std::alloc::Global;
 use std::process::Abort;
 use std::sync::Wait;
 use std::test::Fail;
 use workers_core::{Worker, WorkerFault};
-use run_values::{Body, Post, RunSetup};
 
 /// Account 7, whose history has this limit, and subscriber 491700001 of it.
 fn set_up_seven(alloc: Global, limit: u32) -> Result<RunSetup, Fail> {

@@ -32,6 +32,7 @@ numbered number (next ∷ given) = item_at number next ∷ numbered (number + 1)
 abbrev pub share_from : ℕ → ℕ → List (ℕ × Body) → ℕ → List Item
 share_from workers first given worker = filter (λ item. worker_of workers item.body == worker) (numbered first given)
 
+-- the share of a worker of all that was given
 abbrev pub share : ℕ → List (ℕ × Body) → ℕ → List Item
 share workers given worker = share_from workers 0 given worker
 

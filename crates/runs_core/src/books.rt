@@ -1,8 +1,8 @@
 //! What a run comes to.
 
 use account_core::AccountFault;
-use shared_account::Book;
 use run_values::Post;
+use shared_account::Book;
 
 /// The books of a run that has ended.
 #[derive(Drop)]

@@ -13,11 +13,11 @@ ghost use Rattle.run_values.specs.declared.post.Post.{Post};
 use crate::RunFault;
 use crate::desk::Desk;
 use crate::line::Line;
+use run_values::{Answer, Post};
 use shared_account::{Gate, Shared};
 use std::alloc::Global;
 use std::sync::Wait;
 use std::vec::IntoIter;
-use run_values::{Answer, Post};
 
 /// The workers of a run: the main thread serves the first itself, and each other has a thread.
 #[derive(Drop)]

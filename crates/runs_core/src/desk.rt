@@ -9,11 +9,11 @@ ghost use Rattle.workers_core.specs.Workers.{IsReady, accounts_of, holding, numb
 
 use crate::RunFault;
 use account_core::AccountFault;
+use run_values::{Answer, Post, RunSetup};
 use shared_account::{Gate, Shared};
 use std::alloc::Global;
 use std::sync::Wait;
 use workers_core::Worker;
-use run_values::{Answer, Post, RunSetup};
 
 /// What a worker leaves: its seats, one of each account, and the posts that it has handled, with the
 /// refusal of each.

@@ -1,8 +1,8 @@
 //! What drives a run.
 
+use run_values::{Answer, Body};
 use std::alloc::AllocError;
 use tariff_core::HORIZON;
-use run_values::{Answer, Body};
 
 /// Gives the posts of a run, round by round.
 ///

@@ -13,13 +13,13 @@ use crate::RunFault;
 use crate::desk::Left;
 use crate::returns::{Finished, Returns};
 use crate::working::work;
+use run_values::{Answer, Post, RunSetup};
 use shared_account::{Gate, Shared};
 use std::alloc::Global;
 use std::snapshot::Snapshot;
 use std::sync::Wait;
 use std::thread::{PromisedHandle, Scope, Threads};
 use workers_core::{Inbox, Mail, Outbox, compare, mailbox};
-use run_values::{Answer, Post, RunSetup};
 
 /// How many mails wait in a mailbox at most: those of one round, and the last one.
 const MAILBOX: u32 = 2;

@@ -5,10 +5,10 @@ ghost use Rattle.runs_core.specs.Teams.{AreFresh, IsNew, reads, terms_of};
 
 use crate::RunFault;
 use crate::dealing::deal;
+use run_values::{OpeningCredit, RunSetup};
 use shared_account::Shared;
 use std::alloc::{AllocError, Global};
 use tariff_core::MAX_MONEY;
-use run_values::{OpeningCredit, RunSetup};
 
 /// The accounts of a run, in order, and the seats of each worker, one of each account.
 #[derive(Drop)]

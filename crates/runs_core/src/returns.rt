@@ -2,11 +2,11 @@
 
 use crate::RunFault;
 use crate::desk::Left;
+use run_values::{Answer, Post, RunSetup};
 use shared_account::{Gate, Shared};
 use std::snapshot::Snapshot;
 use std::thread::Promise;
 use workers_core::{Inbox, Outbox};
-use run_values::{Answer, Post, RunSetup};
 
 /// What a worker's thread gives back after its last mail: what the worker leaves, and its ends of
 /// the two mailboxes.

@@ -13,12 +13,12 @@ ghost use Rattle.run_values.specs.declared.post.Body.{Body};
 use crate::crew::{Crew, Replies};
 use crate::opening::empty_piles;
 use crate::{Driver, RunFault};
+use run_values::{Answer, Body, Post};
 use shared_account::{Gate, Shared};
 use std::alloc::Global;
 use std::collections::VecDeque;
 use std::sync::Wait;
 use tariff_core::HORIZON;
-use run_values::{Answer, Body, Post};
 
 /// Plays rounds until the driver has ended.
 pub(crate) fn play<D: Driver, S: Shared, R: Wait, G: Gate>(

@@ -19,16 +19,16 @@ use crate::opening::{Opened, open_accounts};
 use crate::rounds::play;
 use crate::threads::{finish_all, start_all};
 use crate::{Books, Driver, RunFault};
+use run_values::RunSetup;
 use shared_account::{Gate, Shared, TurnAccount};
 use std::alloc::Global;
 use std::sync::Wait;
 use std::thread;
 use std::thread::{Scope, Threads};
 use std::vec::IntoIter;
-use run_values::RunSetup;
 
 /// The most workers of a run.
-const MOST_WORKERS: u32 = 16;
+const MAX_WORKERS: u32 = 16;
 
 /// Serves what the driver gives by so many workers, 1 to 16, until the driver has ended, and gives
 /// the books. The first worker is the thread that calls; each other has a thread of its own. In a
@@ -98,7 +98,7 @@ pub fn serve_over<D: Driver, S: Shared, R: Wait + Threads + Sync, G: Gate + Sync
         (map (λ one. one.items) all.refusals.items)) }
     ensures gate { result ≡ Err RunFault.GateClosed → G.may_shut gate.now }
 {
-    if workers < 1 || workers > MOST_WORKERS {
+    if workers < 1 || workers > MAX_WORKERS {
         return Err(RunFault::Workers);
     }
     let Opened { accounts, teams } = open_accounts::<S, R>(rt, alloc, setup, workers)?;

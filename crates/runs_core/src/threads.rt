@@ -10,12 +10,12 @@ ghost use Rattle.runs_core.specs.declared.desk.Left.{Left};
 use crate::RunFault;
 use crate::desk::Left;
 use crate::line::{Line, start};
+use run_values::RunSetup;
 use shared_account::{Gate, Shared};
 use std::alloc::Global;
 use std::sync::Wait;
 use std::thread::{Scope, Threads};
 use std::vec::IntoIter;
-use run_values::RunSetup;
 
 /// Starts a worker for each team, in order from number 1 on, and puts down its line. After a fault
 /// the lines are those of the workers that were started.

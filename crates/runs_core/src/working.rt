@@ -14,11 +14,11 @@ ghost use Rattle.run_values.specs.declared.answer.Answer.{Answer};
 use crate::RunFault;
 use crate::desk::Desk;
 use crate::returns::Finished;
+use run_values::{Answer, Post, RunSetup};
 use shared_account::{Gate, Shared};
 use std::alloc::Global;
 use std::sync::Wait;
 use workers_core::{Gone, Inbox, Mail, Outbox};
-use run_values::{Answer, Post, RunSetup};
 
 /// Handles the posts of a worker, round by round up to the last mail, and answers each round.
 pub(crate) fn work<S: Shared, R: Wait, G: Gate>(

@@ -8,11 +8,11 @@ ghost use Rattle.script_player.specs.Steps.{DeliversDue};
 use crate::input::Input;
 use crate::network::Network;
 use cap_values::ScfOp;
+use run_values::{Answer, Body};
 use ssf_core::{Delivery, Moment, send, take_due};
 use std::alloc::AllocError;
 use std::collections::VecDeque;
 use tariff_core::{DAY, HORIZON};
-use run_values::{Answer, Body};
 
 /// Puts down the operations of answers, one after the other, each for the call of its post and a
 /// delay after the post's moment.

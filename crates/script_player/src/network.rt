@@ -8,15 +8,15 @@ use crate::feeding::feed;
 use crate::input::Input;
 use crate::posting::post;
 use cap_values::Number;
+use run_values::Body;
 use ssf_core::{Moment, Ssf, SsfConfig};
 use std::alloc::{AllocError, Global};
 use std::collections::{BTreeMap, BTreeSet};
 use std::marker::Model;
 use tariff_core::HORIZON;
-use run_values::Body;
 
 /// The most that a gsmSSF sends at one input.
-const MOST_SENT: usize = 8;
+const MAX_SENT: usize = 8;
 
 /// The gsmSSFs of the calls that have started, and all items of the run.
 #[derive(Drop)]
@@ -110,7 +110,7 @@ impl Network {
         if self.calls.contains_key(&call) {
             return Ok(());
         }
-        self.given.reserve(MOST_SENT)?;
+        self.given.reserve(MAX_SENT)?;
         let Started { ssf, sent } = begin(self.config, now, call, calling, called);
         // Until the moment of its timer is put down, the network isn't whole.
         let whole = self.whole;
@@ -130,7 +130,7 @@ impl Network {
         ensures waited { OnOk result (input ≡ what.Wait
             → (at : ℕ) → HasTimer self.new.ssfs call at → now < at) }
     {
-        self.given.reserve(MOST_SENT)?;
+        self.given.reserve(MAX_SENT)?;
         let Some(fed) = feed(&mut self.calls, now, call, input) else {
             return Ok(());
         };

@@ -4,13 +4,13 @@ use crate::deliveries::{deliver, put_down};
 use crate::network::Network;
 use crate::rows::{next_row, take_rows};
 use run_texts::ScriptRow;
+use run_values::{Answer, Body};
 use runs_core::Driver;
 use ssf_core::{Delivery, SsfConfig, next_delivery, next_moment};
 use std::alloc::{AllocError, Global};
 use std::collections::VecDeque;
 use std::marker::Model;
 use tariff_core::{DAY, HORIZON, LAST_MOMENT};
-use run_values::{Answer, Body};
 
 /// Plays a script: it drives a run by the rows of a script, with one gsmSSF for each call that has
 /// started.

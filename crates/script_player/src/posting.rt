@@ -4,8 +4,8 @@ ghost use Rattle.std.specs.Prelude.{◌≡◌, ◌+◌, ◌≤◌, ◌<◌, ◌+
 ghost use Rattle.std.specs.Vec.{vec_capacity, vec_len};
 ghost use Rattle.script_player.specs.Posts.{post_of, posts_of};
 
-use ssf_core::{Item, Out};
 use run_values::Body;
+use ssf_core::{Item, Out};
 
 /// Posts the messages among what the gsmSSF of a call has sent, in order, each with its moment.
 pub(crate) fn post(given: &mut Vec<(u64, Body)>, call: u64, sent: &[Out])

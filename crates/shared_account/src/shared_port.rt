@@ -20,7 +20,7 @@ pub struct SharedPort<'a, S: Shared, R: Wait, G: Gate> {
     rt: &'a R,
     gate: &'a G,
     ghost of_account: { S.key_of seat.now ≡ S.key account.now } by { Coded-set S.key_code
-    (S.key_of seat.now) (S.key account.now) },
+        (S.key_of seat.now) (S.key account.now) },
 }
 
 impl<'a, S: Shared, R: Wait, G: Gate> SharedPort<'a, S, R, G> {

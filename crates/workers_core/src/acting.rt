@@ -10,15 +10,15 @@ ghost use Rattle.workers_core.specs.Cases.{HasRoom, IsActed, IsCredited, IsWithi
 ghost use Rattle.workers_core.specs.Handled.{IsRecharged, IsTalked, answer_view};
 ghost use Rattle.workers_core.specs.Workers.{standing_of, standings_in};
 
+use crate::WorkerFault;
 use crate::case::Case;
 use crate::converse::converse;
 use crate::talk::Talk;
-use crate::WorkerFault;
-use run_values::{Answer, Body};
 use account_core::{AccountFault, Op};
 use arrayvec::ArrayVec;
 use cap_values::{Cause, ScfOp};
 use dialogue_core::Turn;
+use run_values::{Answer, Body};
 use shared_account::{Gate, Shared};
 use std::collections::BTreeMap;
 use std::sync::Wait;

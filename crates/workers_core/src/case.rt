@@ -9,9 +9,9 @@ ghost use Rattle.workers_core.specs.Verdicts.{fresh, goes_on, home_of, recharged
 ghost use Rattle.workers_core.specs.Workers.{standings_in};
 
 use crate::talk::Talk;
-use run_values::{Body, Post, RunSetup};
 use cap_values::{Number, SsfMsg};
 use dialogue_core::{Dialogue, Turn};
+use run_values::{Body, Post, RunSetup};
 use std::collections::BTreeMap;
 use tariff_core::HORIZON;
 

@@ -8,10 +8,10 @@ ghost use Rattle.cap_values.specs.Orders.{Release, orders_of};
 ghost use Rattle.workers_core.specs.Verdicts.{Recharges, Rejects, strays, verdict};
 ghost use Rattle.workers_core.specs.Workers.{IsReady, accounts_of, holding, number_of, posts_of, seats_of, setup_of, talks_of};
 
+use crate::WorkerFault;
 use crate::acting::{act, make_room, pass, tell};
 use crate::case::judge;
 use crate::talk::Talk;
-use crate::WorkerFault;
 use run_values::{Answer, Post, RunSetup};
 use shared_account::{Gate, Shared};
 use std::alloc::Global;

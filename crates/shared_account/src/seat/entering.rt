@@ -27,7 +27,7 @@ impl Seat {
             ≡ answer_of account.old (asked_of admitted.op)) }
         ensures entered { IfOk result (λ reply. account.new ≡ record account.old {
           history = account.old.history ++ event_by self.old.number (asked_of admitted.op) reply
-          ∷ [];
+              ∷ [];
         }) }
         ensures mine { IfOk result (λ reply. self.new ≡ record self.old {
           mine = self.old.mine ++ event_by self.old.number (asked_of admitted.op) reply ∷ [];
@@ -57,7 +57,7 @@ impl Seat {
             ≡ answer_of account.old (asked_of admitted.op)) }
         ensures entered { IfOk result (λ reply. account.new ≡ record account.old {
           history = account.old.history ++ event_by self.old.number (asked_of admitted.op) reply
-          ∷ [];
+              ∷ [];
         }) }
         ensures mine { IfOk result (λ reply. self.new ≡ record self.old {
           mine = self.old.mine ++ event_by self.old.number (asked_of admitted.op) reply ∷ [];
@@ -87,7 +87,7 @@ impl Seat {
             ≡ answer_of account.old (asked_of admitted.op)) }
         ensures entered { IfOk result (λ reply. account.new ≡ record account.old {
           history = account.old.history ++ event_by self.old.number (asked_of admitted.op) reply
-          ∷ [];
+              ∷ [];
         }) }
         ensures mine { IfOk result (λ reply. self.new ≡ record self.old {
           mine = self.old.mine ++ event_by self.old.number (asked_of admitted.op) reply ∷ [];
