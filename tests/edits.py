@@ -1,7 +1,7 @@
 #!/usr/bin/env python3
 """Tries the edits of crates/NAME/edits: wrong bodies that the prover must refuse.
 
-usage: tests/edits.py [--root FOLDER] [--lanes N] [NAME..]
+usage: tests/edits.py [--root FOLDER] [--lanes N] [--pages] [NAME..]
 
 An edit has the form of those in must-fail/, which the gate tries one by one. Here one check tries
 many: it changes different functions of a copy of the crate at once. The prover judges each function
@@ -9,6 +9,8 @@ by itself, so an edit is refused where the function that it changes has an open 
 an error of its own in its proof files. It isn't refused by what a caller of it lacks, nor where the
 function itself waits for another that isn't proved, nor where a proof file only lacks a name. What
 a check leaves undecided is tried in the next one, and at last alone.
+
+With --pages those of must-fail/ are tried too, and what refuses each edit is written to docs/edits/NAME.md.
 
 The checks go over what `rt check` keeps in out/. The last line is 'N refused, M not refused', and
 the names of the M stand above it. The status is 0 where M is 0.
@@ -162,7 +164,7 @@ class Verdicts:
 class Crate:
     """A crate with its edits, in a copy of it and of the crates below, over what its checks keep."""
 
-    def __init__(self, root, name, room):
+    def __init__(self, root, name, room, folders):
         self.name, self.folder, self.room = name, f"{root}/crates/{name}", room
         self.texts = {}
         for part in PARTS:
@@ -172,8 +174,8 @@ class Crate:
                     with open(path, encoding="utf-8") as text:
                         self.texts[os.path.relpath(path, self.folder)] = text.read()
         self.table = [it for file, text in self.texts.items() if file.startswith("src/") for it in functions_of(file, text)]
-        names = sorted(it for it in os.listdir(f"{self.folder}/edits") if it.endswith(".edit"))
-        self.edits = [read_edit(f"{self.folder}/edits/{it}", self.texts) for it in names]
+        paths = [f"{it.path}/{name}" for it in os.scandir(self.folder) if it.name in folders for name in os.listdir(it.path)]
+        self.edits = [read_edit(it, self.texts) for it in sorted(paths, key=os.path.basename) if it.endswith(".edit")]
         self.functions = {it.name: it.functions(self.texts, self.table) for it in self.edits if not it.fault}
         self.checks = 0
 
@@ -286,13 +288,30 @@ def link(source, to):
         shutil.copy2(source, to)
 
 
-def try_crate(root, name, listed):
+def page(crate, given):
+    """The page of a crate: for each edit that was refused, the functions that it changes and the goal that stays open."""
+    rows = []
+    for name, (_, why) in sorted(it for it in given.items() if it[1][0]):
+        changed = ", ".join(sorted(f"`{it.name}`" for it in crate.functions.get(name, ())))
+        goal = re.search(r"`(\w+(?:-\w+)+)`", why)
+        clause = goal and re.search(r"-clause-(\w+)$", goal[1])
+        rows.append(f"| `{name}` | {changed} | {f'clause `{clause[1]}`' if clause else f'goal `{goal[1]}`' if goal else 'its proof'} |\n")
+    head = f"# What refuses the edits of {crate.name}\n\n`tests/edits.py --pages {crate.name}` has tried them and written this page. "
+    head += "A goal that is no clause stands on the way to one.\n\n"
+    return head + "| Edit | Changes | Refused by |\n|---|---|---|\n" + "".join(rows)
+
+
+def try_crate(root, name, listed, pages):
     """Tries a crate's edits, and returns how many were refused and the names of the others."""
     start = time.monotonic()
     with tempfile.TemporaryDirectory(prefix="edits-") as room:
         lay(root, name, listed, room)
-        crate = Crate(root, name, room)
+        crate = Crate(root, name, room, ("edits", "must-fail") if pages else ("edits",))
         given = crate.tried()
+    if pages:
+        os.makedirs(f"{root}/docs/edits", exist_ok=True)
+        with open(f"{root}/docs/edits/{name}.md", "w", encoding="utf-8") as it:
+            it.write(page(crate, given))
     refused = [it for it, (well, _) in given.items() if well]
     with PRINTING:
         for it in sorted(given):
@@ -305,6 +324,7 @@ def main():
     asked = argparse.ArgumentParser(description=__doc__, formatter_class=argparse.RawDescriptionHelpFormatter)
     asked.add_argument("--root", default=os.path.dirname(os.path.dirname(os.path.abspath(__file__))))
     asked.add_argument("--lanes", type=int, default=len(os.sched_getaffinity(0)))
+    asked.add_argument("--pages", action="store_true")
     asked.add_argument("names", nargs="*")
     words = asked.parse_args()
     listed = lists(words.root)
@@ -318,7 +338,7 @@ def main():
         if ran.returncode:
             sys.exit(f"{ran.stdout}edits: {it} isn't proved as it is")
     with ThreadPoolExecutor(words.lanes) as pool:
-        tried = list(pool.map(lambda it: try_crate(words.root, it, listed), names))
+        tried = list(pool.map(lambda it: try_crate(words.root, it, listed, words.pages), names))
     refused, others = sum(it for it, _ in tried), [it for _, names in tried for it in names]
     for it in others:
         print(f"not refused: {it}")
