@@ -47,7 +47,7 @@ install: bin/prepaid
 	install -D -m 644 completions/prepaid.bash $(DESTDIR)$(PREFIX)/share/bash-completion/completions/prepaid
 	install -D -m 644 completions/_prepaid $(DESTDIR)$(PREFIX)/share/zsh/site-functions/_prepaid
 
-# Times price, audit and replay beside plain programs, a run by its length, and shared accounts beside plain ones.
+# Times price, audit, replay and run beside plain programs, and shared accounts beside plain ones.
 bench: bin/prepaid
 	bench/price.sh
 	bench/audit.sh

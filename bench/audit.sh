@@ -37,28 +37,8 @@ BEGIN {
     }
 }' > "$work/book.csv"
 
-once() { # COMMAND.. : the processor time of a run in milliseconds
-    local TIMEFORMAT='%U %S' spent
-    spent=$({ time "$@" < "$work/book.csv" > "$work/out"; } 2>&1)
-    awk '{ printf "%d", 1000 * ($1 + $2) }' <<< "$spent"
-}
-
-peak() { # COMMAND.. : the most memory of a run in KiB
-    python3 -c '
-import resource, subprocess, sys
-subprocess.run(sys.argv[2:], stdin=open(sys.argv[1]), stdout=subprocess.DEVNULL, check=True)
-print(resource.getrusage(resource.RUSAGE_CHILDREN).ru_maxrss)' "$work/book.csv" "$@"
-}
-
-proved=999999 plain=999999
-for _ in $(seq 20); do
-    time=$(once bin/prepaid audit)
-    (( time < proved )) && proved=$time
-    mv "$work/out" "$work/proved.out"
-    time=$(once "$work/plain")
-    (( time < plain )) && plain=$time
-    cmp "$work/out" "$work/proved.out"
-done
-! grep -q no "$work/out"
-echo "audit of $(wc -l < "$work/book.csv") rows: proved $proved ms of processor time, plain $plain ms"
-echo "memory: proved $(peak bin/prepaid audit) KiB, plain $(peak "$work/plain") KiB"
+echo "audit of $(wc -l < "$work/book.csv") rows:"
+bench/beside.py 20 "$work/book.csv" bin/prepaid audit -- "$work/plain"
+{ head -n 1 "$work/book.csv"; seq 0 527757 | sed 's/$/,,opening,,1500,,,,,,,,,,/'; } > "$work/openings.csv"
+echo "audit of 527,758 openings:"
+bench/beside.py 5 "$work/openings.csv" bin/prepaid audit -- "$work/plain"

@@ -1,7 +1,7 @@
 #!/usr/bin/env bash
 # The processor time of `replay` over 10,000 operations, beside a plain program that does the same
-# without proofs: 50 runs of each at a time, in turn, the least of 10 turns. The operations are those
-# of 3,334 calls of one account, 100 of them at once: each reserves, settles and returns.
+# without proofs: both in one run, in turn, the least of 200 runs of each. The operations are those of
+# 3,334 calls of one account, 100 of them at once: each reserves, settles and returns.
 set -eu
 cd "$(dirname "$0")/.."
 work=$(mktemp -d)
@@ -22,19 +22,5 @@ BEGIN {
     }
 }' > "$work/ops.csv"
 
-spent() { # COMMAND.. : the processor time of a run in microseconds, by 50 runs
-    local TIMEFORMAT='%U %S' both
-    both=$({ time for _ in $(seq 50); do "$@" < "$work/ops.csv" > "$work/out"; done; } 2>&1)
-    awk '{ printf "%d", 1000000 * ($1 + $2) / 50 }' <<< "$both"
-}
-
-proved=999999999 plain=999999999
-for _ in $(seq 10); do
-    time=$(spent bin/prepaid replay --opening 1000000000)
-    (( time < proved )) && proved=$time
-    mv "$work/out" "$work/proved.out"
-    time=$(spent "$work/plain" 1000000000)
-    (( time < plain )) && plain=$time
-    cmp "$work/out" "$work/proved.out"
-done
-echo "replay of 10,000 operations: proved $proved us of processor time, plain $plain us"
+echo "replay of 10,000 operations:"
+bench/beside.py 200 "$work/ops.csv" bin/prepaid replay --opening 1000000000 -- "$work/plain" 1000000000

@@ -1,43 +1,43 @@
 #!/usr/bin/env bash
-# The time of `run` over 1,000 accounts: 10,000 calls, then ten times as many; ten new calls a second,
-# each of 20 s to 3 minutes. The least of 3 runs of each.
+# The processor time and the memory of `run` with 1, 2 and 4 workers, beside a plain program that does
+# the same in one thread without proofs: all in one run, in turn. 1,000 accounts have 1,000, 10,000 and
+# 100,000 calls, each of 20 s to 3 minutes: ten new calls a second (dense), or one every 4 seconds
+# (sparse), where a round mostly has less than one post.
 set -eu
 cd "$(dirname "$0")/.."
 work=$(mktemp -d)
 trap 'rm -rf "$work"' EXIT
 
-rows() { # CALLS : what happens in so many calls
-    awk -v calls="$1" 'BEGIN {
+rustc --edition 2021 -O -o "$work/plain" bench/plain_run.rs
+
+rows() { # CALLS GAP : what happens in so many calls, which begin with this gap
+    awk -v calls="$1" -v gap="$2" 'BEGIN {
         for (call = 0; call < calls; call++) {
-            print call "," call ",start,4917" 1000000 + call % 1000 ",4930" call
-            print call + 50 "," call ",answer,,"
-            print call + 250 + call * 7919 % 1600 "," call ",disconnect," 1 + call % 2 ","
+            at = call * gap
+            print at "," call ",start,4917" 1000000 + call % 1000 ",4930" call
+            print at + 50 "," call ",answer,,"
+            print at + 250 + call * 7919 % 1600 "," call ",disconnect," 1 + call % 2 ","
         }
     }' | sort -s -n -t , -k 1,1
 }
 
-input() { # CALLS : a tariff, 1,000 accounts with a subscriber each, and the calls
+input() { # CALLS GAP : a tariff, 1,000 accounts with a subscriber each, and the calls
     printf 'prefix,from,fee,rate\n49,00:00,50,1000\n49,08:00,50,400\n%%%%\nkind,key,value\n'
     for at in $(seq 0 999); do
         echo "account,$at,1000000000"
         echo "subscriber,4917$((1000000 + at)),$at"
     done
     printf '%%%%\nmoment,call,what,x,y\n'
-    rows "$1"
+    rows "$1" "$2"
 }
 
-least() { # the least wall time in milliseconds
-    local best=999999999 start end
-    for _ in 1 2 3; do
-        start=$(date +%s%N)
-        bin/prepaid run "$@" < "$work/input" > "$work/out"
-        end=$(date +%s%N)
-        (( (end - start) / 1000000 < best )) && best=$(( (end - start) / 1000000 ))
+for gap in 1 40; do
+    for calls in 1000 10000 100000; do
+        input "$calls" "$gap" > "$work/input"
+        [ "$gap" = 1 ] && kind=dense || kind=sparse
+        [ "$calls" = 100000 ] && turns=3 || turns=10
+        echo "run of $calls calls, $kind:"
+        bench/beside.py "$turns" "$work/input" bin/prepaid run --workers 1 -- bin/prepaid run --workers 2 \
+            -- bin/prepaid run --workers 4 -- "$work/plain"
     done
-    echo "$best"
-}
-
-for calls in 10000 100000; do
-    input "$calls" > "$work/input"
-    echo "run of $calls calls: $(least) ms with 2 workers, $(least --workers 1) ms with 1"
 done
