@@ -196,6 +196,46 @@ const PLAYED: [(&str, &str, &str, &str, &str); 11] = [
     ),
 ];
 
+/// Words, the rows of a script, and the lines: what a run passes over in silence.
+const SILENT: [(&str, &str, &str); 7] = [
+    (
+        "run",
+        "0,1,start,491700009,4930\n10,1,answer,,\n20,1,disconnect,1,\n",
+        "account 7 opening 1500 available 1500 entries 0\n",
+    ),
+    (
+        "run --least 600",
+        "0,1,start,491700001,4930\n0,2,start,491700001,4930\n",
+        "account 7 opening 1500 available 450 entries 2\ncall 1 account 7 paid 0 holding\n",
+    ),
+    (
+        "run",
+        "0,1,start,491700001,4930\n1,1,answer,,\n400,1,disconnect,1,\n",
+        "account 7 opening 1500 available 450 entries 1\ncall 1 account 7 paid 0 holding\n",
+    ),
+    (
+        "run",
+        "0,1,start,491700001,4930\n",
+        "account 7 opening 1500 available 450 entries 1\ncall 1 account 7 paid 0 holding\n",
+    ),
+    (
+        "run",
+        "0,1,start,491700001,4930\n10,1,answer,,\n20,1,busy,,\n400,1,disconnect,1,\n\
+         401,1,disconnect,2,\n",
+        "account 7 opening 1500 available 800 entries 3\ncall 1 account 7 paid 700 returned\n",
+    ),
+    (
+        "run",
+        "0,,recharge,7,0\n",
+        "account 7 opening 1500 available 1500 entries 0\n",
+    ),
+    (
+        "run --tssf 1",
+        CALL,
+        "account 7 opening 1500 available 1500 entries 2\ncall 1 account 7 paid 0 returned\n",
+    ),
+];
+
 /// The rows of the tariff, the setup and the script, and the first fault. There is no worker, which
 /// would be a fault too, but a later one.
 const REFUSED: [(&str, &str, &str, &str); 17] = [
@@ -298,6 +338,10 @@ fn free_input_of(alloc: Global, tariff: &str) -> Result<String, AllocError> {
 fn plays_inputs(rt: HostRuntime) -> Result<(), Fail> {
     for (words, tariff, setup, script, output) in PLAYED {
         let input = input_of(rt.alloc(), tariff, setup, script)?;
+        expect(&rt, words, input.as_str(), (0, output, ""))?;
+    }
+    for (words, script, output) in SILENT {
+        let input = input_of(rt.alloc(), BAND, ACCOUNT, script)?;
         expect(&rt, words, input.as_str(), (0, output, ""))?;
     }
     for (tariff, setup, script, fault) in REFUSED {
