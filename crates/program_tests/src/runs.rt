@@ -204,7 +204,7 @@ const SILENT: [(&str, &str, &str); 7] = [
         "account 7 opening 1500 available 1500 entries 0\n",
     ),
     (
-        "run --least 600",
+        "run --least 600 --workers 1",
         "0,1,start,491700001,4930\n0,2,start,491700001,4930\n",
         "account 7 opening 1500 available 450 entries 2\ncall 1 account 7 paid 0 holding\n",
     ),
