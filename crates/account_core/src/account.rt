@@ -10,7 +10,6 @@ ghost use Rattle.account_core.specs.Kept.{known_of};
 ghost use Rattle.account_core.specs.Known.{known, paid_if_granted};
 ghost use Rattle.account_core.specs.Ledger.{IsRefusal, answer_of, event_by, refusal_of};
 ghost use Rattle.account_core.specs.Places.{IsClosing};
-ghost use Rattle.account_core.specs.Sound.{AnswersFit, IsSoundPast};
 
 mod entering;
 mod parts;
@@ -18,7 +17,7 @@ mod sums;
 
 use crate::call_state::CallState;
 use crate::judging::{judge, reply};
-use crate::laws::legal_pasts_are_sound;
+use crate::laws;
 use crate::{AccountFault, Admitted, Entry, Op, Reply};
 use std::alloc::{AllocError, Global};
 use std::collections::HashMap;
@@ -210,16 +209,7 @@ impl Account {
         requires admissible { inadmissible (reverse self.now.history) (asked_of op) ≡ None }
         ensures { result ≡ answer_of self.now (asked_of op) }
     {
-        self.history_is_sound();
+        laws::account_is_sound(self);
         reply(op, call, self.funds, self.available, self.last_moment)
-    }
-
-    /// What the type keeps.
-    fn history_is_sound(&self)
-        ensures sound { IsSoundPast self.now.opening (reverse self.now.history) }
-        ensures fitting { AnswersFit self.now.opening self.now.until (reverse self.now.history) }
-    {
-        let _ = &self.opening;
-        legal_pasts_are_sound();
     }
 }

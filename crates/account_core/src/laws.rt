@@ -1,11 +1,13 @@
 //! Laws of legal histories, each the contract of a function that does nothing: what the sequential
 //! account comes to, in words that know nothing of how it answers.
 
+ghost use Rattle.std.specs.Prelude.{reverse};
 ghost use Rattle.account_core.specs.Laws.{AnswersAreKindly, ClosedCallsPayTheTariff, NoBalanceIsNegative};
 ghost use Rattle.account_core.specs.Laws.{NothingIsGrantedLate, SettlesKeepTheCredit, TimesAreReported};
-ghost use Rattle.account_core.specs.Sound.{LegalPastsAreSound, SoundPastsAnswer};
+ghost use Rattle.account_core.specs.Sound.{AnswersFit, IsSoundPast, LegalPastsAreSound, SoundPastsAnswer};
 ghost use Rattle.account_core.specs.TariffLaws.{TariffLaws};
 
+use crate::{Account, ListAccount};
 use tariff_core::{afforded_is_greatest, ceiling_is_greatest, lawful_times_follow};
 
 /// No balance is negative: at no place of a legal history do its calls take more than there is.
@@ -44,6 +46,26 @@ pub fn answers_are_kindly()
     ensures { AnswersAreKindly }
 {
     tariff_laws();
+}
+
+/// What holds of an account's history, and of the answers that come next.
+pub(crate) fn account_is_sound(account: &Account)
+    ensures sound { IsSoundPast account.now.opening (reverse account.now.history) }
+    ensures fitting {
+        AnswersFit account.now.opening account.now.until (reverse account.now.history) }
+{
+    let _ = account.history();
+    legal_pasts_are_sound();
+}
+
+/// The same of the account that walks its list.
+pub(crate) fn list_is_sound(account: &ListAccount)
+    ensures sound { IsSoundPast account.now.opening (reverse account.now.history) }
+    ensures fitting {
+        AnswersFit account.now.opening account.now.until (reverse account.now.history) }
+{
+    let _ = account.history();
+    legal_pasts_are_sound();
 }
 
 /// What holds after every legal history, and of the answers that come next.

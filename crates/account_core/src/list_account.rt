@@ -9,11 +9,10 @@ ghost use Rattle.account_core.specs.Kept.{known_of};
 ghost use Rattle.account_core.specs.Known.{known, paid_if_granted};
 ghost use Rattle.account_core.specs.Ledger.{IsRefusal, answer_of, event_by, refusal_of};
 ghost use Rattle.account_core.specs.Places.{owed};
-ghost use Rattle.account_core.specs.Sound.{AnswersFit, IsSoundPast};
 
 use crate::call_state::CallState;
 use crate::judging::{judge, reply};
-use crate::laws::legal_pasts_are_sound;
+use crate::laws;
 use crate::walks::{funds_in, last_moment_in, owed_in, state_in, taken_in};
 use crate::{AccountFault, Entry, Op, Reply};
 use std::alloc::Global;
@@ -85,9 +84,11 @@ impl ListAccount {
         Ok(reply)
     }
 
-    /// The entries, oldest first.
+    /// The entries, oldest first. They are a legal history.
     pub fn history(&self) -> &[Entry]
-        ensures { map entry_data result.now ≡ self.now.history }
+        ensures value { map entry_data result.now ≡ self.now.history }
+        ensures legal { IsLegal self.now.opening self.now.until self.now.history }
+        ensures small { self.now.opening ≤ MAX_MONEY }
     {
         self.entries.as_slice()
     }
@@ -96,7 +97,7 @@ impl ListAccount {
     pub fn available(&self) -> u64
         ensures { result ≡ available self.now.opening (reverse self.now.history) }
     {
-        self.history_is_sound();
+        laws::list_is_sound(self);
         self.funds() - taken_in(self.entries.as_slice())
     }
 
@@ -121,7 +122,7 @@ impl ListAccount {
         requires { refusal_of self.now (asked_of op) ≡ None }
         ensures { result ≡ answer_of self.now (asked_of op) }
     {
-        self.history_is_sound();
+        laws::list_is_sound(self);
         let state = self.state(op.call());
         reply(
             op,
@@ -159,14 +160,5 @@ impl ListAccount {
     {
         let _bound = self.limit;
         owed_in(self.entries.as_slice())
-    }
-
-    /// What the type keeps.
-    fn history_is_sound(&self)
-        ensures sound { IsSoundPast self.now.opening (reverse self.now.history) }
-        ensures fitting { AnswersFit self.now.opening self.now.until (reverse self.now.history) }
-    {
-        let _ = &self.opening;
-        legal_pasts_are_sound();
     }
 }

@@ -13,7 +13,7 @@ use crate::Entry;
 use crate::call_state::CallState;
 use crate::call_states::CallStates;
 use crate::judging::{inadmissible, reply};
-use crate::laws::legal_pasts_are_sound;
+use crate::laws;
 use std::alloc::{AllocError, Global};
 use tariff_core::MAX_MONEY;
 
@@ -64,7 +64,7 @@ impl Tally {
         ensures fresh { OnErr result ((h : List EntryData) → IsTallied h self.old →
             known (call_of (asked_of entry.op)) h ≡ nothing_known) }
     {
-        legal_pasts_are_sound();
+        laws::legal_pasts_are_sound();
         if !renew_state(
             &mut self.calls,
             entry,
@@ -136,7 +136,7 @@ fn after_legal(
         funds available last_moment →
         IsAnswered opening until h (entry_data entry) → ⊥) }
 {
-    legal_pasts_are_sound();
+    laws::legal_pasts_are_sound();
     if inadmissible(&entry.op, state).is_some() {
         return None;
     }

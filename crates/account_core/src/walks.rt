@@ -11,7 +11,7 @@ ghost use Rattle.account_core.specs.Listed.{HasOpening};
 ghost use Rattle.account_core.specs.Places.{owed};
 
 use crate::call_state::CallState;
-use crate::laws::legal_pasts_are_sound;
+use crate::laws;
 use crate::{Entry, Op, Reply};
 use tariff_core::MAX_MONEY;
 
@@ -20,7 +20,7 @@ pub(crate) fn state_in(history: &[Entry], call: u64) -> CallState
     requires { HasOpening (map entry_data history.now) }
     ensures { known_of result ≡ known call (reverse (map entry_data history.now)) }
 {
-    legal_pasts_are_sound();
+    laws::legal_pasts_are_sound();
     let mut state = CallState::Fresh;
     for entry in history {
         if entry.op.call() == call {
@@ -36,7 +36,7 @@ pub(crate) fn funds_in(history: &[Entry], opening: u64) -> u64
     requires legal { (until : Option ℕ) × IsLegal opening until (map entry_data history.now) }
     ensures { result ≡ opening + credits (reverse (map entry_data history.now)) }
 {
-    legal_pasts_are_sound();
+    laws::legal_pasts_are_sound();
     let mut funds = opening;
     for entry in history {
         funds += entry.credited();
@@ -60,7 +60,7 @@ pub(crate) fn taken_in(history: &[Entry]) -> u64
     requires { HasOpening (map entry_data history.now) }
     ensures { result ≡ taken_by_all (reverse (map entry_data history.now)) }
 {
-    legal_pasts_are_sound();
+    laws::legal_pasts_are_sound();
     let mut taken = 0;
     for at in 0..history.len() {
         let entry = history[at];

@@ -10,6 +10,7 @@ ghost use Rattle.account_core.specs.Ledger.{answer_of, refusal_of};
 ghost use Rattle.account_core.specs.Places.{IsClosing};
 
 use crate::call_state::CallState;
+use crate::laws;
 use crate::{Account, Entry, Op};
 use std::alloc::AllocError;
 use std::collections::HashMap;
@@ -45,7 +46,7 @@ impl Account {
             record self.old { history = self.old.history ++ entry_data entry ∷ [] }) }
         ensures kept { OnErr result (self.new ≡ self.old) }
     {
-        self.history_is_sound();
+        laws::account_is_sound(self);
         make_room(&mut self.entries, self.owed + 1)?;
         self.entries.push_reserved(entry);
         self.funds += entry.credited();
@@ -66,7 +67,7 @@ impl Account {
         ensures kept { OnErr result (self.new ≡ self.old) }
         ensures closing { IsClosing (reverse self.old.history) (asked_of entry.op) → IsOk result }
     {
-        self.history_is_sound();
+        laws::account_is_sound(self);
         make_room(&mut self.entries, self.owed + before.needed(&entry.op))?;
         let after = before.after(entry.op, entry.reply);
         keep_state(&mut self.calls, call, after)?;

@@ -10,7 +10,7 @@ pub reply-requires : goal.reply-requires
 reply-requires c =
     let kept = kept_of c.self.inside c.args.self.now c.self.view_is c.self.invariant in
     let past = reverse c.args.self.now.history in
-    let sound = c.history_is_sound.ensures.sound in
+    let sound = c.account_is_sound.ensures.sound in
     record {
       sound = sound_call c.args.self.now.opening past sound (asked_of c.args.op) (known_of c.args.call.now) c.requires.known;
       money = money_kept c.args.self.now.opening past sound (asked_of c.args.op) (known_of c.args.call.now) c.requires.known c.self.inside.available kept.credit_is;
@@ -22,6 +22,6 @@ pub returns : goal.returns
 returns c =
     let kept = kept_of c.self.inside c.args.self.now c.self.view_is c.self.invariant in
     let past = reverse c.args.self.now.history in
-    reply_is_answer c.args.self.now.opening c.args.self.now.until past c.history_is_sound.ensures.sound c.history_is_sound.ensures.fitting (asked_of c.args.op)
+    reply_is_answer c.args.self.now.opening c.args.self.now.until past c.account_is_sound.ensures.sound c.account_is_sound.ensures.fitting (asked_of c.args.op)
     (known_of c.args.call.now) c.requires.known c.self.inside.available c.self.inside.funds c.self.inside.last_moment kept.credit_is kept.funds_are
     kept.last_is c.requires.admissible c.reply.result c.reply.ensures

@@ -8,7 +8,7 @@ use Rattle.account_core.proofs.account.Account.keep_call.Goals as goal
 pub after-after-requires-clause-room : goal.after-after-requires-clause-room
 after-after-requires-clause-room c =
     room_known c.args.self.now.opening c.args.self.now.until c.args.self.now.limit (reverse c.args.self.now.history) c.args.call (entry_data c.args.entry) c.requires.of_call
-    (known_of c.args.before) c.requires.known c.requires.admitted c.requires.answered c.history_is_sound.ensures.fitting
+    (known_of c.args.before) c.requires.known c.requires.admitted c.requires.answered c.account_is_sound.ensures.fitting
 
 pub after-after-requires-clause-placed : goal.after-after-requires-clause-placed
 after-after-requires-clause-placed c =

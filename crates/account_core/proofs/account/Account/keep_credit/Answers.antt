@@ -13,7 +13,7 @@ overflow_add-self c =
       arith,
       kept.funds_are,
       c.credited.ensures,
-      funds_fit c.args.self.now.opening c.args.self.now.until past (entry_data c.args.entry) c.history_is_sound.ensures.sound (record { admissible = admissible; answered = c.requires.answered }),
+      funds_fit c.args.self.now.opening c.args.self.now.until past (entry_data c.args.entry) c.account_is_sound.ensures.sound (record { admissible = admissible; answered = c.requires.answered }),
     )
 
 pub invariant_of-self-2 : goal.invariant_of-self-2
