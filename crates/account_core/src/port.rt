@@ -9,8 +9,10 @@ use crate::{AccountFault, Op, Reply};
 
 /// Takes the operations of calls, for an account that stands behind it.
 ///
-/// A port may state what it keeps of a call, and then moves it as an account's history would. One
-/// that others move too, as they share its account, can't state it.
+/// A port may state what it keeps of a call, and then moves it as an account's history would. That
+/// is all that an account knows of it: beside its plan, its times, the total granted and whether it
+/// forfeited, also what is held for it, whether it was returned, and whether a report is awaited. A
+/// port that others move too, as they share its account, can't state it.
 pub trait Port {
     ghost state: { Self → ℕ → Option CallFacts } = { λ _ _. None };
 

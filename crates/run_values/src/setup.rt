@@ -63,7 +63,8 @@ impl RunSetup {
     /// 10,000 subscribers; there may be none.
     ///
     /// The limit and the counts are judged first, then the accounts in order, then the subscribers
-    /// in order; of one item OutOfRange, Repeated, Unknown. OutOfMemory comes where it happens.
+    /// in order; of one item OutOfRange, Repeated, Unknown. OutOfMemory comes where it happens: at
+    /// the first item that there is no room for, where no earlier one has a fault.
     pub fn new(
         alloc: Global,
         accounts: &[(u32, OpeningCredit)],
@@ -81,6 +82,8 @@ impl RunSetup {
         ensures limit { IfOk result (λ setup. setup.limit ≡ limit) }
         ensures fault { IfErr result (λ fault. fault ≢ SetupFault.OutOfMemory
             → setup_fault limit accounts.now subscribers.now ≡ Some fault) }
+        ensures memory { result ≡ Err SetupFault.OutOfMemory
+            → counts_fault limit (length accounts.now) (length subscribers.now) ≡ None }
     {
         if !are_in_range(limit, accounts.len(), subscribers.len()) {
             return Err(SetupFault::OutOfRange);
