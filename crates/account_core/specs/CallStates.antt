@@ -1,6 +1,7 @@
 -- What is known of the calls of a history, one call apart from the others.
-use Rattle.std.specs.Prelude.{◌≡◌, ◌==◌, ℕ, Option, Some, None, List, nat_eq, unwrap_or, if◌then◌else◌}
-use Rattle.std.specs.HashMap.{HashMap, get}
+use Rattle.std.specs.Prelude.{◌≡◌, ◌==◌, ℕ, Option, Some, None, List, unwrap_or, if◌then◌else◌}
+use Rattle.std.specs.BTreeMap.{BTreeMap, get}
+use Rattle.std.specs.Ordering.{nat_cmp}
 use Rattle.account_core.specs.Events.{EntryData}
 use Rattle.account_core.specs.Kept.{known_of}
 use Rattle.account_core.specs.Known.{known}
@@ -10,11 +11,11 @@ use Rattle.account_core.specs.declared.call_state.CallState.{CallState}
 use Rattle.account_core.specs.declared.call_state.CallState.TheVariants.{Fresh}
 
 -- the state of a call in the map
-abbrev pub state_in : {S : Type 0} → HashMap ℕ CallState S → ℕ → CallState
-state_in others call = unwrap_or (get nat_eq others call) Fresh
+abbrev pub state_in : BTreeMap ℕ CallState → ℕ → CallState
+state_in others call = unwrap_or (get nat_cmp others call) Fresh
 
 -- the state of a call: it is the last one, or in the map
-abbrev pub state_by : {S : Type 0} → Option KnownCall → HashMap ℕ CallState S → ℕ → CallState
+abbrev pub state_by : Option KnownCall → BTreeMap ℕ CallState → ℕ → CallState
 state_by None others call = state_in others call
 state_by (Some last) others call = if last.call == call then last.state else state_in others call
 

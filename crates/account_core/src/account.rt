@@ -17,8 +17,7 @@ mod sums;
 
 use crate::call_state::CallState;
 use crate::judging::{judge, reply};
-use crate::laws;
-use crate::{AccountFault, Admitted, Entry, Op, Reply};
+use crate::{AccountFault, Admitted, Entry, Op, Reply, laws};
 use std::alloc::{AllocError, Global};
 use std::collections::HashMap;
 use std::marker::Model;

@@ -4,7 +4,7 @@ ghost use Rattle.std.specs.Prelude.{◌≡◌, ℕ, OnErr, OnOk};
 
 use crate::call_state::CallState;
 use std::alloc::{AllocError, Global};
-use std::collections::HashMap;
+use std::collections::BTreeMap;
 
 /// A call, and what is known of it.
 #[derive(Clone, Copy)]
@@ -18,7 +18,7 @@ pub(crate) struct KnownCall {
 #[derive(Drop)]
 pub(crate) struct CallStates {
     pub last: Option<KnownCall>,
-    pub others: HashMap<u64, CallState>,
+    pub others: BTreeMap<u64, CallState>,
 }
 
 impl CallStates {
@@ -30,7 +30,7 @@ impl CallStates {
     {
         CallStates {
             last: None,
-            others: HashMap::new(alloc),
+            others: BTreeMap::new(alloc),
         }
     }
 

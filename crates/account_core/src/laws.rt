@@ -51,8 +51,7 @@ pub fn answers_are_kindly()
 /// What holds of an account's history, and of the answers that come next.
 pub(crate) fn account_is_sound(account: &Account)
     ensures sound { IsSoundPast account.now.opening (reverse account.now.history) }
-    ensures fitting {
-        AnswersFit account.now.opening account.now.until (reverse account.now.history) }
+    ensures fitting { AnswersFit account.now.opening account.now.until (reverse account.now.history) }
 {
     let _ = account.history();
     legal_pasts_are_sound();
@@ -61,8 +60,7 @@ pub(crate) fn account_is_sound(account: &Account)
 /// The same of the account that walks its list.
 pub(crate) fn list_is_sound(account: &ListAccount)
     ensures sound { IsSoundPast account.now.opening (reverse account.now.history) }
-    ensures fitting {
-        AnswersFit account.now.opening account.now.until (reverse account.now.history) }
+    ensures fitting { AnswersFit account.now.opening account.now.until (reverse account.now.history) }
 {
     let _ = account.history();
     legal_pasts_are_sound();

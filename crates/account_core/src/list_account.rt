@@ -12,9 +12,8 @@ ghost use Rattle.account_core.specs.Places.{owed};
 
 use crate::call_state::CallState;
 use crate::judging::{judge, reply};
-use crate::laws;
 use crate::walks::{funds_in, last_moment_in, owed_in, state_in, taken_in};
-use crate::{AccountFault, Entry, Op, Reply};
+use crate::{AccountFault, Entry, Op, Reply, laws};
 use std::alloc::Global;
 use std::marker::Model;
 use tariff_core::MAX_MONEY;

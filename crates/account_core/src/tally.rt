@@ -9,11 +9,10 @@ ghost use Rattle.account_core.specs.Kept.{known_of};
 ghost use Rattle.account_core.specs.Known.{known, nothing_known};
 ghost use Rattle.account_core.specs.Tallied.{IsTallied, IsToldOf, tally_of};
 
-use crate::Entry;
 use crate::call_state::CallState;
 use crate::call_states::CallStates;
 use crate::judging::{inadmissible, reply};
-use crate::laws;
+use crate::{Entry, laws};
 use std::alloc::{AllocError, Global};
 use tariff_core::MAX_MONEY;
 

@@ -11,8 +11,7 @@ ghost use Rattle.account_core.specs.Listed.{HasOpening};
 ghost use Rattle.account_core.specs.Places.{owed};
 
 use crate::call_state::CallState;
-use crate::laws;
-use crate::{Entry, Op, Reply};
+use crate::{Entry, Op, Reply, laws};
 use tariff_core::MAX_MONEY;
 
 /// What a legal history says of a call.

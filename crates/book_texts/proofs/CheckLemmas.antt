@@ -13,7 +13,6 @@ use Rattle.std.specs.declared.cmp.Ordering.TheVariants as order
 use Rattle.account_core.specs.Checked.{IsCheckOf}
 use Rattle.account_core.specs.declared.history_check.HistoryCheck.{HistoryCheck}
 use Rattle.std.specs.BTreeMap.{BTreeMap}
-use Rattle.std.specs.HashMap.{HashMap}
 use Rattle.account_core.specs.Answers.{IsLegalPast}
 use Rattle.account_core.specs.Events.{EntryData}
 use Rattle.table_core.specs.Faults.{Refuses}
@@ -27,7 +26,7 @@ use Rattle.entry_rows.specs.Versions.{version_at}
 use Rattle.book_texts.specs.Audits.{AreVerdicts, GivesAudit, verdict_line}
 use Rattle.book_texts.specs.BookRows.{HasColumns}
 use Rattle.book_texts.specs.Books.{Books, Told, books_headers}
-use Rattle.book_texts.specs.Checks.{AreChecks, AreSaidBy, Comes, GivesChecks, HasChecks, TellsChecks, audited_by}
+use Rattle.book_texts.specs.Checks.{AreChecks, AreSaidBy, Comes, GivesChecks, TellsChecks, audited_by}
 use Rattle.book_texts.specs.declared.audit.Audit.{Audit}
 
 -- a check has heard what is told
@@ -114,11 +113,11 @@ module _ (cmp : ℕ → ℕ → Ordering) (account : ℕ) (told : Told) (check :
 
 -- ---- what a row comes to
 
-pub row_taken : {S : Type 0} (meaning : Result Books RowKind) (checks : HashMap ℕ HistoryCheck S) → Comes None meaning checks → (next : Books) × (meaning ≡ Ok next) × HasChecks next checks
+pub row_taken : (meaning : Result Books RowKind) (checks : List (ℕ × HistoryCheck)) → Comes None meaning checks → (next : Books) × (meaning ≡ Ok next) × AreChecks next checks
 row_taken (Ok next) checks are = (next, refl, are)
 row_taken (Err why) checks never = absurd never
 
-pub row_refused : {S : Type 0} (meaning : Result Books RowKind) (checks : HashMap ℕ HistoryCheck S) (kind : RowKind) → Comes (Some kind) meaning checks → meaning ≡ Err kind
+pub row_refused : (meaning : Result Books RowKind) (checks : List (ℕ × HistoryCheck)) (kind : RowKind) → Comes (Some kind) meaning checks → meaning ≡ Err kind
 row_refused (Ok next) checks kind never = absurd never
 row_refused (Err why) checks kind is = ap (λ k. Err k) (sym is)
 

@@ -1,7 +1,6 @@
 pub mod CallLemmas
 pub mod CheckLemmas
 pub mod OneText
-pub mod Ordered
 pub mod PrintedRows
 pub mod ReadBooks
 pub mod TextLemmas

@@ -1,12 +1,8 @@
 -- What the checks of histories are while a table of books is read, and what they say.
-use Rattle.std.specs.Prelude.{◌≡◌, ℕ, Bool, List, Option, Some, None, Result, Ok, Err, nat_eq, reverse}
-use Rattle.std.specs.BTreeMap.{BTreeMap, is_at}
+use Rattle.std.specs.Prelude.{◌≡◌, ℕ, Bool, List, Option, Some, None, Result, Ok, Err, reverse}
+use Rattle.std.specs.BTreeMap.{BTreeMap}
 use Rattle.std.specs.Bool.{Decides}
-use Rattle.std.specs.HashMap.{HashMap, get}
 use Rattle.std.specs.List.{AllZip}
-use Rattle.std.specs.List.Sorted.{IsStrictlySortedBy}
-use Rattle.std.specs.Map.{keys_of, lookup}
-use Rattle.std.specs.Ordering.{nat_cmp}
 use Rattle.account_core.specs.Answers.{IsLegalPast}
 use Rattle.account_core.specs.Checked.{IsCheckOf}
 use Rattle.account_core.specs.Events.{EntryData}
@@ -28,16 +24,9 @@ IsCheck book check = (check.0 ≡ book.0) × IsCheckOf book.1.opening book.1.unt
 abbrev pub AreChecks : Books → List (ℕ × HistoryCheck) → Type 0
 AreChecks books checks = AllZip IsCheck books checks
 
--- what a map by hash has are the checks of the books, which stand in order by rising number
-pub record HasChecks {S : Type 0} (books : Books) (checks : HashMap ℕ HistoryCheck S) : Type 0 where
-  pub ordered : List (ℕ × HistoryCheck)
-  pub rising : IsStrictlySortedBy nat_cmp (keys_of ordered)
-  pub has : (account : ℕ) → get nat_eq checks account ≡ lookup (is_at (nat_cmp account)) ordered
-  pub are : AreChecks books ordered
-
 -- a row is refused where its meaning is that fault; else the checks are those of the books after it
-abbrev pub Comes : {S : Type 0} → Option RowKind → Result Books RowKind → HashMap ℕ HistoryCheck S → Type 0
-Comes None (Ok books) checks = HasChecks books checks
+abbrev pub Comes : Option RowKind → Result Books RowKind → List (ℕ × HistoryCheck) → Type 0
+Comes None (Ok books) checks = AreChecks books checks
 Comes None (Err why) checks = ⊥
 Comes (Some kind) (Ok books) checks = ⊥
 Comes (Some kind) (Err why) checks = kind ≡ why

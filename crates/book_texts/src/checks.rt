@@ -6,14 +6,14 @@ ghost use Rattle.account_core.specs.Events.{entry_data};
 ghost use Rattle.table_core.specs.Rows.{rows_of};
 ghost use Rattle.book_texts.specs.BookRows.{HasColumns};
 ghost use Rattle.book_texts.specs.Books.{Books, books_of, entered, opened, row_at, told_of};
-ghost use Rattle.book_texts.specs.Checks.{AreChecks, Comes, GivesChecks, HasChecks};
+ghost use Rattle.book_texts.specs.Checks.{AreChecks, Comes, GivesChecks};
 
 use crate::book_row::{BookRow, read_row};
 use account_core::{Entry, HistoryCheck};
 use csv::ByteRecord;
 use entry_rows::Version;
 use std::alloc::{AllocError, Global};
-use std::collections::{BTreeMap, HashMap};
+use std::collections::BTreeMap;
 use std::io::Read;
 use table_core::{RowKind, Table, TableFault};
 use tariff_core::MAX_MONEY;
@@ -44,39 +44,28 @@ pub(crate) fn check_books<I: Read + Drop>(
         ],
     ];
     let mut table = Table::open(alloc, reader, headers, MAX_ROWS)?;
-    let mut checks = HashMap::new(alloc);
+    let mut checks = BTreeMap::new(alloc);
     while table.next_row()? {
         let version = Version::at(table.header());
         if let Some(kind) = take_row(alloc, &mut checks, table.row(), version)? {
             return Err(table.fault(kind));
         }
     }
-    Ok(in_order(alloc, checks)?)
-}
-
-/// The checks by rising number of their accounts.
-fn in_order(
-    alloc: Global,
-    checks: HashMap<u32, HistoryCheck>,
-) -> Result<BTreeMap<u32, HistoryCheck>, AllocError>
-    ensures { IfOk result (λ ordered. (books : Books) → HasChecks books checks
-        → AreChecks books ordered.entries) }
-{
-    checks.into_iter().collect(alloc)
+    Ok(checks)
 }
 
 /// Tells a row to the checks. The answer is why the row is refused, if it is.
 #[tactic(auto, unfolding(crate::specs::Books::row_at))]
 fn take_row(
     alloc: Global,
-    checks: &mut HashMap<u32, HistoryCheck>,
+    checks: &mut BTreeMap<u32, HistoryCheck>,
     row: &ByteRecord,
     version: Version,
 ) -> Result<Option<RowKind>, AllocError>
     requires fields { HasColumns version (fields_of row.now) }
-    requires are { (books : Books) × HasChecks books checks.old }
-    ensures { IfOk result (λ refused. (books : Books) → HasChecks books checks.old
-        → Comes refused (row_at version books (fields_of row.now)) checks.new) }
+    requires are { (books : Books) × AreChecks books checks.old.entries }
+    ensures { IfOk result (λ refused. (books : Books) → AreChecks books checks.old.entries
+        → Comes refused (row_at version books (fields_of row.now)) checks.new.entries) }
 {
     match read_row(row, version) {
         Ok(
@@ -94,15 +83,15 @@ fn take_row(
 /// Opens an account, which may not be open.
 fn open(
     alloc: Global,
-    checks: &mut HashMap<u32, HistoryCheck>,
+    checks: &mut BTreeMap<u32, HistoryCheck>,
     account: u32,
     opening: u64,
     until: Option<u64>,
 ) -> Result<Option<RowKind>, AllocError>
     requires { opening ≤ MAX_MONEY }
-    ensures { IfOk result (λ refused. (books : Books) → HasChecks books checks.old
+    ensures { IfOk result (λ refused. (books : Books) → AreChecks books checks.old.entries
         → Comes refused (opened account opening until books (told_of account books))
-        checks.new) }
+        checks.new.entries) }
 {
     if checks.contains_key(&account) {
         return Ok(Some(RowKind::Repeated));
@@ -113,14 +102,14 @@ fn open(
 
 /// Tells an entry to the check of its account, which must be open.
 fn enter(
-    checks: &mut HashMap<u32, HistoryCheck>,
+    checks: &mut BTreeMap<u32, HistoryCheck>,
     account: u32,
     entry: Entry,
 ) -> Result<Option<RowKind>, AllocError>
-    requires { (books : Books) × HasChecks books checks.old }
-    ensures { IfOk result (λ refused. (books : Books) → HasChecks books checks.old
-        → Comes refused
-        (entered account (entry_data entry) books (told_of account books)) checks.new) }
+    requires { (books : Books) × AreChecks books checks.old.entries }
+    ensures { IfOk result (λ refused. (books : Books) → AreChecks books checks.old.entries
+        → Comes refused (entered account (entry_data entry) books (told_of account books))
+        checks.new.entries) }
 {
     let Some(check) = checks.get_mut(&account) else {
         return Ok(Some(RowKind::Unknown));

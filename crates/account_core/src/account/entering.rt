@@ -10,8 +10,7 @@ ghost use Rattle.account_core.specs.Ledger.{answer_of, refusal_of};
 ghost use Rattle.account_core.specs.Places.{IsClosing};
 
 use crate::call_state::CallState;
-use crate::laws;
-use crate::{Account, Entry, Op};
+use crate::{Account, Entry, Op, laws};
 use std::alloc::AllocError;
 use std::collections::HashMap;
 

@@ -4,7 +4,6 @@ use Rattle.table_core.proofs.Known.{map_known}
 use Rattle.table_core.proofs.TableLemmas.{ended, header_stays, not_opened, opened, refused, refuses, row_columns, stopped, taken}
 use Rattle.book_texts.specs.Books.{books_form, books_of}
 use Rattle.book_texts.proofs.CheckLemmas.{fault_told, has_columns, row_refused, row_taken}
-use Rattle.book_texts.proofs.Ordered.{no_checks}
 use Rattle.book_texts.proofs.checks.check_books.Goals as goal
 
 pub returns-in_err-table : goal.returns-in_err-table
@@ -15,7 +14,7 @@ returns-in_err-table g c =
 
 pub loop-checks-init : goal.loop-checks-init
 loop-checks-init g c =
-    ([], opened books_form g.I.Read.remaining _ c.in_ok-table.table c.in_ok-table.ensures.first c.in_ok-table.ensures.opens, no_checks c.new-checks.result c.new-checks.ensures.empty)
+    ([], opened books_form g.I.Read.remaining _ c.in_ok-table.table c.in_ok-table.ensures.first c.in_ok-table.ensures.opens, rw c.new-checks.ensures.empty tt)
 
 pub returns-in_err-next_row : goal.returns-in_err-next_row
 returns-in_err-next_row g c =
@@ -57,4 +56,4 @@ returns g c =
     let (books, read, are) = c.loop-checks.invariant in
     map_known (g.I.Read.remaining c.args.reader) _ _
     (ended books_form g.I.Read.remaining _ c.loop-checks.table c.next_row.new.self books read (rw c.if-branch.false at c.in_ok-next_row.ensures.steps))
-    (λ text is. rw is (c.in_ok-in_order.ensures books are))
+    (λ text is. rw is are)
