@@ -18,6 +18,8 @@ from .tables import (
 )
 
 MAX_INPUT = 16_777_216
+# What `run` may print in place of its lines.
+TABLES = ("--book", "--calls")
 # More entries than an input has room for.
 NO_LIMIT = 2**32
 ARGUMENTS = Fault("prepaid: arguments")
@@ -26,7 +28,7 @@ TAKEN = {
     "replay": {"--opening", "--limit"},
     "audit": set(),
     "quote": {"--called", "--at", "--for", "--credit"},
-    "run": {"--workers", "--wanted", "--least", "--tssf", "--tccd", "--delay", "--default", "--book"},
+    "run": {"--workers", "--wanted", "--least", "--tssf", "--tccd", "--delay", "--default", "--book", "--calls"},
 }
 
 
@@ -38,7 +40,8 @@ def command(words, text, book=None):
         given = options_in(words[0], words[1:])
         if words[0] == "run":
             run = do_run(given, text, book)
-            return 0, run.book() if "--book" in given else run.lines(), "", not run.is_contended
+            text = run.book() if "--book" in given else run.calls() if "--calls" in given else run.lines()
+            return 0, text, "", not run.is_contended
         if words[0] == "audit":
             return *do_audit(text), "", True
         return 0, {"price": do_price, "replay": do_replay, "quote": do_quote}[words[0]](given, text), "", True
@@ -50,9 +53,11 @@ def options_in(name, words):
     given, left = {}, list(words)
     while left:
         word = left.pop(0)
-        if word not in TAKEN[name] or word in given or word != "--book" and not left:
+        if word not in TAKEN[name] or word in given or word not in TABLES and not left:
             raise ARGUMENTS
-        given[word] = True if word == "--book" else left.pop(0)
+        given[word] = True if word in TABLES else left.pop(0)
+    if all(it in given for it in TABLES):
+        raise ARGUMENTS
     return given
 
 

@@ -1,6 +1,7 @@
 """A run: the play of a script over accounts, round by round."""
 import dataclasses
 
+from . import calls
 from .account import Account
 from .service import is_stray, talk
 from .switch import Refused, Switch
@@ -54,6 +55,7 @@ class Run:
         self.tariff, self.options, self.openings = tariff, options, accounts
         self.accounts = {it: Account(*accounts[it]) for it in sorted(accounts)}
         self.switches, self.talks, self.deliveries, self.number = {}, {}, [], 0
+        self.told = {}
         # whether workers met at an account in one round, so that the order of their operations is open
         self.is_contended, self.met = False, {}
         self.orders = None if book is None else {it: [] for it in accounts}
@@ -90,6 +92,9 @@ class Run:
                 self.give(call, posts, lambda switch: switch.event(now, point))
         for call in sorted(self.switches):
             self.give(call, posts, lambda switch: switch.run_timers(now))
+        for call, message in posts:
+            if call is not None:
+                calls.hear(self.told, now, call, message)
         answers = self.answered(now, posts)
         for (call, _), (_, ops) in zip(posts, sorted(answers.items())):
             self.deliveries += [(now + self.options.delay, call, op) for op in ops]
@@ -176,11 +181,14 @@ class Run:
 
     def lines(self):
         rows = [f"account {number} opening {it.opening} available {it.available()} entries {len(it.entries)}" for number, it in self.accounts.items()]
-        calls = [(call, number, it) for number, account in self.accounts.items() for call, it in account.calls.items()]
-        for call, number, it in sorted(calls, key=lambda row: row[:2]):
+        known = [(call, number, it) for number, account in self.accounts.items() for call, it in account.calls.items()]
+        for call, number, it in sorted(known, key=lambda row: row[:2]):
             word = "forfeit" if it.has_forfeit else "holding" if it.is_open else "returned"
             rows.append(f"call {call} account {number} paid {it.paid()} {word}")
         return "".join(f"{it}\n" for it in rows)
+
+    def calls(self):
+        return calls.table(self.told, self.tariff, self.subscribers, self.accounts)
 
     def book(self):
         rows = [HEADER]
