@@ -4,7 +4,7 @@ PREFIX ?= /usr/local
 JOBS ?= $(shell nproc)
 SOURCES := crates.txt $(shell find crates -path '*/out' -prune -o -name '*.rt' -print -o -name '*.antt' -print)
 
-.PHONY: all run test edits install bench
+.PHONY: all run test edits install bench recipes
 
 # Proves and builds bin/prepaid.
 all: bin/prepaid
@@ -25,13 +25,15 @@ else
 endif
 
 # Proves everything from nothing, tries the edits that must fail, and runs the tests and the programs;
-# then holds the words of the man page and the completions against the formats, compares runs in parts
-# with whole ones, refuses memory to each call that takes any, and compares the program with its model.
+# then holds the words of the man page and the completions against the formats, runs the commands of the
+# pages as they stand, compares runs in parts with whole ones, refuses memory to each call that takes any,
+# and compares the program with its model.
 test:
 	tests/edits_test.py
 	mkdir -p out
 	set -o pipefail; rt ci | tee out/gate.txt
 	tests/words_test.py --program crates/prepaid/out/prepaid
+	tests/docs_test.py --program crates/prepaid/out/prepaid
 	tests/divide_test.py --program crates/prepaid/out/prepaid
 	tests/refused_growths.sh
 	tests/random.sh --program crates/prepaid/out/prepaid
@@ -46,6 +48,10 @@ install: bin/prepaid
 	install -D -m 644 man/prepaid.1 $(DESTDIR)$(PREFIX)/share/man/man1/prepaid.1
 	install -D -m 644 completions/prepaid.bash $(DESTDIR)$(PREFIX)/share/bash-completion/completions/prepaid
 	install -D -m 644 completions/_prepaid $(DESTDIR)$(PREFIX)/share/zsh/site-functions/_prepaid
+
+# Runs each recipe, those too that want sqlite3 or gnuplot: it says what is missing and how it is installed.
+recipes: bin/prepaid
+	tests/docs_test.py --all docs/RECIPES.md
 
 # Times price, audit, replay and run beside plain programs, and shared accounts beside plain ones.
 bench: bin/prepaid

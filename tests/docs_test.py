@@ -1,0 +1,89 @@
+#!/usr/bin/env python3
+"""Runs the commands of the pages as they stand: tests/docs_test.py [--program FILE] [--all] [PAGE..]
+
+A block ```console has commands, a line `$ WORDS` each, and below each what it prints. They run in a folder of their own
+for each page, which has `bin/prepaid` and `examples`, and what they print, errors too, must be what stands there, byte
+for byte. A command that wants a program that isn't here is passed over, and told; with --all that is a failure. Of
+`cd crates/NAME && rt run` the text is compared with crates/NAME/stdout, since the gate compares the program with that.
+Without a PAGE these are README.md and docs/*.md.
+"""
+import argparse
+import glob
+import os
+import re
+import shutil
+import subprocess
+import sys
+import tempfile
+
+# Programs that a page may want beside a shell and what every system has, and the package of each.
+WANTED = {"sqlite3": "sqlite3", "gnuplot": "gnuplot-nox"}
+
+
+def blocks(page):
+    """The commands of a page, each with the number of its line and what it prints."""
+    with open(page, encoding="utf-8") as it:
+        lines = it.read().split("\n")
+    found, inside = [], False
+    for number, line in enumerate(lines, 1):
+        if line.startswith("```"):
+            inside = line == "```console"
+        elif inside and line.startswith("$ "):
+            found.append((number, line[2:], []))
+        elif inside:
+            found[-1][2].append(line + "\n")
+    return [(number, words, "".join(told)) for number, words, told in found]
+
+
+def lacks(words):
+    """The program that a command wants and that isn't here, if there is one."""
+    return next((it for it in WANTED if re.search(rf"(^|\| ){it}\b", words) and not shutil.which(it)), None)
+
+
+def printed(words, folder):
+    """What a command prints."""
+    if crate := re.fullmatch(r"cd (crates/\w+) && rt run", words):
+        with open(f"{crate[1]}/stdout", encoding="utf-8") as it:
+            return it.read()
+    ran = subprocess.run(["bash", "-c", words], cwd=folder, text=True, stdout=subprocess.PIPE, stderr=subprocess.STDOUT)
+    return ran.stdout
+
+
+def try_page(page, program, takes_all):
+    """Runs a page's commands, and returns how many ran, how many were passed over, and how many failed."""
+    ran = passed = failed = 0
+    with tempfile.TemporaryDirectory() as folder:
+        os.mkdir(f"{folder}/bin")
+        os.symlink(program, f"{folder}/bin/prepaid")
+        os.symlink(os.path.abspath("examples"), f"{folder}/examples")
+        for number, words, told in blocks(page):
+            lacking = lacks(words)
+            if lacking:
+                passed += 1
+                failed += takes_all
+                print(f"{page}:{number}: {lacking} isn't here: apt-get install {WANTED[lacking]}")
+                continue
+            said = printed(words, folder)
+            ran += 1
+            if said != told:
+                failed += 1
+                print(f"{page}:{number}: {words}\nprints\n{said}where the page has\n{told}")
+    return ran, passed, failed
+
+
+def main():
+    asked = argparse.ArgumentParser(description=__doc__, formatter_class=argparse.RawDescriptionHelpFormatter)
+    asked.add_argument("--program", default="bin/prepaid")
+    asked.add_argument("--all", action="store_true")
+    asked.add_argument("pages", nargs="*")
+    words = asked.parse_args()
+    os.chdir(os.path.dirname(os.path.dirname(os.path.abspath(__file__))))
+    pages = words.pages or ["README.md", *sorted(glob.glob("docs/*.md"))]
+    told = [try_page(page, os.path.abspath(words.program), words.all) for page in pages]
+    ran, passed, failed = (sum(it) for it in zip(*told))
+    print(f"commands of the pages: {ran} ran, {passed} passed over, {failed} failed")
+    return 1 if failed or not ran else 0
+
+
+if __name__ == "__main__":
+    sys.exit(main())
