@@ -6,6 +6,7 @@ pub mod Kindly
 pub mod LawLemmas
 pub mod Listing
 pub mod Moves
+pub mod Ranging
 pub mod SoundPasts
 pub mod Soundness
 pub mod CallStateLemmas

@@ -6,13 +6,16 @@ use Rattle.tariff_core.specs.Reading.{times_read}
 use Rattle.tariff_core.specs.Times.{Elapsed, no_times}
 use Rattle.tariff_core.specs.declared.time_info.TimeInfo.{TimeInfo}
 use Rattle.account_core.specs.Answers.{IsLegal, answer, inadmissible}
-use Rattle.account_core.specs.Asked.{Asked, Settles, call_of}
+use Rattle.account_core.specs.Asked.{Asked, Settles, call_of, is_in_range}
 use Rattle.account_core.specs.Available.{available, credits, taken_by_all}
 use Rattle.account_core.specs.Events.{EntryData}
 use Rattle.account_core.specs.Expiry.{GrantsBy, LeavesLastMoment, last_moment}
 use Rattle.account_core.specs.Known.{Deed, Ends, deed, known}
 use Rattle.account_core.specs.Standing.{IsKindly}
+use Rattle.account_core.specs.declared.entry.Reply.{Reply}
+use Rattle.account_core.specs.declared.entry.Reply.TheVariants as reply
 use Rattle.tariff_core.specs.declared.money.TheConstants.{MAX_MONEY}
+use Rattle.tariff_core.specs.declared.times.TheConstants.{DAY}
 
 -- no balance is negative: at no place of a legal history do all calls take more than the opening and the credits accepted so far
 abbrev pub NoBalanceIsNegative : Type 0
@@ -84,3 +87,22 @@ AnswersAreKindly = (opening : ℕ) (until : Option ℕ) (history : List EntryDat
 abbrev pub NothingIsGrantedLate : Type 0
 NothingIsGrantedLate = (opening : ℕ) (until : Option ℕ) (history later : List EntryData) (last : ℕ) → IsLegal opening until (history ++ later)
     → last_moment until (reverse history) ≡ Some last → All (λ event. LeavesLastMoment event.asked event.reply) later → All (λ event. GrantsBy last event.asked event.reply) later
+
+-- the numbers of a reply: what is granted is a day at most, and money is 0 to `MAX_MONEY`
+abbrev pub IsReplyInRange : Reply → Type 0
+IsReplyInRange (reply.Credited available) = available ≤ MAX_MONEY
+IsReplyInRange (reply.CreditOver available) = available ≤ MAX_MONEY
+IsReplyInRange (reply.Granted units last available) = (units ≤ DAY) × (available ≤ MAX_MONEY)
+IsReplyInRange (reply.Denied available) = available ≤ MAX_MONEY
+IsReplyInRange (reply.Settled paid available) = (paid ≤ MAX_MONEY) × (available ≤ MAX_MONEY)
+IsReplyInRange (reply.Forfeit paid available) = (paid ≤ MAX_MONEY) × (available ≤ MAX_MONEY)
+IsReplyInRange (reply.Returned paid available) = (paid ≤ MAX_MONEY) × (available ≤ MAX_MONEY)
+
+-- what was asked and what was answered are in range
+pub record IsInRange (event : EntryData) : Type 0 where
+  pub asked : is_in_range event.asked ≡ true
+  pub reply : IsReplyInRange event.reply
+
+-- every entry of a legal history is
+abbrev pub EntriesAreInRange : Type 0
+EntriesAreInRange = (opening : ℕ) (until : Option ℕ) (history : List EntryData) → opening ≤ MAX_MONEY → IsLegal opening until history → All IsInRange history

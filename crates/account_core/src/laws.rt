@@ -2,7 +2,7 @@
 //! account comes to, in words that know nothing of how it answers.
 
 ghost use Rattle.std.specs.Prelude.{reverse};
-ghost use Rattle.account_core.specs.Laws.{AnswersAreKindly, ClosedCallsPayTheTariff, NoBalanceIsNegative};
+ghost use Rattle.account_core.specs.Laws.{AnswersAreKindly, ClosedCallsPayTheTariff, EntriesAreInRange, NoBalanceIsNegative};
 ghost use Rattle.account_core.specs.Laws.{NothingIsGrantedLate, SettlesKeepTheCredit, TimesAreReported};
 ghost use Rattle.account_core.specs.Sound.{AnswersFit, IsSoundPast, LegalPastsAreSound, SoundPastsAnswer};
 ghost use Rattle.account_core.specs.TariffLaws.{TariffLaws};
@@ -44,6 +44,14 @@ pub fn nothing_is_granted_late()
 /// exactly where it is accepted, else a forfeit.
 pub fn answers_are_kindly()
     ensures { AnswersAreKindly }
+{
+    tariff_laws();
+}
+
+/// Every entry of a legal history asks for what is in range, and its reply tells money of at most
+/// `MAX_MONEY`, and grants a day at most.
+pub fn entries_are_in_range()
+    ensures { EntriesAreInRange }
 {
     tariff_laws();
 }

@@ -33,7 +33,7 @@ pub use entry::{Entry, Op, Reply};
 pub use fault::AccountFault;
 pub use history_check::HistoryCheck;
 pub use laws::{
-    answers_are_kindly, closed_calls_pay_the_tariff, no_balance_is_negative,
+    answers_are_kindly, closed_calls_pay_the_tariff, entries_are_in_range, no_balance_is_negative,
     nothing_is_granted_late, settles_keep_the_credit,
 };
 pub use limits::{MAX_LIMIT, MIN_LIMIT};

@@ -8,10 +8,11 @@ use Rattle.std.proofs.lemmas.List.Elements.{All-append, All-cons, All-from_recur
 use Rattle.csv.specs.Reading.{strip_bom}
 use Rattle.account_core.specs.Asked.{Asked, Credits, Reserves, Returns, Settles}
 use Rattle.account_core.specs.Events.{EntryData}
+use Rattle.account_core.specs.Laws.{IsReplyInRange}
 use Rattle.account_core.specs.declared.entry.Reply.{Reply}
 use Rattle.account_core.specs.declared.entry.Reply.TheVariants as reply
 use Rattle.entry_rows.specs.Columns.{Answer, Operation, answer_of, no_answer, number_or_empty, opening_of, operation_of}
-use Rattle.entry_rows.specs.Fits.{FitsAsked, FitsEvent, FitsReply, IsInterval, IsMoment, IsRate}
+use Rattle.entry_rows.specs.Fits.{FitsAsked, FitsEvent, IsInterval, IsMoment, IsRate}
 use Rattle.shared_account.specs.Closed.{Closed}
 use Rattle.table_core.specs.Printed.{DecimalsArePlain, IsPlain, IsPlainRow, line_of, lines_of}
 use Rattle.table_core.specs.Rows.{Fields}
@@ -140,7 +141,7 @@ module _ (plain : DecimalsArePlain) where
   }
   operation_plain (Returns call) fits = record { op = refl; call = plain call (omega (arith, fits)); x1 = refl; x2 = refl; x3 = refl; x4 = refl; x5 = refl; x6 = refl; x7 = refl }
 
-  answer_plain : (answer : Reply) → FitsReply answer → IsPlainAnswer (answer_of answer)
+  answer_plain : (answer : Reply) → IsReplyInRange answer → IsPlainAnswer (answer_of answer)
   answer_plain (reply.Credited available) fits = record { reply = refl; y1 = refl; y2 = refl; y3 = plain available (omega (arith, fits)) }
   answer_plain (reply.CreditOver available) fits = record { reply = refl; y1 = refl; y2 = refl; y3 = plain available (omega (arith, fits)) }
   answer_plain (reply.Granted units true available) fits =

@@ -1,8 +1,9 @@
 -- One more book among the texts so far.
-use Rattle.std.proofs.Common.{◌≡◌, ℕ, ◌+◌, ◌<◌, List, [], ◌∷◌, ◌++◌, length, get_or, take, reverse, sym, ap, ◌∙◌, append_assoc}
+use Rattle.std.proofs.Common.{◌≡◌, ℕ, ◌+◌, ◌<◌, List, [], ◌∷◌, ◌++◌, length, get_or, take, reverse, sym, ap, ◌∙◌, append_assoc, subst}
 use Rattle.std.proofs.lemmas.List.{append-nil, take_more}
 use Rattle.std.proofs.lemmas.List.Concat.{flat_map-append}
-use Rattle.std.specs.List.{flat_map}
+use Rattle.std.proofs.lemmas.List.Elements.{All-more}
+use Rattle.std.specs.List.{All, flat_map}
 use Rattle.account_core.specs.Available.{available}
 use Rattle.shared_account.specs.Closed.{Closed}
 use Rattle.book_texts.specs.RunTexts.{account_line, account_text}
@@ -28,3 +29,9 @@ pub account_printed : (books : List Closed) (i : ℕ) (book : Closed) (text : Li
     → text ++ account_text account opening credit entries ≡ flat_map account_line (take (i + 1) books)
 account_printed books i book text account opening credit entries within is number opened left count so_far =
     rw (number, opened, left, count) (one_more account_line [] text books i book within is so_far)
+
+-- ---- what holds of each item so far
+
+pub all_so_far : {X : Type 0} (P : X → Type 0) (items : List X) (i : ℕ) (item : X) → i < length items → item ≡ get_or items i item
+    → All P (take i items) → P item → All P (take (i + 1) items)
+all_so_far P items i item within is so_far here = All-more P items i item within so_far (subst P is here)

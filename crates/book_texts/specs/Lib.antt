@@ -7,3 +7,4 @@ pub mod Laws
 pub mod Printable
 pub mod RunTexts
 pub mod SaidOf
+pub mod Typed

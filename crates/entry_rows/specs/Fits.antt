@@ -1,9 +1,8 @@
--- The operations and the replies whose numbers a row may have.
+-- The operations whose numbers a row may have, and the entries.
 use Rattle.std.specs.Prelude.{◌≤◌, ℕ, IfSome}
 use Rattle.account_core.specs.Asked.{Asked, Credits, Reserves, Settles, Returns}
 use Rattle.account_core.specs.Events.{EntryData}
-use Rattle.account_core.specs.declared.entry.Reply.{Reply}
-use Rattle.account_core.specs.declared.entry.Reply.TheVariants as reply
+use Rattle.account_core.specs.Laws.{IsReplyInRange}
 use Rattle.tariff_core.specs.Rates.{Rates}
 use Rattle.tariff_core.specs.declared.time_info.TimeInfo.{TimeInfo}
 use Rattle.tariff_core.specs.declared.time_info.TimeInfo.TheVariants as info
@@ -35,7 +34,7 @@ IsInterval interval = (1 ≤ interval) × (interval ≤ DAY)
 abbrev pub IsMoment : ℕ → Type 0
 IsMoment moment = moment ≤ HORIZON
 
--- each number of a plan, of a report, of an operation and of a reply is in its range
+-- each number of a plan is in its range
 pub record FitsPlan (plan : Rates) : Type 0 where
   pub fee : IsRate plan.fee
   pub first : IsRate plan.before
@@ -54,18 +53,8 @@ FitsAsked (Reserves call plan wanted least at) = IsWide call × FitsPlan plan ×
 FitsAsked (Settles call number report) = IsWide call × IsWide number × FitsReport report
 FitsAsked (Returns call) = IsWide call
 
--- the numbers of a reply fit their columns
-abbrev pub FitsReply : Reply → Type 0
-FitsReply (reply.Credited available) = IsMoney available
-FitsReply (reply.CreditOver available) = IsMoney available
-FitsReply (reply.Granted units last available) = IsTime units × IsMoney available
-FitsReply (reply.Denied available) = IsMoney available
-FitsReply (reply.Settled paid available) = IsMoney paid × IsMoney available
-FitsReply (reply.Forfeit paid available) = IsMoney paid × IsMoney available
-FitsReply (reply.Returned paid available) = IsMoney paid × IsMoney available
-
 -- an entry of one of 16 seats
 pub record FitsEvent (event : EntryData) : Type 0 where
   pub seat : event.seat ≤ 15
   pub asked : FitsAsked event.asked
-  pub reply : FitsReply event.reply
+  pub reply : IsReplyInRange event.reply

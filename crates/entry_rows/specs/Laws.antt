@@ -1,9 +1,10 @@
 -- What is printed is read back.
 use Rattle.std.specs.Prelude.{◌≡◌, true, Ok}
 use Rattle.account_core.specs.Asked.{Asked}
+use Rattle.account_core.specs.Laws.{IsReplyInRange}
 use Rattle.account_core.specs.declared.entry.Reply.{Reply}
 use Rattle.entry_rows.specs.Columns.{Answer, Operation, answer_of, operation_of}
-use Rattle.entry_rows.specs.Fits.{FitsAsked, FitsReply}
+use Rattle.entry_rows.specs.Fits.{FitsAsked}
 use Rattle.entry_rows.specs.Operations.{asked_in, is_asked_blank}
 use Rattle.entry_rows.specs.Replies.{is_reply_blank, reply_in}
 use Rattle.entry_rows.specs.Words.{op_word_in, reply_word_in}
@@ -30,4 +31,4 @@ OperationsAreRead = (asked : Asked) → FitsAsked asked → IsReadAsOp asked (op
 
 -- the columns that are printed of a reply are read as it
 abbrev pub RepliesAreRead : Type 0
-RepliesAreRead = (reply : Reply) → FitsReply reply → IsReadAsReply reply (answer_of reply)
+RepliesAreRead = (reply : Reply) → IsReplyInRange reply → IsReadAsReply reply (answer_of reply)

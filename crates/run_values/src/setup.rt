@@ -1,10 +1,11 @@
 //! What a run is set up with.
 
-ghost use Rattle.std.specs.Prelude.{◌≡◌, ◌≢◌, ◌≤◌, ℕ, None, Some, length, if◌then◌else◌, IfOk, IfErr, IfNone, IfSome, OnOk, ◌<◌};
+ghost use Rattle.std.specs.Prelude.{◌≡◌, ◌≢◌, ◌≤◌, ℕ, None, Some, true, length, if◌then◌else◌, All, IfOk, IfErr, IfNone, IfSome, OnOk, ◌<◌};
 ghost use Rattle.std.specs.List.{HoldsAt};
 ghost use Rattle.std.specs.List.Sorted.{IsStrictlySortedBy};
 ghost use Rattle.std.specs.Map.{keys_of};
 ghost use Rattle.std.specs.Ordering.{nat_cmp};
+ghost use Rattle.run_values.specs.Openings.{is_in_range};
 ghost use Rattle.run_values.specs.Setups.{place_of};
 ghost use Rattle.run_values.specs.Setups.{AreAscending, IsWithin, account_of, counts_fault, items_fault, opening_of, setup_fault};
 
@@ -134,6 +135,16 @@ impl RunSetup {
         ensures { result ≡ length self.now.accounts }
     {
         self.accounts.len()
+    }
+
+    /// The accounts by rising number, each with its opening credit of 0 to `MAX_MONEY` and a last
+    /// moment of 0 to `LAST_MOMENT`, if it has one.
+    pub fn accounts(&self) -> &[(u32, OpeningCredit)]
+        ensures value { result.now ≡ self.now.accounts }
+        ensures ordered { IsStrictlySortedBy nat_cmp (keys_of self.now.accounts) }
+        ensures range { All (λ account. is_in_range account.1 ≡ true) self.now.accounts }
+    {
+        self.accounts.as_slice()
     }
 
     /// The number of the account at a place of the ascending order.

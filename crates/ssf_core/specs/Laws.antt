@@ -1,9 +1,10 @@
 -- The laws of traces: what each charging report says, and what never changes.
-use Rattle.std.specs.Prelude.{◌≡◌, ◌+◌, ◌++◌, ◌≤◌, ℕ, Bool, true, Some, List, [], ◌∷◌, ⊤, is_some}
+use Rattle.std.specs.Prelude.{◌≡◌, ◌+◌, ◌++◌, ◌≤◌, ℕ, Bool, true, Some, List, [], ◌∷◌, ⊤, is_some, All}
 use Rattle.cap_values.specs.declared.message.SsfMsg.TheVariants.{ChargingReport}
 use Rattle.cap_values.specs.declared.operation.ScfOp.TheVariants.{ApplyCharging}
+use Rattle.tariff_core.specs.Reading.{is_time_info}
 use Rattle.tariff_core.specs.declared.time_info.TimeInfo.{TimeInfo}
-use Rattle.ssf_core.specs.Happenings.{Happening, What, Took}
+use Rattle.ssf_core.specs.Happenings.{Happening, What, Took, sent_in}
 use Rattle.ssf_core.specs.Quantities.{answered, granted, pending, switched}
 use Rattle.ssf_core.specs.Split.{split}
 use Rattle.ssf_core.specs.Traces.{IsTrace}
@@ -77,3 +78,12 @@ abbrev pub TheSwitchStays : Type 0
 TheSwitchStays =
     (config : SsfConfig) (later trace : List Happening) (moment : ℕ) → IsTrace config (later ++ trace) → switched trace ≡ Some moment
     → switched (later ++ trace) ≡ Some moment
+
+-- the times of a charging report lie within their ranges
+abbrev pub IsInRange : Item → Type 0
+IsInRange (Msg (ChargingReport active info)) = is_time_info info ≡ true
+IsInRange _ = ⊤
+
+-- so do those of each report that is sent
+abbrev pub ReportsAreInRange : Type 0
+ReportsAreInRange = (config : SsfConfig) (trace : List Happening) → IsTrace config trace → All (λ out. IsInRange out.item) (sent_in trace)

@@ -1,12 +1,18 @@
 //! Laws of the traces of a gsmSSF, each the contract of a function that does nothing.
 
-ghost use Rattle.ssf_core.specs.Laws.{EachReportFits, TheAnswerStays, TheSwitchStays};
+ghost use Rattle.ssf_core.specs.Laws.{EachReportFits, ReportsAreInRange, TheAnswerStays, TheSwitchStays};
 
 /// Each charging report is the exact split, at the tariff switch, of what was talked since the
 /// answer, while a period was pending and within the sum of the periods; where the call goes on it
 /// is just that sum. The k-th report stands after the k-th accepted period and before the next.
 pub fn each_report_fits()
     ensures { EachReportFits }
+{}
+
+/// The times of each charging report that is sent lie within their ranges: 0 to `DAY`, and an
+/// interval before the switch is at least 1.
+pub fn reports_are_in_range()
+    ensures { ReportsAreInRange }
 {}
 
 /// The moment of the answer never changes once it is there.

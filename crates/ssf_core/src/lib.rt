@@ -27,7 +27,7 @@ pub use config::{DefaultHandling, SsfConfig};
 pub use deliveries::{Delivery, next_delivery, send, take_due};
 pub use fault::SsfFault;
 pub use item::{Item, Moment, Out, Step};
-pub use laws::{each_report_fits, the_answer_stays, the_switch_stays};
+pub use laws::{each_report_fits, reports_are_in_range, the_answer_stays, the_switch_stays};
 pub use moments::next_moment;
 pub use ssf::Ssf;
 pub use state::State;

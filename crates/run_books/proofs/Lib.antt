@@ -1,0 +1,5 @@
+pub mod Entries
+pub mod Listed
+pub mod Openings
+pub mod Posts
+pub mod Printing

@@ -1,0 +1,102 @@
+-- What the workers of a run handle is as timely as what its driver gives, and so is what they settle and credit.
+use Rattle.std.proofs.Common.{◌<◌, ◌+◌, ℕ, zero, suc, Bool, true, false, Option, List, [], ◌∷◌, length, map, arith, All}
+use Rattle.std.specs.Prelude.{◌==◌, if◌then◌else◌, slice_index_or, IfSome}
+use Rattle.std.proofs.lemmas.List.Elements.{All-cons, All-filter, All-head, All-nil, All-same, All-tail}
+use Rattle.account_core.specs.Asked.{Asked, Credits, Reserves, Settles, Returns}
+use Rattle.account_core.specs.Events.{EntryData}
+use Rattle.cap_values.specs.declared.message.SsfMsg.{SsfMsg}
+use Rattle.cap_values.specs.declared.message.SsfMsg.TheVariants.{InitialDp, EventReport, ChargingReport, Ended}
+use Rattle.entry_rows.specs.Fits.{FitsReport, IsMoment}
+use Rattle.run_books.proofs.Listed.{all_joined, all_part, all_pieces, all_unmapped}
+use Rattle.run_books.specs.Timely.{AreTimely, IsTimely, IsTimelyMessage}
+use Rattle.run_values.specs.Setups.{Setup}
+use Rattle.run_values.specs.declared.post.Body.{Body}
+use Rattle.run_values.specs.declared.post.Body.TheVariants.{Ssf, Recharge}
+use Rattle.run_values.specs.declared.post.Post.{Post}
+use Rattle.runs_core.specs.Closing.{AreServedBy}
+use Rattle.runs_core.specs.Shares.{HaveHandled, Item, item_at, item_of, numbered, share, worker_of}
+use Rattle.workers_core.specs.Laws.{IsOnTerms}
+use Rattle.workers_core.specs.Served.{IsServed, Money, Report, credited_in, credits_of, recharged_in, recharges_of, report_in, reported_in, reports_of, settled_in, settles_of}
+
+-- ---- what each worker handles
+
+numbered_timely : (first : ℕ) (given : List (ℕ × Body)) → AreTimely given → All (λ item. IsTimely item.body) (numbered first given)
+numbered_timely first [] timely = All-nil (λ (item : Item). IsTimely item.body)
+numbered_timely first (next ∷ given) timely =
+    All-cons (λ (item : Item). IsTimely item.body) (item_at first next) (numbered (first + 1) given) (All-head (λ (item : ℕ × Body). IsTimely item.1) next given timely)
+    (numbered_timely (first + 1) given (All-tail (λ (item : ℕ × Body). IsTimely item.1) next given timely))
+
+pub handled_timely : (workers : ℕ) (given : List (ℕ × Body)) (handled : List (List Post)) (worker : ℕ) → HaveHandled workers given handled → AreTimely given
+    → worker < length handled → All (λ post. IsTimely post.body) (slice_index_or handled worker [])
+handled_timely workers given handled worker have timely within =
+    let P : Item → Type 0 = λ item. IsTimely item.body in
+    let posts : List Post = slice_index_or handled worker [] in
+    let shared : All P (share workers given worker) = All-filter (λ (item : Item). worker_of workers item.body == worker) P (numbered 0 given) (numbered_timely 0 given timely) in
+    all_unmapped P item_of posts (All-same P (map item_of posts) (share workers given worker) (have.each worker (omega (arith, have.count, within))) shared)
+
+-- ---- the reports and the recharges among posts
+
+IsTimelyReport : Report → Type 0
+IsTimelyReport report = FitsReport report.2
+
+IsTimelyMoney : Money → Type 0
+IsTimelyMoney money = IfSome money.1 IsMoment
+
+message_reports : (number call : ℕ) (message : SsfMsg) → IsTimelyMessage message → All IsTimelyReport (report_in number call message)
+unfolding IsTimelyReport
+message_reports number call (InitialDp other calling called) timely = All-nil IsTimelyReport
+message_reports number call (EventReport event leg mode) timely = All-nil IsTimelyReport
+message_reports number call (ChargingReport active info) timely = All-cons IsTimelyReport (number, call, info) [] timely (All-nil IsTimelyReport)
+message_reports number call Ended timely = All-nil IsTimelyReport
+
+body_reports : (number : ℕ) (body : Body) → IsTimely body → All IsTimelyReport (reported_in number body)
+body_reports number (Ssf call message) timely = message_reports number call message timely
+body_reports number (Recharge account amount until) timely = All-nil IsTimelyReport
+
+recharge_of : (is : Bool) (amount : ℕ) (until : Option ℕ) → IfSome until IsMoment → All IsTimelyMoney (if is then (amount, until) ∷ [] else [])
+unfolding IsTimelyMoney
+recharge_of true amount until timely = All-cons IsTimelyMoney (amount, until) [] timely (All-nil IsTimelyMoney)
+recharge_of false amount until timely = All-nil IsTimelyMoney
+
+body_recharges : (account : ℕ) (body : Body) → IsTimely body → All IsTimelyMoney (recharged_in account body)
+body_recharges account (Ssf call message) timely = All-nil IsTimelyMoney
+body_recharges account (Recharge other amount until) timely = recharge_of (other == account) amount until timely
+
+-- ---- what a worker enters for an account
+
+-- the times that an operation has of a report, of a recharge or of a message
+abbrev pub IsTimelyAsked : Asked → Type 0
+IsTimelyAsked (Credits amount until) = IfSome until IsMoment
+IsTimelyAsked (Reserves call plan wanted least at) = IsMoment at
+IsTimelyAsked (Settles call number info) = FitsReport info
+IsTimelyAsked (Returns call) = Unit {0}
+
+asked_timely : (setup : Setup) (place : ℕ) (posts : List Post) (asked : Asked) → All IsTimelyReport (settled_in asked) → All IsTimelyMoney (credited_in asked)
+    → IsOnTerms setup place posts asked → IsTimelyAsked asked
+unfolding IsTimelyReport IsTimelyMoney
+asked_timely setup place posts (Credits amount until) settled credited on_terms = All-head IsTimelyMoney (amount, until) [] credited
+asked_timely setup place posts (Reserves call plan wanted least at) settled credited on_terms =
+    let message = on_terms.1 in omega (arith, message.post.in_range, message.moment)
+asked_timely setup place posts (Settles call number info) settled credited on_terms = All-head IsTimelyReport (number, call, info) [] settled
+asked_timely setup place posts (Returns call) settled credited on_terms = tt
+
+pub mine_timely : (setup : Setup) (place account : ℕ) (posts : List Post) (mine : List EntryData) → IsServed account posts mine → All (λ post. IsTimely post.body) posts
+    → All (λ event. IsOnTerms setup place posts event.asked) mine → All (λ event. IsTimelyAsked event.asked) mine
+mine_timely setup place account posts mine served timely on_terms =
+    let reported : All IsTimelyReport (reports_of posts) =
+    all_joined IsTimelyReport (λ (post : Post). reported_in post.number post.body) posts (λ k d within. body_reports (slice_index_or posts k d).number (slice_index_or posts k d).body (timely k d within)) in
+    let recharged : All IsTimelyMoney (recharges_of account posts) =
+    all_joined IsTimelyMoney (λ (post : Post). recharged_in account post.body) posts (λ k d within. body_recharges account (slice_index_or posts k d).body (timely k d within)) in
+    let settled = all_pieces IsTimelyReport (λ (event : EntryData). settled_in event.asked) mine (all_part IsTimelyReport (settles_of mine) (reports_of posts) served.settles reported) in
+    let credited = all_pieces IsTimelyMoney (λ (event : EntryData). credited_in event.asked) mine (all_part IsTimelyMoney (credits_of mine) (recharges_of account posts) served.credits recharged) in
+    λ k d within. asked_timely setup place posts (slice_index_or mine k d).asked (settled k d within) (credited k d within) (on_terms k d within)
+
+-- ---- each worker's lists
+
+pub served_at : (account : ℕ) (handled : List (List Post)) (lists : List (List EntryData)) (worker : ℕ) → AreServedBy account handled lists → worker < length lists
+    → (worker < length handled) × IsServed account (slice_index_or handled worker []) (slice_index_or lists worker [])
+served_at account handled [] worker served within = absurd (omega (arith, within))
+served_at account [] (mine ∷ lists) worker served within = absurd served
+served_at account (posts ∷ handled) (mine ∷ lists) zero served within = (omega arith, served.0)
+served_at account (posts ∷ handled) (mine ∷ lists) (suc worker) served within =
+    let (there, is) = served_at account handled lists worker served.1 (omega (arith, within)) in (omega (arith, there), is)

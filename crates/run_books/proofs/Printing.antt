@@ -1,0 +1,37 @@
+-- The books of a run can be printed, and pass the audit.
+use Rattle.std.proofs.Common.{ℕ, List, All}
+use Rattle.std.specs.Prelude.{slice_index_or}
+use Rattle.account_core.specs.Laws.{EntriesAreInRange}
+use Rattle.book_texts.specs.Laws.{BooksAreRead, PrintedBooksPass}
+use Rattle.book_texts.specs.Printable.{ArePrintable, FitsBook}
+use Rattle.run_books.proofs.Entries.{history_fits}
+use Rattle.run_books.proofs.Openings.{IsOpenedWithin, accounts_rise, book_of, opened_within}
+use Rattle.run_books.specs.Laws.{RunsArePrintable, RunsPassTheAudit}
+use Rattle.run_books.specs.Runs.{IsRecorded}
+use Rattle.run_values.specs.Setups.{Setup}
+use Rattle.run_values.specs.declared.post.Body.{Body}
+use Rattle.runs_core.specs.Entered.{ReservesAreInTheBooks}
+use Rattle.shared_account.specs.Closed.{Closed}
+
+books_fit : ReservesAreInTheBooks → EntriesAreInRange → (setup : Setup) (workers : ℕ) (given : List (ℕ × Body)) (books : List Closed) → IsRecorded setup workers given books
+    → All FitsBook books
+books_fit reserves ranges setup workers given books is = λ place d within.
+    let opened : IsOpenedWithin (slice_index_or books place d) = opened_within setup workers given books is.run is.accounts place d within in
+    record {
+      account = (is.typed place d within).account;
+      opening = opened.opening;
+      until = opened.until;
+      history = history_fits reserves ranges setup workers given books is.run is.timely place d within (book_of setup workers given books is.run is.accounts place d within) opened (is.typed place d within);
+    }
+
+pub printable : ReservesAreInTheBooks → EntriesAreInRange → RunsArePrintable
+printable reserves ranges setup workers given books is = record {
+  rising = accounts_rise setup workers given books is.run is.accounts;
+  fit = books_fit reserves ranges setup workers given books is;
+  room = is.room;
+}
+
+pub pass : ReservesAreInTheBooks → EntriesAreInRange → BooksAreRead → PrintedBooksPass → RunsPassTheAudit
+pass reserves ranges read passes setup workers given books is =
+    let prints : ArePrintable books = printable reserves ranges setup workers given books is in
+    record { read = read books prints; verdicts = λ audit gives. passes books audit prints is.run.legal gives }

@@ -1,0 +1,24 @@
+//! The law of the books of a run, the contract of a function that does nothing.
+
+ghost use Rattle.run_books.specs.Laws.{RunsArePrintable, RunsPassTheAudit};
+
+use account_core::entries_are_in_range;
+use book_texts::printed_books_are_read;
+use runs_core::reserves_are_in_the_books;
+
+/// The table that `book_table` prints of the books of a run is read back to their openings and
+/// histories, and an audit of it says yes for each account.
+///
+/// All that it takes stands in clauses: `IsRun` in those of `runs_core::serve`, `HasAccounts` in
+/// those of `RunSetup::accounts`, and `IsTyped` in that of `book_table`. Left are two things: the
+/// driver gave reports and last moments in their ranges, as `TimeInfo::no_switch` and
+/// `TimeInfo::switch` make them, and moments of 0 to `HORIZON`; and the books have at most
+/// 1,000,000 rows, one for each account and one for each entry.
+pub fn runs_pass_the_audit()
+    ensures printable { RunsArePrintable }
+    ensures pass { RunsPassTheAudit }
+{
+    entries_are_in_range();
+    reserves_are_in_the_books();
+    printed_books_are_read();
+}
