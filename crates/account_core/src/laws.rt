@@ -59,7 +59,8 @@ pub fn entries_are_in_range()
 /// What holds of an account's history, and of the answers that come next.
 pub(crate) fn account_is_sound(account: &Account)
     ensures sound { IsSoundPast account.now.opening (reverse account.now.history) }
-    ensures fitting { AnswersFit account.now.opening account.now.until (reverse account.now.history) }
+    ensures fitting { AnswersFit account.now.opening account.now.until
+        (reverse account.now.history) }
 {
     let _ = account.history();
     legal_pasts_are_sound();
@@ -68,7 +69,8 @@ pub(crate) fn account_is_sound(account: &Account)
 /// The same of the account that walks its list.
 pub(crate) fn list_is_sound(account: &ListAccount)
     ensures sound { IsSoundPast account.now.opening (reverse account.now.history) }
-    ensures fitting { AnswersFit account.now.opening account.now.until (reverse account.now.history) }
+    ensures fitting { AnswersFit account.now.opening account.now.until
+        (reverse account.now.history) }
 {
     let _ = account.history();
     legal_pasts_are_sound();
