@@ -1,5 +1,5 @@
 -- Items are laid out on piles, time after time: what was laid out first is the first column.
-use Rattle.std.proofs.Common.{◌≡◌, ◌<◌, ◌+◌, ℕ, suc, List, [], ◌∷◌, length, map, refl, ap, sym, subst, ◌∙◌, arith}
+use Rattle.std.proofs.Common.{◌≡◌, ◌<◌, ◌+◌, ◌∙◌, ℕ, Bool, zero, suc, List, [], ◌∷◌, length, map, refl, ap, sym, subst, arith}
 use Rattle.std.specs.Prelude.{IfOk, Result, Ok, Err, replicate, slice_index_or}
 use Rattle.std.proofs.lemmas.List.{get_or_append_left, get_or_push, length-append, length-map, map-append}
 use Rattle.account_core.specs.Events.{EntryData}
@@ -7,11 +7,15 @@ use Rattle.shared_account.specs.Closed.{Closed}
 use Rattle.runs_core.proofs.Rows.{map_twice}
 use Rattle.runs_core.specs.Closing.{AreLeftFrom, AreListed, AreWorked, AreWorkedFrom}
 use Rattle.runs_core.specs.Dealing.{dealt}
+use Rattle.runs_core.specs.Hearing.{AreAnsweredFrom, HasHeard, HasHeardFrom, IsAnsweredBy, all_heard, answers_to}
 use Rattle.runs_core.specs.Teams.{Reads}
 use Rattle.runs_core.specs.declared.books.Books.{Books}
 use Rattle.runs_core.specs.declared.desk.Left.{Left}
 use Rattle.runs_core.specs.declared.run_fault.RunFault.{RunFault}
 use Rattle.run_values.specs.Setups.{Setup}
+use Rattle.run_values.specs.declared.answer.Answer.{Answer}
+use Rattle.run_values.specs.declared.post.Body.{Body}
+use Rattle.workers_core.specs.Handled.{answer_view}
 
 -- piles onto which several lists are laid out, one after the other
 abbrev pub laid : {X : Type 0} → List (List X) → List (List X) → List (List X)
@@ -134,3 +138,43 @@ pub worked_so : {K S T : Type 0} (read : Reads K T) (setup : Setup) (left : List
     → IfOk result (λ all. AreWorked setup all.books.items 0 (map (λ posts. posts.items) all.handled.items) (map (λ one. one.items) all.refusals.items))
 worked_so read setup left (Ok all) are handled refused listed = rw (handled, refused) (worked_in_books read setup all.books.items 0 left are listed)
 worked_so read setup left (Err fault) are handled refused listed = tt
+
+-- ---- and from the answers that came from the workers to those that the driver heard
+
+answered_at : {K S T : Type 0} (read : Reads K T) (setup : Setup) (books : List Closed) (first worker : ℕ) (lists : List (List Answer)) (left : List (Left S T)) → AreAnsweredFrom read setup first lists left
+    → AreListed books first (map (λ one. map read.mine one.seats.items) left) → worker < length left
+    → IsAnsweredBy setup books (first + worker) (slice_index_or (map (λ one. one.posts.items) left) worker []) (slice_index_or (map (λ one. one.refusals.items) left) worker [])
+    (map answer_view (slice_index_or lists worker []))
+answered_at read setup books first worker [] [] are listed below = absurd (omega (arith, below))
+answered_at read setup books first worker [] (one ∷ left) are listed below = absurd are
+answered_at read setup books first worker (answers ∷ lists) [] are listed below = absurd are
+answered_at read setup books first zero (answers ∷ lists) (one ∷ left) are listed below =
+    let here : first ≡ first + 0 = omega (arith) in
+    let Its : ℕ → Type 0 = λ n. IsAnsweredBy setup books n one.posts.items one.refusals.items (map answer_view answers) in
+    subst Its here (record { answered = rw (listed.0) are.0; refused = are.1 })
+answered_at read setup books first (suc worker) (answers ∷ lists) (one ∷ left) are listed below =
+    let later : first + 1 + worker ≡ first + suc worker = omega (arith) in
+    let Its : ℕ → Type 0 = λ n. IsAnsweredBy setup books n (slice_index_or (map (λ one. one.posts.items) left) worker []) (slice_index_or (map (λ one. one.refusals.items) left) worker [])
+    (map answer_view (slice_index_or lists worker [])) in
+    subst Its later (answered_at read setup books (first + 1) worker lists left are.2 listed.1 (omega (arith, below)))
+
+pub heard_so : {D K S T : Type 0} (given : D → List (ℕ × Body)) (ended : D → Bool) (hears : D → List Answer → D → Type 0) (read : Reads K T) (setup : Setup) (workers : ℕ) (left : List (Left S T)) (old new : D) (result : Result Books RunFault)
+    → workers ≡ length left → HasHeardFrom given ended hears read setup left old new
+    → IfOk result (λ all. map (λ posts. posts.items) all.handled.items ≡ map (λ one. one.posts.items) left)
+    → IfOk result (λ all. map (λ one. one.items) all.refusals.items ≡ map (λ one. one.refusals.items) left)
+    → IfOk result (λ all. AreListed all.books.items 0 (map (λ one. map read.mine one.seats.items) left))
+    → IfOk result (λ all. HasHeard given ended hears setup workers all.books.items (map (λ posts. posts.items) all.handled.items) (map (λ one. one.items) all.refusals.items) old new)
+heard_so given ended hears read setup workers left old new (Err fault) many has handled refused listed = tt
+heard_so given ended hears read setup workers left old new (Ok all) many has handled refused listed = rw (handled, refused) (record {
+  heard = has.heard;
+  rounds = has.rounds;
+  whole = has.are_answers.numbers;
+  answered = λ worker below.
+      let under : worker < length left = omega (arith, below, many) in
+      let here : 0 + worker ≡ worker = omega (arith) in
+      let its : slice_index_or has.lists worker [] ≡ answers_to workers worker (given new) (all_heard has.heard) =
+      has.are_answers.each worker under ∙ ap (λ n. answers_to n worker (given new) (all_heard has.heard)) (sym many) in
+      let Its : ℕ → List Answer → Type 0 = λ n answers. IsAnsweredBy setup all.books.items n (slice_index_or (map (λ one. one.posts.items) left) worker []) (slice_index_or (map (λ one. one.refusals.items) left) worker [])
+      (map answer_view answers) in
+      subst (Its worker) its (subst (λ n. Its n (slice_index_or has.lists worker [])) here (answered_at read setup all.books.items 0 worker has.lists left has.answered listed under));
+})

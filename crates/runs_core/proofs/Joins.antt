@@ -4,7 +4,7 @@ use Rattle.std.proofs.Math.ListN.{get_or, get_or-map, set}
 use Rattle.std.proofs.lemmas.List.{append-nil, append_assoc, length-map, map-set}
 use Rattle.runs_core.specs.Crews.{joined}
 
-joined_none : {X : Type 0} (lists : List (List X)) → joined lists [] ≡ lists
+pub joined_none : {X : Type 0} (lists : List (List X)) → joined lists [] ≡ lists
 joined_none [] = refl
 joined_none (xs ∷ lists) = refl
 
@@ -46,23 +46,30 @@ has_list inside lists more ys rest at now enough are =
     let parts = length-append are.done (ys ∷ rest) in
     omega (arith, here, all, parts, enough, length-map now inside, are.count)
 
+-- the list at the next place goes on
+pub joined_next : {V X : Type 0} (inside : V → List X) (lists done : List (List X)) (ys : List X) (at : ℕ) (now : List V) (one new : V)
+    → map inside now ≡ joined lists done → at ≡ length done → length done < length lists → one ≡ get_or now at one → inside new ≡ inside one ++ ys
+    → map inside (set now at new) ≡ joined lists (done ++ ys ∷ [])
+joined_next inside lists done ys at now one new so count below is grown =
+    let before : inside one ≡ get_or (joined lists done) (length done) (inside one) =
+    ap inside is ∙ sym (get_or-map inside now at one) ∙ ap (λ now. get_or now at (inside one)) so ∙ ap (λ n. get_or (joined lists done) n (inside one)) count in
+    map-set inside now at new
+    ∙ ap (λ list. set (map inside now) at list) (grown ∙ ap (λ list. list ++ ys) before)
+    ∙ ap (λ now. set now at (get_or (joined lists done) (length done) (inside one) ++ ys)) so
+    ∙ ap (λ n. set (joined lists done) n (get_or (joined lists done) (length done) (inside one) ++ ys)) count
+    ∙ joined_more lists done ys (inside one) below
+
 pub one_joined : {V X : Type 0} (inside : V → List X) (lists more : List (List X)) (ys : List X) (rest : List (List X)) (at : ℕ) (now : List V) (one new : V)
     → length more ≡ length lists → AreJoined lists more (ys ∷ rest) at (map inside now) → one ≡ get_or now at one → inside new ≡ inside one ++ ys
     → AreJoined lists more rest (at + 1) (map inside (set now at new))
 one_joined inside lists more ys rest at now one new enough are is grown =
     let below = has_list inside lists more ys rest at now enough are in
-    let before : inside one ≡ get_or (joined lists are.done) (length are.done) (inside one) =
-    ap inside is ∙ sym (get_or-map inside now at one) ∙ ap (λ now. get_or now at (inside one)) are.joined_so ∙ ap (λ n. get_or (joined lists are.done) n (inside one)) are.count in
+    let here : length (map inside now) ≡ length lists = ap length are.joined_so ∙ joined_length lists are.done in
     record {
       done = are.done ++ ys ∷ [];
       split = append_assoc are.done (ys ∷ []) rest ∙ are.split;
       count = ap (λ n. n + 1) are.count ∙ sym (length-append are.done (ys ∷ []));
-      joined_so = map-set inside now at new
-          ∙ ap (λ list. set (map inside now) at list) (grown ∙ ap (λ list. list ++ ys) before)
-          ∙ ap (λ now. set now at (get_or (joined lists are.done) (length are.done) (inside one) ++ ys)) are.joined_so
-          ∙ ap (λ n. set (joined lists are.done) n (get_or (joined lists are.done) (length are.done) (inside one) ++ ys)) are.count
-          ∙ joined_more lists are.done ys (inside one) (let here : length (map inside now) ≡ length lists = ap length are.joined_so ∙ joined_length lists are.done in
-          omega (arith, below, here, length-map now inside, are.count));
+      joined_so = joined_next inside lists are.done ys at now one new are.joined_so are.count (omega (arith, below, here, length-map now inside, are.count)) is grown;
     }
 
 pub all_joined : {X : Type 0} (lists more rest : List (List X)) (at : ℕ) (now : List (List X)) → rest ≡ [] → AreJoined lists more rest at now → now ≡ joined lists more

@@ -2,6 +2,7 @@ pub mod AtDesks
 pub mod Columns
 pub mod Deals
 pub mod Finishing
+pub mod Hearings
 pub mod InBooks
 pub mod Joins
 pub mod Leaving

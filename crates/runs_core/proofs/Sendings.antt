@@ -1,12 +1,12 @@
 -- Items that are handed out to the workers, one after the other.
-use Rattle.std.proofs.Common.{◌≡◌, ◌≢◌, ◌<◌, ℕ, ◌+◌, Bool, true, false, List, [], ◌∷◌, ◌++◌, length, map, refl, ap, sym, subst, ◌∙◌, arith, suc, zero, take}
+use Rattle.std.proofs.Common.{◌≡◌, ◌≢◌, ◌<◌, ℕ, ◌+◌, ◌-◌, Bool, true, false, List, [], ◌∷◌, ◌++◌, length, map, refl, ap, sym, subst, ◌∙◌, arith, suc, zero, take}
 use Rattle.std.specs.Prelude.{◌==◌, drop, filter, replicate}
 use Rattle.std.specs.List.{HoldsAt}
 use Rattle.std.proofs.Math.ListN.{get_or, get_or-map, set}
 use Rattle.std.proofs.Math.Seq.{drop-append_seam}
 use Rattle.std.proofs.lemmas.Bool.{eq-eqb}
 use Rattle.std.proofs.lemmas.Bool.Decides.{nat_tests}
-use Rattle.std.proofs.lemmas.List.{append-nil, get_or_default, get_or-set_other, get_or-set_same, length-replicate, length-take-le, length-set, map-append, map-set, take_more}
+use Rattle.std.proofs.lemmas.List.{append-nil, get_or_default, get_or-set_other, get_or-set_same, length-drop, length-replicate, length-take-le, length-set, map-append, map-set, take_all, take_more}
 use Rattle.std.proofs.lemmas.List.Elements.{filter-append}
 use Rattle.run_values.specs.declared.post.Body.{Body}
 use Rattle.run_values.specs.declared.post.Post.{Post}
@@ -34,10 +34,10 @@ share-other workers first given next worker other =
     ∙ filter-append (λ (item : Item). worker_of workers item.body == worker) (numbered first given) (item_at (first + length given) next ∷ [])
     ∙ rw (other) (append-nil _)
 
-differs : (s t : ℕ) → (s == t) ≡ false → t ≢ s
+pub differs : (s t : ℕ) → (s == t) ≡ false → t ≢ s
 differs s t other = λ same. let is : (s == t) ≡ true = eq-eqb s t (sym same) in absurd (cc)
 
-agrees : (s t : ℕ) → (s == t) ≡ true → s ≡ t
+pub agrees : (s t : ℕ) → (s == t) ≡ true → s ≡ t
 agrees s t is = grind (arith, nat_tests, is)
 
 -- the list of one worker has one post more
@@ -105,7 +105,7 @@ none_handled workers handled empty = rw (empty) (record {
   each = λ worker below. ap (map item_of) (none_at workers worker);
 })
 
-numbered-append : (first : ℕ) (given added : List (ℕ × Body)) → numbered first (given ++ added) ≡ numbered first given ++ numbered (first + length given) added
+pub numbered-append : (first : ℕ) (given added : List (ℕ × Body)) → numbered first (given ++ added) ≡ numbered first given ++ numbered (first + length given) added
 numbered-append first [] added = let here : first ≡ first + 0 = omega (arith) in ap (λ n. numbered n added) here
 numbered-append first (item ∷ given) added =
     let here : first + 1 + length given ≡ first + suc (length given) = omega (arith) in
@@ -132,3 +132,8 @@ handled_more workers given added handled shares before are = record {
 -- what was given before is what stands first, and then what was added
 pub added_after : (given before added : List (ℕ × Body)) → given ≡ before ++ added → drop (length before) given ≡ added
 added_after given before added grown = ap (drop (length before)) grown ∙ drop-append_seam before added
+
+-- and so what is read of it from there on
+pub added_slice : (given before added now first : List (ℕ × Body)) → given ≡ before ++ added → now ≡ given → first ≡ before → take (length now - length first) (drop (length first) now) ≡ added
+added_slice given before added now first grown now_is first_is =
+    rw (now_is, first_is) (take_all (length given - length before) (drop (length before) given) (omega (arith, length-drop (length before) given)) ∙ added_after given before added grown)

@@ -4,6 +4,7 @@ pub mod Dealing
 pub mod Desks
 pub mod Entered
 pub mod Headline
+pub mod Hearing
 pub mod Mails
 pub mod RunFaults
 pub mod Sending

@@ -4,10 +4,11 @@ ghost use Rattle.std.specs.Prelude.{◌≡◌, ◌≢◌, ◌++◌, ◌∷◌, [
 ghost use Rattle.std.specs.Vec.Iter.{into_iter_items};
 ghost use Rattle.runs_core.specs.Crews.{count_of, joined, posts_by};
 ghost use Rattle.runs_core.specs.Desks.{GoesOn};
-ghost use Rattle.runs_core.specs.Sending.{promises_of, sent_by};
+ghost use Rattle.runs_core.specs.Sending.{heard_by, promises_of, sent_by};
 ghost use Rattle.runs_core.specs.Teams.{reads};
 ghost use Rattle.workers_core.specs.Handled.{answer_view};
 ghost use Rattle.workers_core.specs.Workers.{IsReady};
+ghost use Rattle.run_values.specs.declared.answer.Answer.{Answer};
 ghost use Rattle.run_values.specs.declared.post.Post.{Post};
 
 use crate::RunFault;
@@ -57,6 +58,11 @@ impl<S: Shared, G: Gate> Crew<'_, S, G> {
             × GoesOn (λ account. (S.terms account).number)
             S.key (reads S.key_of S.number_of S.mine_of)
             self.old.desk posts (map answer_view replies.first.items) self.new.desk) }
+        ensures heard { IfOk result (λ replies. map heard_by self.new.lines.items
+            ≡ joined (map heard_by self.old.lines.items)
+            (map (λ list. list.items) replies.others.items)) }
+        ensures others { IfOk result (λ replies.
+            length replies.others.items ≡ length self.old.lines.items) }
         ensures count { count_of self.new ≡ count_of self.old }
         ensures promises { promises_of self.new.lines.items ≡ promises_of self.old.lines.items }
         ensures gate { result ≡ Err RunFault.GateClosed → G.may_shut gate.now }
@@ -92,6 +98,7 @@ impl<S: Shared, G: Gate> Crew<'_, S, G> {
         ensures goes_on { IfOk result (λ answers. GoesOn (λ account. (S.terms account).number)
             S.key (reads S.key_of S.number_of S.mine_of)
             self.old.desk mine.items (map answer_view answers.items) self.new.desk) }
+        ensures heard { map heard_by self.new.lines.items ≡ map heard_by self.old.lines.items }
         ensures promises { promises_of self.new.lines.items ≡ promises_of self.old.lines.items }
         ensures gate { result ≡ Err RunFault.GateClosed → G.may_shut gate.now }
         ensures workers { result ≢ Err RunFault.Workers }
@@ -112,6 +119,7 @@ fn send_all<S: Shared, R: Wait, G: Gate>(
     requires count { length (into_iter_items shares) ≡ length lines.old.items }
     ensures posts { OnOk result (map sent_by lines.new.items ≡ joined (map sent_by lines.old.items)
         (map (λ share. share.items) (into_iter_items shares))) }
+    ensures heard { map heard_by lines.new.items ≡ map heard_by lines.old.items }
     ensures promises { promises_of lines.new.items ≡ promises_of lines.old.items }
     ensures fault { (result ≢ Err RunFault.GateClosed) × (result ≢ Err RunFault.Workers) }
 {
@@ -123,13 +131,18 @@ fn send_all<S: Shared, R: Wait, G: Gate>(
     Ok(())
 }
 
-/// Waits for the answers of each of these workers, also where one has failed.
+/// Waits for the answers of each of these workers, also where one has failed, and puts down each
+/// worker's, in their order.
 fn hear_all<S: Shared, R: Wait, G: Gate>(
     rt: &R,
     alloc: Global,
     lines: &mut Vec<Line<'_, S, G>>,
     lists: &mut Vec<Vec<Answer>>,
 ) -> Result<(), RunFault>
+    requires none { lists.old.items ≡ [] }
+    ensures heard { OnOk result (map heard_by lines.new.items
+        ≡ joined (map heard_by lines.old.items) (map (λ list. list.items) lists.new.items)) }
+    ensures lists { OnOk result (length lists.new.items ≡ length lines.old.items) }
     ensures posts { map sent_by lines.new.items ≡ map sent_by lines.old.items }
     ensures promises { promises_of lines.new.items ≡ promises_of lines.old.items }
     ensures fault { (result ≢ Err RunFault.GateClosed) × (result ≢ Err RunFault.Workers) }
@@ -151,6 +164,10 @@ fn hear_one<S: Shared, R: Wait, G: Gate>(
     line: &mut Line<'_, S, G>,
     lists: &mut Vec<Vec<Answer>>,
 ) -> Result<(), RunFault>
+    ensures heard { OnOk result ((answers : List Answer)
+        × (heard_by line.new ≡ heard_by line.old ++ answers)
+        × (map (λ list. list.items) lists.new.items
+        ≡ map (λ list. list.items) lists.old.items ++ answers ∷ [])) }
     ensures outbox { line.new.outbox ≡ line.old.outbox }
     ensures child { line.new.child ≡ line.old.child }
     ensures fault { (result ≢ Err RunFault.GateClosed) × (result ≢ Err RunFault.Workers) }

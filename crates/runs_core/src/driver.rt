@@ -8,8 +8,11 @@ use tariff_core::HORIZON;
 ///
 /// A driver stores all that it has given, in order, each with its moment in units of 100 ms, and
 /// whether it has ended. It states a plan, which no round changes; of one that has none it is `tt`.
+/// It may state what it becomes by the answers that it hears in a round; what it says of that, `serve`
+/// says of all the rounds of a run.
 pub trait Driver {
     ghost use Rattle.std.specs.Prelude.{◌≡◌, ◌≤◌, ◌++◌, ℕ, List, Bool, not, false, All, IfOk};
+    ghost use Rattle.run_values.specs.declared.answer.Answer.{Answer};
     ghost use Rattle.run_values.specs.declared.post.Body.{Body};
 
     ghost given: { Self → List (ℕ × Body) };
@@ -19,6 +22,8 @@ pub trait Driver {
     ghost Plan: { Type 0 } = { Unit {0} };
 
     ghost plan: { Self → Self.Plan };
+
+    ghost hears: { Self → List Answer → Self → Type 0 } = { λ _ _ _. Unit {0} };
 
     /// All that it has given, each with its moment, 0 to `tariff_core::HORIZON`.
     fn given(&self) -> &[(u64, Body)]
@@ -37,5 +42,6 @@ pub trait Driver {
             (added : List (ℕ × Body)) × (given self.new ≡ given self.old ++ added)) }
         ensures ended { IfOk result (λ more. ended self.new ≡ not more) }
         ensures end { IfOk result (λ more. more ≡ false → given self.new ≡ given self.old) }
-        ensures plan { Self.plan self.new ≡ Self.plan self.old };
+        ensures plan { Self.plan self.new ≡ Self.plan self.old }
+        ensures hears { IfOk result (λ _. hears self.old answers.now self.new) };
 }

@@ -1,9 +1,10 @@
 //! The rounds of a run: what the driver gives is handed out to the workers, and their answers go
 //! back to it.
 
-ghost use Rattle.std.specs.Prelude.{◌≡◌, ◌≢◌, ◌≤◌, ◌<◌, ◌^◌, ◌+◌, ◌++◌, ℕ, [], List, length, map, not, true, false, All, IfOk, OnOk};
+ghost use Rattle.std.specs.Prelude.{◌≡◌, ◌≢◌, ◌≤◌, ◌<◌, ◌^◌, ◌+◌, ◌++◌, ◌∷◌, ℕ, [], List, length, map, not, true, false, All, IfOk, OnOk};
 ghost use Rattle.std.specs.List.{HoldsAt};
-ghost use Rattle.runs_core.specs.Crews.{HasServed, IsServedRound, count_of};
+ghost use Rattle.runs_core.specs.Crews.{HasPlayed, HasServed, IsServedRound, count_of};
+ghost use Rattle.runs_core.specs.Hearing.{AreAnswers};
 ghost use Rattle.runs_core.specs.Sending.{promises_of};
 ghost use Rattle.runs_core.specs.Shares.{AreShares, item_at, item_of, worker_of};
 ghost use Rattle.runs_core.specs.Teams.{reads};
@@ -31,13 +32,13 @@ pub(crate) fn play<D: Driver, S: Shared, R: Wait, G: Gate>(
     requires fresh { D.given driver.old ≡ [] }
     requires served { HasServed (λ account. (S.terms account).number)
         S.key (reads S.key_of S.number_of S.mine_of)
-        (setup_of crew.old.desk.worker) (accounts_of crew.old.desk.worker) [] crew.old }
+        (setup_of crew.old.desk.worker) (accounts_of crew.old.desk.worker) [] [] crew.old }
     ensures ended { OnOk result (D.ended driver.new ≡ true) }
     ensures plan { D.plan driver.new ≡ D.plan driver.old }
-    ensures served { OnOk result (HasServed (λ account. (S.terms account).number)
-        S.key (reads S.key_of S.number_of S.mine_of)
+    ensures played { OnOk result (HasPlayed D.given D.ended D.hears
+        (λ account. (S.terms account).number) S.key (reads S.key_of S.number_of S.mine_of)
         (setup_of crew.old.desk.worker) (accounts_of crew.old.desk.worker)
-        (D.given driver.new) crew.new) }
+        driver.old driver.new crew.new) }
     ensures count { count_of crew.new ≡ count_of crew.old }
     ensures promises { promises_of crew.new.lines.items ≡ promises_of crew.old.lines.items }
     ensures gate { result ≡ Err RunFault.GateClosed → G.may_shut gate.now }
@@ -70,7 +71,8 @@ fn play_round<D: Driver, S: Shared, R: Wait, G: Gate>(
         × (D.given driver.new ≡ D.given driver.old ++ added)
         × IsServedRound (λ account. (S.terms account).number)
         S.key (reads S.key_of S.number_of S.mine_of)
-        (length (D.given driver.old)) added crew.old crew.new }
+        (length (D.given driver.old)) added answers.new.items crew.old crew.new }
+    ensures hears { IfOk result (λ _. D.hears driver.old answers.old.items driver.new) }
     ensures given { result ≡ Ok false → D.given driver.new ≡ D.given driver.old }
     ensures crew { result ≡ Ok false → crew.new ≡ crew.old }
     ensures count { count_of crew.new ≡ count_of crew.old }
@@ -144,6 +146,8 @@ fn worker_of(workers: usize, body: &Body) -> usize
 /// The answers of each worker, to be taken one by one.
 fn queues(alloc: Global, replies: Replies) -> Result<Vec<VecDeque<Answer>>, RunFault>
     ensures count { IfOk result (λ queues. 0 < length queues.items) }
+    ensures items { IfOk result (λ queues. map (λ queue. queue.items) queues.items
+        ≡ replies.first.items ∷ map (λ list. list.items) replies.others.items) }
     ensures fault { (result ≢ Err RunFault.GateClosed) × (result ≢ Err RunFault.Workers) }
 {
     let Replies { first, others } = replies;
@@ -155,7 +159,7 @@ fn queues(alloc: Global, replies: Replies) -> Result<Vec<VecDeque<Answer>>, RunF
     Ok(queues)
 }
 
-/// Puts the answers of the workers into the order of the items.
+/// Puts the answers of the workers into the order of the items, of which each has just one.
 fn merge(
     first: usize,
     added: &[(u64, Body)],
@@ -164,6 +168,9 @@ fn merge(
 ) -> Result<(), RunFault>
     requires some { 0 < length queues.old.items }
     requires few { first + length added.now < 2 ^ 64 }
+    requires none { answers.old.items ≡ [] }
+    ensures answers { OnOk result (AreAnswers (length queues.old.items) first added.now
+        answers.new.items (map (λ queue. queue.items) queues.old.items)) }
     ensures fault { (result ≢ Err RunFault.GateClosed) × (result ≢ Err RunFault.Workers) }
 {
     for place in 0..added.len() {
@@ -171,12 +178,26 @@ fn merge(
         let answer = next_answer(&mut queues[worker], (first + place) as u64)?;
         answers.push(answer)?;
     }
+    none_left(queues.as_slice())
+}
+
+/// All answers have been taken.
+fn none_left(queues: &[VecDeque<Answer>]) -> Result<(), RunFault>
+    ensures none { OnOk result (All (λ queue. queue.items ≡ []) queues.now) }
+    ensures fault { (result ≢ Err RunFault.GateClosed) × (result ≢ Err RunFault.Workers) }
+{
+    for queue in queues {
+        if !queue.is_empty() {
+            return Err(RunFault::Channel);
+        }
+    }
     Ok(())
 }
 
 /// Takes the answer of this number, which is the worker's next.
 fn next_answer(queue: &mut VecDeque<Answer>, number: u64) -> Result<Answer, RunFault>
     ensures number { IfOk result (λ answer. answer.number ≡ number) }
+    ensures taken { IfOk result (λ answer. queue.old.items ≡ answer ∷ queue.new.items) }
     ensures fault { (result ≢ Err RunFault.GateClosed) × (result ≢ Err RunFault.Workers) }
 {
     match queue.pop_front() {

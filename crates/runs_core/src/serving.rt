@@ -5,8 +5,9 @@ ghost use Rattle.std.specs.Map.{keys_of};
 ghost use Rattle.account_core.specs.Answers.{IsLegal};
 ghost use Rattle.shared_account.specs.Own.{IsMerged};
 ghost use Rattle.runs_core.specs.Closing.{AreLeftFrom, AreServedBy, AreWorked, AreWorkedFrom, terms_shown};
-ghost use Rattle.runs_core.specs.Crews.{HasServed, count_of};
+ghost use Rattle.runs_core.specs.Crews.{HasPlayed, count_of};
 ghost use Rattle.runs_core.specs.Desks.{HasAnswered};
+ghost use Rattle.runs_core.specs.Hearing.{HasHeard, HasHeardFrom};
 ghost use Rattle.runs_core.specs.Sending.{ArePromised, promises_of};
 ghost use Rattle.runs_core.specs.Shares.{HaveHandled};
 ghost use Rattle.runs_core.specs.Teams.{AreFresh, are_workers, reads, terms_of};
@@ -34,6 +35,9 @@ const MAX_WORKERS: u32 = 16;
 /// the books. The first worker is the thread that calls; each other has a thread of its own. In a
 /// round the others get their posts before the first begins, so a gate that holds one of its posts
 /// holds up no other worker in that round.
+///
+/// In each round the driver hears what handling the items of the round before gave: one answer for
+/// each item, in the order of the items.
 ///
 /// `Workers` where there can't be so many workers: then nothing is started. After any other fault
 /// all workers are waited for; the fault told is that of the failed worker with the least number,
@@ -64,6 +68,9 @@ pub fn serve<D: Driver, R: Wait + Threads + Sync, G: Gate + Sync>(
     ensures worked { IfOk result (λ all. AreWorked setup.now all.books.items 0
         (map (λ posts. posts.items) all.handled.items)
         (map (λ one. one.items) all.refusals.items)) }
+    ensures heard { IfOk result (λ all. HasHeard D.given D.ended D.hears setup.now workers
+        all.books.items (map (λ posts. posts.items) all.handled.items)
+        (map (λ one. one.items) all.refusals.items) driver.old driver.new) }
     ensures gate { result ≡ Err RunFault.GateClosed → G.may_shut gate.now }
 {
     serve_over::<D, TurnAccount, R, G>(rt, alloc, setup, driver, workers, gate)
@@ -96,6 +103,9 @@ pub fn serve_over<D: Driver, S: Shared, R: Wait + Threads + Sync, G: Gate + Sync
     ensures worked { IfOk result (λ all. AreWorked setup.now all.books.items 0
         (map (λ posts. posts.items) all.handled.items)
         (map (λ one. one.items) all.refusals.items)) }
+    ensures heard { IfOk result (λ all. HasHeard D.given D.ended D.hears setup.now workers
+        all.books.items (map (λ posts. posts.items) all.handled.items)
+        (map (λ one. one.items) all.refusals.items) driver.old driver.new) }
     ensures gate { result ≡ Err RunFault.GateClosed → G.may_shut gate.now }
 {
     if workers < 1 || workers > MAX_WORKERS {
@@ -137,6 +147,8 @@ fn run_workers<D: Driver, S: Shared, R: Wait + Threads + Sync, G: Gate + Sync>(
         (map S.key accounts.now) (keys_of setup.now.accounts) left.items) }
     ensures worked { IfOk result (λ left.
         AreWorkedFrom (reads S.key_of S.number_of S.mine_of) setup.now 0 left.items) }
+    ensures heard { IfOk result (λ left. HasHeardFrom D.given D.ended D.hears
+        (reads S.key_of S.number_of S.mine_of) setup.now left.items driver.old driver.new) }
     ensures gate { result ≡ Err RunFault.GateClosed → G.may_shut gate.now }
     ensures workers { result ≢ Err RunFault.Workers }
 {
@@ -161,6 +173,9 @@ fn run_workers<D: Driver, S: Shared, R: Wait + Threads + Sync, G: Gate + Sync>(
                 × IfOk result.left
                 (λ left. AreWorkedFrom (reads S.key_of S.number_of S.mine_of)
                 setup.entry.now 0 left.items)
+                × IfOk result.left (λ left. HasHeardFrom D.given D.ended D.hears
+                (reads S.key_of S.number_of S.mine_of) setup.entry.now left.items
+                driver.entry.now result.driver.now)
                 × (result.left ≡ Err RunFault.GateClosed → G.may_shut gate.entry.now)
                 × (result.left ≢ Err RunFault.Workers) }
         {
@@ -205,6 +220,8 @@ fn run_in<'s, E, D: Driver, S: Shared, R: Wait + Threads + Sync, G: Gate + Sync>
         (map S.key accounts.now) (keys_of setup.now.accounts) left.items) }
     ensures worked { IfOk result (λ left.
         AreWorkedFrom (reads S.key_of S.number_of S.mine_of) setup.now 0 left.items) }
+    ensures heard { IfOk result (λ left. HasHeardFrom D.given D.ended D.hears
+        (reads S.key_of S.number_of S.mine_of) setup.now left.items driver.old driver.new) }
     ensures gate { result ≡ Err RunFault.GateClosed → G.may_shut gate.now }
     ensures workers { result ≢ Err RunFault.Workers }
 {
@@ -262,9 +279,9 @@ fn start_and_play<'s, E, D: Driver, S: Shared, R: Wait + Threads + Sync, G: Gate
     ensures ended { OnOk result (D.ended driver.new ≡ true) }
     ensures plan { D.plan driver.new ≡ D.plan driver.old }
     ensures count { OnOk result (length crew.new.lines.items ≡ length (into_iter_items teams)) }
-    ensures served { OnOk result (HasServed (λ account. (S.terms account).number)
-        S.key (reads S.key_of S.number_of S.mine_of) setup.now accounts.now
-        (D.given driver.new) crew.new) }
+    ensures played { OnOk result (HasPlayed D.given D.ended D.hears
+        (λ account. (S.terms account).number) S.key (reads S.key_of S.number_of S.mine_of)
+        setup.now accounts.now driver.old driver.new crew.new) }
     ensures promised { ArePromised setup.now accounts.now gate.now 1
         (promises_of crew.new.lines.items) }
     ensures gate { result ≡ Err RunFault.GateClosed → G.may_shut gate.now }

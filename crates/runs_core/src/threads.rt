@@ -37,6 +37,7 @@ pub(crate) fn start_all<'s, E, S: Shared, R: Wait + Threads + Sync, G: Gate + Sy
     requires none { lines.old.items ≡ [] }
     ensures count { OnOk result (length lines.new.items ≡ length (into_iter_items teams)) }
     ensures silent { All (λ line. sent_by line ≡ []) lines.new.items }
+    ensures unheard { All (λ line. heard_by line ≡ []) lines.new.items }
     ensures promised { ArePromised setup.now accounts.now gate.now 1 (promises_of lines.new.items) }
     ensures fault { (result ≢ Err RunFault.GateClosed) × (result ≢ Err RunFault.Workers) }
 {
@@ -66,10 +67,12 @@ fn start_one<'s, E, S: Shared, R: Wait + Threads + Sync, G: Gate + Sync>(
         (map S.key accounts.now) number seats.items }
     requires count { length lines.old.items + 1 ≡ number }
     requires silent { All (λ line. sent_by line ≡ []) lines.old.items }
+    requires unheard { All (λ line. heard_by line ≡ []) lines.old.items }
     requires promised { ArePromised setup.now accounts.now gate.now 1
         (promises_of lines.old.items) }
     ensures count { OnOk result (length lines.new.items ≡ number) }
     ensures silent { All (λ line. sent_by line ≡ []) lines.new.items }
+    ensures unheard { All (λ line. heard_by line ≡ []) lines.new.items }
     ensures promised { ArePromised setup.now accounts.now gate.now 1 (promises_of lines.new.items) }
     ensures fault { (result ≢ Err RunFault.GateClosed) × (result ≢ Err RunFault.Workers) }
 {

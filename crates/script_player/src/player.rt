@@ -101,7 +101,7 @@ impl Driver for ScriptPlayer {
     ghost use Rattle.run_values.specs.declared.post.Body.{Body};
     ghost use Rattle.script_player.specs.Plays.{IsPlayed};
     ghost use Rattle.script_player.specs.Rounds.{IsTurn};
-    ghost use Rattle.script_player.specs.Runs.{HasHeard, IsReached, LivesByItsDeeds};
+    ghost use Rattle.script_player.specs.Runs.{HasHeard, Hears, IsReached, LivesByItsDeeds};
     ghost use Rattle.run_values.specs.declared.answer.Answer.{Answer};
     ghost use Rattle.script_player.specs.Posts.{Begins, items_of, opening_of, recharges_in, recharges_of};
 
@@ -113,6 +113,8 @@ impl Driver for ScriptPlayer {
 
     ghost plan = { λ player.
         (player.network.config, player.delay, player.taken ++ player.left) };
+
+    ghost hears = { λ before answers after. before.ended ≡ false → Hears before answers after };
 
     /// All that it has given: the messages of the gsmSSFs, and the recharges of the rows taken.
     fn given(&self) -> &[(u64, Body)]
@@ -154,6 +156,8 @@ impl Driver for ScriptPlayer {
             more ≡ false → self.new.network.given ≡ self.old.network.given) }
         ensures turn { IfOk result (λ more.
             self.old.ended ≡ false → IsTurn more self.old self.new answers.now) }
+        ensures hears { IfOk result (λ _.
+            self.old.ended ≡ false → Hears self.old answers.now self.new) }
         ensures heard { IfOk result (λ _. self.old.ended ≡ false
             → (config : SsfConfig) (delay : ℕ) (rows : List ScriptRow) (heard : List (List Answer))
             → HasHeard config delay rows heard self.old

@@ -1,10 +1,14 @@
-use Rattle.std.proofs.Common.{rules, ◌∙◌}
+use Rattle.std.proofs.Common.{refl, rules, ◌∙◌}
 use Rattle.std.proofs.Math.Seq.{map-set_same}
 use Rattle.std.proofs.lemmas.List.{length-set}
 use Rattle.std.specs.Result.{result_err}
-use Rattle.runs_core.specs.Sending.{sent_by}
+use Rattle.runs_core.specs.Sending.{heard_by, sent_by}
 use Rattle.runs_core.proofs.Finishing.{own_err, own_or}
+use Rattle.runs_core.proofs.Hearings.{none_heard, one_heard}
 use Rattle.runs_core.proofs.crew.hear_all.Goals as goal
+
+pub loop-at-init : goal.loop-at-init
+loop-at-init g c = (refl, refl, refl, (λ never. absurd (cc)), (λ never. absurd (cc)), λ _. none_heard heard_by (λ list. list.items) _ _ _ refl c.requires.none)
 
 pub loop-at-preserved : goal.loop-at-preserved
 loop-at-preserved g c =
@@ -16,4 +20,6 @@ loop-at-preserved g c =
       map-set_same (λ line. line.child.promise) c.loop-at.lines.items c.loop-at.at c.hear_one.new.line c.index_mut.result.now (search rules) ∙ before.2,
       rw (c.or-fault.ensures, c.err.ensures.value) fault.0,
       rw (c.or-fault.ensures, c.err.ensures.value) fault.1,
+      rw (c.or-fault.ensures, c.err.ensures.value)
+          (one_heard heard_by (λ list. list.items) _ c.loop-at.at c.loop-at.lines.items c.loop-at.lists.items _ c.loop-at.fault c.hear_one.result c.index_mut.result.now c.hear_one.new.line before.0 (search rules) (search rules) before.5 c.hear_one.ensures.heard),
     )

@@ -1,14 +1,14 @@
-use Rattle.std.proofs.Common.{◌≡◌, [], arith, map, ap, sym, rules, ◌∙◌}
+use Rattle.std.proofs.Common.{◌≡◌, [], arith, map, ap, refl, sym, rules, ◌∙◌}
 use Rattle.std.proofs.Math.Seq.{map-set_same}
 use Rattle.std.proofs.lemmas.List.{length-map}
 use Rattle.std.specs.Vec.Iter.{into_iter_items}
-use Rattle.runs_core.specs.Sending.{sent_by}
+use Rattle.runs_core.specs.Sending.{heard_by, sent_by}
 use Rattle.runs_core.proofs.Joins.{all_joined, has_list, none_joined, one_joined}
 use Rattle.runs_core.proofs.Shifting.{empty_by}
 use Rattle.runs_core.proofs.crew.send_all.Goals as goal
 
 pub loop-share-init : goal.loop-share-init
-loop-share-init g c = (none_joined _ _ _ (ap (map (λ share. share.items)) (ap into_iter_items c.into_iter-share-iterator.ensures.into_iter_gives)), search rules)
+loop-share-init g c = (none_joined _ _ _ (ap (map (λ share. share.items)) (ap into_iter_items c.into_iter-share-iterator.ensures.into_iter_gives)), refl, refl)
 
 pub index_mut-requires : goal.index_mut-requires
 index_mut-requires g c =
@@ -20,12 +20,17 @@ pub returns-in_err-send-clause-promises : goal.returns-in_err-send-clause-promis
 returns-in_err-send-clause-promises g c =
     map-set_same (λ line. line.child.promise) c.loop-share.lines.items c.loop-share.at c.send.new.self c.index_mut.result.now (search rules) ∙ c.loop-share.invariant.1
 
+pub returns-in_err-send-clause-heard : goal.returns-in_err-send-clause-heard
+returns-in_err-send-clause-heard g c =
+    map-set_same heard_by c.loop-share.lines.items c.loop-share.at c.send.new.self c.index_mut.result.now (search rules) ∙ c.loop-share.invariant.2
+
 pub loop-share-preserved : goal.loop-share-preserved
 loop-share-preserved g c =
     let many = length-map (into_iter_items c.args.shares) (λ share. share.items) ∙ c.requires.count ∙ sym (length-map c.args.lines.now.items sent_by) in (
       one_joined sent_by _ _ c.in-Some.share.items (map (λ share. share.items) (into_iter_items c.next.new.self)) _ c.loop-share.lines.items c.index_mut.result.now c.send.new.self many
           (rw c.in-Some.ensures.steps.0 at c.loop-share.invariant.0) (search rules) c.in_ok-send.ensures.posts,
       map-set_same (λ line. line.child.promise) c.loop-share.lines.items c.loop-share.at c.send.new.self c.index_mut.result.now (search rules) ∙ c.loop-share.invariant.1,
+      map-set_same heard_by c.loop-share.lines.items c.loop-share.at c.send.new.self c.index_mut.result.now (search rules) ∙ c.loop-share.invariant.2,
     )
 
 pub returns-clause-posts : goal.returns-clause-posts

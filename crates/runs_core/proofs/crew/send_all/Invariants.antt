@@ -1,6 +1,6 @@
 use Rattle.std.proofs.Common.{◌≡◌, map}
 use Rattle.std.specs.Vec.Iter.{into_iter_items}
-use Rattle.runs_core.specs.Sending.{promises_of, sent_by}
+use Rattle.runs_core.specs.Sending.{heard_by, promises_of, sent_by}
 use Rattle.runs_core.proofs.Joins.{AreJoined}
 use Rattle.runs_core.proofs.crew.send_all.Given as goal
 
@@ -8,3 +8,4 @@ abbrev pub invariant-loop-share : goal.invariant-loop-share
 invariant-loop-share g l =
     AreJoined (map sent_by l.fn.lines.items) (map (λ share. share.items) (into_iter_items l.fn.shares)) (map (λ share. share.items) (into_iter_items l.share-iterator)) l.at (map sent_by l.lines.items)
     × (promises_of l.lines.items ≡ promises_of l.fn.lines.items)
+    × (map heard_by l.lines.items ≡ map heard_by l.fn.lines.items)

@@ -1,5 +1,5 @@
 use Rattle.std.proofs.Common.{length, map, sym, subst, ◌∙◌}
-use Rattle.runs_core.proofs.Columns.{worked_so}
+use Rattle.runs_core.proofs.Columns.{heard_so, worked_so}
 use Rattle.std.proofs.lemmas.List.{length-map}
 use Rattle.runs_core.proofs.Finishing.{numbers_of}
 use Rattle.runs_core.proofs.Numbers.{numbered_from, seats_each}
@@ -32,3 +32,9 @@ close_accounts-requires-clause-seats g c = λ _ _.
     seats_each g.S.Shared.terms c.args.setup.now.limit c.args.workers (length c.in_ok-left.left.items) c.args.setup.now.accounts c.in_ok-accounts.field-0.accounts.items
     c.in_ok-accounts.ensures.accounts
     (sym c.in_ok-accounts.ensures.count ∙ sym c.in_ok-left.ensures.handled.count ∙ length-map c.in_ok-left.left.items (λ one. one.posts.items))
+
+pub returns-clause-heard : goal.returns-clause-heard
+returns-clause-heard g c =
+    heard_so g.D.Driver.given g.D.Driver.ended g.D.Driver.hears (reads g.S.Shared.key_of g.S.Shared.number_of g.S.Shared.mine_of) c.args.setup.now c.args.workers c.in_ok-left.left.items _ _ c.close_accounts.result
+    (sym c.in_ok-accounts.ensures.count ∙ sym c.in_ok-left.ensures.handled.count ∙ length-map c.in_ok-left.left.items (λ one. one.posts.items))
+    c.in_ok-left.ensures.heard c.close_accounts.ensures.handled c.close_accounts.ensures.refusals c.close_accounts.ensures.lists

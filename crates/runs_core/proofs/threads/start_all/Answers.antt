@@ -1,12 +1,12 @@
 use Rattle.std.proofs.Common.{arith, ◌≡◌, [], refl}
 use Rattle.std.proofs.lemmas.List.Elements.{All-nil}
-use Rattle.runs_core.specs.Sending.{sent_by}
+use Rattle.runs_core.specs.Sending.{heard_by, sent_by}
 use Rattle.runs_core.proofs.threads.start_all.Goals as goal
 
 pub loop-team-init : goal.loop-team-init
 loop-team-init g c =
     rw (c.requires.none, c.into_iter-team-iterator.ensures.into_iter_gives)
-    (refl, omega (arith), c.requires.fresh, All-nil (λ line. sent_by line ≡ []), tt)
+    (refl, omega (arith), c.requires.fresh, All-nil (λ line. sent_by line ≡ []), tt, All-nil (λ line. heard_by line ≡ []))
 
 pub start_one-requires-clause-fresh : goal.start_one-requires-clause-fresh
 start_one-requires-clause-fresh g c =
@@ -24,7 +24,7 @@ overflow_add-number g c =
 pub loop-team-preserved : goal.loop-team-preserved
 loop-team-preserved g c =
     let before = rw c.in-Some.ensures.steps.0 at c.loop-team.invariant in
-    (omega (arith, c.in_ok-start_one.ensures.count), omega (arith, before.1), before.2.1, c.start_one.ensures.silent, c.start_one.ensures.promised)
+    (omega (arith, c.in_ok-start_one.ensures.count), omega (arith, before.1), before.2.1, c.start_one.ensures.silent, c.start_one.ensures.promised, c.start_one.ensures.unheard)
 
 pub returns-clause-count : goal.returns-clause-count
 returns-clause-count g c =

@@ -1,7 +1,7 @@
 use Rattle.std.proofs.Common.{◌≡◌, ◌+◌, [], length, map}
 use Rattle.std.specs.Prelude.{All}
 use Rattle.std.specs.Vec.Iter.{into_iter_items}
-use Rattle.runs_core.specs.Sending.{ArePromised, promises_of, sent_by}
+use Rattle.runs_core.specs.Sending.{ArePromised, heard_by, promises_of, sent_by}
 use Rattle.runs_core.specs.Teams.{AreFresh, reads}
 use Rattle.runs_core.proofs.threads.start_all.Given as goal
 
@@ -12,3 +12,4 @@ invariant-loop-team g l =
     × AreFresh (reads g.S.Shared.key_of g.S.Shared.number_of g.S.Shared.mine_of) (map g.S.Shared.key l.accounts) l.number (map (λ team. team.items) (into_iter_items l.team-iterator))
     × All (λ line. sent_by line ≡ []) l.lines.items
     × ArePromised l.setup l.accounts l.gate 1 (promises_of l.lines.items)
+    × All (λ line. heard_by line ≡ []) l.lines.items

@@ -3,11 +3,14 @@ use Rattle.std.proofs.lemmas.List.{length-append, length-map, map-append}
 use Rattle.std.proofs.lemmas.List.Elements.{All-push}
 use Rattle.runs_core.proofs.Finishing.{promised_more}
 use Rattle.runs_core.specs.Mails.{items_in}
-use Rattle.runs_core.specs.Sending.{promises_of, sent_by}
+use Rattle.runs_core.specs.Sending.{heard_by, promises_of, sent_by}
 use Rattle.runs_core.proofs.threads.start_one.Goals as goal
 
 pub returns-in_err-push-clause-silent : goal.returns-in_err-push-clause-silent
 returns-in_err-push-clause-silent g c = rw (c.in_err-push.ensures.items) c.requires.silent
+
+pub returns-in_err-push-clause-unheard : goal.returns-in_err-push-clause-unheard
+returns-in_err-push-clause-unheard g c = rw (c.in_err-push.ensures.items) c.requires.unheard
 
 pub returns-in_err-push-clause-promised : goal.returns-in_err-push-clause-promised
 returns-in_err-push-clause-promised g c = rw (c.in_err-push.ensures.items) c.requires.promised
@@ -21,6 +24,11 @@ pub returns-clause-silent : goal.returns-clause-silent
 returns-clause-silent g c =
     rw (c.in_ok-push.ensures.items)
     (All-push (λ line. sent_by line ≡ []) c.args.lines.now.items c.in_ok-line.line c.requires.silent (ap items_in c.in_ok-line.ensures.sent))
+
+pub returns-clause-unheard : goal.returns-clause-unheard
+returns-clause-unheard g c =
+    rw (c.in_ok-push.ensures.items)
+    (All-push (λ line. heard_by line ≡ []) c.args.lines.now.items c.in_ok-line.line c.requires.unheard (ap items_in c.in_ok-line.ensures.heard))
 
 pub returns-clause-promised : goal.returns-clause-promised
 returns-clause-promised g c =

@@ -48,6 +48,9 @@ returns-in_default-clause-turn c =
     (sym next ∙ c.in_default.is) waits in
     rw (← c.self.view_is) (λ running. turn)
 
+pub returns-in_default-clause-hears : goal.returns-in_default-clause-hears
+returns-in_default-clause-hears c = λ running. record { running = running; more = false; turn = returns-in_default-clause-turn c running }
+
 pub returns-in_default-clause-heard : goal.returns-in_default-clause-heard
 returns-in_default-clause-heard c =
     let i = c.self.inside in
@@ -114,6 +117,9 @@ returns-clause-turn c =
     let turn = round_is i.network c.deliver.new.network c.take_rows.new.network c.advance.new.self i.deliveries.items c.deliver.new.deliveries.items i.delay i.rows.items i.taken c.take_rows.new.taken
     i.ended c.args.answers.now c.first_due.result c.in-Some.now c.if-self.false whole c.first_due.ensures (sym next ∙ c.in-Some.is) delivers plays c.in_ok-advance.ensures.runs in
     rw (← c.self.view_is) (λ running. turn)
+
+pub returns-clause-hears : goal.returns-clause-hears
+returns-clause-hears c = λ running. record { running = running; more = true; turn = returns-clause-turn c running }
 
 pub returns-clause-heard : goal.returns-clause-heard
 returns-clause-heard c =
