@@ -1,8 +1,10 @@
 -- What `run` answers to an input.
-use Rattle.std.specs.Prelude.{◌≡◌, ℕ, Bool, true, false, List, Result, Ok, Err, ⊤}
+use Rattle.std.specs.Prelude.{◌≡◌, ◌≤◌, ℕ, Bool, true, false, List, Result, Ok, Err, ⊤}
 use Rattle.std.specs.Bool.{MatchBool}
 use Rattle.book_texts.specs.BookTexts.{book_text}
+use Rattle.book_texts.specs.Printable.{row_count}
 use Rattle.book_texts.specs.RunTexts.{IsRunText}
+use Rattle.run_books.specs.Laws.{PassTheAudit}
 use Rattle.run_command.specs.Books.{AreBooksOf}
 use Rattle.run_command.specs.Plays.{IsGivenBy}
 use Rattle.run_options.specs.declared.run_ask.RunAsk.{RunAsk}
@@ -30,6 +32,8 @@ pub record IsRunOf (ask : RunAsk) (input : List ℕ) (text : List ℕ) : Type 0 
   pub books : List Closed
   pub are_books : AreBooksOf ask said given books
   pub printed : IsTextOf ask.book books text
+  -- an audit of the table of the books says yes for each account, where there is room for all of their rows
+  pub passes : ask.book ≡ true → row_count books ≤ 1000000 → PassTheAudit books
 
 -- what can end a run of so many workers: `Workers` where there can't be so many, and only then; no gate closes
 abbrev pub MayEnd : ℕ → RunFault → Type 0

@@ -1,11 +1,14 @@
 //! What holds of a run, each the contract of a function that does nothing.
 
 ghost use Rattle.std.specs.Prelude.{◌≡◌, ◌++◌, true, List};
+ghost use Rattle.run_command.specs.Laws.{PlayedBooksPass};
 ghost use Rattle.run_command.specs.Plays.{IsPlayOf};
 ghost use Rattle.run_texts.specs.declared.script_row.ScriptRow.{ScriptRow};
 
+use run_books::runs_pass_the_audit;
 use runs_core::Driver;
 use script_player::ScriptPlayer;
+use ssf_core::reports_are_in_range;
 
 /// What a player that has ended has given is the play of its rows.
 pub(crate) fn is_played(player: &ScriptPlayer)
@@ -15,4 +18,13 @@ pub(crate) fn is_played(player: &ScriptPlayer)
 {
     let _ = player.ended();
     let _ = player.given();
+}
+
+/// The table of the books of a run passes the audit, where a table has room for it: the gsmSSFs send
+/// reports in range alone.
+pub(crate) fn played_books_pass()
+    ensures { PlayedBooksPass }
+{
+    reports_are_in_range();
+    runs_pass_the_audit();
 }

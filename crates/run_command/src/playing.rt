@@ -1,6 +1,7 @@
 //! A script is played.
 
-ghost use Rattle.std.specs.Prelude.{◌≡◌, ◌≤◌, ◌++◌, ℕ, true, List, map, All, IfErr, IfOk};
+ghost use Rattle.std.specs.Prelude.{◌≡◌, ◌≤◌, ◌++◌, ℕ, true, List, map, All, IfErr, IfOk, OnOk};
+ghost use Rattle.run_books.specs.Runs.{HasAccounts};
 ghost use Rattle.run_command.specs.Answers.{MayFail};
 ghost use Rattle.run_command.specs.Books.{AreBooksOf};
 ghost use Rattle.run_options.specs.Options.{ask_of};
@@ -39,6 +40,7 @@ pub(crate) fn play<R: Wait + Threads + Sync>(
     ensures books { IfOk result (λ books. (given : List (ℕ × Body))
         × IsGivenBy (ask_of options.now) (map script_event texts.script.items) given
         × AreBooksOf (ask_of options.now) (input_in texts) given books.items) }
+    ensures accounts { OnOk result (HasAccounts texts.directory.accounts) }
     ensures fault { IfErr result (MayFail options.now.workers) }
 {
     let RunTexts {
@@ -51,5 +53,6 @@ pub(crate) fn play<R: Wait + Threads + Sync>(
     let workers = options.workers;
     let Books { books, .. } = serve(rt, alloc, &setup, &mut player, workers, &OpenGate)?;
     laws::is_played(&player);
+    let _ = setup.accounts();
     Ok(books)
 }

@@ -1,12 +1,13 @@
 //! The command `run`.
 
-ghost use Rattle.std.specs.Prelude.{◌≡◌, IfOk, string_bytes};
+ghost use Rattle.std.specs.Prelude.{◌≡◌, true, All, IfOk, OnOk, string_bytes};
 ghost use Rattle.std.specs.Result.{result_map_both};
+ghost use Rattle.book_texts.specs.Typed.{IsTyped};
 ghost use Rattle.run_command.specs.Answers.{IsRunAnswer, IsTextOf};
 ghost use Rattle.run_options.specs.Options.{ask_of};
 
-use crate::RunError;
 use crate::playing::play;
+use crate::{RunError, laws};
 use book_texts::{book_table, run_lines};
 use run_options::RunOptions;
 use run_texts::read_texts;
@@ -31,12 +32,14 @@ pub fn run<R: Wait + Threads + Sync>(
 {
     let texts = read_texts(alloc, input)?;
     let books = play(rt, alloc, options, texts)?;
+    laws::played_books_pass();
     Ok(print(alloc, options.book, books.as_slice())?)
 }
 
 /// The text of books.
 fn print(alloc: Global, book: bool, books: &[Book]) -> Result<String, AllocError>
-    ensures { IfOk result (λ text. IsTextOf book books.now (string_bytes text)) }
+    ensures text { IfOk result (λ text. IsTextOf book books.now (string_bytes text)) }
+    ensures typed { book ≡ true → OnOk result (All IsTyped books.now) }
 {
     if book {
         book_table(alloc, books)

@@ -1,9 +1,10 @@
 //! What happens in a row of a script, by its word.
 
-ghost use Rattle.std.specs.Prelude.{◌≡◌, ◌≤◌, IfOk, length};
+ghost use Rattle.std.specs.Prelude.{◌≡◌, ◌≤◌, true, IfOk, length};
 ghost use Rattle.std.specs.Result.{result_map_both};
 ghost use Rattle.csv.specs.Records.{fields_of};
 ghost use Rattle.run_texts.specs.Scripts.{call_in, disconnect_in, event_in, happens_in, leg_of, read_in, recharge_in, start_in, when_blank};
+ghost use Rattle.run_texts.specs.Happenings.{is_in_time};
 ghost use Rattle.run_texts.specs.Views.{script_event, happens_of};
 
 use crate::fields::{account, amount, is_left_out, party, until};
@@ -21,6 +22,7 @@ pub(crate) fn read_row(row: &ByteRecord) -> Result<ScriptRow, RowKind>
     ensures says { result_map_both script_event (λ kind. kind) result
         ≡ read_in (fields_of row.now) }
     ensures in_range { IfOk result (λ row. row.at ≤ LAST_MOMENT) }
+    ensures in_time { IfOk result (λ row. is_in_time (happens_of row.what) ≡ true) }
 {
     let word = read_word(row)?;
     let at = number(row, 0, LAST_MOMENT)?;
@@ -30,8 +32,9 @@ pub(crate) fn read_row(row: &ByteRecord) -> Result<ScriptRow, RowKind>
 
 fn read_happening(row: &ByteRecord, word: Word) -> Result<Happening, RowKind>
     requires { 5 ≤ length (fields_of row.now) }
-    ensures { result_map_both happens_of (λ kind. kind) result
+    ensures says { result_map_both happens_of (λ kind. kind) result
         ≡ happens_in (fields_of row.now) word }
+    ensures in_time { IfOk result (λ what. is_in_time (happens_of what) ≡ true) }
 {
     match word {
         Word::Start => read_start(row),
@@ -50,7 +53,9 @@ fn read_call(row: &ByteRecord) -> Result<u64, RowKind>
 
 fn read_start(row: &ByteRecord) -> Result<Happening, RowKind>
     requires { 5 ≤ length (fields_of row.now) }
-    ensures { result_map_both happens_of (λ kind. kind) result ≡ start_in (fields_of row.now) }
+    ensures says { result_map_both happens_of (λ kind. kind) result
+        ≡ start_in (fields_of row.now) }
+    ensures in_time { IfOk result (λ what. is_in_time (happens_of what) ≡ true) }
 {
     let call = read_call(row)?;
     let calling = party(row, 3)?;
@@ -65,8 +70,9 @@ fn read_start(row: &ByteRecord) -> Result<Happening, RowKind>
 
 fn read_event(row: &ByteRecord, event: BcsmEvent) -> Result<Happening, RowKind>
     requires { 5 ≤ length (fields_of row.now) }
-    ensures { result_map_both happens_of (λ kind. kind) result
+    ensures says { result_map_both happens_of (λ kind. kind) result
         ≡ event_in (fields_of row.now) event }
+    ensures in_time { IfOk result (λ what. is_in_time (happens_of what) ≡ true) }
 {
     let call = read_call(row)?;
     let blank = is_blank(row, 3) && is_blank(row, 4) && is_left_out(row, 5);
@@ -75,7 +81,9 @@ fn read_event(row: &ByteRecord, event: BcsmEvent) -> Result<Happening, RowKind>
 
 fn read_disconnect(row: &ByteRecord) -> Result<Happening, RowKind>
     requires { 5 ≤ length (fields_of row.now) }
-    ensures { result_map_both happens_of (λ kind. kind) result ≡ disconnect_in (fields_of row.now) }
+    ensures says { result_map_both happens_of (λ kind. kind) result
+        ≡ disconnect_in (fields_of row.now) }
+    ensures in_time { IfOk result (λ what. is_in_time (happens_of what) ≡ true) }
 {
     let call = read_call(row)?;
     let leg = number(row, 3, 2)?;
@@ -86,8 +94,9 @@ fn read_disconnect(row: &ByteRecord) -> Result<Happening, RowKind>
 
 /// What happens, where the fields that must be empty are.
 fn when_blank(blank: bool, what: Happening) -> Result<Happening, RowKind>
-    ensures { result_map_both happens_of (λ kind. kind) result
+    ensures says { result_map_both happens_of (λ kind. kind) result
         ≡ when_blank blank (happens_of what) }
+    ensures same { IfOk result (λ made. made ≡ what) }
 {
     if blank { Ok(what) } else { Err(RowKind::Empty) }
 }
@@ -104,7 +113,9 @@ fn disconnect(leg: u64) -> Result<BcsmEvent, RowKind>
 
 fn read_recharge(row: &ByteRecord) -> Result<Happening, RowKind>
     requires { 5 ≤ length (fields_of row.now) }
-    ensures { result_map_both happens_of (λ kind. kind) result ≡ recharge_in (fields_of row.now) }
+    ensures says { result_map_both happens_of (λ kind. kind) result
+        ≡ recharge_in (fields_of row.now) }
+    ensures in_time { IfOk result (λ what. is_in_time (happens_of what) ≡ true) }
 {
     let account = account(row, 3)?;
     let amount = amount(row, 4)?;

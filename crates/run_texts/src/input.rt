@@ -6,7 +6,8 @@ ghost use Rattle.run_texts.specs.Inputs.{input_in, input_of, tariff_in, told};
 ghost use Rattle.run_texts.specs.declared.input_fault.InputFault.TheVariants as out;
 ghost use Rattle.run_texts.specs.Scripts.{script_of};
 ghost use Rattle.run_texts.specs.Setups.{setup_of};
-ghost use Rattle.run_texts.specs.Views.{are_in_order, script_event, setup_in};
+ghost use Rattle.run_texts.specs.Happenings.{is_in_time};
+ghost use Rattle.run_texts.specs.Views.{are_in_order, happens_of, script_event, setup_in};
 ghost use Rattle.table_core.specs.Rows.{rows_of};
 ghost use Rattle.run_values.specs.Setups.{IsWithin};
 
@@ -32,6 +33,8 @@ pub fn read_texts(alloc: Global, input: &[u8]) -> Result<RunTexts, InputFault>
     ensures within { IfOk result (λ texts. IsWithin texts.directory) }
     ensures in_range { IfOk result
         (λ texts. All (λ row. row.at ≤ LAST_MOMENT) texts.script.items) }
+    ensures in_time { IfOk result
+        (λ texts. All (λ row. is_in_time (happens_of row.what) ≡ true) texts.script.items) }
     ensures in_order { IfOk result (λ texts. are_in_order 0 texts.script.items ≡ true) }
 {
     let Parts {
@@ -77,6 +80,7 @@ fn read_script(
     ensures means { Gives (λ rows. map script_event rows.items) result
         (told out.Script (script_of directory.now.accounts (rows_of text.now))) }
     ensures in_range { IfOk result (λ rows. All (λ row. row.at ≤ LAST_MOMENT) rows.items) }
+    ensures in_time { IfOk result (λ rows. All (λ row. is_in_time (happens_of row.what) ≡ true) rows.items) }
     ensures in_order { IfOk result (λ rows. are_in_order 0 rows.items ≡ true) }
 {
     match script::read_script(alloc, directory, text) {

@@ -7,6 +7,7 @@ ghost use Rattle.table_core.specs.Faults.{Gives};
 ghost use Rattle.table_core.specs.Rows.{rows_of};
 ghost use Rattle.run_texts.specs.Scripts.{judged_by, last_moment, row_at, script_of};
 ghost use Rattle.run_texts.specs.Starts.{HasCalls, Notes};
+ghost use Rattle.run_texts.specs.Happenings.{is_in_time};
 ghost use Rattle.run_texts.specs.Views.{are_in_order, script_event, happens_of};
 
 use crate::happenings::read_row;
@@ -45,6 +46,7 @@ pub fn read_script<I: Read + Drop>(
         Gives (λ rows. map script_event rows.items) result
         (script_of directory.now.accounts (rows_of text))) }
     ensures in_range { IfOk result (λ rows. All (λ row. row.at ≤ LAST_MOMENT) rows.items) }
+    ensures in_time { IfOk result (λ rows. All (λ row. is_in_time (happens_of row.what) ≡ true) rows.items) }
     ensures in_order { IfOk result (λ rows. are_in_order 0 rows.items ≡ true) }
 {
     let headers: &[&[&str]] = &[
@@ -81,6 +83,7 @@ fn judge(
         → result_map_both script_event (λ kind. kind) result
         ≡ row_at directory.now.accounts earlier (fields_of row.now) }
     ensures in_range { IfOk result (λ row. row.at ≤ LAST_MOMENT) }
+    ensures in_time { IfOk result (λ row. is_in_time (happens_of row.what) ≡ true) }
     ensures in_order { IfOk result (λ row. last ≤ row.at) }
 {
     let row = read_row(row)?;

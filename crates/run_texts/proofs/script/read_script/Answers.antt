@@ -1,10 +1,12 @@
-use Rattle.std.proofs.Common.{◌∙◌, ◌≤◌, Ok, ap, refl, sym, arith}
+use Rattle.std.proofs.Common.{◌≡◌, ◌∙◌, ◌≤◌, true, Ok, ap, refl, sym, arith}
 use Rattle.std.proofs.lemmas.List.Elements.{All-push}
 use Rattle.table_core.specs.Rows.{rows_of}
 use Rattle.table_core.specs.Tables.{table_of}
 use Rattle.table_core.proofs.Known.{map_known}
 use Rattle.table_core.proofs.TableLemmas.{ended, header_stays, not_opened, opened, refused, refuses, row_columns, stopped, taken, told}
 use Rattle.run_texts.specs.Scripts.{first_to_last, script_form, script_of}
+use Rattle.run_texts.specs.Happenings.{is_in_time}
+use Rattle.run_texts.specs.Views.{happens_of}
 use Rattle.run_texts.specs.declared.script_row.ScriptRow.{ScriptRow}
 use Rattle.run_texts.proofs.FieldLemmas.{script_columns}
 use Rattle.run_texts.proofs.ScriptLemmas.{calls_after, earlier_more, earlier_of, end_more, order_more, rows_in_turn}
@@ -37,6 +39,7 @@ loop-rows-init g c = record {
   started = λ call. rw (c.new-calls.ensures.empty, c.new-rows.ensures.items) refl;
   before = rw c.new-rows.ensures.items refl;
   in_range = rw c.new-rows.ensures.items (λ k d below. absurd (omega (arith, below)));
+  in_time = rw c.new-rows.ensures.items (λ k d below. absurd (omega (arith, below)));
   in_order = rw c.new-rows.ensures.items refl;
   ends = rw c.new-rows.ensures.items refl;
   so_far = rw c.new-rows.ensures.items
@@ -59,6 +62,8 @@ loop-rows-preserved g c = record {
   before = rw (c.in_ok-push.ensures.items, earlier_more c.loop-rows.rows.items c.in-Ok.row) refl;
   in_range = rw c.in_ok-push.ensures.items
       (All-push (λ (row : ScriptRow). row.at ≤ 1000000000000) c.loop-rows.rows.items c.in-Ok.row c.loop-rows.invariant.in_range c.in-Ok.ensures.in_range);
+  in_time = rw c.in_ok-push.ensures.items
+      (All-push (λ (row : ScriptRow). is_in_time (happens_of row.what) ≡ true) c.loop-rows.rows.items c.in-Ok.row c.loop-rows.invariant.in_time c.in-Ok.ensures.in_time);
   in_order = rw c.in_ok-push.ensures.items
       (order_more 0 c.loop-rows.rows.items c.in-Ok.row c.loop-rows.invariant.in_order (rw c.loop-rows.invariant.ends at c.in-Ok.ensures.in_order));
   ends = rw (c.in_ok-push.ensures.items, end_more 0 c.loop-rows.rows.items c.in-Ok.row) refl;

@@ -4,7 +4,8 @@ use Rattle.table_core.specs.Reading.{room_of}
 use Rattle.table_core.proofs.TableLemmas.{IsRead}
 use Rattle.run_texts.specs.Scripts.{last_moment, script_form}
 use Rattle.run_texts.specs.Starts.{HasCalls}
-use Rattle.run_texts.specs.Views.{are_in_order}
+use Rattle.run_texts.specs.Views.{are_in_order, happens_of}
+use Rattle.run_texts.specs.Happenings.{is_in_time}
 use Rattle.run_texts.proofs.ScriptLemmas.{earlier_of, end_of}
 use Rattle.run_texts.proofs.script.read_script.Given as goal
 
@@ -14,6 +15,7 @@ invariant-loop-rows g l = record {
   started : HasCalls l.calls (earlier_of l.rows.items);
   before : l.last ≡ last_moment (earlier_of l.rows.items);
   in_range : All (λ row. row.at ≤ 1000000000000) l.rows.items;
+  in_time : All (λ row. is_in_time (happens_of row.what) ≡ true) l.rows.items;
   in_order : are_in_order 0 l.rows.items ≡ true;
   ends : l.last ≡ end_of 0 l.rows.items;
   so_far : IsRead (script_form l.fn.directory.accounts) g.I.Read.remaining (g.I.Read.remaining l.fn.reader) l.table (earlier_of l.rows.items);

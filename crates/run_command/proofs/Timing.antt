@@ -1,0 +1,118 @@
+-- What a play gives is timely: its gsmSSFs send reports in range, and its rows name last moments in time.
+use Rattle.std.proofs.Common.{◌≡◌, ◌<◌, ◌≤◌, ◌++◌, ℕ, Bool, true, false, Option, Some, None, List, [], ◌∷◌, map, refl, sym, ap, subst, arith, All}
+use Rattle.std.specs.Prelude.{◌==◌, ◌&&◌, filter, nat_le, slice_index_or, IfSome}
+use Rattle.std.proofs.lemmas.Bool.{eq-eqb}
+use Rattle.std.proofs.lemmas.Bool.Decides.{nat_tests}
+use Rattle.std.proofs.lemmas.List.Elements.{All-append, All-cons, All-head, All-nil, All-same, All-tail}
+use Rattle.cap_values.specs.declared.message.SsfMsg.{SsfMsg}
+use Rattle.cap_values.specs.declared.message.SsfMsg.TheVariants as message
+use Rattle.entry_rows.specs.Fits.{FitsReport, IsInterval, IsMoment, IsTime}
+use Rattle.run_books.proofs.Listed.{all_passing, all_unmapped}
+use Rattle.run_books.specs.Timely.{AreTimely, IsTimely, IsTimelyMessage}
+use Rattle.run_command.specs.Plays.{IsPlayOf}
+use Rattle.run_texts.specs.Happenings.{ScriptEvent, is_in_time}
+use Rattle.run_texts.specs.Views.{happens_of, script_event}
+use Rattle.run_texts.specs.declared.script_row.Happening.{Happening}
+use Rattle.run_texts.specs.declared.script_row.Happening.TheVariants as happening
+use Rattle.run_texts.specs.declared.script_row.ScriptRow.{ScriptRow}
+use Rattle.run_values.specs.Openings.{expires_in_time}
+use Rattle.run_values.specs.declared.post.Body.{Body}
+use Rattle.run_values.specs.declared.post.Body.TheVariants as body
+use Rattle.script_player.specs.Plays.{IsPlayed}
+use Rattle.script_player.specs.Posts.{is_of, is_recharge, items_of, post_of, posts_of, recharge_of, recharges_in, recharges_of}
+use Rattle.ssf_core.specs.Happenings.{sent_in}
+use Rattle.ssf_core.specs.Laws.{IsInRange, ReportsAreInRange}
+use Rattle.ssf_core.specs.declared.config.SsfConfig.{SsfConfig}
+use Rattle.ssf_core.specs.declared.item.Item.{Item}
+use Rattle.ssf_core.specs.declared.item.Item.TheVariants as sent
+use Rattle.ssf_core.specs.declared.item.Out.{Out}
+use Rattle.tariff_core.specs.Reading.{is_time_info}
+use Rattle.tariff_core.specs.declared.time_info.TimeInfo.{TimeInfo}
+use Rattle.tariff_core.specs.declared.time_info.TimeInfo.TheVariants as info
+
+-- ---- a report in range
+
+both : (a b : Bool) → (a && b) ≡ true → (a ≡ true) × (b ≡ true)
+both true true is = (refl, refl)
+both true false is = cc
+both false b is = cc
+
+at_most : (n m : ℕ) → nat_le n m ≡ true → n ≤ m
+at_most n m is = grind (arith, nat_tests)
+
+report_fits : (report : TimeInfo) → is_time_info report ≡ true → FitsReport report
+report_fits (info.NoSwitch time) is = at_most time 864000 is
+report_fits (info.Switch since None) is = (at_most since 864000 is, tt)
+report_fits (info.Switch since (Some interval)) is =
+    let (first, most) = both (nat_le since 864000 && nat_le 1 interval) (nat_le interval 864000) is in
+    let (within, some) = both (nat_le since 864000) (nat_le 1 interval) first in
+    (at_most since 864000 within, (at_most 1 interval some, at_most interval 864000 most))
+
+-- ---- what the gsmSSF of a call sends
+
+IsTimelyItem : ℕ × Body → Type 0
+IsTimelyItem item = IsTimely item.1
+
+post_timely : (call at : ℕ) (item : Item) → IsInRange item → All IsTimelyItem (post_of call at item)
+unfolding IsTimelyItem
+post_timely call at (sent.Msg (message.ChargingReport active report)) range =
+    All-cons IsTimelyItem (at, body.Ssf call (message.ChargingReport active report)) [] (report_fits report range) (All-nil IsTimelyItem)
+post_timely call at (sent.Msg (message.InitialDp other calling called)) range =
+    All-cons IsTimelyItem (at, body.Ssf call (message.InitialDp other calling called)) [] tt (All-nil IsTimelyItem)
+post_timely call at (sent.Msg (message.EventReport event leg mode)) range =
+    All-cons IsTimelyItem (at, body.Ssf call (message.EventReport event leg mode)) [] tt (All-nil IsTimelyItem)
+post_timely call at (sent.Msg message.Ended) range = All-cons IsTimelyItem (at, body.Ssf call message.Ended) [] tt (All-nil IsTimelyItem)
+post_timely call at sent.Proceed range = All-nil IsTimelyItem
+post_timely call at (sent.Clear cause) range = All-nil IsTimelyItem
+
+posts_timely : (call : ℕ) (outs : List Out) → All (λ out. IsInRange out.item) outs → All IsTimelyItem (posts_of call outs)
+posts_timely call [] range = All-nil IsTimelyItem
+posts_timely call (out ∷ outs) range =
+    All-append IsTimelyItem (post_of call out.at out.item) (posts_of call outs) (post_timely call out.at out.item (All-head (λ (o : Out). IsInRange o.item) out outs range))
+    (posts_timely call outs (All-tail (λ (o : Out). IsInRange o.item) out outs range))
+
+played_timely : ReportsAreInRange → (config : SsfConfig) (call : ℕ) (given : List (ℕ × Body)) → IsPlayed config call given → All IsTimelyItem (items_of call given)
+played_timely reports config call given played =
+    All-same IsTimelyItem (items_of call given) (posts_of call (sent_in played.trace)) played.same
+    (posts_timely call (sent_in played.trace) (reports config played.trace played.is_trace))
+
+-- ---- what the rows say of recharges
+
+until_timely : (until : Option ℕ) → expires_in_time until ≡ true → IfSome until IsMoment
+until_timely None is = tt
+until_timely (Some until) is = let within = at_most until 1000000000000 is in omega (arith, within)
+
+recharge_timely : (at : ℕ) (what : Happening) → is_in_time (happens_of what) ≡ true → All IsTimelyItem (recharge_of at what)
+unfolding IsTimelyItem
+recharge_timely at (happening.Start call calling called) is = All-nil IsTimelyItem
+recharge_timely at (happening.Meets call event) is = All-nil IsTimelyItem
+recharge_timely at (happening.Recharge account amount until) is =
+    All-cons IsTimelyItem (at, body.Recharge account amount until) [] (until_timely until is) (All-nil IsTimelyItem)
+
+recharges_timely : (rows : List ScriptRow) → All (λ row. is_in_time (happens_of row.what) ≡ true) rows → All IsTimelyItem (recharges_of rows)
+recharges_timely [] is = All-nil IsTimelyItem
+recharges_timely (row ∷ rows) is =
+    let P : ScriptRow → Type 0 = λ r. is_in_time (happens_of r.what) ≡ true in
+    All-append IsTimelyItem (recharge_of row.at row.what) (recharges_of rows) (recharge_timely row.at row.what (All-head P row rows is)) (recharges_timely rows (All-tail P row rows is))
+
+-- ---- all that is given
+
+body_timely : (what : Body) → ((call : ℕ) → is_of call what ≡ true → IsTimely what) → (is_recharge what ≡ true → IsTimely what) → IsTimely what
+body_timely (body.Ssf call msg) of_call of_account = of_call call (eq-eqb call call refl)
+body_timely (body.Recharge account amount until) of_call of_account = of_account refl
+
+pub given_timely : ReportsAreInRange → (config : SsfConfig) (delay : ℕ) (rows : List ScriptRow) (given : List (ℕ × Body)) → IsPlayOf config delay rows given
+    → All (λ row. is_in_time (happens_of row.what) ≡ true) rows → AreTimely given
+unfolding IsTimelyItem
+given_timely reports config delay rows given play in_time = λ k d within.
+    let recharged : All IsTimelyItem (recharges_in given) = All-same IsTimelyItem (recharges_in given) (recharges_of rows) play.recharges (recharges_timely rows in_time) in
+    body_timely (slice_index_or given k d).1
+    (λ call. all_passing (λ (item : ℕ × Body). is_of call item.1) IsTimelyItem given (played_timely reports config call given (play.calls call)) k d within)
+    (all_passing (λ (item : ℕ × Body). is_recharge item.1) IsTimelyItem given recharged k d within)
+
+-- rows that say a script in time are so
+pub rows_in_time : (rows : List ScriptRow) (script : List ScriptEvent) → map script_event rows ≡ script → All (λ event. is_in_time event.what ≡ true) script
+    → All (λ row. is_in_time (happens_of row.what) ≡ true) rows
+rows_in_time rows script says in_time =
+    let P : ScriptEvent → Type 0 = λ event. is_in_time event.what ≡ true in
+    all_unmapped P script_event rows (All-same P (map script_event rows) script says in_time)
