@@ -1,6 +1,5 @@
 -- The books of a run over an input pass the audit.
-use Rattle.std.proofs.Common.{◌≡◌, ◌∙◌, ℕ, List, map, refl, sym, ap, subst}
-use Rattle.account_core.specs.declared.limits.TheConstants.{MAX_LIMIT}
+use Rattle.std.proofs.Common.{◌∙◌, ℕ, List, sym, ap, subst}
 use Rattle.run_books.specs.Laws.{RunsPassTheAudit}
 use Rattle.run_books.specs.Runs.{HasAccounts, IsRun}
 use Rattle.run_command.proofs.Timing.{given_timely, rows_in_time}

@@ -1,14 +1,13 @@
 -- What a play gives is timely: its gsmSSFs send reports in range, and its rows name last moments in time.
-use Rattle.std.proofs.Common.{◌≡◌, ◌<◌, ◌≤◌, ◌++◌, ℕ, Bool, true, false, Option, Some, None, List, [], ◌∷◌, map, refl, sym, ap, subst, arith, All}
-use Rattle.std.specs.Prelude.{◌==◌, ◌&&◌, filter, nat_le, slice_index_or, IfSome}
+use Rattle.std.proofs.Common.{◌≡◌, ◌≤◌, ℕ, Bool, true, false, Option, Some, None, List, [], ◌∷◌, map, refl, arith, All}
+use Rattle.std.specs.Prelude.{◌&&◌, nat_le, slice_index_or, IfSome}
 use Rattle.std.proofs.lemmas.Bool.{eq-eqb}
 use Rattle.std.proofs.lemmas.Bool.Decides.{nat_tests}
 use Rattle.std.proofs.lemmas.List.Elements.{All-append, All-cons, All-head, All-nil, All-same, All-tail}
-use Rattle.cap_values.specs.declared.message.SsfMsg.{SsfMsg}
 use Rattle.cap_values.specs.declared.message.SsfMsg.TheVariants as message
-use Rattle.entry_rows.specs.Fits.{FitsReport, IsInterval, IsMoment, IsTime}
+use Rattle.entry_rows.specs.Fits.{FitsReport, IsMoment}
 use Rattle.run_books.proofs.Listed.{all_passing, all_unmapped}
-use Rattle.run_books.specs.Timely.{AreTimely, IsTimely, IsTimelyMessage}
+use Rattle.run_books.specs.Timely.{AreTimely, IsTimely}
 use Rattle.run_command.specs.Plays.{IsPlayOf}
 use Rattle.run_texts.specs.Happenings.{ScriptEvent, is_in_time}
 use Rattle.run_texts.specs.Views.{happens_of, script_event}

@@ -181,6 +181,9 @@ fn a_run_is_set_up_with_what_was_read(rt: HostRuntime) -> Result<(), Fail> {
             (number, OpeningCredit { amount, until })
         );
     }
+    let until = Some(1000);
+    let last = OpeningCredit { amount: 300, until };
+    assert_eq!(rt; setup.accounts(), [(2, lasting(100)), (9, last)].as_slice());
     assert_eq!(rt; setup.account_of(Number::new("491700001")?), Some(9));
     assert_eq!(rt; setup.account_of(Number::new("49170000")?), None);
     assert_eq!(rt; setup.limit(), 3);

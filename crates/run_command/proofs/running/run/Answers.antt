@@ -1,4 +1,4 @@
-use Rattle.std.proofs.Common.{◌≡◌, true, List, refl, string_bytes, subst}
+use Rattle.std.proofs.Common.{◌≡◌, true, List, string_bytes, subst}
 use Rattle.std.specs.List.{All}
 use Rattle.std.proofs.lemmas.List.Elements.{All-map}
 use Rattle.book_texts.specs.Typed.{IsTyped}
