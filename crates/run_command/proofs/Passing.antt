@@ -9,7 +9,7 @@ use Rattle.runs_core.specs.Teams.{terms_of}
 use Rattle.ssf_core.specs.Laws.{ReportsAreInRange}
 
 pub played_pass : ReportsAreInRange → RunsPassTheAudit → PlayedBooksPass
-played_pass reports pass ask said given books may_be range given_by are typed room =
+played_pass reports pass ask said given heard books may_be range given_by are typed room =
     let accounts : List (ℕ × OpeningCredit) = said.setup.accounts in
     let listed = are.of_input.accounts in
     let Has : List (ℕ × OpeningCredit) → Type 0 = λ a. HasAccounts a in
@@ -27,7 +27,7 @@ played_pass reports pass ask said given books may_be range given_by are typed ro
     pass are.setup ask.workers given books (record {
       run = run;
       accounts = subst Has (sym listed) range.accounts;
-      timely = given_timely reports given_by.config ask.delay given_by.rows given given_by.play (rows_in_time given_by.rows said.script given_by.says range.recharges);
+      timely = given_timely reports given_by.config ask.delay given_by.rows heard given given_by.play (rows_in_time given_by.rows said.script given_by.says range.recharges);
       typed = typed;
       room = room;
     })

@@ -1,31 +1,74 @@
 -- A player that has ended has taken all of its rows.
-use Rattle.std.proofs.Common.{◌≡◌, ℕ, true, List, [], ◌++◌, map, refl, sym, ◌∙◌, ap, subst}
+use Rattle.std.proofs.Common.{◌≡◌, ℕ, true, false, List, [], ◌∷◌, ◌++◌, map, refl, sym, ◌∙◌, ap, subst}
 use Rattle.std.proofs.lemmas.List.{append-nil}
-use Rattle.run_command.specs.Plays.{IsAskedFor, IsGivenBy, IsPlayOf}
+use Rattle.run_command.specs.Plays.{HearsItsRounds, IsAskedFor, IsGivenBy, IsPlayOf}
 use Rattle.run_options.specs.declared.run_ask.RunAsk.{RunAsk}
 use Rattle.run_texts.specs.Views.{script_event}
 use Rattle.run_texts.specs.declared.script_row.ScriptRow.{ScriptRow}
+use Rattle.script_player.specs.Chains.{Chain}
 use Rattle.script_player.specs.Plays.{IsPlayed, Play}
 use Rattle.script_player.specs.Posts.{Begins, items_of, opening_of, recharges_in, recharges_of}
-use Rattle.script_player.specs.Runs.{IsReached, LivesByItsDeeds}
+use Rattle.script_player.specs.Runs.{Hears, LivesByItsDeeds, fresh}
 use Rattle.ssf_core.specs.declared.config.SsfConfig.{SsfConfig}
+use Rattle.run_values.specs.declared.answer.Answer.{Answer}
 use Rattle.run_values.specs.declared.post.Body.{Body}
+use Rattle.runs_core.specs.Hearing.{HearsRounds}
 
-pub play_of : (config : SsfConfig) (delay : ℕ) (taken left rows : List ScriptRow) (given : List (ℕ × Body)) (play : Play) → left ≡ [] → taken ++ left ≡ rows
-    → IsReached config delay (taken ++ left) play → LivesByItsDeeds config delay (taken ++ left) play → play.ended ≡ true → play.network.given ≡ given
+-- from round to round
+abbrev Rounds : (Play → List Answer → Play → Type 0) → List Answer → Play → List (List Answer) → Play → Type 0
+Rounds Heard before_this old heard new = HearsRounds (λ (p : Play). p.network.given) (λ (p : Play). p.ended) Heard before_this old heard new
+
+chained : (before_this : List Answer) (old : Play) (heard : List (List Answer)) (new : Play) → Rounds Hears before_this old heard new → Chain Hears old heard new
+chained before_this old [] new rounds = absurd rounds
+chained before_this old (answers ∷ []) new rounds = (new, (rounds.0.hears_them, refl))
+chained before_this old (answers ∷ next ∷ heard) new rounds = (rounds.0, (rounds.1.hears_them, chained (before_this ++ answers) rounds.0 (next ∷ heard) new rounds.3))
+
+-- a player that hasn't ended hears in each round what it says that it does
+pub each_hears : (before_this : List Answer) (old : Play) (heard : List (List Answer)) (new : Play) → old.ended ≡ false
+    → Rounds (λ before answers after. before.ended ≡ false → Hears before answers after) before_this old heard new → Rounds Hears before_this old heard new
+each_hears before_this old [] new running rounds = absurd rounds
+each_hears before_this old (answers ∷ []) new running rounds = (record { each = rounds.0.each; hears_them = rounds.0.hears_them running }, rounds.1)
+each_hears before_this old (answers ∷ next ∷ heard) new running rounds =
+    (rounds.0, record { each = rounds.1.each; hears_them = rounds.1.hears_them running }, rounds.2, each_hears (before_this ++ answers) rounds.0 (next ∷ heard) new rounds.2 rounds.3)
+
+pub play_of : (config : SsfConfig) (delay : ℕ) (taken left rows : List ScriptRow) (heard : List (List Answer)) (given : List (ℕ × Body)) (play : Play) → left ≡ [] → taken ++ left ≡ rows
+    → HearsItsRounds config delay rows heard play → LivesByItsDeeds config delay (taken ++ left) play → play.ended ≡ true → play.network.given ≡ given
     → ((call : ℕ) → IsPlayed config call given) → ((call : ℕ) → Begins (opening_of call taken) (items_of call given))
-    → recharges_in given ≡ recharges_of taken → IsPlayOf config delay rows given
-play_of config delay taken left rows given play none all reached lives ended gives calls begins recharges =
+    → recharges_in given ≡ recharges_of taken → IsPlayOf config delay rows heard given
+play_of config delay taken left rows heard given play none all rounds lives ended gives calls begins recharges =
     let same : taken ≡ rows = sym (append-nil taken) ∙ ap (λ (l : List ScriptRow). taken ++ l) (sym none) ∙ all in
-    let Is : List ScriptRow → Type 0 = λ r. IsPlayOf config delay r given in
-    let Reaches : List ScriptRow → Type 0 = λ r. IsReached config delay r play in
+    let Is : List ScriptRow → Type 0 = λ r. IsPlayOf config delay r heard given in
+    let Heard : List ScriptRow → Type 0 = λ r. HearsItsRounds config delay r heard play in
     let Lives : List ScriptRow → Type 0 = λ r. LivesByItsDeeds config delay r play in
-    subst Is same (record { play = play; reached = subst Reaches (all ∙ sym same) reached; lives = subst Lives (all ∙ sym same) lives; ended = ended; gives = gives; calls = calls; begins = begins; recharges = recharges })
+    let own = subst Heard (sym same) rounds in
+    subst Is same
+    (record {
+      play = play;
+      reached = record { heard = heard; has_heard = chained [] (fresh config delay taken) heard play own };
+      heard_are = refl;
+      rounds = own;
+      lives = subst Lives (all ∙ sym same) lives;
+      ended = ended;
+      gives = gives;
+      calls = calls;
+      begins = begins;
+      recharges = recharges;
+    })
 
 -- the plan of a player is the same after a run as before it: the configuration and the delay that were asked for, and the rows of the script
-pub given_by : (ask : RunAsk) (config other : SsfConfig) (delay : ℕ) (rows taken left : List ScriptRow) (given : List (ℕ × Body)) → IsAskedFor ask config
-    → other ≡ config → delay ≡ ask.delay → taken ++ left ≡ rows → ((all : List ScriptRow) → taken ++ left ≡ all → IsPlayOf other delay all given) → IsGivenBy ask (map script_event rows) given
-given_by ask config other delay rows taken left given asked_for same after all plays =
+pub given_by : (ask : RunAsk) (config other : SsfConfig) (delay : ℕ) (rows taken left : List ScriptRow) (heard : List (List Answer)) (given : List (ℕ × Body)) → IsAskedFor ask config
+    → other ≡ config → delay ≡ ask.delay → taken ++ left ≡ rows → IsPlayOf other delay rows heard given → IsGivenBy ask (map script_event rows) heard given
+given_by ask config other delay rows taken left heard given asked_for same after all plays =
     let Asked : SsfConfig → Type 0 = λ c. IsAskedFor ask c in
-    let Plays : ℕ → Type 0 = λ d. IsPlayOf other d rows given in
-    record { config = other; asked_for = subst Asked (sym same) asked_for; rows = rows; says = refl; play = subst Plays after (plays rows all) }
+    let Plays : ℕ → Type 0 = λ d. IsPlayOf other d rows heard given in
+    record { config = other; asked_for = subst Asked (sym same) asked_for; rows = rows; says = refl; play = subst Plays after plays }
+
+-- the rounds of a player, by its plan as it is after them
+pub rounds_of : (config other : SsfConfig) (delay now : ℕ) (rows : List ScriptRow) (old : Play) (heard : List (List Answer)) (new : Play) → old ≡ fresh config delay rows → other ≡ config → now ≡ delay
+    → Rounds (λ before answers after. before.ended ≡ false → Hears before answers after) [] old heard new → HearsItsRounds other now rows heard new
+rounds_of config other delay now rows old heard new is same_config same_delay rounds =
+    let From : Play → Type 0 = λ p. Rounds Hears [] p heard new in
+    let Its : SsfConfig → ℕ → Type 0 = λ c d. HearsItsRounds c d rows heard new in
+    let running : old.ended ≡ false = ap (λ (p : Play). p.ended) is in
+    let all : HearsItsRounds config delay rows heard new = subst From is (each_hears [] old heard new running rounds) in
+    subst (λ c. Its c now) (sym same_config) (subst (λ d. Its config d) (sym same_delay) all)

@@ -15,6 +15,7 @@ use Rattle.run_texts.specs.declared.script_row.Happening.{Happening}
 use Rattle.run_texts.specs.declared.script_row.Happening.TheVariants as happening
 use Rattle.run_texts.specs.declared.script_row.ScriptRow.{ScriptRow}
 use Rattle.run_values.specs.Openings.{expires_in_time}
+use Rattle.run_values.specs.declared.answer.Answer.{Answer}
 use Rattle.run_values.specs.declared.post.Body.{Body}
 use Rattle.run_values.specs.declared.post.Body.TheVariants as body
 use Rattle.script_player.specs.Plays.{IsPlayed}
@@ -100,10 +101,10 @@ body_timely : (what : Body) → ((call : ℕ) → is_of call what ≡ true → I
 body_timely (body.Ssf call msg) of_call of_account = of_call call (eq-eqb call call refl)
 body_timely (body.Recharge account amount until) of_call of_account = of_account refl
 
-pub given_timely : ReportsAreInRange → (config : SsfConfig) (delay : ℕ) (rows : List ScriptRow) (given : List (ℕ × Body)) → IsPlayOf config delay rows given
+pub given_timely : ReportsAreInRange → (config : SsfConfig) (delay : ℕ) (rows : List ScriptRow) (heard : List (List Answer)) (given : List (ℕ × Body)) → IsPlayOf config delay rows heard given
     → All (λ row. is_in_time (happens_of row.what) ≡ true) rows → AreTimely given
 unfolding IsTimelyItem
-given_timely reports config delay rows given play in_time = λ k d within.
+given_timely reports config delay rows heard given play in_time = λ k d within.
     let recharged : All IsTimelyItem (recharges_in given) = All-same IsTimelyItem (recharges_in given) (recharges_of rows) play.recharges (recharges_timely rows in_time) in
     body_timely (slice_index_or given k d).1
     (λ call. all_passing (λ (item : ℕ × Body). is_of call item.1) IsTimelyItem given (played_timely reports config call given (play.calls call)) k d within)

@@ -16,6 +16,7 @@ use Rattle.runs_core.specs.Teams.{are_workers}
 use Rattle.runs_core.specs.declared.run_fault.RunFault.{RunFault}
 use Rattle.runs_core.specs.declared.run_fault.RunFault.TheVariants as run
 use Rattle.shared_account.specs.Closed.{Closed}
+use Rattle.run_values.specs.declared.answer.Answer.{Answer}
 use Rattle.run_values.specs.declared.post.Body.{Body}
 
 -- the text of books: the table of them where that is asked for, else the lines of their accounts and calls
@@ -28,9 +29,10 @@ pub record IsRunOf (ask : RunAsk) (input : List ℕ) (text : List ℕ) : Type 0 
   pub read : input_of input ≡ Ok said
   pub workers : are_workers ask.workers ≡ true
   pub given : List (ℕ × Body)
-  pub given_by : IsGivenBy ask said.script given
+  pub heard : List (List Answer)
+  pub given_by : IsGivenBy ask said.script heard given
   pub books : List Closed
-  pub are_books : AreBooksOf ask said given books
+  pub are_books : AreBooksOf ask said given heard books
   pub printed : IsTextOf ask.book books text
   -- an audit of the table of the books says yes for each account, where there is room for all of their rows
   pub passes : ask.book ≡ true → row_count books ≤ 1000000 → PassTheAudit books

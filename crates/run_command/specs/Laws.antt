@@ -9,6 +9,7 @@ use Rattle.run_command.specs.Plays.{IsGivenBy}
 use Rattle.run_options.specs.declared.run_ask.RunAsk.{RunAsk}
 use Rattle.run_texts.specs.Happenings.{is_in_time}
 use Rattle.run_texts.specs.Inputs.{RunInput}
+use Rattle.run_values.specs.declared.answer.Answer.{Answer}
 use Rattle.run_values.specs.declared.post.Body.{Body}
 use Rattle.runs_core.specs.Teams.{are_workers}
 use Rattle.shared_account.specs.Closed.{Closed}
@@ -21,5 +22,5 @@ pub record IsInRange (said : RunInput) : Type 0 where
 -- the table of the books of a run over it passes the audit, where a table has room for it
 abbrev pub PlayedBooksPass : Type 0
 PlayedBooksPass =
-    (ask : RunAsk) (said : RunInput) (given : List (ℕ × Body)) (books : List Closed) → are_workers ask.workers ≡ true → IsInRange said → IsGivenBy ask said.script given
-    → AreBooksOf ask said given books → All IsTyped books → row_count books ≤ 1000000 → PassTheAudit books
+    (ask : RunAsk) (said : RunInput) (given : List (ℕ × Body)) (heard : List (List Answer)) (books : List Closed) → are_workers ask.workers ≡ true → IsInRange said
+    → IsGivenBy ask said.script heard given → AreBooksOf ask said given heard books → All IsTyped books → row_count books ≤ 1000000 → PassTheAudit books

@@ -1,20 +1,29 @@
 -- What the workers of a run are given: what a script says, and what the gsmSSFs of its calls send.
-use Rattle.std.specs.Prelude.{◌≡◌, ℕ, true, List, map}
+use Rattle.std.specs.Prelude.{◌≡◌, ℕ, true, List, [], map}
 use Rattle.run_options.specs.declared.run_ask.RunAsk.{RunAsk}
 use Rattle.run_texts.specs.Happenings.{ScriptEvent}
 use Rattle.run_texts.specs.Views.{script_event}
 use Rattle.run_texts.specs.declared.script_row.ScriptRow.{ScriptRow}
 use Rattle.script_player.specs.Plays.{IsPlayed, Play}
 use Rattle.script_player.specs.Posts.{Begins, items_of, opening_of, recharges_in, recharges_of}
-use Rattle.script_player.specs.Runs.{IsReached, LivesByItsDeeds}
+use Rattle.script_player.specs.Runs.{Hears, IsReached, LivesByItsDeeds, fresh}
 use Rattle.ssf_core.specs.declared.config.SsfConfig.{SsfConfig}
+use Rattle.run_values.specs.declared.answer.Answer.{Answer}
 use Rattle.run_values.specs.declared.post.Body.{Body}
+use Rattle.runs_core.specs.Hearing.{HearsRounds}
 
--- the play of these rows with gsmSSFs of this configuration, to which operations come after this delay
-pub record IsPlayOf (config : SsfConfig) (delay : ℕ) (rows : List ScriptRow) (given : List (ℕ × Body)) : Type 0 where
+-- a fresh player of these rows has heard answers round by round, in each round one for each item of the round before, up to the round in which it ended
+abbrev pub HearsItsRounds : SsfConfig → ℕ → List ScriptRow → List (List Answer) → Play → Type 0
+HearsItsRounds config delay rows heard play = HearsRounds (λ (p : Play). p.network.given) (λ (p : Play). p.ended) Hears [] (fresh config delay rows) heard play
+
+-- the play of these rows with gsmSSFs of this configuration, to which operations come after this delay, where these answers are heard
+pub record IsPlayOf (config : SsfConfig) (delay : ℕ) (rows : List ScriptRow) (heard : List (List Answer)) (given : List (ℕ × Body)) : Type 0 where
   -- what a fresh player of the rows has come to, round by round, where it has ended
   pub play : Play
   pub reached : IsReached config delay rows play
+  -- by these answers
+  pub heard_are : reached.heard ≡ heard
+  pub rounds : HearsItsRounds config delay rows heard play
   pub ended : play.ended ≡ true
   pub gives : play.network.given ≡ given
   -- of a call: what its gsmSSF sends in the life that the inputs of the run have made
@@ -31,10 +40,10 @@ pub record IsAskedFor (ask : RunAsk) (config : SsfConfig) : Type 0 where
   pub tccd : config.tccd ≡ ask.tccd
   pub default_handling : config.default_handling ≡ ask.default_handling
 
--- the play of a script as it was asked for
-pub record IsGivenBy (ask : RunAsk) (script : List ScriptEvent) (given : List (ℕ × Body)) : Type 0 where
+-- the play of a script as it was asked for, where these answers are heard
+pub record IsGivenBy (ask : RunAsk) (script : List ScriptEvent) (heard : List (List Answer)) (given : List (ℕ × Body)) : Type 0 where
   pub config : SsfConfig
   pub asked_for : IsAskedFor ask config
   pub rows : List ScriptRow
   pub says : map script_event rows ≡ script
-  pub play : IsPlayOf config ask.delay rows given
+  pub play : IsPlayOf config ask.delay rows heard given

@@ -11,6 +11,7 @@ ghost use Rattle.runs_core.specs.Teams.{are_workers};
 ghost use Rattle.run_texts.specs.Views.{are_in_order, script_event};
 ghost use Rattle.run_texts.specs.declared.script_row.ScriptRow.{ScriptRow};
 ghost use Rattle.run_values.specs.Setups.{IsWithin};
+ghost use Rattle.run_values.specs.declared.answer.Answer.{Answer};
 ghost use Rattle.run_values.specs.declared.post.Body.{Body};
 
 use crate::{RunError, laws};
@@ -37,9 +38,9 @@ pub(crate) fn play<R: Wait + Threads + Sync>(
     requires in_range { All (λ row. row.at ≤ LAST_MOMENT) texts.script.items }
     requires in_order { are_in_order 0 texts.script.items ≡ true }
     ensures workers { IfOk result (λ _. are_workers options.now.workers ≡ true) }
-    ensures books { IfOk result (λ books. (given : List (ℕ × Body))
-        × IsGivenBy (ask_of options.now) (map script_event texts.script.items) given
-        × AreBooksOf (ask_of options.now) (input_in texts) given books.items) }
+    ensures books { IfOk result (λ books. (given : List (ℕ × Body)) × (heard : List (List Answer))
+        × IsGivenBy (ask_of options.now) (map script_event texts.script.items) heard given
+        × AreBooksOf (ask_of options.now) (input_in texts) given heard books.items) }
     ensures accounts { OnOk result (HasAccounts texts.directory.accounts) }
     ensures fault { IfErr result (MayFail options.now.workers) }
 {

@@ -15,7 +15,6 @@ use Rattle.runs_core.specs.declared.run_fault.RunFault.{RunFault}
 use Rattle.run_values.specs.Setups.{Setup}
 use Rattle.run_values.specs.declared.answer.Answer.{Answer}
 use Rattle.run_values.specs.declared.post.Body.{Body}
-use Rattle.workers_core.specs.Handled.{answer_view}
 
 -- piles onto which several lists are laid out, one after the other
 abbrev pub laid : {X : Type 0} → List (List X) → List (List X) → List (List X)
@@ -144,18 +143,18 @@ worked_so read setup left (Err fault) are handled refused listed = tt
 answered_at : {K S T : Type 0} (read : Reads K T) (setup : Setup) (books : List Closed) (first worker : ℕ) (lists : List (List Answer)) (left : List (Left S T)) → AreAnsweredFrom read setup first lists left
     → AreListed books first (map (λ one. map read.mine one.seats.items) left) → worker < length left
     → IsAnsweredBy setup books (first + worker) (slice_index_or (map (λ one. one.posts.items) left) worker []) (slice_index_or (map (λ one. one.refusals.items) left) worker [])
-    (map answer_view (slice_index_or lists worker []))
+    (slice_index_or lists worker [])
 answered_at read setup books first worker [] [] are listed below = absurd (omega (arith, below))
 answered_at read setup books first worker [] (one ∷ left) are listed below = absurd are
 answered_at read setup books first worker (answers ∷ lists) [] are listed below = absurd are
 answered_at read setup books first zero (answers ∷ lists) (one ∷ left) are listed below =
     let here : first ≡ first + 0 = omega (arith) in
-    let Its : ℕ → Type 0 = λ n. IsAnsweredBy setup books n one.posts.items one.refusals.items (map answer_view answers) in
+    let Its : ℕ → Type 0 = λ n. IsAnsweredBy setup books n one.posts.items one.refusals.items answers in
     subst Its here (record { answered = rw (listed.0) are.0; refused = are.1 })
 answered_at read setup books first (suc worker) (answers ∷ lists) (one ∷ left) are listed below =
     let later : first + 1 + worker ≡ first + suc worker = omega (arith) in
     let Its : ℕ → Type 0 = λ n. IsAnsweredBy setup books n (slice_index_or (map (λ one. one.posts.items) left) worker []) (slice_index_or (map (λ one. one.refusals.items) left) worker [])
-    (map answer_view (slice_index_or lists worker [])) in
+    (slice_index_or lists worker []) in
     subst Its later (answered_at read setup books (first + 1) worker lists left are.2 listed.1 (omega (arith, below)))
 
 pub heard_so : {D K S T : Type 0} (given : D → List (ℕ × Body)) (ended : D → Bool) (hears : D → List Answer → D → Type 0) (read : Reads K T) (setup : Setup) (workers : ℕ) (left : List (Left S T)) (old new : D) (result : Result Books RunFault)
@@ -175,6 +174,6 @@ heard_so given ended hears read setup workers left old new (Ok all) many has han
       let its : slice_index_or has.lists worker [] ≡ answers_to workers worker (given new) (all_heard has.heard) =
       has.are_answers.each worker under ∙ ap (λ n. answers_to n worker (given new) (all_heard has.heard)) (sym many) in
       let Its : ℕ → List Answer → Type 0 = λ n answers. IsAnsweredBy setup all.books.items n (slice_index_or (map (λ one. one.posts.items) left) worker []) (slice_index_or (map (λ one. one.refusals.items) left) worker [])
-      (map answer_view answers) in
+      answers in
       subst (Its worker) its (subst (λ n. Its n (slice_index_or has.lists worker [])) here (answered_at read setup all.books.items 0 worker has.lists left has.answered listed under));
 })

@@ -3,7 +3,7 @@ use Rattle.std.specs.Prelude.{◌≡◌, ◌+◌, ◌++◌, ◌<◌, ◌==◌, �
 use Rattle.account_core.specs.declared.fault.AccountFault.{AccountFault}
 use Rattle.shared_account.specs.Closed.{Closed}
 use Rattle.workers_core.specs.Chains.{IsAnswered, refusals_in}
-use Rattle.workers_core.specs.Handled.{AnswerView, answer_view}
+use Rattle.workers_core.specs.Handled.{answer_view}
 use Rattle.run_values.specs.Setups.{Setup}
 use Rattle.run_values.specs.declared.answer.Answer.{Answer}
 use Rattle.run_values.specs.declared.post.Body.{Body}
@@ -48,9 +48,9 @@ HearsRounds {D} given ended hears before_this old (answers ∷ next ∷ heard) n
     × HearsRounds given ended hears (before_this ++ answers) between (next ∷ heard) new
 
 -- handling the posts of a worker gave these answers, its lists in the books come from it, and these of the posts were refused
-pub record IsAnsweredBy (setup : Setup) (books : List Closed) (worker : ℕ) (posts : List Post) (refusals : List (Option AccountFault)) (answers : List AnswerView) : Type 0 where
-  pub answered : IsAnswered setup worker posts answers (lists_of worker books)
-  pub refused : refusals ≡ refusals_in answers
+pub record IsAnsweredBy (setup : Setup) (books : List Closed) (worker : ℕ) (posts : List Post) (refusals : List (Option AccountFault)) (answers : List Answer) : Type 0 where
+  pub answered : IsAnswered setup worker posts (map answer_view answers) (lists_of worker books)
+  pub refused : refusals ≡ refusals_in (map answer_view answers)
 
 -- round by round a driver has heard one answer for each item of the round before, in the order of the items; of each worker these are the
 -- answers that handling its posts gave
@@ -59,7 +59,7 @@ pub record HasHeard {D : Type 0} (given : D → List (ℕ × Body)) (ended : D �
   pub rounds : HearsRounds given ended hears [] old heard new
   pub whole : AnswersEach 0 (given new) (all_heard heard)
   pub answered : (worker : ℕ) → worker < workers
-      → IsAnsweredBy setup books worker (slice_index_or handled worker []) (slice_index_or refusals worker []) (map answer_view (answers_to workers worker (given new) (all_heard heard)))
+      → IsAnsweredBy setup books worker (slice_index_or handled worker []) (slice_index_or refusals worker []) (answers_to workers worker (given new) (all_heard heard))
 
 -- ---- of what the workers have left
 

@@ -1,5 +1,5 @@
 use Rattle.std.proofs.Common.{◌∙◌, ◌++◌, ap, map, refl, rules}
-use Rattle.run_command.proofs.PlayLemmas.{given_by}
+use Rattle.run_command.proofs.PlayLemmas.{given_by, rounds_of}
 use Rattle.run_options.specs.Options.{ask_of}
 use Rattle.run_texts.specs.Views.{with_digits}
 use Rattle.run_command.proofs.playing.play.Goals as goal
@@ -8,14 +8,20 @@ pub returns-clause-books : goal.returns-clause-books
 returns-clause-books g c =
     let before = c.in_ok-player.player in
     let after = c.serve.new.driver in
-    let kept = c.in_ok-books.ensures.plan in (
+    let kept = c.in_ok-books.ensures.plan in
+    let hears = c.in_ok-books.ensures.heard in
+    let config = ap (λ p. p.0) kept ∙ c.in_ok-player.ensures.config in
+    let delay = ap (λ p. p.1) kept ∙ ap (λ play. play.delay) c.in_ok-player.ensures.fresh in
+    let rows = ap (λ p. p.2) kept ∙ ap (λ rows. rows ++ before.left) c.in_ok-player.ensures.taken ∙ c.in_ok-player.ensures.left in (
       after.network.given,
-      given_by (ask_of c.args.options.now) c.args.options.now.ssf after.network.config after.delay c.args.texts.script.items after.taken after.left after.network.given
+      hears.heard,
+      given_by (ask_of c.args.options.now) c.args.options.now.ssf after.network.config after.delay c.args.texts.script.items after.taken after.left hears.heard after.network.given
           (record { tssf = refl; tccd = refl; default_handling = refl })
-          (ap (λ p. p.0) kept ∙ c.in_ok-player.ensures.config)
-          (ap (λ p. p.1) kept ∙ ap (λ play. play.delay) c.in_ok-player.ensures.fresh)
-          (ap (λ p. p.2) kept ∙ ap (λ rows. rows ++ before.left) c.in_ok-player.ensures.taken ∙ c.in_ok-player.ensures.left)
-          c.is_played.ensures,
+          config
+          delay
+          rows
+          (c.is_played.ensures c.args.texts.script.items hears.heard rows
+          (rounds_of c.args.options.now.ssf after.network.config c.args.options.now.delay after.delay c.args.texts.script.items before hears.heard after c.in_ok-player.ensures.fresh config delay hears.rounds)),
       record {
         opened = search rules;
         legal = search rules;
@@ -34,5 +40,7 @@ returns-clause-books g c =
         };
         refusals = map (λ one. one.items) c.in_ok-books.field-0.refusals.items;
         worked = c.in_ok-books.ensures.worked;
+        each_heard = hears.whole;
+        answered = hears.answered;
       },
     )

@@ -21,15 +21,16 @@ returns g c =
       read = c.in_ok-texts.ensures.means;
       workers = c.in_ok-books.ensures.workers;
       given = played.0;
-      given_by = played.1;
+      heard = played.1;
+      given_by = played.2;
       books = books;
-      are_books = played.2;
+      are_books = played.3;
       printed = let P : List Closed → Type 0 = λ b. IsTextOf ask.book b (string_bytes c.in_ok-print.field-0) in
           subst P c.as_slice.ensures.value c.in_ok-print.ensures.text;
       passes = λ asked room.
           let P : List Closed → Type 0 = λ b. All IsTyped b in
           let in_time = All-map (λ (event : ScriptEvent). is_in_time event.what ≡ true) script_event c.in_ok-texts.texts.script.items c.in_ok-texts.ensures.in_time in
-          c.played_books_pass.ensures ask said played.0 books c.in_ok-books.ensures.workers
+          c.played_books_pass.ensures ask said played.0 played.1 books c.in_ok-books.ensures.workers
           (record { accounts = c.in_ok-books.ensures.accounts; recharges = in_time })
-          played.1 played.2 (subst P c.as_slice.ensures.value (c.in_ok-print.ensures.typed asked)) room;
+          played.2 played.3 (subst P c.as_slice.ensures.value (c.in_ok-print.ensures.typed asked)) room;
     }
