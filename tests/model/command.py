@@ -26,8 +26,10 @@ TAKEN = {
     "replay": {"--opening", "--limit"},
     "audit": set(),
     "quote": {"--called", "--at", "--for", "--credit"},
-    "run": {"--workers", "--wanted", "--least", "--tssf", "--tccd", "--delay", "--default", "--book"},
+    "run": {"--workers", "--wanted", "--least", "--tssf", "--tccd", "--delay", "--default", "--book", "--calls"},
 }
+# Options that take no value.
+FLAGS = {"--book", "--calls"}
 
 
 def command(words, text, book=None):
@@ -38,7 +40,8 @@ def command(words, text, book=None):
         given = options_in(words[0], words[1:])
         if words[0] == "run":
             run = do_run(given, text, book)
-            return 0, run.book() if "--book" in given else run.lines(), "", not run.is_contended
+            output = run.book() if "--book" in given else run.calls() if "--calls" in given else run.lines()
+            return 0, output, "", not run.is_contended
         if words[0] == "audit":
             return *do_audit(text), "", True
         return 0, {"price": do_price, "replay": do_replay, "quote": do_quote}[words[0]](given, text), "", True
@@ -50,9 +53,9 @@ def options_in(name, words):
     given, left = {}, list(words)
     while left:
         word = left.pop(0)
-        if word not in TAKEN[name] or word in given or word != "--book" and not left:
+        if word not in TAKEN[name] or word in given or word not in FLAGS and not left:
             raise ARGUMENTS
-        given[word] = True if word == "--book" else left.pop(0)
+        given[word] = True if word in FLAGS else left.pop(0)
     return given
 
 
@@ -147,7 +150,7 @@ def do_run(given, text, book):
     workers = number(given, "--workers", 2, 99)
     wanted, least = number(given, "--wanted", 600), number(given, "--least", 50)
     tssf, tccd, delay = number(given, "--tssf", 100), number(given, "--tccd", 50), number(given, "--delay", 2)
-    if given.get("--default", "release") not in ("release", "proceed"):
+    if given.get("--default", "release") not in ("release", "proceed") or FLAGS <= set(given):
         raise ARGUMENTS
     if not 1 <= delay <= tccd <= least <= wanted <= DAY or not 1 <= tssf <= DAY:
         raise Fault("prepaid: input: Config")

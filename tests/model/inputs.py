@@ -2,7 +2,7 @@
 import random
 
 from .account import DAY, MAX_MONEY
-from .command import command
+from .command import FLAGS, command
 from .tables import BOOK, OPS, SCRIPT, SETUP, TARIFF
 
 # Fields that are wrong in most places, and right at an end of a range in some.
@@ -114,7 +114,10 @@ def runs(it, few=False):
     for name in it.sample(sorted(given), len(given)):
         if given[name] != defaults[name] or it.random() < 0.2:
             words += [f"--{name}", str(given[name])]
-    words += ["--book"] if given["workers"] > 1 and it.random() < 0.8 or it.random() < 0.4 else []
+    if given["workers"] > 1 and it.random() < 0.8 or it.random() < 0.4:
+        words += ["--book"]
+    elif it.random() < 0.5:
+        words += ["--calls"]
     first, starts = tariff(it)
     base = max(0, it.choice([0, 1, 3]) * DAY + it.choice(starts) - it.choice([0, 5, 10, 100, 305]))
     second, accounts, subscribers = setup(it, base, wanted)
@@ -180,7 +183,7 @@ def script(it, given, base, accounts, subscribers):
 def books(it):
     """The book of a run, in which a part was altered, or which was told otherwise or by the older header."""
     words, text = runs(it, few=True)
-    status, book, _, _ = command(words if "--book" in words else [*words, "--book"], text)
+    status, book, _, _ = command([*(it for it in words if it not in FLAGS), "--book"], text)
     rows = [line.split(",") for line in book.split("\n")[:-1]] if status == 0 else [list(BOOK[2])]
     less = it.choice([0, 0, 0, 0, 1, 2])
     if less:
@@ -227,7 +230,7 @@ def altered(it, field):
 def other_words(it, words):
     """Words with another value of an option, an option too many, or one too few."""
     words = list(words)
-    options = [at for at, word in enumerate(words) if word.startswith("--") and word != "--book"]
+    options = [at for at, word in enumerate(words) if word.startswith("--") and word not in FLAGS]
     what = it.choice(["value", "value", "value", "value", "twice", "less", "unknown", "none", "more"])
     if what == "value" and words[0] == "run" and it.random() < 0.7:
         name = it.choice(["workers", "wanted", "least", "tssf", "tccd", "delay", "default"])
@@ -247,7 +250,7 @@ def other_words(it, words):
     elif what == "none":
         words = []
     elif what == "more":
-        words += ["--book"]
+        words += [it.choice(sorted(FLAGS))]
     return words
 
 

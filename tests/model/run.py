@@ -7,6 +7,9 @@ from .switch import Refused, Switch
 from .tables import Fault, route
 
 HEADER = "account,seat,op,call,x1,x2,x3,x4,x5,x6,x7,reply,y1,y2,y3"
+CALL_HEADER = "call,calling,called,account,prefix,start,answer,end,before,after,paid,outcome"
+# The word for a call of which this was reported, the first that fits.
+REPORTED = {"busy": "busy", "noanswer": "noanswer", "routefail": "routefail", "abandon": "abandoned", "disconnect": "ended"}
 
 
 @dataclasses.dataclass
@@ -54,6 +57,8 @@ class Run:
         self.tariff, self.options, self.openings = tariff, options, accounts
         self.accounts = {it: Account(*accounts[it]) for it in sorted(accounts)}
         self.switches, self.talks, self.deliveries, self.number = {}, {}, [], 0
+        # what the switch of each call has sent, each with its moment
+        self.messages = {}
         # whether workers met at an account in one round, so that the order of their operations is open
         self.is_contended, self.met = False, {}
         self.orders = None if book is None else {it: [] for it in accounts}
@@ -77,24 +82,24 @@ class Run:
         posts = []
         while self.deliveries and self.deliveries[0][0] == now:
             _, call, op = self.deliveries.pop(0)
-            self.give(call, posts, lambda switch: switch.operation(now, op))
+            self.give(now, call, posts, lambda switch: switch.operation(now, op))
         while rows and rows[0][0] == now:
             _, call, word, *rest = rows.pop(0)
             if word == "start":
                 self.switches[call] = Switch(self.options.tssf, self.options.tccd, self.options.releases, [])
-                self.give(call, posts, lambda switch: switch.trigger(now, *rest))
+                self.give(now, call, posts, lambda switch: switch.trigger(now, *rest))
             elif word == "recharge":
                 posts.append((None, ("recharge", *rest)))
             else:
                 point = f"disconnect {rest[0]}" if word == "disconnect" else word
-                self.give(call, posts, lambda switch: switch.event(now, point))
+                self.give(now, call, posts, lambda switch: switch.event(now, point))
         for call in sorted(self.switches):
-            self.give(call, posts, lambda switch: switch.run_timers(now))
+            self.give(now, call, posts, lambda switch: switch.run_timers(now))
         answers = self.answered(now, posts)
         for (call, _), (_, ops) in zip(posts, sorted(answers.items())):
             self.deliveries += [(now + self.options.delay, call, op) for op in ops]
 
-    def give(self, call, posts, do):
+    def give(self, now, call, posts, do):
         """Gives a call's switch an input, and puts what it sends to the posts."""
         switch = self.switches[call]
         try:
@@ -102,6 +107,7 @@ class Run:
         except Refused:
             pass
         posts += [(call, it) for it in switch.sent]
+        self.messages.setdefault(call, []).extend((now, it) for it in switch.sent)
         switch.sent.clear()
 
     def answered(self, now, posts):
@@ -182,12 +188,51 @@ class Run:
             rows.append(f"call {call} account {number} paid {it.paid()} {word}")
         return "".join(f"{it}\n" for it in rows)
 
+    def calls(self):
+        return "".join(f"{it}\n" for it in [CALL_HEADER, *map(self.record, sorted(self.messages))])
+
+    def record(self, call):
+        """The row of a call in the table of calls."""
+        messages = self.messages[call]
+        start, (_, calling, called) = messages[0]
+        answer = next((at for at, it in messages if it[:2] == ("event", "answer")), None)
+        end = next((at for at, it in messages if it[0] == "ended"), None)
+        account = self.subscribers.get(calling)
+        prefix = max((it for it in self.tariff if called.startswith(it)), key=len, default=None)
+        entries = [] if account is None else self.accounts[account].entries
+        entries = [(op, reply) for _, op, reply in entries if op[0] != "credit" and op[1] == call]
+        known = None if account is None else self.accounts[account].calls.get(call)
+        times = (known.times.before, known.times.after, known.paid()) if known else (0, 0, 0)
+        reported = [it[1].split()[0] for _, it in messages if it[0] == "event"]
+        outcome = (
+            "unknown" if account is None
+            else "noroute" if prefix is None
+            else unserved(entries) if known is None
+            else "forfeit" if any(reply[0] == "forfeit" for _, reply in entries)
+            else "open" if end is None
+            else next((word for it, word in REPORTED.items() if it in reported), None) or closed(known, entries)
+        )
+        return ",".join(map(shown, [call, calling, called, account, prefix, start, answer, end, *times, outcome]))
+
     def book(self):
         rows = [HEADER]
         for number, account in self.accounts.items():
             rows.append(f"{number},,opening,,{account.opening},{shown(self.openings[number][1])}" + "," * 9)
             rows += [f"{number},{seat},{op_fields(op)},{reply_fields(reply)}" for seat, op, reply in account.entries]
         return "".join(f"{it}\n" for it in rows)
+
+
+def unserved(entries):
+    """The word for a call that was never granted anything."""
+    return "denied" if any(reply[0] == "denied" for _, reply in entries) else "refused"
+
+
+def closed(known, entries):
+    """The word for a call whose end wasn't reported: whether its credit ended."""
+    granted = [at for at, (_, reply) in enumerate(entries) if reply[0] == "granted"]
+    is_denied = any(reply[0] == "denied" for _, reply in entries[granted[0] :])
+    is_last = entries[granted[-1]][1][2]
+    return "cut" if is_denied or is_last and known.times.total() == known.granted else "released"
 
 
 def send(generator, given):

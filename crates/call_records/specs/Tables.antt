@@ -1,10 +1,10 @@
 -- The table of calls.
-use Rattle.std.specs.Prelude.{◌-◌, ℕ, List, [], ◌++◌, codes, unwrap_or}
+use Rattle.std.specs.Prelude.{◌≡◌, ◌-◌, ℕ, List, [], ◌++◌, codes, unwrap_or}
 use Rattle.std.specs.Fmt.{decimal}
 use Rattle.std.specs.List.{flat_map}
 use Rattle.cap_values.specs.NumberDigits.{digits_of}
 use Rattle.entry_rows.specs.Columns.{field, number_or_empty}
-use Rattle.call_records.specs.Records.{prefix_of}
+use Rattle.call_records.specs.Records.{AreRecords, Run, prefix_of}
 use Rattle.call_records.specs.declared.outcome.Outcome.{Outcome}
 use Rattle.call_records.specs.declared.outcome.Outcome.TheVariants as outcome
 use Rattle.call_records.specs.declared.call_record.CallRecord.{CallRecord}
@@ -48,3 +48,9 @@ header = codes "call,calling,called,account,prefix,start,answer,end,before,after
 -- the table of calls: a header, and a row of each record in order
 abbrev pub call_text : List CallRecord → List ℕ
 call_text calls = header ++ flat_map record_row calls
+
+-- the table of the calls of a run
+pub record IsCallText (run : Run) (text : List ℕ) : Type 0 where
+  pub calls : List CallRecord
+  pub are : AreRecords run calls
+  pub is : text ≡ call_text calls

@@ -1,3 +1,4 @@
 pub mod Answers
 pub mod Books
+pub mod Played
 pub mod Plays
