@@ -15,6 +15,7 @@ TOP = os.path.join(os.path.dirname(os.path.abspath(__file__)), "..")
 sys.path.insert(0, os.path.join(TOP, "examples"))
 from divide import RUN, Limits, Wrong, divide
 from merge import merge
+from model.command import TABLES
 from model.inputs import make
 
 # The limits of a run, and smaller ones that divide small inputs into many parts.
@@ -97,7 +98,7 @@ class Trial:
         # the same worker serves all calls, or their order at a shared account is open
         if words[:1] != ["run"]:
             return False
-        words = ["run", *(it for it in words[1:] if it != "--book"), "--workers", "1"]
+        words = ["run", *(it for it in words[1:] if it not in TABLES), "--workers", "1"]
         for at in [at for at, it in enumerate(words[:-2]) if it == "--workers"]:
             del words[at : at + 2]
         path = self.new(text)

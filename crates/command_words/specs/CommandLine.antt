@@ -39,9 +39,9 @@ switch_rules = option_rule (codes "tssf") ∷ option_rule (codes "tccd") ∷ opt
 
 -- the other options of a run
 abbrev pub other_rules : List Rule
-other_rules = option_rule (codes "workers") ∷ option_rule (codes "default") ∷ flag_rule (codes "book") ∷ []
+other_rules = option_rule (codes "workers") ∷ option_rule (codes "default") ∷ flag_rule (codes "book") ∷ flag_rule (codes "calls") ∷ []
 
--- `run [--wanted N] [--least N] [--tssf N] [--tccd N] [--delay N] [--workers N] [--default N] [--book]`
+-- `run [--wanted N] [--least N] [--tssf N] [--tccd N] [--delay N] [--workers N] [--default N] [--book] [--calls]`
 unfoldable pub run_app : App
 run_app = with_rules (with_rules (with_rules (new_app (codes "run")) service_rules) switch_rules) other_rules
 

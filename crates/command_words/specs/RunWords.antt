@@ -1,10 +1,12 @@
 -- What the options of `run` say.
-use Rattle.std.specs.Prelude.{ℕ, Bool, List, Option, Some, None, Result, Ok, Err, false, codes, if◌then◌else◌, option_and_then, option_map, unwrap_or}
+use Rattle.std.specs.Prelude.{ℕ, Bool, List, Option, Some, None, Result, Ok, Err, true, false, codes, if◌then◌else◌, option_and_then, option_map, unwrap_or}
 use Rattle.std.specs.Str.{bytes_eq}
 use Rattle.std.specs.Str.Parse.{digits_value}
 use Rattle.clap.specs.Words.{Row, Text, first_of}
 use Rattle.run_options.specs.Configs.{is_config}
 use Rattle.run_options.specs.declared.run_ask.RunAsk.{RunAsk}
+use Rattle.run_options.specs.declared.run_output.RunOutput.{RunOutput}
+use Rattle.run_options.specs.declared.run_output.RunOutput.TheVariants as output
 use Rattle.ssf_core.specs.declared.config.DefaultHandling.{DefaultHandling}
 use Rattle.ssf_core.specs.declared.config.DefaultHandling.TheVariants as handling
 use Rattle.table_core.specs.Decimals.{is_decimal}
@@ -45,15 +47,22 @@ abbrev pub is_yes : Option Text → Bool
 is_yes None = false
 is_yes (Some text) = bytes_eq text (codes "true")
 
--- whether the books are asked for
-abbrev pub book_in : List Row → Bool
-book_in options = is_yes (first_of (codes "book") options)
+-- what is printed: the lines, where none is asked for of the table of books and the table of calls. Only one of the tables may be
+abbrev pub output_of : Bool → Bool → Option RunOutput
+output_of false false = Some output.Lines
+output_of true false = Some output.Book
+output_of false true = Some output.Calls
+output_of true true = None
+
+-- what the options ask to print
+abbrev pub output_in : List Row → Option RunOutput
+output_in options = output_of (is_yes (first_of (codes "book") options)) (is_yes (first_of (codes "calls") options))
 
 -- what the options ask for, where each has a number or a word of its own
 unfoldable pub ask_in : List Row → Option RunAsk
 ask_in options =
     option_and_then (λ workers. option_and_then (λ wanted. option_and_then (λ least. option_and_then (λ tssf. option_and_then (λ tccd. option_and_then (λ delay.
-    option_map (λ default. record {
+    option_and_then (λ default. option_map (λ output. record {
       workers = workers;
       wanted = wanted;
       least = least;
@@ -61,9 +70,9 @@ ask_in options =
       tccd = tccd;
       delay = delay;
       default_handling = default;
-      book = book_in options;
+      output = output;
     })
-    (handling_in options)) (setting_in options (codes "delay") 2)) (setting_in options (codes "tccd") 50)) (setting_in options (codes "tssf") 100))
+    (output_in options)) (handling_in options)) (setting_in options (codes "delay") 2)) (setting_in options (codes "tccd") 50)) (setting_in options (codes "tssf") 100))
     (setting_in options (codes "least") 50)) (setting_in options (codes "wanted") 600)) (workers_in options)
 
 -- the run that is asked for, its times judged

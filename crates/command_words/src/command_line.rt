@@ -159,9 +159,13 @@ fn add_other_options<'a>(alloc: Global, command: Command<'a>) -> Result<Command<
     let command = add(command, workers)?;
     let handling = "Without orders: proceed, release [release]";
     let command = add(command, named(alloc, "default", "WORD", handling))?;
-    add(
+    let command = add(
         command,
         flag(alloc, "book", "Prints the book, in place of the lines"),
+    )?;
+    add(
+        command,
+        flag(alloc, "calls", "Prints the calls, in place of the lines"),
     )
 }
 

@@ -4,13 +4,13 @@ ghost use Rattle.std.specs.Prelude.{◌≡◌, ◌<◌, option_map};
 ghost use Rattle.clap.specs.Words.{found_of, rows_of};
 ghost use Rattle.command_words.specs.Arguments.{IsRequestOf};
 ghost use Rattle.command_words.specs.Capped.{capped, capped_ask};
-ghost use Rattle.command_words.specs.RunWords.{ask_in, handling_of, is_yes, number_of, number_or, run_in, workers_in};
+ghost use Rattle.command_words.specs.RunWords.{ask_in, handling_of, is_yes, number_of, number_or, output_of, run_in, workers_in};
 
 use crate::fault::WordsFault;
 use crate::options::{option_text, optional_number};
 use crate::request::Request;
 use clap::ArgMatches;
-use run_options::{RunAsk, RunOptions};
+use run_options::{RunAsk, RunOptions, RunOutput};
 use ssf_core::DefaultHandling;
 use table_core::{decimal, is_decimal};
 
@@ -44,6 +44,8 @@ fn run_ask(options: &ArgMatches<'_>) -> Option<RunAsk>
     let delay = setting(option_text(options, "delay"), 2)?;
     let default_handling = handling(option_text(options, "default"))?;
     let book = is_yes(option_text(options, "book"));
+    let calls = is_yes(option_text(options, "calls"));
+    let output = output(book, calls)?;
     Some(RunAsk {
         workers,
         wanted,
@@ -52,7 +54,7 @@ fn run_ask(options: &ArgMatches<'_>) -> Option<RunAsk>
         tccd,
         delay,
         default_handling,
-        book,
+        output,
     })
 }
 
@@ -95,6 +97,19 @@ fn handling(text: Option<&str>) -> Option<DefaultHandling>
         Some("release") => Some(DefaultHandling::Release),
         Some("proceed") => Some(DefaultHandling::Proceed),
         Some(_) => None,
+    }
+}
+
+/// What is to be printed, by whether the books and whether the calls are asked for; none where both
+/// are.
+fn output(book: bool, calls: bool) -> Option<RunOutput>
+    ensures { result ≡ output_of book calls }
+{
+    match (book, calls) {
+        (false, false) => Some(RunOutput::Lines),
+        (true, false) => Some(RunOutput::Book),
+        (false, true) => Some(RunOutput::Calls),
+        (true, true) => None,
     }
 }
 

@@ -1,13 +1,16 @@
 -- What `run` answers to an input.
-use Rattle.std.specs.Prelude.{◌≡◌, ◌≤◌, ℕ, Bool, true, false, List, Result, Ok, Err, ⊤}
-use Rattle.std.specs.Bool.{MatchBool}
+use Rattle.std.specs.Prelude.{◌≡◌, ◌≤◌, ℕ, true, false, List, Result, Ok, Err, ⊤}
 use Rattle.book_texts.specs.BookTexts.{book_text}
 use Rattle.book_texts.specs.Printable.{row_count}
 use Rattle.book_texts.specs.RunTexts.{IsRunText}
 use Rattle.run_books.specs.Laws.{PassTheAudit}
+use Rattle.call_records.specs.Records.{Run}
+use Rattle.call_records.specs.Tables.{IsCallText}
 use Rattle.run_command.specs.Books.{AreBooksOf}
 use Rattle.run_command.specs.Plays.{IsGivenBy}
 use Rattle.run_options.specs.declared.run_ask.RunAsk.{RunAsk}
+use Rattle.run_options.specs.declared.run_output.RunOutput.{RunOutput}
+use Rattle.run_options.specs.declared.run_output.RunOutput.TheVariants as output
 use Rattle.run_texts.specs.InputFaults.{Refuses}
 use Rattle.run_texts.specs.Inputs.{RunInput, input_of}
 use Rattle.run_command.specs.declared.error.RunError.{RunError}
@@ -19,9 +22,11 @@ use Rattle.shared_account.specs.Closed.{Closed}
 use Rattle.run_values.specs.declared.answer.Answer.{Answer}
 use Rattle.run_values.specs.declared.post.Body.{Body}
 
--- the text of books: the table of them where that is asked for, else the lines of their accounts and calls
-abbrev pub IsTextOf : Bool → List Closed → List ℕ → Type 0
-IsTextOf book books text = MatchBool book (text ≡ book_text books) (IsRunText books text)
+-- the text of what a run has come to: the lines of its accounts and calls, the table of its books, or that of its calls
+abbrev pub IsTextOf : RunOutput → Run → List ℕ → Type 0
+IsTextOf output.Lines run text = IsRunText run.books text
+IsTextOf output.Book run text = text ≡ book_text run.books
+IsTextOf output.Calls run text = IsCallText run text
 
 -- the text is that of the books of a run over the input, as it was asked for, to which the script of the input was played
 pub record IsRunOf (ask : RunAsk) (input : List ℕ) (text : List ℕ) : Type 0 where
@@ -33,9 +38,9 @@ pub record IsRunOf (ask : RunAsk) (input : List ℕ) (text : List ℕ) : Type 0 
   pub given_by : IsGivenBy ask said.script heard given
   pub books : List Closed
   pub are_books : AreBooksOf ask said given heard books
-  pub printed : IsTextOf ask.book books text
+  pub printed : IsTextOf ask.output (record { setup = are_books.setup; given = given; books = books }) text
   -- an audit of the table of the books says yes for each account, where there is room for all of their rows
-  pub passes : ask.book ≡ true → row_count books ≤ 1000000 → PassTheAudit books
+  pub passes : ask.output ≡ output.Book → row_count books ≤ 1000000 → PassTheAudit books
 
 -- what can end a run of so many workers: `Workers` where there can't be so many, and only then; no gate closes
 abbrev pub MayEnd : ℕ → RunFault → Type 0

@@ -1,4 +1,5 @@
 pub mod Answers
 pub mod Books
 pub mod Laws
+pub mod Played
 pub mod Plays

@@ -3,16 +3,13 @@
 ghost use Rattle.std.specs.Prelude.{◌≡◌, ◌≤◌, ◌++◌, ℕ, true, List, map, All, IfErr, IfOk, OnOk};
 ghost use Rattle.run_books.specs.Runs.{HasAccounts};
 ghost use Rattle.run_command.specs.Answers.{MayFail};
-ghost use Rattle.run_command.specs.Books.{AreBooksOf};
 ghost use Rattle.run_options.specs.Options.{ask_of};
-ghost use Rattle.run_command.specs.Plays.{IsGivenBy, IsPlayOf};
+ghost use Rattle.run_command.specs.Played.{AreOfPlay};
 ghost use Rattle.run_texts.specs.Inputs.{input_in};
 ghost use Rattle.runs_core.specs.Teams.{are_workers};
-ghost use Rattle.run_texts.specs.Views.{are_in_order, script_event};
+ghost use Rattle.run_texts.specs.Views.{are_in_order};
 ghost use Rattle.run_texts.specs.declared.script_row.ScriptRow.{ScriptRow};
 ghost use Rattle.run_values.specs.Setups.{IsWithin};
-ghost use Rattle.run_values.specs.declared.answer.Answer.{Answer};
-ghost use Rattle.run_values.specs.declared.post.Body.{Body};
 
 use crate::{RunError, laws};
 use account_core::MAX_LIMIT;
@@ -27,20 +24,29 @@ use std::sync::Wait;
 use std::thread::Threads;
 use tariff_core::LAST_MOMENT;
 
-/// Plays a script over its accounts, and gives their books.
+/// A script that was played.
+#[derive(Drop)]
+pub(crate) struct Played {
+    /// What the run was set up with.
+    pub setup: RunSetup,
+    /// The player of the script, which has all that it gave.
+    pub player: ScriptPlayer,
+    /// The books of the accounts.
+    pub books: Vec<Book>,
+}
+
+/// Plays a script over its accounts.
 pub(crate) fn play<R: Wait + Threads + Sync>(
     rt: &R,
     alloc: Global,
     options: &RunOptions,
     texts: RunTexts,
-) -> Result<Vec<Book>, RunError>
+) -> Result<Played, RunError>
     requires within { IsWithin texts.directory }
     requires in_range { All (λ row. row.at ≤ LAST_MOMENT) texts.script.items }
     requires in_order { are_in_order 0 texts.script.items ≡ true }
     ensures workers { IfOk result (λ _. are_workers options.now.workers ≡ true) }
-    ensures books { IfOk result (λ books. (given : List (ℕ × Body)) × (heard : List (List Answer))
-        × IsGivenBy (ask_of options.now) (map script_event texts.script.items) heard given
-        × AreBooksOf (ask_of options.now) (input_in texts) given heard books.items) }
+    ensures books { IfOk result (AreOfPlay (ask_of options.now) (input_in texts)) }
     ensures accounts { OnOk result (HasAccounts texts.directory.accounts) }
     ensures fault { IfErr result (MayFail options.now.workers) }
 {
@@ -55,5 +61,9 @@ pub(crate) fn play<R: Wait + Threads + Sync>(
     let Books { books, .. } = serve(rt, alloc, &setup, &mut player, workers, &OpenGate)?;
     laws::is_played(&player);
     let _ = setup.accounts();
-    Ok(books)
+    Ok(Played {
+        setup,
+        player,
+        books,
+    })
 }

@@ -1,23 +1,25 @@
 //! The command `run`.
 
-ghost use Rattle.std.specs.Prelude.{◌≡◌, true, All, IfOk, OnOk, string_bytes};
+ghost use Rattle.std.specs.Prelude.{◌≡◌, All, IfOk, OnOk, string_bytes};
 ghost use Rattle.std.specs.Result.{result_map_both};
 ghost use Rattle.book_texts.specs.Typed.{IsTyped};
 ghost use Rattle.run_command.specs.Answers.{IsRunAnswer, IsTextOf};
+ghost use Rattle.run_command.specs.Played.{run_of};
 ghost use Rattle.run_options.specs.Options.{ask_of};
 
-use crate::playing::play;
+use crate::playing::{Played, play};
 use crate::{RunError, laws};
 use book_texts::{book_table, run_lines};
-use run_options::RunOptions;
+use call_records::{call_table, records};
+use run_options::{RunOptions, RunOutput};
 use run_texts::read_texts;
-use shared_account::Book;
+use runs_core::Driver;
 use std::alloc::{AllocError, Global};
 use std::sync::Wait;
 use std::thread::Threads;
 
-/// The text of a run of the input's script: a line for each account and for each of its calls, or
-/// the table of their books.
+/// The text of a run of the input's script: a line for each account and for each of its calls, the
+/// table of their books, or the table of the calls.
 ///
 /// The input is judged first, its parts in order, and its first fault is told. `Workers` where
 /// there can't be so many workers; any other fault of a run comes as `runs_core::serve` has it.
@@ -31,19 +33,24 @@ pub fn run<R: Wait + Threads + Sync>(
         (result_map_both string_bytes (λ error. error) result) }
 {
     let texts = read_texts(alloc, input)?;
-    let books = play(rt, alloc, options, texts)?;
+    let played = play(rt, alloc, options, texts)?;
     laws::played_books_pass();
-    Ok(print(alloc, options.book, books.as_slice())?)
+    Ok(print(alloc, options.output, &played)?)
 }
 
-/// The text of books.
-fn print(alloc: Global, book: bool, books: &[Book]) -> Result<String, AllocError>
-    ensures text { IfOk result (λ text. IsTextOf book books.now (string_bytes text)) }
-    ensures typed { book ≡ true → OnOk result (All IsTyped books.now) }
+/// The text of a script that was played.
+fn print(alloc: Global, output: RunOutput, played: &Played) -> Result<String, AllocError>
+    ensures text { IfOk result (λ text.
+        IsTextOf output (run_of played.now) (string_bytes text)) }
+    ensures typed { output ≡ RunOutput.Book → OnOk result (All IsTyped played.now.books.items) }
 {
-    if book {
-        book_table(alloc, books)
-    } else {
-        run_lines(alloc, books)
+    let books = played.books.as_slice();
+    match output {
+        RunOutput::Lines => run_lines(alloc, books),
+        RunOutput::Book => book_table(alloc, books),
+        RunOutput::Calls => {
+            let calls = records(alloc, &played.setup, played.player.given(), books)?;
+            call_table(alloc, calls.as_slice())
+        }
     }
 }

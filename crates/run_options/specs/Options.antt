@@ -12,5 +12,5 @@ ask_of options = record {
   tccd = options.ssf.tccd;
   delay = options.delay;
   default_handling = options.ssf.default_handling;
-  book = options.book;
+  output = options.output;
 }

@@ -3,6 +3,8 @@
 
 mod options;
 mod run_ask;
+mod run_output;
 
 pub use options::RunOptions;
 pub use run_ask::RunAsk;
+pub use run_output::RunOutput;

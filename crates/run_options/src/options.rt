@@ -3,7 +3,7 @@
 ghost use Rattle.std.specs.Prelude.{◌≡◌, ◌≤◌, ◌↔◌, true, IsSome, IfSome};
 ghost use Rattle.run_options.specs.Configs.{is_config};
 
-use crate::RunAsk;
+use crate::{RunAsk, RunOutput};
 use dialogue_core::ServiceConfig;
 use ssf_core::SsfConfig;
 
@@ -19,8 +19,8 @@ pub struct RunOptions {
     /// How long after a message the operations of its answer reach the switch, in units of 100 ms:
     /// at least 1, and no longer than a switch waits for a further period.
     pub delay: u32,
-    /// Whether the book is printed, in place of the accounts and calls.
-    pub book: bool,
+    /// What is printed.
+    pub output: RunOutput,
     pub ghost delay_positive: { 1 ≤ delay },
     pub ghost delay_within_tccd: { delay ≤ ssf.tccd },
 }
@@ -44,7 +44,7 @@ impl RunOptions {
             service,
             ssf,
             delay: ask.delay,
-            book: ask.book,
+            output: ask.output,
         })
     }
 }

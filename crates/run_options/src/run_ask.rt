@@ -1,5 +1,6 @@
 //! What `run` is asked for.
 
+use crate::RunOutput;
 use ssf_core::DefaultHandling;
 
 /// What `run` is asked for besides its input, in any numbers. Times are in units of 100 ms.
@@ -19,6 +20,6 @@ pub struct RunAsk {
     pub delay: u32,
     /// What becomes of a call whose instructions don't come in time.
     pub default_handling: DefaultHandling,
-    /// Whether the book is printed, in place of the accounts and calls.
-    pub book: bool,
+    /// What is printed.
+    pub output: RunOutput,
 }

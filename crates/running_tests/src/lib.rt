@@ -15,6 +15,8 @@ mod messages;
 #[cfg(test)]
 mod players;
 #[cfg(test)]
+mod records;
+#[cfg(test)]
 mod refusals;
 #[cfg(test)]
 mod rounds;

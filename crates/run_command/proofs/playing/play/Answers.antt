@@ -12,17 +12,17 @@ returns-clause-books g c =
     let hears = c.in_ok-books.ensures.heard in
     let config = ap (λ p. p.0) kept ∙ c.in_ok-player.ensures.config in
     let delay = ap (λ p. p.1) kept ∙ ap (λ play. play.delay) c.in_ok-player.ensures.fresh in
-    let rows = ap (λ p. p.2) kept ∙ ap (λ rows. rows ++ before.left) c.in_ok-player.ensures.taken ∙ c.in_ok-player.ensures.left in (
-      after.network.given,
-      hears.heard,
-      given_by (ask_of c.args.options.now) c.args.options.now.ssf after.network.config after.delay c.args.texts.script.items after.taken after.left hears.heard after.network.given
+    let rows = ap (λ p. p.2) kept ∙ ap (λ rows. rows ++ before.left) c.in_ok-player.ensures.taken ∙ c.in_ok-player.ensures.left in
+    record {
+      heard = hears.heard;
+      given_by = given_by (ask_of c.args.options.now) c.args.options.now.ssf after.network.config after.delay c.args.texts.script.items after.taken after.left hears.heard after.network.given
           (record { tssf = refl; tccd = refl; default_handling = refl })
           config
           delay
           rows
           (c.is_played.ensures c.args.texts.script.items hears.heard rows
-          (rounds_of c.args.options.now.ssf after.network.config c.args.options.now.delay after.delay c.args.texts.script.items before hears.heard after c.in_ok-player.ensures.fresh config delay hears.rounds)),
-      record {
+          (rounds_of c.args.options.now.ssf after.network.config c.args.options.now.delay after.delay c.args.texts.script.items before hears.heard after c.in_ok-player.ensures.fresh config delay hears.rounds));
+      books = record {
         opened = search rules;
         legal = search rules;
         merged = search rules;
@@ -42,5 +42,6 @@ returns-clause-books g c =
         worked = c.in_ok-books.ensures.worked;
         each_heard = hears.whole;
         answered = hears.answered;
-      },
-    )
+      };
+      setup = refl;
+    }

@@ -1,0 +1,136 @@
+-- One post more: what it tells of a call.
+use Rattle.std.proofs.Common.{◌≡◌, ◌==◌, ◌||◌, ◌+◌, ◌<◌, length, get_or, take, ℕ, Bool, true, false, Option, Some, None, List, [], ◌∷◌, ◌++◌, refl, sym, ap, ◌∙◌, arith}
+use Rattle.std.proofs.lemmas.Bool.Decides.{nat_tests}
+use Rattle.std.proofs.lemmas.List.{take_more}
+use Rattle.std.specs.Prelude.{Result, Ok, Err, OnOk, if◌then◌else◌, is_some}
+use Rattle.std.specs.Option.{option_or}
+use Rattle.cap_values.specs.declared.event.Event.{Event}
+use Rattle.cap_values.specs.declared.event.Event.TheVariants as event
+use Rattle.cap_values.specs.declared.leg.Leg.{Leg}
+use Rattle.cap_values.specs.declared.mode.Mode.{Mode}
+use Rattle.cap_values.specs.declared.message.SsfMsg.TheVariants as message
+use Rattle.cap_values.specs.declared.message.SsfMsg.{SsfMsg}
+use Rattle.run_values.specs.declared.post.Body.{Body}
+use Rattle.run_values.specs.declared.post.Body.TheVariants as body
+use Rattle.call_records.specs.Calls.{end_by, first_told, report_by, reports_of, start_by, start_of, told_by}
+use Rattle.call_records.specs.declared.reports.CallReports.{CallReports}
+
+-- the first of three is that of the first two, or the third
+either : {X : Type 0} (one two three : Option X) → option_or one (option_or two three) ≡ option_or (option_or one two) three
+either None two three = refl
+either (Some x) two three = refl
+
+pub or_none : {X : Type 0} (one : Option X) → option_or one None ≡ one
+or_none None = refl
+or_none (Some x) = refl
+
+-- what is first told with one post more
+pub told_more : {X : Type 0} (call : ℕ) (tell : ℕ → SsfMsg → Option X) (given : List (ℕ × Body)) (post : ℕ × Body)
+    → first_told call tell (given ++ post ∷ []) ≡ option_or (first_told call tell given) (told_by call (tell post.0) post.1)
+told_more call tell [] post = or_none (told_by call (tell post.0) post.1)
+told_more call tell (first ∷ given) post =
+    ap (λ later. option_or (told_by call (tell first.0) first.1) later) (told_more call tell given post)
+    ∙ either (told_by call (tell first.0) first.1) (first_told call tell given) (told_by call (tell post.0) post.1)
+
+-- what is known, or what is told now
+abbrev pub known_or : Option ℕ → Option ℕ → Option ℕ
+known_or known None = known
+known_or known (Some moment) = option_or known (Some moment)
+
+is_known_or : (known told : Option ℕ) → option_or known told ≡ known_or known told
+is_known_or known None = or_none known
+is_known_or known (Some moment) = refl
+
+is_told : (known told : Option ℕ) → is_some (option_or known told) ≡ is_some told || is_some known
+is_told None None = refl
+is_told None (Some moment) = refl
+is_told (Some known) None = refl
+is_told (Some known) (Some moment) = refl
+
+-- the reports after a post that tells this
+abbrev pub reports_with : CallReports → ((ℕ → SsfMsg → Option ℕ) → Option ℕ) → CallReports
+reports_with reports tells = record {
+  answer = known_or reports.answer (tells (report_by event.Answer));
+  end = known_or reports.end (tells end_by);
+  busy = is_some (tells (report_by event.CalledPartyBusy)) || reports.busy;
+  no_answer = is_some (tells (report_by event.NoAnswer)) || reports.no_answer;
+  route_failed = is_some (tells (report_by event.RouteSelectFailure)) || reports.route_failed;
+  abandoned = is_some (tells (report_by event.Abandon)) || reports.abandoned;
+  disconnected = is_some (tells (report_by event.Disconnect)) || reports.disconnected;
+}
+
+module _ (call : ℕ) (given : List (ℕ × Body)) (post : ℕ × Body) where
+  abbrev tells : (ℕ → SsfMsg → Option ℕ) → Option ℕ
+  tells tell = told_by call (tell post.0) post.1
+
+  moment_more : (tell : ℕ → SsfMsg → Option ℕ) → first_told call tell (given ++ post ∷ []) ≡ known_or (first_told call tell given) (tells tell)
+  moment_more tell = told_more call tell given post ∙ is_known_or (first_told call tell given) (tells tell)
+
+  mark_more : (tell : ℕ → SsfMsg → Option ℕ) → is_some (first_told call tell (given ++ post ∷ [])) ≡ is_some (tells tell) || is_some (first_told call tell given)
+  mark_more tell = ap is_some (told_more call tell given post) ∙ is_told (first_told call tell given) (tells tell)
+
+  pub reports_more : reports_of call (given ++ post ∷ []) ≡ reports_with (reports_of call given) tells
+  reports_more = λ i. record {
+    answer = moment_more (report_by event.Answer) i;
+    end = moment_more end_by i;
+    busy = mark_more (report_by event.CalledPartyBusy) i;
+    no_answer = mark_more (report_by event.NoAnswer) i;
+    route_failed = mark_more (report_by event.RouteSelectFailure) i;
+    abandoned = mark_more (report_by event.Abandon) i;
+    disconnected = mark_more (report_by event.Disconnect) i;
+  }
+
+itself : (call : ℕ) → call == call ≡ true
+itself call = grind (arith, nat_tests)
+
+-- a message of the call itself
+pub own_more : (call : ℕ) (given : List (ℕ × Body)) (at : ℕ) (msg : SsfMsg)
+    → reports_of call (given ++ (at, body.Ssf call msg) ∷ []) ≡ reports_with (reports_of call given) (λ tell. tell at msg)
+own_more call given at msg =
+    reports_more call given (at, body.Ssf call msg)
+    ∙ ap (λ own. reports_with (reports_of call given) (λ tell. if own then tell at msg else None)) (itself call)
+
+-- one of another call
+pub other_more : (call other : ℕ) (given : List (ℕ × Body)) (at : ℕ) (msg : SsfMsg) → call == other ≡ false
+    → reports_of other (given ++ (at, body.Ssf call msg) ∷ []) ≡ reports_of other given
+other_more call other given at msg differs =
+    reports_more other given (at, body.Ssf call msg)
+    ∙ ap (λ own. reports_with (reports_of other given) (λ tell. if own then tell at msg else None)) differs
+
+pub same_call : (call other : ℕ) → call == other ≡ true → call ≡ other
+same_call call other same = grind (arith, nat_tests)
+
+-- what is kept of each call, after one of them has other reports
+pub reports_kept : (call other : ℕ) (given : List (ℕ × Body)) (at : ℕ) (msg : SsfMsg) (after was : CallReports) (own : Bool) → call == other ≡ own
+    → after ≡ reports_of call (given ++ (at, body.Ssf call msg) ∷ []) → was ≡ reports_of other given
+    → (if own then after else was) ≡ reports_of other (given ++ (at, body.Ssf call msg) ∷ [])
+reports_kept call other given at msg after was true same are had =
+    are ∙ ap (λ c. reports_of c (given ++ (at, body.Ssf call msg) ∷ [])) (same_call call other same)
+reports_kept call other given at msg after was false differs are had = had ∙ sym (other_more call other given at msg differs)
+
+-- a post that starts no call
+pub no_start : (call : ℕ) (given : List (ℕ × Body)) (post : ℕ × Body) → told_by call (start_by post.0) post.1 ≡ None
+    → start_of call given ≡ start_of call (given ++ post ∷ [])
+no_start call given post none =
+    sym (told_more call start_by given post ∙ ap (λ s. option_or (start_of call given) s) none ∙ or_none (start_of call given))
+
+-- what follows where a call succeeds
+pub on_ok : {X E P Q : Type 0} (answer : Result X E) → (P → Q) → OnOk answer P → OnOk answer Q
+on_ok (Ok x) follows holds = follows holds
+on_ok (Err why) follows holds = holds
+
+-- the reports of a call after a message more of it
+pub message_kept : (call : ℕ) (given : List (ℕ × Body)) (at : ℕ) (msg : SsfMsg) (reports : CallReports) → reports ≡ reports_of call given
+    → reports_with reports (λ tell. tell at msg) ≡ reports_of call (given ++ (at, body.Ssf call msg) ∷ [])
+message_kept call given at msg reports are =
+    ap (λ known. reports_with known (λ tell. tell at msg)) are ∙ sym (own_more call given at msg)
+
+-- the reports of a call after an event more
+pub event_kept : (call : ℕ) (given : List (ℕ × Body)) (at : ℕ) (event : Event) (leg : Option Leg) (mode : Mode) (reports : CallReports) → reports ≡ reports_of call given
+    → reports_with reports (λ tell. tell at (message.EventReport event leg mode)) ≡ reports_of call (given ++ (at, body.Ssf call (message.EventReport event leg mode)) ∷ [])
+event_kept call given at event leg mode reports are = message_kept call given at (message.EventReport event leg mode) reports are
+
+-- the next item of a list
+pub next_item : {X : Type 0} (items : List X) (i : ℕ) (item : X) → i < length items → item ≡ get_or items i item
+    → take (i + 1) items ≡ take i items ++ item ∷ []
+next_item items i item within is = take_more items i item within ∙ ap (λ x. take i items ++ x ∷ []) (sym is)

@@ -1,0 +1,4 @@
+pub mod AccountLemmas
+pub mod CallLemmas
+pub mod MarkLemmas
+pub mod RecordLemmas

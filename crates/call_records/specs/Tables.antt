@@ -1,0 +1,56 @@
+-- The table of calls.
+use Rattle.std.specs.Prelude.{◌≡◌, ◌-◌, ℕ, List, [], ◌++◌, codes, unwrap_or}
+use Rattle.std.specs.Fmt.{decimal}
+use Rattle.std.specs.List.{flat_map}
+use Rattle.cap_values.specs.NumberDigits.{digits_of}
+use Rattle.entry_rows.specs.Columns.{field, number_or_empty}
+use Rattle.call_records.specs.Records.{AreRecords, Run, prefix_of}
+use Rattle.call_records.specs.declared.outcome.Outcome.{Outcome}
+use Rattle.call_records.specs.declared.outcome.Outcome.TheVariants as outcome
+use Rattle.call_records.specs.declared.call_record.CallRecord.{CallRecord}
+
+-- the word for what became of a call
+abbrev pub word_of : Outcome → List ℕ
+word_of outcome.Unknown = codes "unknown"
+word_of outcome.NoRoute = codes "noroute"
+word_of outcome.Denied = codes "denied"
+word_of outcome.Refused = codes "refused"
+word_of outcome.Forfeit = codes "forfeit"
+word_of outcome.Open = codes "open"
+word_of outcome.Busy = codes "busy"
+word_of outcome.NoAnswer = codes "noanswer"
+word_of outcome.RouteFail = codes "routefail"
+word_of outcome.Abandoned = codes "abandoned"
+word_of outcome.Ended = codes "ended"
+word_of outcome.Cut = codes "cut"
+word_of outcome.Released = codes "released"
+
+-- digits, each in decimals
+abbrev pub digits_text : List ℕ → List ℕ
+digits_text digits = flat_map (λ byte. decimal (byte - 48)) digits
+
+-- the numbers of a row, each with a comma behind it
+abbrev pub moments_text : CallRecord → List ℕ
+moments_text call =
+    field (decimal call.start) (field (number_or_empty call.answer) (field (number_or_empty call.end)
+    (field (decimal call.times.before) (field (decimal call.times.after) (field (decimal call.paid) [])))))
+
+-- a row: `call,calling,called,account,prefix,start,answer,end,before,after,paid,outcome`
+abbrev pub record_row : CallRecord → List ℕ
+record_row call =
+    field (decimal call.call) (field (digits_text (digits_of call.calling)) (field (digits_text (digits_of call.called))
+    (field (number_or_empty call.account) (field (digits_text (unwrap_or (prefix_of call) [])) (moments_text call ++ (word_of call.outcome ++ codes "\n"))))))
+
+-- the header of the table
+abbrev pub header : List ℕ
+header = codes "call,calling,called,account,prefix,start,answer,end,before,after,paid,outcome\n"
+
+-- the table of calls: a header, and a row of each record in order
+abbrev pub call_text : List CallRecord → List ℕ
+call_text calls = header ++ flat_map record_row calls
+
+-- the table of the calls of a run
+pub record IsCallText (run : Run) (text : List ℕ) : Type 0 where
+  pub calls : List CallRecord
+  pub are : AreRecords run calls
+  pub is : text ≡ call_text calls

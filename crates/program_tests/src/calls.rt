@@ -1,0 +1,153 @@
+//! Worked records of calls.
+
+use crate::program::{expect, expect_fault};
+use crate::runs::{BAND, input_of};
+use std::test::Fail;
+
+const HEADER: &str =
+    "call,calling,called,account,prefix,start,answer,end,before,after,paid,outcome\n";
+
+/// One account with a subscriber.
+const ACCOUNT: &str = "account,7,1500\nsubscriber,491700001,7\n";
+
+/// A call that is answered after 100 units and lasts 300.
+const CALL: &str = "0,1,start,491700001,4930\n100,1,answer,,\n400,1,disconnect,1,\n";
+
+/// Words, the rows of the tariff, the setup and the script, and the records.
+const RECORDED: [(&str, &str, &str, &str, &str); 17] = [
+    ("run --calls", "", "", "", ""),
+    (
+        "run --calls",
+        BAND,
+        ACCOUNT,
+        CALL,
+        "1,491700001,4930,7,49,0,100,402,300,0,550,ended\n",
+    ),
+    (
+        "run --calls",
+        BAND,
+        ACCOUNT,
+        "0,1,start,491700001,4930\n100,1,answer,,\n",
+        "1,491700001,4930,7,49,0,100,970,870,0,1500,cut\n",
+    ),
+    (
+        "run --wanted 900 --calls",
+        "49,00:00,50,1000\n49,00:01,0,400\n",
+        "account,7,1600\nsubscriber,491700001,7\n",
+        "0,1,start,491700001,4930\n100,1,answer,,\n802,1,disconnect,1,\n",
+        "1,491700001,4930,7,49,0,100,804,502,200,1020,ended\n",
+    ),
+    (
+        "run --calls",
+        BAND,
+        ACCOUNT,
+        "0,1,start,491700001,4430\n100,1,answer,,\n400,1,disconnect,1,\n",
+        "1,491700001,4430,7,,0,,2,0,0,0,noroute\n",
+    ),
+    (
+        "run --calls",
+        ",00:00,0,600\n",
+        ACCOUNT,
+        CALL,
+        "1,491700001,4930,7,,0,100,402,300,0,300,ended\n",
+    ),
+    (
+        "run --calls",
+        BAND,
+        ACCOUNT,
+        "5,3,start,491700009,4930\n10,3,answer,,\n",
+        "3,491700009,4930,,49,5,,7,0,0,0,unknown\n",
+    ),
+    (
+        "run --calls",
+        BAND,
+        ACCOUNT,
+        "5,3,start,491700009,30\n",
+        "3,491700009,30,,,5,,7,0,0,0,unknown\n",
+    ),
+    (
+        "run --least 600 --workers 1 --calls",
+        BAND,
+        ACCOUNT,
+        "0,9,start,491700001,4930\n0,2,start,491700001,4930\n",
+        "2,491700001,4930,7,49,0,,2,0,0,0,denied\n9,491700001,4930,7,49,0,,,0,0,0,open\n",
+    ),
+    (
+        "run --calls",
+        BAND,
+        ACCOUNT,
+        "0,1,start,491700001,4930\n10,1,busy,,\n",
+        "1,491700001,4930,7,49,0,,10,0,0,0,busy\n",
+    ),
+    (
+        "run --calls",
+        BAND,
+        ACCOUNT,
+        "0,1,start,491700001,4930\n10,1,noanswer,,\n",
+        "1,491700001,4930,7,49,0,,10,0,0,0,noanswer\n",
+    ),
+    (
+        "run --calls",
+        BAND,
+        ACCOUNT,
+        "0,1,start,491700001,4930\n10,1,routefail,,\n",
+        "1,491700001,4930,7,49,0,,10,0,0,0,routefail\n",
+    ),
+    (
+        "run --calls",
+        BAND,
+        ACCOUNT,
+        "0,1,start,491700001,4930\n10,1,abandon,,\n",
+        "1,491700001,4930,7,49,0,,10,0,0,0,abandoned\n",
+    ),
+    (
+        "run --tssf 1 --calls",
+        BAND,
+        ACCOUNT,
+        CALL,
+        "1,491700001,4930,7,49,0,,1,0,0,0,released\n",
+    ),
+    (
+        "run --calls",
+        BAND,
+        ACCOUNT,
+        "0,1,start,491700001,4930\n1,1,answer,,\n400,1,disconnect,1,\n",
+        "1,491700001,4930,7,49,0,,,0,0,0,open\n",
+    ),
+    (
+        "run --delay 50 --least 300 --calls",
+        BAND,
+        ACCOUNT,
+        "0,1,start,491700001,4930\n100,1,answer,,\n",
+        "1,491700001,4930,7,49,0,100,750,600,0,1050,cut\n",
+    ),
+    (
+        "run --workers 16 --calls",
+        BAND,
+        "account,7,1500\naccount,8,900\nsubscriber,491700001,7\nsubscriber,491700002,8\n",
+        "0,2,start,491700002,4931\n0,1,start,491700001,4930\n100,1,answer,,\n150,2,answer,,\n\
+         400,2,disconnect,2,\n500,1,disconnect,1,\n",
+        "1,491700001,4930,7,49,0,100,502,400,0,717,ended\n\
+         2,491700002,4931,8,49,0,150,402,250,0,467,ended\n",
+    ),
+];
+
+/// Words of which only one may be there.
+const TWO_TABLES: [&str; 3] = [
+    "run --book --calls",
+    "run --calls --book --delay 0",
+    "run --calls --calls",
+];
+
+#[test]
+fn records_calls(rt: HostRuntime) -> Result<(), Fail> {
+    for (words, tariff, setup, script, records) in RECORDED {
+        let input = input_of(rt.alloc(), tariff, setup, script)?;
+        let output = format!(in rt.alloc(); "{HEADER}{records}")?;
+        expect(&rt, words, input.as_str(), (0, output.as_str(), ""))?;
+    }
+    for words in TWO_TABLES {
+        expect_fault(&rt, words, "", "arguments")?;
+    }
+    Ok(())
+}
