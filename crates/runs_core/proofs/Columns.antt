@@ -10,7 +10,7 @@ use Rattle.runs_core.specs.Dealing.{dealt}
 use Rattle.runs_core.specs.Hearing.{AreAnsweredFrom, HasHeard, HasHeardFrom, IsAnsweredBy, all_heard, answers_to}
 use Rattle.runs_core.specs.Teams.{Reads}
 use Rattle.runs_core.specs.declared.books.Books.{Books}
-use Rattle.runs_core.specs.declared.desk.Left.{Left}
+use Rattle.runs_core.specs.declared.desk.WorkerEnd.{WorkerEnd}
 use Rattle.runs_core.specs.declared.run_fault.RunFault.{RunFault}
 use Rattle.run_values.specs.Setups.{Setup}
 use Rattle.run_values.specs.declared.answer.Answer.{Answer}
@@ -100,7 +100,7 @@ pub none_laid : {S X Y : Type 0} (f : X → Y) (accounts : List S) (count : ℕ)
     → laid (map (map f) (replicate count [])) later ≡ laid (replicate (length accounts) []) later
 none_laid f accounts count later is = rw (is, none_mapped f accounts) refl
 
-teams_even : {K S T : Type 0} (read : Reads K T) (keys : List K) (numbers : List ℕ) (left : List (Left S T)) → AreLeftFrom read keys numbers left
+teams_even : {K S T : Type 0} (read : Reads K T) (keys : List K) (numbers : List ℕ) (left : List (WorkerEnd S T)) → AreLeftFrom read keys numbers left
     → AreEven (length keys) (map (λ one. map read.mine one.seats.items) left)
 teams_even read keys numbers [] are = tt
 teams_even read keys numbers (one ∷ left) are =
@@ -113,7 +113,7 @@ in_books books rows worker (one ∷ lists) own are =
     (map_twice (λ (book : Closed). book.own) (λ own. slice_index_or own worker []) books ∙ ap (column [] worker) own ∙ are.0, in_books books rows (worker + 1) lists own are.1)
 
 -- the lists in the books are those that the workers left
-pub listed_by : {K S T X : Type 0} (read : Reads K T) (key : X → K) (accounts : List X) (numbers : List ℕ) (left : List (Left S T)) (books : List Closed) (rows : List (List (List EntryData)))
+pub listed_by : {K S T X : Type 0} (read : Reads K T) (key : X → K) (accounts : List X) (numbers : List ℕ) (left : List (WorkerEnd S T)) (books : List Closed) (rows : List (List (List EntryData)))
     → AreLeftFrom read (map key accounts) numbers left → map (λ book. book.own) books ≡ rows
     → rows ≡ laid (replicate (length accounts) []) (map (λ one. map read.mine one.seats.items) left) → AreListed books 0 (map (λ one. map read.mine one.seats.items) left)
 listed_by read key accounts numbers left books rows are own is =
@@ -122,7 +122,7 @@ listed_by read key accounts numbers left books rows are own is =
     in_books books _ 0 _ (own ∙ is) (columns_of [] 0 (replicate (length accounts) []) (map (λ one. map read.mine one.seats.items) left) (even_none (List EntryData) accounts) long)
 
 -- and so those in the books are what handling the posts of the workers comes to
-pub worked_in_books : {K S T : Type 0} (read : Reads K T) (setup : Setup) (books : List Closed) (worker : ℕ) (left : List (Left S T)) → AreWorkedFrom read setup worker left
+pub worked_in_books : {K S T : Type 0} (read : Reads K T) (setup : Setup) (books : List Closed) (worker : ℕ) (left : List (WorkerEnd S T)) → AreWorkedFrom read setup worker left
     → AreListed books worker (map (λ one. map read.mine one.seats.items) left)
     → AreWorked setup books worker (map (λ one. one.posts.items) left) (map (λ one. one.refusals.items) left)
 worked_in_books read setup books worker [] are listed = tt
@@ -130,7 +130,7 @@ worked_in_books read setup books worker (one ∷ left) are listed =
     (rw (listed.0) are.0, worked_in_books read setup books (worker + 1) left are.2 listed.1)
 
 -- so too where the run has books, and the fault of the close where it has none
-pub worked_so : {K S T : Type 0} (read : Reads K T) (setup : Setup) (left : List (Left S T)) (result : Result Books RunFault) → AreWorkedFrom read setup 0 left
+pub worked_so : {K S T : Type 0} (read : Reads K T) (setup : Setup) (left : List (WorkerEnd S T)) (result : Result Books RunFault) → AreWorkedFrom read setup 0 left
     → IfOk result (λ all. map (λ posts. posts.items) all.handled.items ≡ map (λ one. one.posts.items) left)
     → IfOk result (λ all. map (λ one. one.items) all.refusals.items ≡ map (λ one. one.refusals.items) left)
     → IfOk result (λ all. AreListed all.books.items 0 (map (λ one. map read.mine one.seats.items) left))
@@ -140,7 +140,7 @@ worked_so read setup left (Err fault) are handled refused listed = tt
 
 -- ---- and from the answers that came from the workers to those that the driver heard
 
-answered_at : {K S T : Type 0} (read : Reads K T) (setup : Setup) (books : List Closed) (first worker : ℕ) (lists : List (List Answer)) (left : List (Left S T)) → AreAnsweredFrom read setup first lists left
+answered_at : {K S T : Type 0} (read : Reads K T) (setup : Setup) (books : List Closed) (first worker : ℕ) (lists : List (List Answer)) (left : List (WorkerEnd S T)) → AreAnsweredFrom read setup first lists left
     → AreListed books first (map (λ one. map read.mine one.seats.items) left) → worker < length left
     → IsAnsweredBy setup books (first + worker) (slice_index_or (map (λ one. one.posts.items) left) worker []) (slice_index_or (map (λ one. one.refusals.items) left) worker [])
     (slice_index_or lists worker [])
@@ -157,7 +157,7 @@ answered_at read setup books first (suc worker) (answers ∷ lists) (one ∷ lef
     (slice_index_or lists worker []) in
     subst Its later (answered_at read setup books (first + 1) worker lists left are.2 listed.1 (omega (arith, below)))
 
-pub heard_so : {D K S T : Type 0} (given : D → List (ℕ × Body)) (ended : D → Bool) (hears : D → List Answer → D → Type 0) (read : Reads K T) (setup : Setup) (workers : ℕ) (left : List (Left S T)) (old new : D) (result : Result Books RunFault)
+pub heard_so : {D K S T : Type 0} (given : D → List (ℕ × Body)) (ended : D → Bool) (hears : D → List Answer → D → Type 0) (read : Reads K T) (setup : Setup) (workers : ℕ) (left : List (WorkerEnd S T)) (old new : D) (result : Result Books RunFault)
     → workers ≡ length left → HasHeardFrom given ended hears read setup left old new
     → IfOk result (λ all. map (λ posts. posts.items) all.handled.items ≡ map (λ one. one.posts.items) left)
     → IfOk result (λ all. map (λ one. one.items) all.refusals.items ≡ map (λ one. one.refusals.items) left)

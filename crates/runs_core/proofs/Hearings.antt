@@ -192,9 +192,9 @@ round_last given ended hears before_this old (first ∷ second ∷ heard) betwee
       (hears_after given hears _ _ between answers new (sym (append_assoc before_this first (all_heard (second ∷ heard)))) more) ends,
 )
 
--- ---- the answers that come by the lines
+-- ---- the answers that come by the links
 
--- the answers by the lines before a place have come, and were put down
+-- the answers by the links before a place have come, and were put down
 pub record AreHeard {L V : Type 0} (heard_by : L → List Answer) (inside : V → List Answer) (old : List L) (at : ℕ) (now : List L) (lists : List V) : Type 0 where
   pub joined_so : map heard_by now ≡ joined (map heard_by old) (map inside lists)
   pub count : at ≡ length lists
@@ -203,17 +203,17 @@ pub none_heard : {L V : Type 0} (heard_by : L → List Answer) (inside : V → L
 none_heard heard_by inside old at lists none empty = rw (none, empty) (record { joined_so = sym (joined_none (map heard_by old)); count = refl })
 
 -- one more has come, where none has failed
-pub one_heard : {L V : Type 0} (heard_by : L → List Answer) (inside : V → List Answer) (old : List L) (at : ℕ) (now : List L) (lists more : List V) (fault : Option RunFault) (result : Result (Unit {0}) RunFault) (line new : L)
-    → length now ≡ length old → at < length now → line ≡ get_or now at line → (fault ≡ None → AreHeard heard_by inside old at now lists)
-    → OnOk result ((answers : List Answer) × (heard_by new ≡ heard_by line ++ answers) × (map inside more ≡ map inside lists ++ answers ∷ []))
+pub one_heard : {L V : Type 0} (heard_by : L → List Answer) (inside : V → List Answer) (old : List L) (at : ℕ) (now : List L) (lists more : List V) (fault : Option RunFault) (result : Result (Unit {0}) RunFault) (link new : L)
+    → length now ≡ length old → at < length now → link ≡ get_or now at link → (fault ≡ None → AreHeard heard_by inside old at now lists)
+    → OnOk result ((answers : List Answer) × (heard_by new ≡ heard_by link ++ answers) × (map inside more ≡ map inside lists ++ answers ∷ []))
     → option_or fault (result_err result) ≡ None → AreHeard heard_by inside old (at + 1) (set now at new) more
-one_heard heard_by inside old at now lists more None (Ok done) line new many below is before comes none =
+one_heard heard_by inside old at now lists more None (Ok done) link new many below is before comes none =
     let was = before refl in
     let within : length (map inside lists) < length (map heard_by old) = omega (arith, below, many, was.count, length-map lists inside, length-map old heard_by) in
     let here : at ≡ length (map inside lists) = was.count ∙ sym (length-map lists inside) in
     record {
-      joined_so = joined_next heard_by (map heard_by old) (map inside lists) comes.0 at now line new was.joined_so here within is comes.1 ∙ ap (joined (map heard_by old)) (sym comes.2);
+      joined_so = joined_next heard_by (map heard_by old) (map inside lists) comes.0 at now link new was.joined_so here within is comes.1 ∙ ap (joined (map heard_by old)) (sym comes.2);
       count = ap (λ n. n + 1) here ∙ sym (length-append (map inside lists) (comes.0 ∷ [])) ∙ sym (ap length comes.2) ∙ length-map more inside;
     }
-one_heard heard_by inside old at now lists more None (Err why) line new many below is before comes none = absurd (cc)
-one_heard heard_by inside old at now lists more (Some why) result line new many below is before comes none = absurd (cc)
+one_heard heard_by inside old at now lists more None (Err why) link new many below is before comes none = absurd (cc)
+one_heard heard_by inside old at now lists more (Some why) result link new many below is before comes none = absurd (cc)

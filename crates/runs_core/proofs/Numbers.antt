@@ -8,7 +8,7 @@ use Rattle.runs_core.proofs.Columns.{map_dealt}
 use Rattle.runs_core.specs.Closing.{AreAllThere, AreNumberedFrom, AreWorkedFrom}
 use Rattle.runs_core.specs.Dealing.{dealt}
 use Rattle.runs_core.specs.Teams.{Reads, terms_of, terms_with}
-use Rattle.runs_core.specs.declared.desk.Left.{Left}
+use Rattle.runs_core.specs.declared.desk.WorkerEnd.{WorkerEnd}
 use Rattle.shared_account.specs.Seats.{are_numbered}
 use Rattle.shared_account.specs.Terms.{Terms}
 use Rattle.run_values.specs.Setups.{Setup}
@@ -71,7 +71,7 @@ all_there seats_of number (account ∷ accounts) (row ∷ rows) all rising many 
 
 -- ---- from what the workers of a run leave
 
-pub numbered_from : {K S T : Type 0} (read : Reads K T) (setup : Setup) (number : ℕ) (left : List (Left S T)) → AreWorkedFrom read setup number left → AreNumberedFrom read number left
+pub numbered_from : {K S T : Type 0} (read : Reads K T) (setup : Setup) (number : ℕ) (left : List (WorkerEnd S T)) → AreWorkedFrom read setup number left → AreNumberedFrom read number left
 numbered_from read setup number [] are = tt
 numbered_from read setup number (one ∷ left) are = (are.1, numbered_from read setup (number + 1) left are.2)
 

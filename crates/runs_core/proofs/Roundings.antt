@@ -24,10 +24,10 @@ use Rattle.runs_core.specs.Shares.{HaveHandled}
 use Rattle.runs_core.specs.Teams.{IsLeft, Reads}
 use Rattle.runs_core.specs.declared.crew.Crew.{Crew}
 use Rattle.runs_core.specs.declared.desk.Desk.{Desk}
-use Rattle.runs_core.specs.declared.desk.Left.{Left}
-use Rattle.runs_core.specs.declared.line.Line.{Line}
+use Rattle.runs_core.specs.declared.desk.WorkerEnd.{WorkerEnd}
+use Rattle.runs_core.specs.declared.worker_link.WorkerLink.{WorkerLink}
 use Rattle.runs_core.specs.declared.run_fault.RunFault.{RunFault}
-use Rattle.runs_core.specs.declared.returns.Returns.{Returns}
+use Rattle.runs_core.specs.declared.worker_promise.WorkerPromise.{WorkerPromise}
 
 -- a round more
 pub served_more : {K S G T : Type 0} (account_number : S → ℕ) (key : S → K) (read : Reads K T) (setup : Setup) (accounts : List S) (given added now : List (ℕ × Body)) (answers more : List Answer) (old new : Crew S G T)
@@ -36,7 +36,7 @@ pub served_more : {K S G T : Type 0} (account_number : S → ℕ) (key : S → K
 served_more account_number key read setup accounts given added now answers more old new grown before is =
     let handled = handled_more (count_of old) given added (posts_by old) is.shares before.posts is.are_shares in
     let Its : ℕ → List (ℕ × Body) → List (List Post) → Type 0 = λ n g ps. HaveHandled n g ps in
-    let heard = answers_more (count_of old) given added answers more (before.mine ∷ map heard_by old.lines.items) (is.mine ∷ is.others) before.are_answers is.are_answers in
+    let heard = answers_more (count_of old) given added answers more (before.mine ∷ map heard_by old.links.items) (is.mine ∷ is.others) before.are_answers is.are_answers in
     record {
       posts = subst (λ n. Its n now (posts_by new)) (sym is.count) (subst (λ g. Its (count_of old) g (posts_by new)) (sym grown) (subst (Its (count_of old) (given ++ added)) (sym is.posts) handled));
       mine = before.mine ++ is.mine;
@@ -45,35 +45,35 @@ served_more account_number key read setup accounts given added now answers more 
       are_answers = rw (is.count, grown, is.heard) heard;
     }
 
-silent_all : {L : Type 0} (sent_by : L → List Post) (lines : List L) → All (λ line. sent_by line ≡ []) lines → map sent_by lines ≡ replicate (length lines) []
+silent_all : {L : Type 0} (sent_by : L → List Post) (links : List L) → All (λ link. sent_by link ≡ []) links → map sent_by links ≡ replicate (length links) []
 silent_all sent_by [] none = refl
-silent_all sent_by (line ∷ lines) none =
-    rw (All-head (λ l. sent_by l ≡ []) line lines none) (ap (λ rest. [] ∷ rest) (silent_all sent_by lines (All-tail (λ l. sent_by l ≡ []) line lines none)))
+silent_all sent_by (link ∷ links) none =
+    rw (All-head (λ l. sent_by l ≡ []) link links none) (ap (λ rest. [] ∷ rest) (silent_all sent_by links (All-tail (λ l. sent_by l ≡ []) link links none)))
 
-silent_at : {L : Type 0} (heard_by : L → List Answer) (lines : List L) (worker : ℕ) → All (λ line. heard_by line ≡ []) lines → slice_index_or (map heard_by lines) worker [] ≡ []
+silent_at : {L : Type 0} (heard_by : L → List Answer) (links : List L) (worker : ℕ) → All (λ link. heard_by link ≡ []) links → slice_index_or (map heard_by links) worker [] ≡ []
 silent_at heard_by [] worker none = refl
-silent_at heard_by (line ∷ lines) zero none = All-head (λ l. heard_by l ≡ []) line lines none
-silent_at heard_by (line ∷ lines) (suc worker) none = silent_at heard_by lines worker (All-tail (λ l. heard_by l ≡ []) line lines none)
+silent_at heard_by (link ∷ links) zero none = All-head (λ l. heard_by l ≡ []) link links none
+silent_at heard_by (link ∷ links) (suc worker) none = silent_at heard_by links worker (All-tail (λ l. heard_by l ≡ []) link links none)
 
-none_at_first : {L : Type 0} (heard_by : L → List Answer) (lines : List L) (worker : ℕ) → All (λ line. heard_by line ≡ []) lines → slice_index_or ([] ∷ map heard_by lines) worker [] ≡ []
-none_at_first heard_by lines zero none = refl
-none_at_first heard_by lines (suc worker) none = silent_at heard_by lines worker none
+none_at_first : {L : Type 0} (heard_by : L → List Answer) (links : List L) (worker : ℕ) → All (λ link. heard_by link ≡ []) links → slice_index_or ([] ∷ map heard_by links) worker [] ≡ []
+none_at_first heard_by links zero none = refl
+none_at_first heard_by links (suc worker) none = silent_at heard_by links worker none
 
 -- before the first round
 pub none_served : {K S G T : Type 0} (account_number : S → ℕ) (key : S → K) (read : Reads K T) (setup : Setup) (accounts : List S) (crew : Crew S G T)
-    → HasAnswered account_number key read setup accounts 0 [] [] crew.desk → All (λ line. sent_by line ≡ []) crew.lines.items → All (λ line. heard_by line ≡ []) crew.lines.items
+    → HasAnswered account_number key read setup accounts 0 [] [] crew.desk → All (λ link. sent_by link ≡ []) crew.links.items → All (λ link. heard_by link ≡ []) crew.links.items
     → HasServed account_number key read setup accounts [] [] crew
 none_served account_number key read setup accounts crew first silent unheard =
     let Its : List Post → Type 0 = λ ps. HasAnswered account_number key read setup accounts 0 ps [] crew.desk in
-    let many : length crew.lines.items + 1 ≡ suc (length crew.lines.items) = omega (arith) in
+    let many : length crew.links.items + 1 ≡ suc (length crew.links.items) = omega (arith) in
     record {
-      posts = none_handled (count_of crew) (posts_by crew) (ap (λ p. p ∷ map sent_by crew.lines.items) first.posts_are ∙ ap (λ ps. [] ∷ ps) (silent_all sent_by crew.lines.items silent) ∙ ap (λ n. replicate n []) (sym many));
+      posts = none_handled (count_of crew) (posts_by crew) (ap (λ p. p ∷ map sent_by crew.links.items) first.posts_are ∙ ap (λ ps. [] ∷ ps) (silent_all sent_by crew.links.items silent) ∙ ap (λ n. replicate n []) (sym many));
       mine = [];
       desk = subst Its (sym first.posts_are) first;
       are_answers = record {
         numbers = refl;
-        count = ap suc (length-map crew.lines.items heard_by) ∙ sym many;
-        each = λ worker below. none_at_first heard_by crew.lines.items worker unheard;
+        count = ap suc (length-map crew.links.items heard_by) ∙ sym many;
+        each = λ worker below. none_at_first heard_by crew.links.items worker unheard;
       };
     }
 
@@ -86,7 +86,7 @@ played_by given ended hears account_number key read setup accounts desk old new 
     (subst (λ a. HasPlayed given ended hears account_number key read (setup_of desk.worker) a old new crew) first.accounts_are has)
 
 pub none_served_by : {K S G T : Type 0} (account_number : S → ℕ) (key : S → K) (read : Reads K T) (setup : Setup) (accounts : List S) (crew : Crew S G T)
-    → HasAnswered account_number key read setup accounts 0 [] [] crew.desk → All (λ line. sent_by line ≡ []) crew.lines.items → All (λ line. heard_by line ≡ []) crew.lines.items
+    → HasAnswered account_number key read setup accounts 0 [] [] crew.desk → All (λ link. sent_by link ≡ []) crew.links.items → All (λ link. heard_by link ≡ []) crew.links.items
     → HasServed account_number key read (setup_of crew.desk.worker) (accounts_of crew.desk.worker) [] [] crew
 none_served_by account_number key read setup accounts crew first silent unheard =
     subst (λ s. HasServed account_number key read s (accounts_of crew.desk.worker) [] [] crew) (sym first.setup_is)
@@ -98,8 +98,8 @@ on_ok (Err why) P Q has then_has = tt
 
 -- ---- what all workers leave
 
-pub left_with : {K S G T : Type 0} (account_number : S → ℕ) (key : S → K) (read : Reads K T) (setup : Setup) (accounts : List S) (gate : G) (given : List (ℕ × Body)) (answers : List Answer) (crew : Crew S G T) (first : Left S T)
-    (promises : List (Returns S G T)) (heard : List (List Answer)) (left : List (Left S T))
+pub left_with : {K S G T : Type 0} (account_number : S → ℕ) (key : S → K) (read : Reads K T) (setup : Setup) (accounts : List S) (gate : G) (given : List (ℕ × Body)) (answers : List Answer) (crew : Crew S G T) (first : WorkerEnd S T)
+    (promises : List (WorkerPromise S G T)) (heard : List (List Answer)) (left : List (WorkerEnd S T))
     → HasServed account_number key read setup accounts given answers crew → first.seats.items ≡ seats_of crew.desk.worker → first.posts.items ≡ posts_of crew.desk.worker → first.refusals.items ≡ crew.desk.refusals.items
     → ArePromised setup accounts gate 1 promises → AreLeftBy read key promises heard left
     → AreLeftFrom read (map key accounts) (keys_of setup.accounts) (first ∷ left) × AreWorkedFrom read setup 0 (first ∷ left)
@@ -110,8 +110,8 @@ left_with account_number key read setup accounts gate given answers crew first p
       (worked_as read (map key accounts) setup 0 (map answer_view has.mine) first is, is.numbered, worked_from read key setup accounts gate 1 promises heard left promised by),
     )
 
-pub handled_with : {K S G T : Type 0} (account_number : S → ℕ) (key : S → K) (read : Reads K T) (setup : Setup) (accounts : List S) (given : List (ℕ × Body)) (answers : List Answer) (crew : Crew S G T) (first : Left S T) (left : List (Left S T)) (workers : ℕ)
-    → HasServed account_number key read setup accounts given answers crew → first.posts.items ≡ posts_of crew.desk.worker → map (λ one. one.posts.items) left ≡ map sent_by crew.lines.items → count_of crew ≡ workers
+pub handled_with : {K S G T : Type 0} (account_number : S → ℕ) (key : S → K) (read : Reads K T) (setup : Setup) (accounts : List S) (given : List (ℕ × Body)) (answers : List Answer) (crew : Crew S G T) (first : WorkerEnd S T) (left : List (WorkerEnd S T)) (workers : ℕ)
+    → HasServed account_number key read setup accounts given answers crew → first.posts.items ≡ posts_of crew.desk.worker → map (λ one. one.posts.items) left ≡ map sent_by crew.links.items → count_of crew ≡ workers
     → HaveHandled workers given (map (λ one. one.posts.items) (first ∷ left))
 handled_with account_number key read setup accounts given answers crew first left workers has own others count =
     subst (λ n. HaveHandled n given (map (λ one. one.posts.items) (first ∷ left))) count (rw (own, others) has.posts)
@@ -154,34 +154,34 @@ played_out given ended hears account_number key read setup accounts old between 
   served = rw (all_heard-more before.heard answers, same, stays) before.served;
 }
 
--- the answers that have come by the lines are those that handling the posts gave
-answered_from : {K S G T : Type 0} (read : Reads K T) (key : S → K) (setup : Setup) (accounts : List S) (gate : G) (number : ℕ) (lines : List (Line S G T)) (left : List (Left S T))
-    → ArePromised setup accounts gate number (promises_of lines) → AreLeftBy read key (promises_of lines) (map heard_by lines) left → AreAnsweredFrom read setup number (map heard_by lines) left
+-- the answers that have come by the links are those that handling the posts gave
+answered_from : {K S G T : Type 0} (read : Reads K T) (key : S → K) (setup : Setup) (accounts : List S) (gate : G) (number : ℕ) (links : List (WorkerLink S G T)) (left : List (WorkerEnd S T))
+    → ArePromised setup accounts gate number (promises_of links) → AreLeftBy read key (promises_of links) (map heard_by links) left → AreAnsweredFrom read setup number (map heard_by links) left
 answered_from read key setup accounts gate number [] [] promised by = tt
 answered_from read key setup accounts gate number [] (one ∷ left) promised by = absurd by
-answered_from read key setup accounts gate number (line ∷ lines) [] promised by = absurd by
-answered_from read key setup accounts gate number (line ∷ lines) (one ∷ left) promised by =
-    let Its : Setup → ℕ → Type 0 = λ s n. IsAnswered s n one.posts.items (map answer_view (heard_by line)) (map read.mine one.seats.items) in (
-      subst (λ n. Its setup n) promised.0.number_is (subst (λ s. Its s line.child.promise.number) promised.0.setup_is by.0.answered),
+answered_from read key setup accounts gate number (link ∷ links) [] promised by = absurd by
+answered_from read key setup accounts gate number (link ∷ links) (one ∷ left) promised by =
+    let Its : Setup → ℕ → Type 0 = λ s n. IsAnswered s n one.posts.items (map answer_view (heard_by link)) (map read.mine one.seats.items) in (
+      subst (λ n. Its setup n) promised.0.number_is (subst (λ s. Its s link.child.promise.number) promised.0.setup_is by.0.answered),
       by.0.refused,
-      answered_from read key setup accounts gate (number + 1) lines left promised.1 by.1,
+      answered_from read key setup accounts gate (number + 1) links left promised.1 by.1,
     )
 
 pub heard_with : {D K S G T : Type 0} (given : D → List (ℕ × Body)) (ended : D → Bool) (hears : D → List Answer → D → Type 0) (account_number : S → ℕ) (key : S → K) (read : Reads K T) (setup : Setup) (accounts : List S) (gate : G)
-    (old new : D) (crew : Crew S G T) (first : Left S T) (left : List (Left S T))
+    (old new : D) (crew : Crew S G T) (first : WorkerEnd S T) (left : List (WorkerEnd S T))
     → HasPlayed given ended hears account_number key read setup accounts old new crew → first.seats.items ≡ seats_of crew.desk.worker → first.posts.items ≡ posts_of crew.desk.worker → first.refusals.items ≡ crew.desk.refusals.items
-    → map (λ one. one.posts.items) left ≡ map sent_by crew.lines.items
-    → ArePromised setup accounts gate 1 (promises_of crew.lines.items) → AreLeftBy read key (promises_of crew.lines.items) (map heard_by crew.lines.items) left
+    → map (λ one. one.posts.items) left ≡ map sent_by crew.links.items
+    → ArePromised setup accounts gate 1 (promises_of crew.links.items) → AreLeftBy read key (promises_of crew.links.items) (map heard_by crew.links.items) left
     → HasHeardFrom given ended hears read setup (first ∷ left) old new
 heard_with given ended hears account_number key read setup accounts gate old new crew first left played seats posts refusals sent promised by =
     let has = played.served in
     let own = left_by account_number key read setup accounts 0 (posts_of crew.desk.worker) (map answer_view has.mine) crew.desk has.desk in
     let is : IsLeft read (map key accounts) setup 0 first.posts.items first.refusals.items (map answer_view has.mine) first.seats.items = rw (seats, posts, refusals) own in
-    let many : count_of crew ≡ suc (length left) = omega (arith, ap length sent, length-map left (λ one. one.posts.items), length-map crew.lines.items sent_by) in
+    let many : count_of crew ≡ suc (length left) = omega (arith, ap length sent, length-map left (λ one. one.posts.items), length-map crew.links.items sent_by) in
     record {
       heard = played.heard;
       rounds = played.rounds;
-      lists = has.mine ∷ map heard_by crew.lines.items;
-      are_answers = subst (λ n. AreAnswers n 0 (given new) (all_heard played.heard) (has.mine ∷ map heard_by crew.lines.items)) many has.are_answers;
-      answered = (is.answered, is.refused, answered_from read key setup accounts gate 1 crew.lines.items left promised by);
+      lists = has.mine ∷ map heard_by crew.links.items;
+      are_answers = subst (λ n. AreAnswers n 0 (given new) (all_heard played.heard) (has.mine ∷ map heard_by crew.links.items)) many has.are_answers;
+      answered = (is.answered, is.refused, answered_from read key setup accounts gate 1 crew.links.items left promised by);
     }

@@ -10,7 +10,7 @@ use Rattle.workers_core.specs.Served.{AreServed, IsServed}
 use Rattle.run_values.specs.Setups.{Setup}
 use Rattle.run_values.specs.declared.post.Post.{Post}
 use Rattle.runs_core.specs.Teams.{Reads}
-use Rattle.runs_core.specs.declared.desk.Left.{Left}
+use Rattle.runs_core.specs.declared.desk.WorkerEnd.{WorkerEnd}
 
 -- what a book shows of its account: its number, the credit that it was opened with and its last moment, how many entries it may have, and how many seats it has
 abbrev pub terms_shown : Closed → Terms
@@ -31,12 +31,12 @@ AreAllThere (seats ∷ counts) [] = ⊥
 AreAllThere (seats ∷ counts) (row ∷ rows) = (are_all seats row ≡ true) × AreAllThere counts rows
 
 -- what workers have left: each a seat of each account, in order, with entries that come from the worker's posts
-pub record IsLeftFrom {K S T : Type 0} (read : Reads K T) (keys : List K) (numbers : List ℕ) (one : Left S T) : Type 0 where
+pub record IsLeftFrom {K S T : Type 0} (read : Reads K T) (keys : List K) (numbers : List ℕ) (one : WorkerEnd S T) : Type 0 where
   pub of_accounts : map read.key one.seats.items ≡ keys
   pub served : AreServed numbers one.posts.items (map read.mine one.seats.items)
 
 -- each worker has left seats of these accounts with its number
-abbrev pub AreLeftFrom : {K S T : Type 0} → Reads K T → List K → List ℕ → List (Left S T) → Type 0
+abbrev pub AreLeftFrom : {K S T : Type 0} → Reads K T → List K → List ℕ → List (WorkerEnd S T) → Type 0
 AreLeftFrom read keys numbers [] = Unit {0}
 AreLeftFrom read keys numbers (one ∷ left) = IsLeftFrom read keys numbers one × AreLeftFrom read keys numbers left
 
@@ -57,12 +57,12 @@ AreListed books worker [] = Unit {0}
 AreListed books worker (lists ∷ others) = (lists_of worker books ≡ lists) × AreListed books (worker + 1) others
 
 -- the seats that the workers from this number on have left have each its worker's number
-abbrev pub AreNumberedFrom : {K S T : Type 0} → Reads K T → ℕ → List (Left S T) → Type 0
+abbrev pub AreNumberedFrom : {K S T : Type 0} → Reads K T → ℕ → List (WorkerEnd S T) → Type 0
 AreNumberedFrom read number [] = Unit {0}
 AreNumberedFrom read number (one ∷ left) = All (λ seat. read.number seat ≡ number) one.seats.items × AreNumberedFrom read (number + 1) left
 
 -- what the workers from this number on have left is what handling their posts comes to, in seats of their numbers
-abbrev pub AreWorkedFrom : {K S T : Type 0} → Reads K T → Setup → ℕ → List (Left S T) → Type 0
+abbrev pub AreWorkedFrom : {K S T : Type 0} → Reads K T → Setup → ℕ → List (WorkerEnd S T) → Type 0
 AreWorkedFrom read setup number [] = Unit {0}
 AreWorkedFrom read setup number (one ∷ left) =
     IsWorked setup number one.posts.items one.refusals.items (map read.mine one.seats.items) × All (λ seat. read.number seat ≡ number) one.seats.items

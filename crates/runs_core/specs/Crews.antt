@@ -1,4 +1,4 @@
--- The workers of a run: the main thread has the first, and a line to each other.
+-- The workers of a run: the main thread has the first, and a link to each other.
 use Rattle.std.specs.Prelude.{◌≡◌, ◌+◌, ◌++◌, ℕ, Bool, List, [], ◌∷◌, length, map}
 use Rattle.workers_core.specs.Handled.{answer_view}
 use Rattle.run_values.specs.Setups.{Setup}
@@ -21,18 +21,18 @@ joined (xs ∷ lists) (ys ∷ more) = (xs ++ ys) ∷ joined lists more
 
 -- the posts of each worker, in the order of the workers
 abbrev pub posts_by : {S G T : Type 0} → Crew S G T → List (List Post)
-posts_by crew = posts_of crew.desk.worker ∷ map sent_by crew.lines.items
+posts_by crew = posts_of crew.desk.worker ∷ map sent_by crew.links.items
 
 -- how many workers there are
 abbrev pub count_of : {S G T : Type 0} → Crew S G T → ℕ
-count_of crew = length crew.lines.items + 1
+count_of crew = length crew.links.items + 1
 
 -- each worker of a crew has got its share of what was given, the first has handled its share, and these are the answers that have come from all
 pub record HasServed {K S G T : Type 0} (account_number : S → ℕ) (key : S → K) (read : Reads K T) (setup : Setup) (accounts : List S) (given : List (ℕ × Body)) (answers : List Answer) (crew : Crew S G T) : Type 0 where
   pub posts : HaveHandled (count_of crew) given (posts_by crew)
   pub mine : List Answer
   pub desk : HasAnswered account_number key read setup accounts 0 (posts_of crew.desk.worker) (map answer_view mine) crew.desk
-  pub are_answers : AreAnswers (count_of crew) 0 given answers (mine ∷ map heard_by crew.lines.items)
+  pub are_answers : AreAnswers (count_of crew) 0 given answers (mine ∷ map heard_by crew.links.items)
 
 -- a round whose items follow so many others: each worker has got its share of them, the first has handled its share, and these are the answers
 -- that have come from all
@@ -44,7 +44,7 @@ pub record IsServedRound {K S G T : Type 0} (account_number : S → ℕ) (key : 
   pub mine : List Answer
   pub goes_on : GoesOn account_number key read old.desk own (map answer_view mine) new.desk
   pub others : List (List Answer)
-  pub heard : map heard_by new.lines.items ≡ joined (map heard_by old.lines.items) others
+  pub heard : map heard_by new.links.items ≡ joined (map heard_by old.links.items) others
   pub are_answers : AreAnswers (count_of old) first added answers (mine ∷ others)
   pub count : count_of new ≡ count_of old
 

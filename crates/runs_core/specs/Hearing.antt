@@ -11,7 +11,7 @@ use Rattle.run_values.specs.declared.post.Post.{Post}
 use Rattle.runs_core.specs.Closing.{lists_of}
 use Rattle.runs_core.specs.Shares.{numbered, worker_of}
 use Rattle.runs_core.specs.Teams.{Reads}
-use Rattle.runs_core.specs.declared.desk.Left.{Left}
+use Rattle.runs_core.specs.declared.desk.WorkerEnd.{WorkerEnd}
 
 -- there is one answer for each item, in the order of the items, whose numbers go on from this one
 abbrev pub AnswersEach : ℕ → List (ℕ × Body) → List Answer → Type 0
@@ -64,7 +64,7 @@ pub record HasHeard {D : Type 0} (given : D → List (ℕ × Body)) (ended : D �
 -- ---- of what the workers have left
 
 -- the workers from this number on have left what handling their posts comes to, with these answers
-abbrev pub AreAnsweredFrom : {K S T : Type 0} → Reads K T → Setup → ℕ → List (List Answer) → List (Left S T) → Type 0
+abbrev pub AreAnsweredFrom : {K S T : Type 0} → Reads K T → Setup → ℕ → List (List Answer) → List (WorkerEnd S T) → Type 0
 AreAnsweredFrom read setup number [] [] = Unit {0}
 AreAnsweredFrom read setup number [] (one ∷ left) = ⊥
 AreAnsweredFrom read setup number (answers ∷ lists) [] = ⊥
@@ -74,7 +74,7 @@ AreAnsweredFrom read setup number (answers ∷ lists) (one ∷ left) =
     × AreAnsweredFrom read setup (number + 1) lists left
 
 -- round by round a driver has heard the answers of the workers, which have left this
-pub record HasHeardFrom {D K S T : Type 0} (given : D → List (ℕ × Body)) (ended : D → Bool) (hears : D → List Answer → D → Type 0) (read : Reads K T) (setup : Setup) (left : List (Left S T)) (old new : D) : Type 0 where
+pub record HasHeardFrom {D K S T : Type 0} (given : D → List (ℕ × Body)) (ended : D → Bool) (hears : D → List Answer → D → Type 0) (read : Reads K T) (setup : Setup) (left : List (WorkerEnd S T)) (old new : D) : Type 0 where
   pub heard : List (List Answer)
   pub rounds : HearsRounds given ended hears [] old heard new
   pub lists : List (List Answer)

@@ -1,10 +1,10 @@
--- The lines of the workers of a run: what was sent by them, and what their threads promise.
+-- The links of the workers of a run: what was sent by them, and what their threads promise.
 use Rattle.std.specs.Prelude.{◌≡◌, ◌+◌, ◌++◌, ◌⊎◌, ℕ, List, [], ◌∷◌, map}
 use Rattle.runs_core.specs.Mails.{items_in}
 use Rattle.runs_core.specs.Teams.{IsLeft, Reads}
-use Rattle.runs_core.specs.declared.desk.Left.{Left}
-use Rattle.runs_core.specs.declared.line.Line.{Line}
-use Rattle.runs_core.specs.declared.returns.Returns.{Returns}
+use Rattle.runs_core.specs.declared.desk.WorkerEnd.{WorkerEnd}
+use Rattle.runs_core.specs.declared.worker_link.WorkerLink.{WorkerLink}
+use Rattle.runs_core.specs.declared.worker_promise.WorkerPromise.{WorkerPromise}
 use Rattle.runs_core.specs.declared.run_fault.RunFault.{RunFault}
 use Rattle.runs_core.specs.declared.run_fault.RunFault.TheVariants as out
 use Rattle.workers_core.specs.Ends.{sent, taken}
@@ -13,42 +13,42 @@ use Rattle.workers_core.specs.Handled.{answer_view}
 use Rattle.run_values.specs.declared.answer.Answer.{Answer}
 use Rattle.run_values.specs.declared.post.Post.{Post}
 
--- the posts that were sent by a line
-abbrev pub sent_by : {S G T : Type 0} → Line S G T → List Post
-sent_by line = items_in (sent line.outbox)
+-- the posts that were sent by a link
+abbrev pub sent_by : {S G T : Type 0} → WorkerLink S G T → List Post
+sent_by link = items_in (sent link.outbox)
 
--- the answers that have come by a line
-abbrev pub heard_by : {S G T : Type 0} → Line S G T → List Answer
-heard_by line = items_in (taken line.inbox)
+-- the answers that have come by a link
+abbrev pub heard_by : {S G T : Type 0} → WorkerLink S G T → List Answer
+heard_by link = items_in (taken link.inbox)
 
 -- what the threads of the workers promise
-abbrev pub promises_of : {S G T : Type 0} → List (Line S G T) → List (Returns S G T)
-promises_of lines = map (λ line. line.child.promise) lines
+abbrev pub promises_of : {S G T : Type 0} → List (WorkerLink S G T) → List (WorkerPromise S G T)
+promises_of links = map (λ link. link.child.promise) links
 
 -- promises of the workers of one run, from this number on
-pub record IsPromised {S G T : Type 0} (setup : Setup) (accounts : List S) (gate : G) (number : ℕ) (promise : Returns S G T) : Type 0 where
+pub record IsPromised {S G T : Type 0} (setup : Setup) (accounts : List S) (gate : G) (number : ℕ) (promise : WorkerPromise S G T) : Type 0 where
   pub setup_is : promise.setup.now ≡ setup
   pub accounts_are : promise.accounts.now ≡ accounts
   pub gate_is : promise.gate.now ≡ gate
   pub number_is : promise.number ≡ number
 
 -- the promises of the workers, from this number on
-abbrev pub ArePromised : {S G T : Type 0} → Setup → List S → G → ℕ → List (Returns S G T) → Type 0
+abbrev pub ArePromised : {S G T : Type 0} → Setup → List S → G → ℕ → List (WorkerPromise S G T) → Type 0
 ArePromised setup accounts gate number [] = Unit {0}
 ArePromised setup accounts gate number (promise ∷ promises) = IsPromised setup accounts gate number promise × ArePromised setup accounts gate (number + 1) promises
 
 -- one of the gates may answer false
-abbrev pub MayBeShut : {S G T : Type 0} → (G → Type 0) → List (Returns S G T) → Type 0
+abbrev pub MayBeShut : {S G T : Type 0} → (G → Type 0) → List (WorkerPromise S G T) → Type 0
 MayBeShut may_shut [] = ⊥
 MayBeShut may_shut (promise ∷ promises) = may_shut promise.gate.now ⊎ MayBeShut may_shut promises
 
 -- a worker has left what its thread promised, and these are its answers
-abbrev pub IsLeftBy : {K S G T : Type 0} → Reads K T → (S → K) → Returns S G T → List Answer → Left S T → Type 0
+abbrev pub IsLeftBy : {K S G T : Type 0} → Reads K T → (S → K) → WorkerPromise S G T → List Answer → WorkerEnd S T → Type 0
 IsLeftBy read key promise answers left =
     IsLeft read (map key promise.accounts.now) promise.setup.now promise.number left.posts.items left.refusals.items (map answer_view answers) left.seats.items
 
 -- what each worker has left is what it promised
-abbrev pub AreLeftBy : {K S G T : Type 0} → Reads K T → (S → K) → List (Returns S G T) → List (List Answer) → List (Left S T) → Type 0
+abbrev pub AreLeftBy : {K S G T : Type 0} → Reads K T → (S → K) → List (WorkerPromise S G T) → List (List Answer) → List (WorkerEnd S T) → Type 0
 AreLeftBy read key [] heard [] = Unit {0}
 AreLeftBy read key [] heard (one ∷ left) = ⊥
 AreLeftBy read key (promise ∷ promises) heard [] = ⊥
@@ -56,12 +56,12 @@ AreLeftBy read key (promise ∷ promises) [] (one ∷ left) = ⊥
 AreLeftBy read key (promise ∷ promises) (answers ∷ heard) (one ∷ left) = IsLeftBy read key promise answers one × AreLeftBy read key promises heard left
 
 -- of the workers of these promises, those before one have left, and that one has failed so: it is the first that has
-pub record IsFirstFault {K S G T : Type 0} (read : Reads K T) (key : S → K) (may_shut : G → Type 0) (promises : List (Returns S G T)) (fault : RunFault) : Type 0 where
-  pub before : List (Returns S G T)
-  pub failed : Returns S G T
-  pub after : List (Returns S G T)
+pub record IsFirstFault {K S G T : Type 0} (read : Reads K T) (key : S → K) (may_shut : G → Type 0) (promises : List (WorkerPromise S G T)) (fault : RunFault) : Type 0 where
+  pub before : List (WorkerPromise S G T)
+  pub failed : WorkerPromise S G T
+  pub after : List (WorkerPromise S G T)
   pub split : before ++ failed ∷ after ≡ promises
   pub heard : List (List Answer)
-  pub left : List (Left S T)
+  pub left : List (WorkerEnd S T)
   pub have_left : AreLeftBy read key before heard left
   pub shut : fault ≡ out.GateClosed → may_shut failed.gate.now

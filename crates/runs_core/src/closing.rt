@@ -8,7 +8,7 @@ ghost use Rattle.shared_account.specs.Seats.{are_all};
 ghost use Rattle.runs_core.specs.Teams.{reads};
 
 use crate::dealing::deal;
-use crate::desk::Left;
+use crate::desk::WorkerEnd;
 use crate::opening::empty_piles;
 use crate::{Books, RunFault};
 use shared_account::{Book, CloseFault, Shared};
@@ -18,7 +18,7 @@ use std::alloc::Global;
 pub(crate) fn close_accounts<S: Shared>(
     alloc: Global,
     accounts: Vec<S>,
-    left: Vec<Left<S>>,
+    left: Vec<WorkerEnd<S>>,
 ) -> Result<Books, RunFault>
     requires left { AreLeftFrom (reads S.key_of S.number_of S.mine_of) (map S.key accounts.items)
         (map (λ account. (S.terms account).number) accounts.items) left.items }
@@ -44,7 +44,7 @@ pub(crate) fn close_accounts<S: Shared>(
     let mut handled = Vec::with_capacity(alloc, left.len())?;
     let mut refusals = Vec::with_capacity(alloc, left.len())?;
     for one in left {
-        let Left {
+        let WorkerEnd {
             seats,
             posts,
             refusals: refused,

@@ -13,7 +13,7 @@ ghost use Rattle.run_values.specs.declared.post.Post.{Post};
 
 use crate::RunFault;
 use crate::desk::Desk;
-use crate::line::Line;
+use crate::worker_link::WorkerLink;
 use run_values::{Answer, Post};
 use shared_account::{Gate, Shared};
 use std::alloc::Global;
@@ -27,8 +27,8 @@ pub(crate) struct Crew<'s, S: Shared, G: Gate> {
     pub desk: Desk<'s, S>,
     /// Whether the first worker has failed.
     pub failed: bool,
-    /// The lines of the others, in order.
-    pub lines: Vec<Line<'s, S, G>>,
+    /// The links of the others, in order.
+    pub links: Vec<WorkerLink<'s, S, G>>,
 }
 
 /// The answers to a round: those of the first worker, and those of the others, in their order.
@@ -58,23 +58,23 @@ impl<S: Shared, G: Gate> Crew<'_, S, G> {
             × GoesOn (λ account. (S.terms account).number)
             S.key (reads S.key_of S.number_of S.mine_of)
             self.old.desk posts (map answer_view replies.first.items) self.new.desk) }
-        ensures heard { IfOk result (λ replies. map heard_by self.new.lines.items
-            ≡ joined (map heard_by self.old.lines.items)
+        ensures heard { IfOk result (λ replies. map heard_by self.new.links.items
+            ≡ joined (map heard_by self.old.links.items)
             (map (λ list. list.items) replies.others.items)) }
         ensures others { IfOk result (λ replies.
-            length replies.others.items ≡ length self.old.lines.items) }
+            length replies.others.items ≡ length self.old.links.items) }
         ensures count { count_of self.new ≡ count_of self.old }
-        ensures promises { promises_of self.new.lines.items ≡ promises_of self.old.lines.items }
+        ensures promises { promises_of self.new.links.items ≡ promises_of self.old.links.items }
         ensures gate { result ≡ Err RunFault.GateClosed → G.may_shut gate.now }
         ensures workers { result ≢ Err RunFault.Workers }
     {
-        let mut others = Vec::with_capacity(alloc, self.lines.len())?;
+        let mut others = Vec::with_capacity(alloc, self.links.len())?;
         let mut shares = shares.into_iter();
         let Some(mine) = shares.next() else {
             unreachable!()
         };
         let first = self.send_and_answer(rt, alloc, mine, shares, gate);
-        let heard = hear_all(rt, alloc, &mut self.lines, &mut others);
+        let heard = hear_all(rt, alloc, &mut self.links, &mut others);
         let first = first?;
         heard?;
         Ok(Replies { first, others })
@@ -91,19 +91,19 @@ impl<S: Shared, G: Gate> Crew<'_, S, G> {
     ) -> Result<Vec<Answer>, RunFault>
         requires ready { IsReady (λ account. (S.terms account).number)
             S.key S.key_of S.number_of S.mine_of self.old.desk.worker }
-        requires count { length (into_iter_items shares) ≡ length self.old.lines.items }
-        ensures posts { OnOk result (map sent_by self.new.lines.items
-            ≡ joined (map sent_by self.old.lines.items)
+        requires count { length (into_iter_items shares) ≡ length self.old.links.items }
+        ensures posts { OnOk result (map sent_by self.new.links.items
+            ≡ joined (map sent_by self.old.links.items)
             (map (λ share. share.items) (into_iter_items shares))) }
         ensures goes_on { IfOk result (λ answers. GoesOn (λ account. (S.terms account).number)
             S.key (reads S.key_of S.number_of S.mine_of)
             self.old.desk mine.items (map answer_view answers.items) self.new.desk) }
-        ensures heard { map heard_by self.new.lines.items ≡ map heard_by self.old.lines.items }
-        ensures promises { promises_of self.new.lines.items ≡ promises_of self.old.lines.items }
+        ensures heard { map heard_by self.new.links.items ≡ map heard_by self.old.links.items }
+        ensures promises { promises_of self.new.links.items ≡ promises_of self.old.links.items }
         ensures gate { result ≡ Err RunFault.GateClosed → G.may_shut gate.now }
         ensures workers { result ≢ Err RunFault.Workers }
     {
-        send_all(rt, &mut self.lines, shares)?;
+        send_all(rt, &mut self.links, shares)?;
         let answers = self.desk.answer_all(rt, alloc, mine, gate);
         self.failed = answers.is_err();
         answers
@@ -113,19 +113,19 @@ impl<S: Shared, G: Gate> Crew<'_, S, G> {
 /// Sends each of these workers its share.
 fn send_all<S: Shared, R: Wait, G: Gate>(
     rt: &R,
-    lines: &mut Vec<Line<'_, S, G>>,
+    links: &mut Vec<WorkerLink<'_, S, G>>,
     shares: IntoIter<Vec<Post>>,
 ) -> Result<(), RunFault>
-    requires count { length (into_iter_items shares) ≡ length lines.old.items }
-    ensures posts { OnOk result (map sent_by lines.new.items ≡ joined (map sent_by lines.old.items)
+    requires count { length (into_iter_items shares) ≡ length links.old.items }
+    ensures posts { OnOk result (map sent_by links.new.items ≡ joined (map sent_by links.old.items)
         (map (λ share. share.items) (into_iter_items shares))) }
-    ensures heard { map heard_by lines.new.items ≡ map heard_by lines.old.items }
-    ensures promises { promises_of lines.new.items ≡ promises_of lines.old.items }
+    ensures heard { map heard_by links.new.items ≡ map heard_by links.old.items }
+    ensures promises { promises_of links.new.items ≡ promises_of links.old.items }
     ensures fault { (result ≢ Err RunFault.GateClosed) × (result ≢ Err RunFault.Workers) }
 {
     let mut at = 0;
     for share in shares {
-        lines[at].send(rt, share)?;
+        links[at].send(rt, share)?;
         at += 1;
     }
     Ok(())
@@ -136,20 +136,20 @@ fn send_all<S: Shared, R: Wait, G: Gate>(
 fn hear_all<S: Shared, R: Wait, G: Gate>(
     rt: &R,
     alloc: Global,
-    lines: &mut Vec<Line<'_, S, G>>,
+    links: &mut Vec<WorkerLink<'_, S, G>>,
     lists: &mut Vec<Vec<Answer>>,
 ) -> Result<(), RunFault>
     requires none { lists.old.items ≡ [] }
-    ensures heard { OnOk result (map heard_by lines.new.items
-        ≡ joined (map heard_by lines.old.items) (map (λ list. list.items) lists.new.items)) }
-    ensures lists { OnOk result (length lists.new.items ≡ length lines.old.items) }
-    ensures posts { map sent_by lines.new.items ≡ map sent_by lines.old.items }
-    ensures promises { promises_of lines.new.items ≡ promises_of lines.old.items }
+    ensures heard { OnOk result (map heard_by links.new.items
+        ≡ joined (map heard_by links.old.items) (map (λ list. list.items) lists.new.items)) }
+    ensures lists { OnOk result (length lists.new.items ≡ length links.old.items) }
+    ensures posts { map sent_by links.new.items ≡ map sent_by links.old.items }
+    ensures promises { promises_of links.new.items ≡ promises_of links.old.items }
     ensures fault { (result ≢ Err RunFault.GateClosed) × (result ≢ Err RunFault.Workers) }
 {
     let mut fault = None;
-    for at in 0..lines.len() {
-        fault = fault.or(hear_one(rt, alloc, &mut lines[at], lists).err());
+    for at in 0..links.len() {
+        fault = fault.or(hear_one(rt, alloc, &mut links[at], lists).err());
     }
     match fault {
         None => Ok(()),
@@ -161,18 +161,18 @@ fn hear_all<S: Shared, R: Wait, G: Gate>(
 fn hear_one<S: Shared, R: Wait, G: Gate>(
     rt: &R,
     alloc: Global,
-    line: &mut Line<'_, S, G>,
+    link: &mut WorkerLink<'_, S, G>,
     lists: &mut Vec<Vec<Answer>>,
 ) -> Result<(), RunFault>
     ensures heard { OnOk result ((answers : List Answer)
-        × (heard_by line.new ≡ heard_by line.old ++ answers)
+        × (heard_by link.new ≡ heard_by link.old ++ answers)
         × (map (λ list. list.items) lists.new.items
         ≡ map (λ list. list.items) lists.old.items ++ answers ∷ [])) }
-    ensures outbox { line.new.outbox ≡ line.old.outbox }
-    ensures child { line.new.child ≡ line.old.child }
+    ensures outbox { link.new.outbox ≡ link.old.outbox }
+    ensures child { link.new.child ≡ link.old.child }
     ensures fault { (result ≢ Err RunFault.GateClosed) × (result ≢ Err RunFault.Workers) }
 {
-    let answers = line.hear(rt, alloc)?;
+    let answers = link.hear(rt, alloc)?;
     lists.push(answers)?;
     Ok(())
 }

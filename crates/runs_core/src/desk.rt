@@ -18,7 +18,7 @@ use workers_core::Worker;
 /// What a worker leaves: its seats, one of each account, and the posts that it has handled, with the
 /// refusal of each.
 #[derive(Drop)]
-pub(crate) struct Left<S: Shared> {
+pub(crate) struct WorkerEnd<S: Shared> {
     pub seats: Vec<S::Seat>,
     pub posts: Vec<Post>,
     pub refusals: Vec<Option<AccountFault>>,
@@ -96,7 +96,7 @@ impl<'s, S: Shared> Desk<'s, S> {
     }
 
     /// What the worker leaves.
-    pub(crate) fn finish(self) -> Left<S>
+    pub(crate) fn finish(self) -> WorkerEnd<S>
         requires ready { IsReady (λ account. (S.terms account).number)
             S.key S.key_of S.number_of S.mine_of self.worker }
         ensures seats { result.seats.items ≡ seats_of self.entry.worker }
@@ -105,7 +105,7 @@ impl<'s, S: Shared> Desk<'s, S> {
     {
         let Desk { worker, refusals } = self;
         let (seats, posts) = worker.finish();
-        Left {
+        WorkerEnd {
             seats,
             posts,
             refusals,

@@ -9,13 +9,13 @@ mod dealing;
 mod desk;
 mod driver;
 mod laws;
-mod line;
 mod opening;
-mod returns;
 mod rounds;
 mod run_fault;
 mod serving;
 mod threads;
+mod worker_link;
+mod worker_promise;
 mod working;
 
 pub use books::Books;

@@ -40,7 +40,7 @@ pub(crate) fn play<D: Driver, S: Shared, R: Wait, G: Gate>(
         (setup_of crew.old.desk.worker) (accounts_of crew.old.desk.worker)
         driver.old driver.new crew.new) }
     ensures count { count_of crew.new ≡ count_of crew.old }
-    ensures promises { promises_of crew.new.lines.items ≡ promises_of crew.old.lines.items }
+    ensures promises { promises_of crew.new.links.items ≡ promises_of crew.old.links.items }
     ensures gate { result ≡ Err RunFault.GateClosed → G.may_shut gate.now }
     ensures workers { result ≢ Err RunFault.Workers }
 {
@@ -76,7 +76,7 @@ fn play_round<D: Driver, S: Shared, R: Wait, G: Gate>(
     ensures given { result ≡ Ok false → D.given driver.new ≡ D.given driver.old }
     ensures crew { result ≡ Ok false → crew.new ≡ crew.old }
     ensures count { count_of crew.new ≡ count_of crew.old }
-    ensures promises { promises_of crew.new.lines.items ≡ promises_of crew.old.lines.items }
+    ensures promises { promises_of crew.new.links.items ≡ promises_of crew.old.links.items }
     ensures gate { result ≡ Err RunFault.GateClosed → G.may_shut gate.now }
     ensures workers { result ≢ Err RunFault.Workers }
 {
@@ -85,7 +85,7 @@ fn play_round<D: Driver, S: Shared, R: Wait, G: Gate>(
         return Ok(false);
     }
     let added = &driver.given()[first..];
-    let shares = share_out(alloc, crew.lines.len() + 1, first, added)?;
+    let shares = share_out(alloc, crew.links.len() + 1, first, added)?;
     let replies = crew.answer_round(rt, alloc, shares, gate)?;
     answers.clear();
     let mut queues = queues(alloc, replies)?;

@@ -15,7 +15,7 @@ ghost use Rattle.std.specs.Vec.Iter.{into_iter_items};
 
 use crate::closing::close_accounts;
 use crate::crew::Crew;
-use crate::desk::{Desk, Left};
+use crate::desk::{Desk, WorkerEnd};
 use crate::opening::{Opened, open_accounts};
 use crate::rounds::play;
 use crate::threads::{finish_all, start_all};
@@ -119,7 +119,7 @@ pub fn serve_over<D: Driver, S: Shared, R: Wait + Threads + Sync, G: Gate + Sync
 /// What comes back from the scope of the threads: the driver, and what the workers have left.
 struct Served<'d, D: Driver, S: Shared> {
     driver: &'d mut D,
-    left: Result<Vec<Left<S>>, RunFault>,
+    left: Result<Vec<WorkerEnd<S>>, RunFault>,
 }
 
 /// Runs a worker for each team until the driver has ended.
@@ -131,7 +131,7 @@ fn run_workers<D: Driver, S: Shared, R: Wait + Threads + Sync, G: Gate + Sync>(
     teams: Vec<Vec<S::Seat>>,
     driver: &mut D,
     gate: &G,
-) -> Result<Vec<Left<S>>, RunFault>
+) -> Result<Vec<WorkerEnd<S>>, RunFault>
     requires given { D.given driver.old ≡ [] }
     requires some { 1 ≤ length teams.items }
     requires few { length teams.items ≤ 16 }
@@ -204,7 +204,7 @@ fn run_in<'s, E, D: Driver, S: Shared, R: Wait + Threads + Sync, G: Gate + Sync>
     teams: Vec<Vec<S::Seat>>,
     driver: &mut D,
     gate: &'s G,
-) -> Result<Vec<Left<S>>, RunFault>
+) -> Result<Vec<WorkerEnd<S>>, RunFault>
     requires given { D.given driver.old ≡ [] }
     requires some { 1 ≤ length teams.items }
     requires few { length teams.items ≤ 16 }
@@ -226,7 +226,7 @@ fn run_in<'s, E, D: Driver, S: Shared, R: Wait + Threads + Sync, G: Gate + Sync>
     ensures workers { result ≢ Err RunFault.Workers }
 {
     let mut left = Vec::with_capacity(alloc, teams.len())?;
-    let lines = Vec::with_capacity(alloc, teams.len())?;
+    let links = Vec::with_capacity(alloc, teams.len())?;
     let mut teams = teams.into_iter();
     let Some(team) = teams.next() else {
         unreachable!()
@@ -234,7 +234,7 @@ fn run_in<'s, E, D: Driver, S: Shared, R: Wait + Threads + Sync, G: Gate + Sync>
     let mut crew = Crew {
         desk: Desk::new(alloc, 0, setup, accounts, team)?,
         failed: false,
-        lines,
+        links,
     };
     let ran = start_and_play(
         scope, rt, alloc, setup, accounts, teams, driver, gate, &mut crew,
@@ -242,9 +242,9 @@ fn run_in<'s, E, D: Driver, S: Shared, R: Wait + Threads + Sync, G: Gate + Sync>
     let Crew {
         desk,
         failed,
-        lines,
+        links,
     } = crew;
-    let finished = finish_all(rt, lines, &mut left);
+    let finished = finish_all(rt, links, &mut left);
     if failed {
         ran?;
     }
@@ -275,15 +275,15 @@ fn start_and_play<'s, E, D: Driver, S: Shared, R: Wait + Threads + Sync, G: Gate
     requires first { HasAnswered (λ account. (S.terms account).number)
         S.key (reads S.key_of S.number_of S.mine_of) setup.now accounts.now 0 [] []
         crew.old.desk }
-    requires none { crew.old.lines.items ≡ [] }
+    requires none { crew.old.links.items ≡ [] }
     ensures ended { OnOk result (D.ended driver.new ≡ true) }
     ensures plan { D.plan driver.new ≡ D.plan driver.old }
-    ensures count { OnOk result (length crew.new.lines.items ≡ length (into_iter_items teams)) }
+    ensures count { OnOk result (length crew.new.links.items ≡ length (into_iter_items teams)) }
     ensures played { OnOk result (HasPlayed D.given D.ended D.hears
         (λ account. (S.terms account).number) S.key (reads S.key_of S.number_of S.mine_of)
         setup.now accounts.now driver.old driver.new crew.new) }
     ensures promised { ArePromised setup.now accounts.now gate.now 1
-        (promises_of crew.new.lines.items) }
+        (promises_of crew.new.links.items) }
     ensures gate { result ≡ Err RunFault.GateClosed → G.may_shut gate.now }
     ensures workers { result ≢ Err RunFault.Workers }
 {
@@ -295,7 +295,7 @@ fn start_and_play<'s, E, D: Driver, S: Shared, R: Wait + Threads + Sync, G: Gate
         accounts,
         teams,
         gate,
-        &mut crew.lines,
+        &mut crew.links,
     )?;
     play(rt, alloc, driver, crew, gate)
 }

@@ -13,7 +13,7 @@ ghost use Rattle.run_values.specs.declared.answer.Answer.{Answer};
 
 use crate::RunFault;
 use crate::desk::Desk;
-use crate::returns::Finished;
+use crate::worker_promise::Finished;
 use run_values::{Answer, Post, RunSetup};
 use shared_account::{Gate, Shared};
 use std::alloc::Global;

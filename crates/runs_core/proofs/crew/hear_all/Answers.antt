@@ -15,11 +15,11 @@ loop-at-preserved g c =
     let before = c.loop-at.invariant in
     let err = own_err c.hear_one.result c.hear_one.ensures.fault.0 c.hear_one.ensures.fault.1 in
     let fault = own_or c.loop-at.fault (result_err c.hear_one.result) before.3 before.4 err.0 err.1 in (
-      length-set c.loop-at.lines.items c.loop-at.at c.hear_one.new.line ∙ before.0,
-      map-set_same sent_by c.loop-at.lines.items c.loop-at.at c.hear_one.new.line c.index_mut.result.now (search rules) ∙ before.1,
-      map-set_same (λ line. line.child.promise) c.loop-at.lines.items c.loop-at.at c.hear_one.new.line c.index_mut.result.now (search rules) ∙ before.2,
+      length-set c.loop-at.links.items c.loop-at.at c.hear_one.new.link ∙ before.0,
+      map-set_same sent_by c.loop-at.links.items c.loop-at.at c.hear_one.new.link c.index_mut.result.now (search rules) ∙ before.1,
+      map-set_same (λ link. link.child.promise) c.loop-at.links.items c.loop-at.at c.hear_one.new.link c.index_mut.result.now (search rules) ∙ before.2,
       rw (c.or-fault.ensures, c.err.ensures.value) fault.0,
       rw (c.or-fault.ensures, c.err.ensures.value) fault.1,
       rw (c.or-fault.ensures, c.err.ensures.value)
-          (one_heard heard_by (λ list. list.items) _ c.loop-at.at c.loop-at.lines.items c.loop-at.lists.items _ c.loop-at.fault c.hear_one.result c.index_mut.result.now c.hear_one.new.line before.0 (search rules) (search rules) before.5 c.hear_one.ensures.heard),
+          (one_heard heard_by (λ list. list.items) _ c.loop-at.at c.loop-at.links.items c.loop-at.lists.items _ c.loop-at.fault c.hear_one.result c.index_mut.result.now c.hear_one.new.link before.0 (search rules) (search rules) before.5 c.hear_one.ensures.heard),
     )

@@ -6,6 +6,6 @@ use Rattle.runs_core.proofs.crew.hear_all.Given as goal
 
 abbrev pub invariant-loop-at : goal.invariant-loop-at
 invariant-loop-at g l =
-    (length l.lines.items ≡ length l.fn.lines.items) × (map sent_by l.lines.items ≡ map sent_by l.fn.lines.items) × (promises_of l.lines.items ≡ promises_of l.fn.lines.items)
+    (length l.links.items ≡ length l.fn.links.items) × (map sent_by l.links.items ≡ map sent_by l.fn.links.items) × (promises_of l.links.items ≡ promises_of l.fn.links.items)
     × (l.fault ≢ Some out.GateClosed) × (l.fault ≢ Some out.Workers)
-    × (l.fault ≡ None → AreHeard heard_by (λ list. list.items) l.fn.lines.items l.at l.lines.items l.lists.items)
+    × (l.fault ≡ None → AreHeard heard_by (λ list. list.items) l.fn.links.items l.at l.links.items l.lists.items)

@@ -12,25 +12,25 @@ loop-share-init g c = (none_joined _ _ _ (ap (map (λ share. share.items)) (ap i
 
 pub index_mut-requires : goal.index_mut-requires
 index_mut-requires g c =
-    let many = length-map (into_iter_items c.args.shares) (λ share. share.items) ∙ c.requires.count ∙ sym (length-map c.args.lines.now.items sent_by) in
-    let below = has_list sent_by _ _ c.in-Some.share.items (map (λ share. share.items) (into_iter_items c.next.new.self)) _ c.loop-share.lines.items many (rw c.in-Some.ensures.steps.0 at c.loop-share.invariant.0) in
-    omega (arith, below, c.loop-share.lines.ok)
+    let many = length-map (into_iter_items c.args.shares) (λ share. share.items) ∙ c.requires.count ∙ sym (length-map c.args.links.now.items sent_by) in
+    let below = has_list sent_by _ _ c.in-Some.share.items (map (λ share. share.items) (into_iter_items c.next.new.self)) _ c.loop-share.links.items many (rw c.in-Some.ensures.steps.0 at c.loop-share.invariant.0) in
+    omega (arith, below, c.loop-share.links.ok)
 
 pub returns-in_err-send-clause-promises : goal.returns-in_err-send-clause-promises
 returns-in_err-send-clause-promises g c =
-    map-set_same (λ line. line.child.promise) c.loop-share.lines.items c.loop-share.at c.send.new.self c.index_mut.result.now (search rules) ∙ c.loop-share.invariant.1
+    map-set_same (λ link. link.child.promise) c.loop-share.links.items c.loop-share.at c.send.new.self c.index_mut.result.now (search rules) ∙ c.loop-share.invariant.1
 
 pub returns-in_err-send-clause-heard : goal.returns-in_err-send-clause-heard
 returns-in_err-send-clause-heard g c =
-    map-set_same heard_by c.loop-share.lines.items c.loop-share.at c.send.new.self c.index_mut.result.now (search rules) ∙ c.loop-share.invariant.2
+    map-set_same heard_by c.loop-share.links.items c.loop-share.at c.send.new.self c.index_mut.result.now (search rules) ∙ c.loop-share.invariant.2
 
 pub loop-share-preserved : goal.loop-share-preserved
 loop-share-preserved g c =
-    let many = length-map (into_iter_items c.args.shares) (λ share. share.items) ∙ c.requires.count ∙ sym (length-map c.args.lines.now.items sent_by) in (
-      one_joined sent_by _ _ c.in-Some.share.items (map (λ share. share.items) (into_iter_items c.next.new.self)) _ c.loop-share.lines.items c.index_mut.result.now c.send.new.self many
+    let many = length-map (into_iter_items c.args.shares) (λ share. share.items) ∙ c.requires.count ∙ sym (length-map c.args.links.now.items sent_by) in (
+      one_joined sent_by _ _ c.in-Some.share.items (map (λ share. share.items) (into_iter_items c.next.new.self)) _ c.loop-share.links.items c.index_mut.result.now c.send.new.self many
           (rw c.in-Some.ensures.steps.0 at c.loop-share.invariant.0) (search rules) c.in_ok-send.ensures.posts,
-      map-set_same (λ line. line.child.promise) c.loop-share.lines.items c.loop-share.at c.send.new.self c.index_mut.result.now (search rules) ∙ c.loop-share.invariant.1,
-      map-set_same heard_by c.loop-share.lines.items c.loop-share.at c.send.new.self c.index_mut.result.now (search rules) ∙ c.loop-share.invariant.2,
+      map-set_same (λ link. link.child.promise) c.loop-share.links.items c.loop-share.at c.send.new.self c.index_mut.result.now (search rules) ∙ c.loop-share.invariant.1,
+      map-set_same heard_by c.loop-share.links.items c.loop-share.at c.send.new.self c.index_mut.result.now (search rules) ∙ c.loop-share.invariant.2,
     )
 
 pub returns-clause-posts : goal.returns-clause-posts

@@ -6,6 +6,6 @@ use Rattle.runs_core.proofs.crew.send_all.Given as goal
 
 abbrev pub invariant-loop-share : goal.invariant-loop-share
 invariant-loop-share g l =
-    AreJoined (map sent_by l.fn.lines.items) (map (λ share. share.items) (into_iter_items l.fn.shares)) (map (λ share. share.items) (into_iter_items l.share-iterator)) l.at (map sent_by l.lines.items)
-    × (promises_of l.lines.items ≡ promises_of l.fn.lines.items)
-    × (map heard_by l.lines.items ≡ map heard_by l.fn.lines.items)
+    AreJoined (map sent_by l.fn.links.items) (map (λ share. share.items) (into_iter_items l.fn.shares)) (map (λ share. share.items) (into_iter_items l.share-iterator)) l.at (map sent_by l.links.items)
+    × (promises_of l.links.items ≡ promises_of l.fn.links.items)
+    × (map heard_by l.links.items ≡ map heard_by l.fn.links.items)

@@ -10,4 +10,4 @@ abbrev pub invariant-loop : goal.invariant-loop
 invariant-loop g l =
     IsPlaying g.D.Driver.given g.D.Driver.ended g.D.Driver.hears (λ account. (g.S.Shared.terms account).number) g.S.Shared.key (reads g.S.Shared.key_of g.S.Shared.number_of g.S.Shared.mine_of)
     (setup_of l.fn.crew.desk.worker) (accounts_of l.fn.crew.desk.worker) l.fn.driver l.driver l.answers.items l.crew
-    × (count_of l.crew ≡ count_of l.fn.crew) × (promises_of l.crew.lines.items ≡ promises_of l.fn.crew.lines.items) × (g.D.Driver.plan l.driver ≡ g.D.Driver.plan l.fn.driver)
+    × (count_of l.crew ≡ count_of l.fn.crew) × (promises_of l.crew.links.items ≡ promises_of l.fn.crew.links.items) × (g.D.Driver.plan l.driver ≡ g.D.Driver.plan l.fn.driver)

@@ -12,7 +12,7 @@ returns-clause-more g c = λ _.
     let lists = c.in_ok-queues.ensures.items in
     let added = added_slice _ _ grows.0 c.given.result.now c.given-first.result.now grows.1 c.given.ensures.items c.given-first.ensures.items in
     let first = ap length c.given-first.ensures.items in
-    let workers : c.len.result + 1 ≡ count_of c.args.crew.now = omega (arith, c.len.ensures, c.args.crew.now.lines.ok) in
+    let workers : c.len.result + 1 ≡ count_of c.args.crew.now = omega (arith, c.len.ensures, c.args.crew.now.links.ok) in
     let many : length c.in_ok-queues.queues.items ≡ count_of c.args.crew.now =
     omega (arith, ap length lists, length-map c.in_ok-queues.queues.items (λ queue. queue.items), length-map replies.others.items (λ list. list.items), c.in_ok-replies.ensures.others) in (
       grows.0,

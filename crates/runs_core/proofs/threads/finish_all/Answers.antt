@@ -6,41 +6,41 @@ use Rattle.runs_core.specs.Sending.{AreLeftBy, IsFirstFault, MayBeShut, heard_by
 use Rattle.runs_core.specs.Teams.{reads}
 use Rattle.runs_core.proofs.threads.finish_all.Goals as goal
 
-pub loop-line-init : goal.loop-line-init
-loop-line-init g c = none_finished _ _ _ c.args.lines.items _ c.args.left.now.items c.into_iter-line-iterator.ensures.into_iter_gives.0 c.requires.none
+pub loop-link-init : goal.loop-link-init
+loop-link-init g c = none_finished _ _ _ c.args.links.items _ c.args.left.now.items c.into_iter-link-iterator.ensures.into_iter_gives.0 c.requires.none
 
-pub loop-line-preserved-in-Err : goal.loop-line-preserved-in-Err
-loop-line-preserved-in-Err g c =
+pub loop-link-preserved-in-Err : goal.loop-link-preserved-in-Err
+loop-link-preserved-in-Err g c =
     rw (c.or-fault.ensures)
-    (one_failed _ _ _ c.args.lines.items (into_iter_items c.next.new.self) c.loop-line.left.items c.finish_one.new.left.items c.loop-line.fault c.in-Some.line c.in-Err.why
-    (rw c.in-Some.ensures.steps.0 at c.loop-line.invariant) (search rules) (search rules))
+    (one_failed _ _ _ c.args.links.items (into_iter_items c.next.new.self) c.loop-link.left.items c.finish_one.new.left.items c.loop-link.fault c.in-Some.link c.in-Err.why
+    (rw c.in-Some.ensures.steps.0 at c.loop-link.invariant) (search rules) (search rules))
 
-pub loop-line-preserved : goal.loop-line-preserved
-loop-line-preserved g c =
+pub loop-link-preserved : goal.loop-link-preserved
+loop-link-preserved g c =
     let left = c.in_default.ensures.left in
-    one_finished _ _ _ c.args.lines.items (into_iter_items c.next.new.self) c.loop-line.left.items c.finish_one.new.left.items c.loop-line.fault c.in-Some.line left.0
-    (rw c.in-Some.ensures.steps.0 at c.loop-line.invariant) left.1 left.2 left.3
+    one_finished _ _ _ c.args.links.items (into_iter_items c.next.new.self) c.loop-link.left.items c.finish_one.new.left.items c.loop-link.fault c.in-Some.link left.0
+    (rw c.in-Some.ensures.steps.0 at c.loop-link.invariant) left.1 left.2 left.3
 
 pub returns-in-None-fault-clause-posts : goal.returns-in-None-fault-clause-posts
 returns-in-None-fault-clause-posts g c =
-    let none : length (into_iter_items c.loop-line.line-iterator) ≡ 0 = omega (arith, c.in-None.ensures.steps.0, c.loop-line.line-iterator.rest.ok) in
-    c.loop-line.invariant.posts c.in-None-fault.is ∙ ap (map sent_by) (all_finished _ _ _ _ _ _ _ none c.loop-line.invariant)
+    let none : length (into_iter_items c.loop-link.link-iterator) ≡ 0 = omega (arith, c.in-None.ensures.steps.0, c.loop-link.link-iterator.rest.ok) in
+    c.loop-link.invariant.posts c.in-None-fault.is ∙ ap (map sent_by) (all_finished _ _ _ _ _ _ _ none c.loop-link.invariant)
 
 pub returns-in-None-fault-clause-left : goal.returns-in-None-fault-clause-left
 returns-in-None-fault-clause-left g c =
-    let none : length (into_iter_items c.loop-line.line-iterator) ≡ 0 = omega (arith, c.in-None.ensures.steps.0, c.loop-line.line-iterator.rest.ok) in
-    subst (λ lines. AreLeftBy (reads g.S.Shared.key_of g.S.Shared.number_of g.S.Shared.mine_of) g.S.Shared.key (promises_of lines) (map heard_by lines) c.loop-line.left.items)
-    (all_finished _ _ _ _ _ _ _ none c.loop-line.invariant) (c.loop-line.invariant.left_by c.in-None-fault.is)
+    let none : length (into_iter_items c.loop-link.link-iterator) ≡ 0 = omega (arith, c.in-None.ensures.steps.0, c.loop-link.link-iterator.rest.ok) in
+    subst (λ links. AreLeftBy (reads g.S.Shared.key_of g.S.Shared.number_of g.S.Shared.mine_of) g.S.Shared.key (promises_of links) (map heard_by links) c.loop-link.left.items)
+    (all_finished _ _ _ _ _ _ _ none c.loop-link.invariant) (c.loop-link.invariant.left_by c.in-None-fault.is)
 
 pub returns-in-Some-fault-clause-gate : goal.returns-in-Some-fault-clause-gate
 returns-in-Some-fault-clause-gate g c = λ closed.
-    let none : length (into_iter_items c.loop-line.line-iterator) ≡ 0 = omega (arith, c.in-None.ensures.steps.0, c.loop-line.line-iterator.rest.ok) in
-    subst (λ lines. MayBeShut g.G.Gate.may_shut (promises_of lines)) (all_finished _ _ _ _ _ _ _ none c.loop-line.invariant) (c.loop-line.invariant.shut (cc))
+    let none : length (into_iter_items c.loop-link.link-iterator) ≡ 0 = omega (arith, c.in-None.ensures.steps.0, c.loop-link.link-iterator.rest.ok) in
+    subst (λ links. MayBeShut g.G.Gate.may_shut (promises_of links)) (all_finished _ _ _ _ _ _ _ none c.loop-link.invariant) (c.loop-link.invariant.shut (cc))
 
 pub returns-in-Some-fault-clause-workers : goal.returns-in-Some-fault-clause-workers
-returns-in-Some-fault-clause-workers g c = λ is. c.loop-line.invariant.workers (cc)
+returns-in-Some-fault-clause-workers g c = λ is. c.loop-link.invariant.workers (cc)
 
 pub returns-in-Some-fault-clause-first : goal.returns-in-Some-fault-clause-first
 returns-in-Some-fault-clause-first g c =
-    subst (λ found. IfSome found (λ why. IsFirstFault (reads g.S.Shared.key_of g.S.Shared.number_of g.S.Shared.mine_of) g.S.Shared.key g.G.Gate.may_shut (promises_of c.args.lines.items) why))
-    c.in-Some-fault.is c.loop-line.invariant.first
+    subst (λ found. IfSome found (λ why. IsFirstFault (reads g.S.Shared.key_of g.S.Shared.number_of g.S.Shared.mine_of) g.S.Shared.key g.G.Gate.may_shut (promises_of c.args.links.items) why))
+    c.in-Some-fault.is c.loop-link.invariant.first

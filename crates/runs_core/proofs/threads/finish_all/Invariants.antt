@@ -3,5 +3,5 @@ use Rattle.runs_core.proofs.Finishing.{IsFinishing}
 use Rattle.runs_core.specs.Teams.{reads}
 use Rattle.runs_core.proofs.threads.finish_all.Given as goal
 
-abbrev pub invariant-loop-line : goal.invariant-loop-line
-invariant-loop-line g l = IsFinishing (reads g.S.Shared.key_of g.S.Shared.number_of g.S.Shared.mine_of) g.S.Shared.key g.G.Gate.may_shut l.fn.lines.items (into_iter_items l.line-iterator) l.left.items l.fault
+abbrev pub invariant-loop-link : goal.invariant-loop-link
+invariant-loop-link g l = IsFinishing (reads g.S.Shared.key_of g.S.Shared.number_of g.S.Shared.mine_of) g.S.Shared.key g.G.Gate.may_shut l.fn.links.items (into_iter_items l.link-iterator) l.left.items l.fault

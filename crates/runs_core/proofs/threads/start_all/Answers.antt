@@ -6,7 +6,7 @@ use Rattle.runs_core.proofs.threads.start_all.Goals as goal
 pub loop-team-init : goal.loop-team-init
 loop-team-init g c =
     rw (c.requires.none, c.into_iter-team-iterator.ensures.into_iter_gives)
-    (refl, omega (arith), c.requires.fresh, All-nil (λ line. sent_by line ≡ []), tt, All-nil (λ line. heard_by line ≡ []))
+    (refl, omega (arith), c.requires.fresh, All-nil (λ link. sent_by link ≡ []), tt, All-nil (λ link. heard_by link ≡ []))
 
 pub start_one-requires-clause-fresh : goal.start_one-requires-clause-fresh
 start_one-requires-clause-fresh g c =

@@ -7,9 +7,9 @@ use Rattle.runs_core.proofs.threads.start_all.Given as goal
 
 abbrev pub invariant-loop-team : goal.invariant-loop-team
 invariant-loop-team g l =
-    (length l.lines.items + 1 ≡ l.number)
+    (length l.links.items + 1 ≡ l.number)
     × (l.number + length (into_iter_items l.team-iterator) ≡ length (into_iter_items l.fn.teams) + 1)
     × AreFresh (reads g.S.Shared.key_of g.S.Shared.number_of g.S.Shared.mine_of) (map g.S.Shared.key l.accounts) l.number (map (λ team. team.items) (into_iter_items l.team-iterator))
-    × All (λ line. sent_by line ≡ []) l.lines.items
-    × ArePromised l.setup l.accounts l.gate 1 (promises_of l.lines.items)
-    × All (λ line. heard_by line ≡ []) l.lines.items
+    × All (λ link. sent_by link ≡ []) l.links.items
+    × ArePromised l.setup l.accounts l.gate 1 (promises_of l.links.items)
+    × All (λ link. heard_by link ≡ []) l.links.items

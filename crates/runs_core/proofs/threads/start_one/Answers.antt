@@ -17,29 +17,29 @@ returns-in_err-push-clause-promised g c = rw (c.in_err-push.ensures.items) c.req
 
 pub returns-clause-count : goal.returns-clause-count
 returns-clause-count g c =
-    let lines = c.args.lines.now.items in
-    rw (c.in_ok-push.ensures.items) (length-append lines (c.in_ok-line.line ∷ []) ∙ c.requires.count)
+    let links = c.args.links.now.items in
+    rw (c.in_ok-push.ensures.items) (length-append links (c.in_ok-link.link ∷ []) ∙ c.requires.count)
 
 pub returns-clause-silent : goal.returns-clause-silent
 returns-clause-silent g c =
     rw (c.in_ok-push.ensures.items)
-    (All-push (λ line. sent_by line ≡ []) c.args.lines.now.items c.in_ok-line.line c.requires.silent (ap items_in c.in_ok-line.ensures.sent))
+    (All-push (λ link. sent_by link ≡ []) c.args.links.now.items c.in_ok-link.link c.requires.silent (ap items_in c.in_ok-link.ensures.sent))
 
 pub returns-clause-unheard : goal.returns-clause-unheard
 returns-clause-unheard g c =
     rw (c.in_ok-push.ensures.items)
-    (All-push (λ line. heard_by line ≡ []) c.args.lines.now.items c.in_ok-line.line c.requires.unheard (ap items_in c.in_ok-line.ensures.heard))
+    (All-push (λ link. heard_by link ≡ []) c.args.links.now.items c.in_ok-link.link c.requires.unheard (ap items_in c.in_ok-link.ensures.heard))
 
 pub returns-clause-promised : goal.returns-clause-promised
 returns-clause-promised g c =
-    let lines = c.args.lines.now.items in
-    let line = c.in_ok-line.line in
-    let number : c.args.number ≡ 1 + length (promises_of lines) = omega (arith, c.requires.count, length-map lines (λ line. line.child.promise)) in
-    rw (c.in_ok-push.ensures.items, map-append (λ line. line.child.promise) lines (line ∷ []))
-    (promised_more c.args.setup.now c.args.accounts.now c.args.gate.now 1 (promises_of lines) line.child.promise c.requires.promised
+    let links = c.args.links.now.items in
+    let link = c.in_ok-link.link in
+    let number : c.args.number ≡ 1 + length (promises_of links) = omega (arith, c.requires.count, length-map links (λ link. link.child.promise)) in
+    rw (c.in_ok-push.ensures.items, map-append (λ link. link.child.promise) links (link ∷ []))
+    (promised_more c.args.setup.now c.args.accounts.now c.args.gate.now 1 (promises_of links) link.child.promise c.requires.promised
     (record {
-      setup_is = c.in_ok-line.ensures.setup;
-      accounts_are = c.in_ok-line.ensures.accounts;
-      gate_is = c.in_ok-line.ensures.gate;
-      number_is = c.in_ok-line.ensures.number ∙ number;
+      setup_is = c.in_ok-link.ensures.setup;
+      accounts_are = c.in_ok-link.ensures.accounts;
+      gate_is = c.in_ok-link.ensures.gate;
+      number_is = c.in_ok-link.ensures.number ∙ number;
     }))

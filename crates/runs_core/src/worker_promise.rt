@@ -1,7 +1,7 @@
 //! What a worker's thread gives back, and what it promises of that.
 
 use crate::RunFault;
-use crate::desk::Left;
+use crate::desk::WorkerEnd;
 use run_values::{Answer, Post, RunSetup};
 use shared_account::{Gate, Shared};
 use std::snapshot::Snapshot;
@@ -12,7 +12,7 @@ use workers_core::{Inbox, Outbox};
 /// the two mailboxes.
 #[derive(Drop)]
 pub(crate) struct Finished<S: Shared> {
-    pub left: Left<S>,
+    pub left: WorkerEnd<S>,
     pub inbox: Inbox<Vec<Post>>,
     pub outbox: Outbox<Vec<Answer>>,
 }
@@ -21,7 +21,7 @@ pub(crate) struct Finished<S: Shared> {
 /// its seats are those that it was given, with the entries that its posts made, and it has sent
 /// their answers.
 #[derive(Drop)]
-pub(crate) struct Returns<'s, S: Shared, G: Gate> {
+pub(crate) struct WorkerPromise<'s, S: Shared, G: Gate> {
     pub number: u32,
     pub setup: &'s RunSetup,
     pub accounts: &'s [S],
@@ -30,7 +30,7 @@ pub(crate) struct Returns<'s, S: Shared, G: Gate> {
     pub outbox: Snapshot<Outbox<Vec<Answer>>>,
 }
 
-impl<'s, S: Shared, G: Gate> Promise<Result<Finished<S>, RunFault>> for Returns<'s, S, G> {
+impl<'s, S: Shared, G: Gate> Promise<Result<Finished<S>, RunFault>> for WorkerPromise<'s, S, G> {
     ghost use Rattle.std.specs.Prelude.{◌≡◌, ◌≢◌, true, map, IfOk, Err};
     ghost use Rattle.runs_core.specs.Teams.{IsLeft, reads};
     ghost use Rattle.runs_core.specs.Mails.{items_in};

@@ -4,7 +4,7 @@ use Rattle.workers_core.specs.Handled.{answer_view}
 use Rattle.runs_core.specs.Mails.{items_in}
 use Rattle.runs_core.specs.Teams.{IsLeft, reads}
 use Rattle.runs_core.proofs.Mailing.{closes, items_closed, same_items}
-use Rattle.runs_core.proofs.line.Line.finish.Goals as goal
+use Rattle.runs_core.proofs.worker_link.WorkerLink.finish.Goals as goal
 
 pub returns-clause-posts : goal.returns-clause-posts
 returns-clause-posts g c =

@@ -6,7 +6,7 @@ use Rattle.runs_core.specs.Mails.{items_in}
 use Rattle.runs_core.proofs.Mailing.{items_more}
 use Rattle.runs_core.proofs.Shifting.{empty_by}
 use Rattle.workers_core.specs.Ends.{sent}
-use Rattle.runs_core.proofs.line.Line.send.Goals as goal
+use Rattle.runs_core.proofs.worker_link.WorkerLink.send.Goals as goal
 
 pub returns-clause-posts : goal.returns-clause-posts
 returns-clause-posts g c = items_more (sent c.args.self.now.outbox) _ c.args.posts c.in-Ok.ensures.sent

@@ -10,8 +10,8 @@ ghost use Rattle.workers_core.specs.Logs.{has_close};
 ghost use Rattle.workers_core.specs.declared.mail.Mail.TheVariants as mail;
 
 use crate::RunFault;
-use crate::desk::Left;
-use crate::returns::{Finished, Returns};
+use crate::desk::WorkerEnd;
+use crate::worker_promise::{Finished, WorkerPromise};
 use crate::working::work;
 use run_values::{Answer, Post, RunSetup};
 use shared_account::{Gate, Shared};
@@ -24,15 +24,15 @@ use workers_core::{Inbox, Mail, Outbox, compare, mailbox};
 /// How many mails wait in a mailbox at most: those of one round, and the last one.
 const MAILBOX: u32 = 2;
 
-/// A worker's line: the mailbox of its posts, that of its answers, and its thread. At most one round
+/// A worker's link: the mailbox of its posts, that of its answers, and its thread. At most one round
 /// is on its way, so neither end ever waits for room.
 #[derive(Drop)]
-pub(crate) struct Line<'s, S: Shared, G: Gate> {
+pub(crate) struct WorkerLink<'s, S: Shared, G: Gate> {
     pub outbox: Outbox<Vec<Post>>,
     pub inbox: Inbox<Vec<Answer>>,
     /// Whether the answers to a round are on their way.
     pub awaits: bool,
-    pub child: PromisedHandle<Result<Finished<S>, RunFault>, Returns<'s, S, G>>,
+    pub child: PromisedHandle<Result<Finished<S>, RunFault>, WorkerPromise<'s, S, G>>,
     pub ghost posts_paired: { ArePaired outbox child.promise.inbox.value },
     pub ghost answers_paired: { ArePaired child.promise.outbox.value inbox },
 }
@@ -47,22 +47,22 @@ pub(crate) fn start<'s, E, S: Shared, R: Wait + Threads + Sync, G: Gate + Sync>(
     accounts: &'s [S],
     seats: Vec<S::Seat>,
     gate: &'s G,
-) -> Result<Line<'s, S, G>, RunFault>
+) -> Result<WorkerLink<'s, S, G>, RunFault>
     requires numbered { map (λ account. (S.terms account).number) accounts.now
         ≡ keys_of setup.now.accounts }
     requires fresh { IsFresh (reads S.key_of S.number_of S.mine_of)
         (map S.key accounts.now) number seats.items }
-    ensures number { IfOk result (λ line. line.child.promise.number ≡ number) }
-    ensures setup { IfOk result (λ line. line.child.promise.setup.now ≡ setup.now) }
-    ensures accounts { IfOk result (λ line. line.child.promise.accounts.now ≡ accounts.now) }
-    ensures gate { IfOk result (λ line. line.child.promise.gate.now ≡ gate.now) }
-    ensures sent { IfOk result (λ line. sent line.outbox ≡ []) }
-    ensures heard { IfOk result (λ line. taken line.inbox ≡ []) }
+    ensures number { IfOk result (λ link. link.child.promise.number ≡ number) }
+    ensures setup { IfOk result (λ link. link.child.promise.setup.now ≡ setup.now) }
+    ensures accounts { IfOk result (λ link. link.child.promise.accounts.now ≡ accounts.now) }
+    ensures gate { IfOk result (λ link. link.child.promise.gate.now ≡ gate.now) }
+    ensures sent { IfOk result (λ link. sent link.outbox ≡ []) }
+    ensures heard { IfOk result (λ link. taken link.inbox ≡ []) }
     ensures fault { (result ≢ Err RunFault.GateClosed) × (result ≢ Err RunFault.Workers) }
 {
     let (outbox, posts) = mailbox::<Vec<Post>>(alloc, MAILBOX)?;
     let (answers, inbox) = mailbox::<Vec<Answer>>(alloc, MAILBOX)?;
-    let promise = Returns {
+    let promise = WorkerPromise {
         number,
         setup,
         accounts,
@@ -91,7 +91,7 @@ pub(crate) fn start<'s, E, S: Shared, R: Wait + Threads + Sync, G: Gate + Sync>(
         )
     };
     match scope.spawn_with(promise, serve) {
-        Ok(child) => Ok(Line {
+        Ok(child) => Ok(WorkerLink {
             outbox,
             inbox,
             awaits: false,
@@ -101,7 +101,7 @@ pub(crate) fn start<'s, E, S: Shared, R: Wait + Threads + Sync, G: Gate + Sync>(
     }
 }
 
-impl<S: Shared, G: Gate> Line<'_, S, G> {
+impl<S: Shared, G: Gate> WorkerLink<'_, S, G> {
     /// Sends the posts of a round to the worker, if there are any.
     pub(crate) fn send<R: Wait>(&mut self, rt: &R, posts: Vec<Post>) -> Result<(), RunFault>
         ensures posts { OnOk result (items_in (sent self.new.outbox)
@@ -139,7 +139,7 @@ impl<S: Shared, G: Gate> Line<'_, S, G> {
     }
 
     /// Sends the last mail, and waits for what the worker leaves.
-    pub(crate) fn finish<R: Wait + Threads>(self, rt: &R) -> Result<Left<S>, RunFault>
+    pub(crate) fn finish<R: Wait + Threads>(self, rt: &R) -> Result<WorkerEnd<S>, RunFault>
         ensures posts { IfOk result (λ left. left.posts.items ≡ items_in (sent self.entry.outbox)) }
         ensures left { IfOk result (λ left. IsLeft (reads S.key_of S.number_of S.mine_of)
             (map S.key self.entry.child.promise.accounts.now)
@@ -150,7 +150,7 @@ impl<S: Shared, G: Gate> Line<'_, S, G> {
             → G.may_shut self.entry.child.promise.gate.now }
         ensures workers { result ≢ Err RunFault.Workers }
     {
-        let Line {
+        let WorkerLink {
             mut outbox,
             mut inbox,
             child,
