@@ -69,7 +69,9 @@ fn op_is_typed(op: Op)
         Op::Credit { .. } => {}
         Op::Reserve { call: _, plan, .. } => plan_is_typed(plan),
         Op::Settle {
-            call: _, number: _, ..
+            call: _,
+            number: _,
+            ..
         } => {}
         Op::Return { call: _ } => {}
     }
@@ -79,5 +81,10 @@ fn op_is_typed(op: Op)
 fn plan_is_typed(plan: Plan)
     ensures { FitsPlan (rates_of plan) }
 {
-    let Plan { fee: _, before: _, after: _, free: _ } = plan;
+    let Plan {
+        fee: _,
+        before: _,
+        after: _,
+        free: _,
+    } = plan;
 }

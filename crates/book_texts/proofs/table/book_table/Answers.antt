@@ -7,7 +7,7 @@ pub loop-book-preserved : goal.loop-book-preserved
 unfolding book_text
 loop-book-preserved c = (
   rw c.in_ok-write_book.ensures.text
-  (one_more book_rows header _ c.args.books.now c.loop-book.book-index c.book-item.result c.loop-book-test.true c.book-item.is c.loop-book.invariant.0),
+      (one_more book_rows header _ c.args.books.now c.loop-book.book-index c.book-item.result c.loop-book-test.true c.book-item.is c.loop-book.invariant.0),
   all_so_far IsTyped c.args.books.now c.loop-book.book-index c.book-item.result c.loop-book-test.true c.book-item.is c.loop-book.invariant.1
-  c.in_ok-write_book.ensures.typed,
+      c.in_ok-write_book.ensures.typed,
 )

@@ -12,7 +12,7 @@ use Rattle.book_texts.proofs.table.write_book.Goals as goal
 pub loop-entry-init : goal.loop-entry-init
 loop-entry-init c = (
   rw (c.in_ok-writeln.ensures.bytes, c.in_ok-write_opening.ensures, c.in_ok-write.ensures.bytes, c.account-account.ensures, c.opening.ensures, c.until.ensures)
-  (simp (append_assoc, append-nil)),
+      (simp (append_assoc, append-nil)),
   All-nil (λ entry. IsTypedEntry (entry_data entry)),
 )
 
@@ -20,8 +20,8 @@ pub loop-entry-preserved : goal.loop-entry-preserved
 loop-entry-preserved c = (
   grind (arith, common_steps),
   let P : Entry → Type 0 = λ entry. IsTypedEntry (entry_data entry) in
-  all_so_far P c.history-entry-items.result.now c.loop-entry.entry-index c.entry-item.result c.loop-entry-test.true c.entry-item.is c.loop-entry.invariant.1
-  c.in_ok-write_entry.ensures.typed,
+      all_so_far P c.history-entry-items.result.now c.loop-entry.entry-index c.entry-item.result c.loop-entry-test.true c.entry-item.is c.loop-entry.invariant.1
+      c.in_ok-write_entry.ensures.typed,
 )
 
 pub returns-clause-typed : goal.returns-clause-typed
