@@ -154,7 +154,11 @@ def main():
             if name.split()[0] not in fault:
                 raise SystemExit(f"{name}: {fault}")
             trial.refuses(name, one, path, fault)
-        with open(os.path.join(TOP, "examples", "evening.txt"), "rb") as file:
+        evening = os.path.join(TOP, "examples", "evening.txt")
+        records = {run(trial.program, ["run", "--calls", "--workers", it], evening) for it in ("1", "2", "16")}
+        if len(records) != 1:
+            raise SystemExit("the records of the evening aren't the same with 1, 2 and 16 workers")
+        with open(evening, "rb") as file:
             text = file.read().replace(b"%%", b"".join(b"7%03d,00:00,0,0\n" % it for it in range(100)) + b"%%", 1)
         trial.same("a long tariff", one, trial.new(text), limits=Limits(3_300, 9, 99, 999))
         text, lines = large(2_500)
