@@ -1,4 +1,5 @@
 pub mod AccountLemmas
 pub mod CallLemmas
+pub mod LawLemmas
 pub mod MarkLemmas
 pub mod RecordLemmas

@@ -3,6 +3,7 @@
 
 mod accounts;
 mod call_record;
+mod laws;
 mod marks;
 mod outcome;
 mod recording;
@@ -12,6 +13,7 @@ mod starts;
 mod table;
 
 pub use call_record::CallRecord;
+pub use laws::unserved_calls_pay_nothing;
 pub use outcome::Outcome;
 pub use recording::records;
 pub use table::call_table;

@@ -1,0 +1,56 @@
+-- A call that no account has granted anything has paid nothing.
+use Rattle.std.proofs.Common.{◌≡◌, ℕ, Bool, true, false, true≢false, Option, Some, None, refl, sym, ap, ◌∙◌, inl, inr}
+use Rattle.std.specs.Prelude.{◌⊎◌, if◌then◌else◌, is_none, is_some, unwrap_or}
+use Rattle.account_core.specs.Known.{CallFacts, known, paid_under}
+use Rattle.tariff_core.specs.Rates.{Rates}
+use Rattle.call_records.specs.Calls.{reports_of}
+use Rattle.call_records.specs.Laws.{UnservedCallsPayNothing, is_unserved}
+use Rattle.call_records.specs.Records.{ended_by, granted_outcome}
+use Rattle.call_records.specs.Standings.{past_of, standing_of}
+use Rattle.call_records.specs.declared.outcome.Outcome.TheVariants as outcome
+use Rattle.call_records.specs.declared.reports.CallReports.{CallReports}
+use Rattle.call_records.specs.declared.standing.Standing.{Standing}
+
+ended_served : (busy no_answer route_failed abandoned disconnected cut : Bool)
+    → is_unserved (if busy then outcome.Busy else if no_answer then outcome.NoAnswer else if route_failed then outcome.RouteFail else if abandoned then outcome.Abandoned
+    else if disconnected then outcome.Ended else if cut then outcome.Cut else outcome.Released) ≡ false
+ended_served true no_answer route_failed abandoned disconnected cut = refl
+ended_served false true route_failed abandoned disconnected cut = refl
+ended_served false false true abandoned disconnected cut = refl
+ended_served false false false true disconnected cut = refl
+ended_served false false false false true cut = refl
+ended_served false false false false false true = refl
+ended_served false false false false false false = refl
+
+over_served : (reports : CallReports) (standing : Standing) → is_unserved (ended_by reports standing) ≡ false
+over_served reports standing = ended_served reports.busy reports.no_answer reports.route_failed reports.abandoned reports.disconnected standing.cut
+
+granted_by : (forfeited : Bool) (end : Option ℕ) (reports : CallReports) (standing : Standing)
+    → is_unserved (if forfeited then outcome.Forfeit else if is_none end then outcome.Open else ended_by reports standing) ≡ false
+granted_by true end reports standing = refl
+granted_by false None reports standing = refl
+granted_by false (Some at) reports standing = over_served reports standing
+
+-- a call with such an outcome has no account, or was never granted anything
+unserved_by : (account : Option ℕ) (has_route granted denied : Bool) (reports : CallReports) (standing : Standing) → granted ≡ standing.granted → denied ≡ standing.denied
+    → is_unserved (if is_none account then outcome.Unknown else if has_route then (if granted then granted_outcome reports standing else if denied then outcome.Denied else outcome.Refused) else outcome.NoRoute) ≡ true
+    → (account ≡ None) ⊎ (granted ≡ false)
+unserved_by None has_route granted denied reports standing same known is = inl refl
+unserved_by (Some account) false granted denied reports standing same known is = absurd (true≢false (sym is))
+unserved_by (Some account) true true denied reports standing same known is =
+    absurd (true≢false (sym is ∙ granted_by standing.forfeited reports.end reports standing))
+unserved_by (Some account) true false denied reports standing same known is = inr refl
+
+none_paid : (plan : Option Rates) (known : CallFacts) → is_some plan ≡ false → unwrap_or (paid_under plan known) 0 ≡ 0
+none_paid None known none = refl
+none_paid (Some plan) known none = absurd (true≢false none)
+
+pub unserved_pay_nothing : UnservedCallsPayNothing
+unserved_pay_nothing run call record_is unserved =
+    let from = record_is.from in
+    let standing = standing_of call.call (past_of call.account run.books) in
+    let reports = reports_of call.call run.given in
+    from.paid ∙ elim (unserved_by call.account (is_some call.prefix) standing.granted standing.denied reports standing refl refl (sym (ap is_unserved from.outcome_is) ∙ unserved)) [
+      | inl none ↦ ap (λ a. (standing_of call.call (past_of a run.books)).paid) none
+      | inr new ↦ none_paid (known call.call (past_of call.account run.books)).plan (known call.call (past_of call.account run.books)) new
+    ]
