@@ -11,8 +11,8 @@ set -u
 cd "$(dirname "$0")/.."
 calls=crates/refused_growths/out/refused_growths
 prepaid=crates/prepaid/out/prepaid
-commands='command/help command/price command/replay command/run command/run_book command/audit
-    command/audit_altered'
+commands='command/help command/price command/replay command/run command/run_book command/run_calls
+    command/audit command/audit_altered'
 
 # The words of a command and its input, what it prints, and its status.
 words_of() {
@@ -22,6 +22,7 @@ words_of() {
         command/replay) echo 'replay --opening 1500' ;;
         command/run) echo 'run' ;;
         command/run_book) echo 'run --book' ;;
+        command/run_calls) echo 'run --calls' ;;
         command/audit*) echo 'audit' ;;
     esac
 }
@@ -62,6 +63,10 @@ answer_of() {
             echo '7,1,settle,1,2,n,300,,,,,settled,550,,450'
             echo '7,1,return,1,,,,,,,,returned,550,,950'
             ;;
+        command/run_calls)
+            echo 'call,calling,called,account,prefix,start,answer,end,before,after,paid,outcome'
+            echo '1,491700001,4930,7,49,0,100,402,300,0,550,ended'
+            ;;
         command/audit) echo 'account 7 yes' ;;
         command/audit_altered)
             echo 'account 7 no'
@@ -84,6 +89,10 @@ ungranted_of() {
         command/run_book)
             echo 'account,seat,op,call,x1,x2,x3,x4,x5,x6,x7,reply,y1,y2,y3'
             echo '7,,opening,,1500,,,,,,,,,,'
+            ;;
+        command/run_calls)
+            echo 'call,calling,called,account,prefix,start,answer,end,before,after,paid,outcome'
+            echo '1,491700001,4930,7,49,0,,2,0,0,0,refused'
             ;;
     esac
 }
