@@ -1,8 +1,9 @@
 -- A number above 32 bits is out of the range of every time, and so is the greatest number of 32 bits.
 use Rattle.std.proofs.Common.{◌≡◌, ◌≤◌, ℕ, Bool, true, false, List, Option, Some, None, refl, sym, ap, ◌∙◌, min, arith}
-use Rattle.std.specs.Prelude.{◌&&◌, option_map, unwrap_or, nat_le, if◌then◌else◌}
+use Rattle.std.specs.Prelude.{option_map, unwrap_or, nat_le, if◌then◌else◌}
 use Rattle.std.proofs.lemmas.Bool.Decides.{nat_tests}
 use Rattle.std.specs.Str.Parse.{digits_value}
+use Rattle.std.proofs.lemmas.Bool.{and_parts}
 use Rattle.run_options.specs.Configs.{is_config}
 use Rattle.run_options.specs.declared.run_ask.RunAsk.{RunAsk}
 use Rattle.table_core.specs.Decimals.{decimal_of, is_decimal}
@@ -26,11 +27,6 @@ capped_number text read is_one is = rw (is, is_one) (by_size (digits_value 10 te
 
 -- ---- the numbers of a run
 
-both : (a b : Bool) → (a && b) ≡ true → (a ≡ true) × (b ≡ true)
-both true true is = (refl, refl)
-both true false is = cc
-both false b is = cc
-
 within : (number most : ℕ) → nat_le number most ≡ true → number ≤ most
 within number most is = grind (arith, nat_tests)
 
@@ -44,12 +40,12 @@ pub record AreDays (ask : RunAsk) : Type 0 where
 
 pub are_days : (ask : RunAsk) → is_config ask ≡ true → AreDays ask
 are_days ask is =
-    let tssf = both _ _ is in
-    let tssf_low = both _ _ tssf.0 in
-    let wanted = both _ _ tssf_low.0 in
-    let least = both _ _ wanted.0 in
-    let tccd = both _ _ least.0 in
-    let delay = both _ _ tccd.0 in
+    let tssf = and_parts _ _ is in
+    let tssf_low = and_parts _ _ tssf.0 in
+    let wanted = and_parts _ _ tssf_low.0 in
+    let least = and_parts _ _ wanted.0 in
+    let tccd = and_parts _ _ least.0 in
+    let delay = and_parts _ _ tccd.0 in
     let s : ask.tssf ≤ 864000 = within _ _ tssf.1 in
     let w : ask.wanted ≤ 864000 = within _ _ wanted.1 in
     let l : ask.least ≤ ask.wanted = within _ _ least.1 in

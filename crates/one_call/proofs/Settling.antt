@@ -3,6 +3,7 @@ use Rattle.std.proofs.Common.{◌≡◌, ◌+◌, ◌-◌, ◌≤◌, ◌<◌, �
 use Rattle.std.proofs.Math.Nat.{le_trans}
 use Rattle.std.proofs.lemmas.Bool.Decides.{nat_tests}
 use Rattle.std.specs.Prelude.{◌&&◌, ◌||◌, ◌==◌, not, is_some, unwrap_or, nat_le, if◌then◌else◌, IsSome}
+use Rattle.std.proofs.lemmas.Bool.{and_from, le-leb}
 use Rattle.account_core.specs.Answers.{accepted_times}
 use Rattle.account_core.specs.Known.{CallFacts, known_after}
 use Rattle.account_core.specs.Known as known
@@ -18,9 +19,6 @@ use Rattle.tariff_core.specs.declared.time_info.TimeInfo.TheVariants.{Switch}
 use Rattle.one_call.specs.Covered.{IsCovered, IsSingle, IsTold, IsUsedUp, times_at}
 
 -- ---- tests
-
-at_most : (a b : ℕ) → a ≤ b → nat_le a b ≡ true
-at_most a b le = grind (arith, nat_tests)
 
 is_at_most : (a b : ℕ) → nat_le a b ≡ true → a ≤ b
 is_at_most a b test = grind (arith, nat_tests)
@@ -91,25 +89,22 @@ none_before : (switched : Bool) (before : ℕ) → (switched ≡ true → before
 none_before true before zero = zero refl
 none_before false before zero = refl
 
-both : (a b : Bool) → a ≡ true → b ≡ true → (a && b) ≡ true
-both a b p q = rw (p, q) refl
-
 read_switched : (b : Bool) (old : Elapsed) (answer switch now : ℕ) → nat_le switch answer ≡ b → switch ≤ now → now ≤ answer + 864000
     → Follows old (times_if b answer switch now)
     → times_read old (if b then Switch (now - answer) None else Switch (now - switch) (Some (switch - answer))) ≡ Some (times_if b answer switch now)
 read_switched true old answer switch now test behind day follows =
     let zero : (if old.switched then old.before else 0) ≡ 0 = none_before old.switched old.before (λ switched. sym ((follows.stays switched).1)) in
-    rw zero (guarded _ _ (record { before = 0; after = now - answer; switched = true }) (at_most (now - answer) 864000 (omega arith)) (at_most (0 + (now - answer)) 864000 (omega arith)))
+    rw zero (guarded _ _ (record { before = 0; after = now - answer; switched = true }) (le-leb (now - answer) 864000 (omega arith)) (le-leb (0 + (now - answer)) 864000 (omega arith)))
 read_switched false old answer switch now test behind day follows =
     let above = is_above switch answer test in
     guarded _ _ (record { before = switch - answer; after = now - switch; switched = true })
-    (both _ _ (both _ _ (at_most (now - switch) 864000 (omega arith)) (at_most 1 (switch - answer) (omega arith))) (at_most (switch - answer) 864000 (omega arith)))
-    (at_most ((switch - answer) + (now - switch)) 864000 (omega arith))
+    (and_from _ _ (and_from _ _ (le-leb (now - switch) 864000 (omega arith)) (le-leb 1 (switch - answer) (omega arith))) (le-leb (switch - answer) 864000 (omega arith)))
+    (le-leb ((switch - answer) + (now - switch)) 864000 (omega arith))
 
 read_at : (old : Elapsed) (answer now : ℕ) (came : Option ℕ) → ((s : ℕ) → came ≡ Some s → s ≤ now) → now ≤ answer + 864000
     → Follows old (times_at answer came now) → times_read old (split answer came now) ≡ Some (times_at answer came now)
 read_at old answer now None behind day follows =
-    guarded _ _ (record { before = now - answer; after = 0; switched = false }) (at_most (now - answer) 864000 (omega arith)) (at_most ((now - answer) + 0) 864000 (omega arith))
+    guarded _ _ (record { before = now - answer; after = 0; switched = false }) (le-leb (now - answer) 864000 (omega arith)) (le-leb ((now - answer) + 0) 864000 (omega arith))
 read_at old answer now (Some s) behind day follows = read_switched (nat_le s answer) old answer s now refl (behind s refl) day follows
 
 -- ---- it is lawful
@@ -129,9 +124,9 @@ is_switched answer now (Some s) rated may switched = may s refl
 lawful_at : (plan : Rates) (old new : Elapsed) (granted : ℕ) → Follows old new → (new.switched ≡ true → is_some plan.after ≡ true) → new.before + new.after ≤ granted
     → is_lawful plan old new granted ≡ true
 lawful_at plan old new granted follows rated total =
-    all_five _ _ _ _ _ (at_most old.before new.before follows.before) (at_most old.after new.after follows.after)
+    all_five _ _ _ _ _ (le-leb old.before new.before follows.before) (le-leb old.after new.after follows.after)
     (stays_with old.switched new.switched new.before old.before follows.stays) (may_switch new.switched (is_some plan.after) rated)
-    (at_most (new.before + new.after) granted total)
+    (le-leb (new.before + new.after) granted total)
 
 accepts : (kept : CallFacts) (info : TimeInfo) (plan : Rates) (new : Elapsed) → kept.forfeited ≡ false → kept.plan ≡ Some plan → times_read kept.times info ≡ Some new
     → is_lawful plan kept.times new kept.granted ≡ true → accepted_times kept info ≡ Some new

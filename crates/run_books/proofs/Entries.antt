@@ -1,7 +1,7 @@
 -- Each entry of a book of a run fits its columns.
 use Rattle.std.proofs.Common.{◌≡◌, ◌<◌, ℕ, true, List, [], length, refl, arith, All}
 use Rattle.std.specs.Prelude.{◌==◌, ◌&&◌, nat_le, slice_index_or}
-use Rattle.std.proofs.lemmas.Bool.{eq-eqb}
+use Rattle.std.proofs.lemmas.Bool.{and_parts, eq-eqb, leb-true}
 use Rattle.std.proofs.lemmas.List.Elements.{All-same}
 use Rattle.account_core.specs.Asked.{Asked, Credits, Reserves, Settles, Returns, is_in_range}
 use Rattle.account_core.specs.Events.{EntryData}
@@ -9,24 +9,25 @@ use Rattle.account_core.specs.Laws.{EntriesAreInRange, IsInRange}
 use Rattle.book_texts.specs.Typed.{IsTyped, IsTypedAsked}
 use Rattle.entry_rows.specs.Fits.{FitsAsked, FitsEvent}
 use Rattle.run_books.proofs.Listed.{all_passing}
-use Rattle.run_books.proofs.Openings.{IsOpenedWithin, at_most, both}
+use Rattle.run_books.proofs.Openings.{IsOpenedWithin}
 use Rattle.run_books.proofs.Posts.{IsTimelyAsked, handled_timely, mine_timely, served_at}
-use Rattle.run_books.specs.Runs.{IsRun}
 use Rattle.run_books.specs.Timely.{AreTimely}
 use Rattle.run_values.specs.Setups.{Setup}
+use Rattle.run_values.specs.declared.answer.Answer.{Answer}
 use Rattle.run_values.specs.declared.post.Body.{Body}
 use Rattle.runs_core.specs.Entered.{IsBookOf, ReservesAreInTheBooks}
+use Rattle.runs_core.specs.Runs.{IsRun, RunShown}
 use Rattle.shared_account.specs.Closed.{Closed}
 use Rattle.shared_account.specs.Own.{IsMerged, own}
 
 -- ---- an operation, by its ranges, its types and its times
 
 asked_fits : (asked : Asked) → is_in_range asked ≡ true → IsTypedAsked asked → IsTimelyAsked asked → FitsAsked asked
-asked_fits (Credits amount until) range typed timely = (at_most amount 1000000000000000 (both (nat_le 1 amount) (nat_le amount 1000000000000000) range).1, timely)
+asked_fits (Credits amount until) range typed timely = (leb-true amount 1000000000000000 (and_parts (nat_le 1 amount) (nat_le amount 1000000000000000) range).1, timely)
 asked_fits (Reserves call plan wanted least at) range typed timely =
-    let (wants, takes) = both (nat_le 1 wanted && nat_le wanted 864000) (nat_le least 864000) range in
-    let (some, most) = both (nat_le 1 wanted) (nat_le wanted 864000) wants in
-    (typed.0, typed.1, at_most wanted 864000 most, at_most least 864000 takes, timely)
+    let (wants, takes) = and_parts (nat_le 1 wanted && nat_le wanted 864000) (nat_le least 864000) range in
+    let (some, most) = and_parts (nat_le 1 wanted) (nat_le wanted 864000) wants in
+    (typed.0, typed.1, leb-true wanted 864000 most, leb-true least 864000 takes, timely)
 asked_fits (Settles call number info) range typed timely = (typed.0, typed.1, timely)
 asked_fits (Returns call) range typed timely = typed
 
@@ -42,22 +43,22 @@ own_holds P history lists merged each = λ k d within.
 
 -- ---- the entries of a book
 
-module _ (reserves : ReservesAreInTheBooks) (ranges : EntriesAreInRange) (setup : Setup) (workers : ℕ) (given : List (ℕ × Body)) (books : List Closed)
-    (run : IsRun setup workers given books) (timely : AreTimely given) where
-  history_timely : (place : ℕ) (d : Closed) → place < length books → IsBookOf setup books (slice_index_or books place d).account place (slice_index_or books place d)
-      → All (λ event. IsTimelyAsked event.asked) (slice_index_or books place d).history
+module _ (reserves : ReservesAreInTheBooks) (ranges : EntriesAreInRange) (setup : Setup) (workers : ℕ) (given : List (ℕ × Body)) (answers : List Answer) (shown : RunShown)
+    (run : IsRun setup workers given answers shown) (timely : AreTimely given) where
+  history_timely : (place : ℕ) (d : Closed) → place < length shown.books → IsBookOf setup shown.books (slice_index_or shown.books place d).account place (slice_index_or shown.books place d)
+      → All (λ event. IsTimelyAsked event.asked) (slice_index_or shown.books place d).history
   history_timely place d within is =
-      let book : Closed = slice_index_or books place d in
+      let book : Closed = slice_index_or shown.books place d in
       own_holds (λ (event : EntryData). IsTimelyAsked event.asked) book.history book.own (run.merged place d within) (λ seat here.
-      let (there, served) = served_at book.account run.handled book.own seat (run.served place d within) here in
-      mine_timely setup place book.account (slice_index_or run.handled seat []) (slice_index_or book.own seat []) served
-      (handled_timely workers given run.handled seat run.shares timely there)
-      (reserves setup books run.handled run.refusals seat book.account place book run.worked there is))
+      let (there, served) = served_at book.account shown.handled book.own seat (run.served place d within) here in
+      mine_timely setup place book.account (slice_index_or shown.handled seat []) (slice_index_or book.own seat []) served
+      (handled_timely workers given shown.handled seat run.shares timely there)
+      (reserves setup shown.books shown.handled shown.refusals seat book.account place book run.worked there is))
 
-  pub history_fits : (place : ℕ) (d : Closed) → place < length books → IsBookOf setup books (slice_index_or books place d).account place (slice_index_or books place d)
-      → IsOpenedWithin (slice_index_or books place d) → IsTyped (slice_index_or books place d) → All FitsEvent (slice_index_or books place d).history
+  pub history_fits : (place : ℕ) (d : Closed) → place < length shown.books → IsBookOf setup shown.books (slice_index_or shown.books place d).account place (slice_index_or shown.books place d)
+      → IsOpenedWithin (slice_index_or shown.books place d) → IsTyped (slice_index_or shown.books place d) → All FitsEvent (slice_index_or shown.books place d).history
   history_fits place d within is opened typed =
-      let book : Closed = slice_index_or books place d in
+      let book : Closed = slice_index_or shown.books place d in
       let in_range : All IsInRange book.history = ranges book.opening book.until book.history opened.opening (run.legal place d within) in
       let on_time = history_timely place d within is in
       λ k e here. record {

@@ -11,22 +11,25 @@ use Rattle.run_books.specs.Runs.{IsRecorded}
 use Rattle.run_values.specs.Setups.{Setup}
 use Rattle.run_values.specs.declared.post.Body.{Body}
 use Rattle.runs_core.specs.Entered.{ReservesAreInTheBooks}
+use Rattle.runs_core.specs.Runs.{RunShown}
 use Rattle.shared_account.specs.Closed.{Closed}
 
 books_fit : ReservesAreInTheBooks → EntriesAreInRange → (setup : Setup) (workers : ℕ) (given : List (ℕ × Body)) (books : List Closed) → IsRecorded setup workers given books
     → All FitsBook books
 books_fit reserves ranges setup workers given books is = λ place d within.
-    let opened : IsOpenedWithin (slice_index_or books place d) = opened_within setup workers given books is.run is.accounts place d within in
+    let shown : RunShown = record { books = books; handled = is.handled; refusals = is.refusals } in
+    let opened : IsOpenedWithin (slice_index_or books place d) = opened_within setup workers given is.answers shown is.may_be is.run is.accounts place d within in
     record {
       account = (is.typed place d within).account;
       opening = opened.opening;
       until = opened.until;
-      history = history_fits reserves ranges setup workers given books is.run is.timely place d within (book_of setup workers given books is.run is.accounts place d within) opened (is.typed place d within);
+      history = history_fits reserves ranges setup workers given is.answers shown is.run is.timely place d within
+          (book_of setup workers given is.answers shown is.may_be is.run is.accounts place d within) opened (is.typed place d within);
     }
 
 pub printable : ReservesAreInTheBooks → EntriesAreInRange → RunsArePrintable
 printable reserves ranges setup workers given books is = record {
-  rising = accounts_rise setup workers given books is.run is.accounts;
+  rising = accounts_rise setup workers given is.answers (record { books = books; handled = is.handled; refusals = is.refusals }) is.may_be is.run is.accounts;
   fit = books_fit reserves ranges setup workers given books is;
   room = is.room;
 }

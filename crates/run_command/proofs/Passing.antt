@@ -1,11 +1,11 @@
 -- The books of a run over an input pass the audit.
-use Rattle.std.proofs.Common.{◌∙◌, ℕ, List, sym, ap, subst}
+use Rattle.std.proofs.Common.{ℕ, List, sym, subst}
 use Rattle.run_books.specs.Laws.{RunsPassTheAudit}
-use Rattle.run_books.specs.Runs.{HasAccounts, IsRun}
+use Rattle.run_books.specs.Runs.{HasAccounts}
 use Rattle.run_command.proofs.Timing.{given_timely, rows_in_time}
 use Rattle.run_command.specs.Laws.{PlayedBooksPass}
 use Rattle.run_values.specs.declared.opening_credit.OpeningCredit.{OpeningCredit}
-use Rattle.runs_core.specs.Teams.{terms_of}
+use Rattle.runs_core.specs.Hearing.{all_heard}
 use Rattle.ssf_core.specs.Laws.{ReportsAreInRange}
 
 pub played_pass : ReportsAreInRange → RunsPassTheAudit → PlayedBooksPass
@@ -13,19 +13,12 @@ played_pass reports pass ask said given heard books may_be range given_by are ty
     let accounts : List (ℕ × OpeningCredit) = said.setup.accounts in
     let listed = are.of_input.accounts in
     let Has : List (ℕ × OpeningCredit) → Type 0 = λ a. HasAccounts a in
-    let run : IsRun are.setup ask.workers given books = record {
-      may_be = may_be;
-      opened = are.opened ∙ ap (λ (limit : ℕ). terms_of limit ask.workers accounts) (sym are.of_input.limit) ∙ ap (λ (a : List (ℕ × OpeningCredit)). terms_of are.setup.limit ask.workers a) (sym listed);
-      legal = are.legal;
-      merged = are.merged;
-      handled = are.handled;
-      shares = are.shares;
-      served = are.served;
-      refusals = are.refusals;
-      worked = are.worked;
-    } in
     pass are.setup ask.workers given books (record {
-      run = run;
+      may_be = may_be;
+      answers = all_heard heard;
+      handled = are.handled;
+      refusals = are.refusals;
+      run = are.run;
       accounts = subst Has (sym listed) range.accounts;
       timely = given_timely reports given_by.config ask.delay given_by.rows heard given given_by.play (rows_in_time given_by.rows said.script given_by.says range.recharges);
       typed = typed;

@@ -1,8 +1,7 @@
 -- What a play gives is timely: its gsmSSFs send reports in range, and its rows name last moments in time.
-use Rattle.std.proofs.Common.{◌≡◌, ◌≤◌, ℕ, Bool, true, false, Option, Some, None, List, [], ◌∷◌, map, refl, arith, All}
+use Rattle.std.proofs.Common.{◌≡◌, ℕ, true, Option, Some, None, List, [], ◌∷◌, map, refl, arith, All}
 use Rattle.std.specs.Prelude.{◌&&◌, nat_le, slice_index_or, IfSome}
-use Rattle.std.proofs.lemmas.Bool.{eq-eqb}
-use Rattle.std.proofs.lemmas.Bool.Decides.{nat_tests}
+use Rattle.std.proofs.lemmas.Bool.{and_parts, eq-eqb, leb-true}
 use Rattle.std.proofs.lemmas.List.Elements.{All-append, All-cons, All-head, All-nil, All-same, All-tail}
 use Rattle.cap_values.specs.declared.message.SsfMsg.TheVariants as message
 use Rattle.entry_rows.specs.Fits.{FitsReport, IsMoment}
@@ -32,21 +31,13 @@ use Rattle.tariff_core.specs.declared.time_info.TimeInfo.TheVariants as info
 
 -- ---- a report in range
 
-both : (a b : Bool) → (a && b) ≡ true → (a ≡ true) × (b ≡ true)
-both true true is = (refl, refl)
-both true false is = cc
-both false b is = cc
-
-at_most : (n m : ℕ) → nat_le n m ≡ true → n ≤ m
-at_most n m is = grind (arith, nat_tests)
-
 report_fits : (report : TimeInfo) → is_time_info report ≡ true → FitsReport report
-report_fits (info.NoSwitch time) is = at_most time 864000 is
-report_fits (info.Switch since None) is = (at_most since 864000 is, tt)
+report_fits (info.NoSwitch time) is = leb-true time 864000 is
+report_fits (info.Switch since None) is = (leb-true since 864000 is, tt)
 report_fits (info.Switch since (Some interval)) is =
-    let (first, most) = both (nat_le since 864000 && nat_le 1 interval) (nat_le interval 864000) is in
-    let (within, some) = both (nat_le since 864000) (nat_le 1 interval) first in
-    (at_most since 864000 within, (at_most 1 interval some, at_most interval 864000 most))
+    let (first, most) = and_parts (nat_le since 864000 && nat_le 1 interval) (nat_le interval 864000) is in
+    let (within, some) = and_parts (nat_le since 864000) (nat_le 1 interval) first in
+    (leb-true since 864000 within, (leb-true 1 interval some, leb-true interval 864000 most))
 
 -- ---- what the gsmSSF of a call sends
 
@@ -80,7 +71,7 @@ played_timely reports config call given played =
 
 until_timely : (until : Option ℕ) → expires_in_time until ≡ true → IfSome until IsMoment
 until_timely None is = tt
-until_timely (Some until) is = let within = at_most until 1000000000000 is in omega (arith, within)
+until_timely (Some until) is = let within = leb-true until 1000000000000 is in omega (arith, within)
 
 recharge_timely : (at : ℕ) (what : Happening) → is_in_time (happens_of what) ≡ true → All IsTimelyItem (recharge_of at what)
 unfolding IsTimelyItem

@@ -5,6 +5,7 @@ use Rattle.std.specs.BTreeSet.{BTreeSet, contains}
 use Rattle.std.specs.Ordering.{is_eq, nat_cmp}
 use Rattle.std.proofs.lemmas.Bool.Decides.{nat_tests}
 use Rattle.std.proofs.lemmas.List.{map-append, reverse-append, reverse-reverse}
+use Rattle.std.proofs.lemmas.Bool.{and_parts}
 use Rattle.run_texts.specs.Happenings.{ScriptEvent, Happens, Meets, Recharges, Starts}
 use Rattle.run_texts.specs.Scripts.{is_started, starts}
 use Rattle.run_texts.specs.Starts.{HasCalls, Notes}
@@ -64,10 +65,6 @@ pub end_more : (start : ℕ) (rows : List ScriptRow) (row : ScriptRow) → end_o
 end_more start [] row = refl
 end_more start (first ∷ rows) row = end_more first.at rows row
 
-both : (a b : Bool) → (a && b) ≡ true → (a ≡ true) × (b ≡ true)
-both true b is = (refl, is)
-both false b is = cc
-
 in_turn : (a b : Bool) → a ≡ true → b ≡ true → (a && b) ≡ true
 in_turn true b one two = two
 in_turn false b one two = cc
@@ -76,7 +73,7 @@ pub order_more : (start : ℕ) (rows : List ScriptRow) (row : ScriptRow) → are
     → are_in_order start (rows ++ row ∷ []) ≡ true
 order_more start [] row ordered after = in_turn (nat_le start row.at) true (grind (arith, nat_tests, after)) refl
 order_more start (first ∷ rows) row ordered after =
-    let parts = both (nat_le start first.at) (are_in_order first.at rows) ordered in
+    let parts = and_parts (nat_le start first.at) (are_in_order first.at rows) ordered in
     in_turn (nat_le start first.at) (are_in_order first.at (rows ++ row ∷ [])) parts.0 (order_more first.at rows row parts.1 after)
 
 -- ---- the rows

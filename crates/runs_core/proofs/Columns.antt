@@ -1,14 +1,19 @@
 -- Items are laid out on piles, time after time: what was laid out first is the first column.
 use Rattle.std.proofs.Common.{◌≡◌, ◌<◌, ◌+◌, ◌∙◌, ℕ, Bool, zero, suc, List, [], ◌∷◌, length, map, refl, ap, sym, subst, arith}
-use Rattle.std.specs.Prelude.{IfOk, Result, Ok, Err, replicate, slice_index_or}
+use Rattle.std.specs.Prelude.{All, IfOk, Result, Ok, Err, replicate, slice_index_or}
 use Rattle.std.proofs.lemmas.List.{get_or_append_left, get_or_push, length-append, length-map, map-append}
+use Rattle.account_core.specs.Answers.{IsLegal}
 use Rattle.account_core.specs.Events.{EntryData}
 use Rattle.shared_account.specs.Closed.{Closed}
+use Rattle.shared_account.specs.Own.{IsMerged}
+use Rattle.shared_account.specs.Terms.{Terms}
 use Rattle.runs_core.proofs.Rows.{map_twice}
-use Rattle.runs_core.specs.Closing.{AreLeftFrom, AreListed, AreWorked, AreWorkedFrom}
+use Rattle.runs_core.specs.Closing.{AreLeftFrom, AreListed, AreServedBy, AreWorked, AreWorkedFrom, terms_shown}
 use Rattle.runs_core.specs.Dealing.{dealt}
-use Rattle.runs_core.specs.Hearing.{AreAnsweredFrom, HasHeard, HasHeardFrom, IsAnsweredBy, all_heard, answers_to}
-use Rattle.runs_core.specs.Teams.{Reads}
+use Rattle.runs_core.specs.Hearing.{AreAnsweredFrom, HasLeft, IsAnsweredBy, all_heard, answers_to}
+use Rattle.runs_core.specs.Runs.{HasRun, run_shown}
+use Rattle.runs_core.specs.Shares.{HaveHandled}
+use Rattle.runs_core.specs.Teams.{Reads, terms_of}
 use Rattle.runs_core.specs.declared.books.Books.{Books}
 use Rattle.runs_core.specs.declared.desk.WorkerEnd.{WorkerEnd}
 use Rattle.runs_core.specs.declared.run_fault.RunFault.{RunFault}
@@ -129,15 +134,6 @@ worked_in_books read setup books worker [] are listed = tt
 worked_in_books read setup books worker (one ∷ left) are listed =
     (rw (listed.0) are.0, worked_in_books read setup books (worker + 1) left are.2 listed.1)
 
--- so too where the run has books, and the fault of the close where it has none
-pub worked_so : {K S T : Type 0} (read : Reads K T) (setup : Setup) (left : List (WorkerEnd S T)) (result : Result Books RunFault) → AreWorkedFrom read setup 0 left
-    → IfOk result (λ all. map (λ posts. posts.items) all.handled.items ≡ map (λ one. one.posts.items) left)
-    → IfOk result (λ all. map (λ one. one.items) all.refusals.items ≡ map (λ one. one.refusals.items) left)
-    → IfOk result (λ all. AreListed all.books.items 0 (map (λ one. map read.mine one.seats.items) left))
-    → IfOk result (λ all. AreWorked setup all.books.items 0 (map (λ posts. posts.items) all.handled.items) (map (λ one. one.items) all.refusals.items))
-worked_so read setup left (Ok all) are handled refused listed = rw (handled, refused) (worked_in_books read setup all.books.items 0 left are listed)
-worked_so read setup left (Err fault) are handled refused listed = tt
-
 -- ---- and from the answers that came from the workers to those that the driver heard
 
 answered_at : {K S T : Type 0} (read : Reads K T) (setup : Setup) (books : List Closed) (first worker : ℕ) (lists : List (List Answer)) (left : List (WorkerEnd S T)) → AreAnsweredFrom read setup first lists left
@@ -157,23 +153,38 @@ answered_at read setup books first (suc worker) (answers ∷ lists) (one ∷ lef
     (slice_index_or lists worker []) in
     subst Its later (answered_at read setup books (first + 1) worker lists left are.2 listed.1 (omega (arith, below)))
 
-pub heard_so : {D K S T : Type 0} (given : D → List (ℕ × Body)) (ended : D → Bool) (hears : D → List Answer → D → Type 0) (read : Reads K T) (setup : Setup) (workers : ℕ) (left : List (WorkerEnd S T)) (old new : D) (result : Result Books RunFault)
-    → workers ≡ length left → HasHeardFrom given ended hears read setup left old new
+-- what the books of a run come to, where it has books
+pub run_so : {D K S T : Type 0} (given : D → List (ℕ × Body)) (ended : D → Bool) (hears : D → List Answer → D → Type 0) (read : Reads K T) (keys : List K) (setup : Setup) (workers many : ℕ) (old new : D) (left : List (WorkerEnd S T)) (terms : List Terms) (result : Result Books RunFault)
+    → workers ≡ length left → many ≡ workers → HasLeft given ended hears read keys setup many old new left → terms ≡ terms_of setup.limit workers setup.accounts
+    → IfOk result (λ all. map terms_shown all.books.items ≡ terms)
+    → IfOk result (λ all. All (λ book. IsLegal book.opening book.until book.history) all.books.items)
+    → IfOk result (λ all. All (λ book. IsMerged book.history book.own) all.books.items)
+    → IfOk result (λ all. All (λ book. AreServedBy book.account (map (λ posts. posts.items) all.handled.items) book.own) all.books.items)
     → IfOk result (λ all. map (λ posts. posts.items) all.handled.items ≡ map (λ one. one.posts.items) left)
     → IfOk result (λ all. map (λ one. one.items) all.refusals.items ≡ map (λ one. one.refusals.items) left)
     → IfOk result (λ all. AreListed all.books.items 0 (map (λ one. map read.mine one.seats.items) left))
-    → IfOk result (λ all. HasHeard given ended hears setup workers all.books.items (map (λ posts. posts.items) all.handled.items) (map (λ one. one.items) all.refusals.items) old new)
-heard_so given ended hears read setup workers left old new (Err fault) many has handled refused listed = tt
-heard_so given ended hears read setup workers left old new (Ok all) many has handled refused listed = rw (handled, refused) (record {
-  heard = has.heard;
-  rounds = has.rounds;
-  whole = has.are_answers.numbers;
-  answered = λ worker below.
-      let under : worker < length left = omega (arith, below, many) in
-      let here : 0 + worker ≡ worker = omega (arith) in
-      let its : slice_index_or has.lists worker [] ≡ answers_to workers worker (given new) (all_heard has.heard) =
-      has.are_answers.each worker under ∙ ap (λ n. answers_to n worker (given new) (all_heard has.heard)) (sym many) in
-      let Its : ℕ → List Answer → Type 0 = λ n answers. IsAnsweredBy setup all.books.items n (slice_index_or (map (λ one. one.posts.items) left) worker []) (slice_index_or (map (λ one. one.refusals.items) left) worker [])
-      answers in
-      subst (Its worker) its (subst (λ n. Its n (slice_index_or has.lists worker [])) here (answered_at read setup all.books.items 0 worker has.lists left has.answered listed under));
-})
+    → IfOk result (λ all. HasRun given ended hears setup workers old new (run_shown all))
+run_so given ended hears read keys setup workers many old new left terms (Err fault) all_there same has opened shown legal merged served handled refused listed = tt
+run_so given ended hears read keys setup workers many old new left terms (Ok all) all_there same has opened shown legal merged served handled refused listed = record {
+  heard = has.heard.heard;
+  rounds = has.heard.rounds;
+  run = record {
+    opened = shown ∙ opened;
+    legal = legal;
+    merged = merged;
+    shares = subst (λ n. HaveHandled n (given new) (run_shown all).handled) same (rw (handled) has.handled);
+    served = served;
+    worked = rw (handled, refused) (worked_in_books read setup all.books.items 0 left has.worked listed);
+    each_heard = has.heard.are_answers.numbers;
+    answered = rw (handled, refused) (λ worker below.
+        let under : worker < length left = omega (arith, below, all_there) in
+        let here : 0 + worker ≡ worker = omega (arith) in
+        let lists = has.heard.lists in
+        let answers = all_heard has.heard.heard in
+        let its : slice_index_or lists worker [] ≡ answers_to workers worker (given new) answers =
+        has.heard.are_answers.each worker under ∙ ap (λ n. answers_to n worker (given new) answers) (sym all_there) in
+        let Its : ℕ → List Answer → Type 0 = λ n answers. IsAnsweredBy setup all.books.items n (slice_index_or (map (λ one. one.posts.items) left) worker []) (slice_index_or (map (λ one. one.refusals.items) left) worker [])
+        answers in
+        subst (Its worker) its (subst (λ n. Its n (slice_index_or lists worker [])) here (answered_at read setup all.books.items 0 worker lists left has.heard.answered listed under)));
+  };
+}

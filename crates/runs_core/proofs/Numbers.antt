@@ -1,9 +1,10 @@
 -- The rows of seats that workers leave are those of all seats of their accounts.
-use Rattle.std.proofs.Common.{◌≡◌, ◌+◌, ℕ, Bool, true, false, List, [], ◌∷◌, ◌++◌, length, map, refl, ap, sym, subst, ◌∙◌, arith}
-use Rattle.std.specs.Prelude.{◌==◌, ◌&&◌, All, replicate}
+use Rattle.std.proofs.Common.{◌≡◌, ◌+◌, ℕ, true, List, [], ◌∷◌, ◌++◌, length, map, refl, ap, sym, subst, ◌∙◌, arith}
+use Rattle.std.specs.Prelude.{◌==◌, All, replicate}
 use Rattle.std.proofs.lemmas.Bool.Decides.{nat_tests}
 use Rattle.std.proofs.lemmas.List.{length-append, length-map}
 use Rattle.std.proofs.lemmas.List.Elements.{All-cons, All-head, All-map, All-nil, All-tail}
+use Rattle.std.proofs.lemmas.Bool.{and_parts}
 use Rattle.runs_core.proofs.Columns.{map_dealt}
 use Rattle.runs_core.specs.Closing.{AreAllThere, AreNumberedFrom, AreWorkedFrom}
 use Rattle.runs_core.specs.Dealing.{dealt}
@@ -22,14 +23,10 @@ AreRising number (row ∷ rows) = (length row ≡ number) × (are_numbered 0 row
 is_itself : (n m : ℕ) → n ≡ m → (n == m) ≡ true
 is_itself n m same = grind (arith, nat_tests, same)
 
-both : (a b : Bool) → (a && b) ≡ true → (a ≡ true) × (b ≡ true)
-both true b are = (refl, are)
-both false b are = absurd (cc)
-
 numbered_more : (first number : ℕ) (row : List ℕ) → are_numbered first row ≡ true → first + length row ≡ number → are_numbered first (row ++ number ∷ []) ≡ true
 numbered_more first number [] rising many = rw (is_itself number first (omega (arith, many))) refl
 numbered_more first number (other ∷ row) rising many =
-    let parts = both (other == first) (are_numbered (first + 1) row) rising in
+    let parts = and_parts (other == first) (are_numbered (first + 1) row) rising in
     rw (parts.0) (numbered_more (first + 1) number row parts.1 (omega (arith, many)))
 
 pub rising_more : (number : ℕ) (rows : List (List ℕ)) (team : List ℕ) → AreRising number rows → All (λ n. n ≡ number) team → length team ≡ length rows → AreRising (number + 1) (dealt rows team)

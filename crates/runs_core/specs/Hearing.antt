@@ -1,5 +1,6 @@
 -- What the driver of a run hears: the answers of the workers, in the order of its items.
 use Rattle.std.specs.Prelude.{◌≡◌, ◌+◌, ◌++◌, ◌<◌, ◌==◌, ℕ, Bool, true, false, Option, List, [], ◌∷◌, length, map, flat_map, if◌then◌else◌, slice_index_or}
+use Rattle.std.specs.Map.{keys_of}
 use Rattle.account_core.specs.declared.fault.AccountFault.{AccountFault}
 use Rattle.shared_account.specs.Closed.{Closed}
 use Rattle.workers_core.specs.Chains.{IsAnswered, refusals_in}
@@ -8,8 +9,8 @@ use Rattle.run_values.specs.Setups.{Setup}
 use Rattle.run_values.specs.declared.answer.Answer.{Answer}
 use Rattle.run_values.specs.declared.post.Body.{Body}
 use Rattle.run_values.specs.declared.post.Post.{Post}
-use Rattle.runs_core.specs.Closing.{lists_of}
-use Rattle.runs_core.specs.Shares.{numbered, worker_of}
+use Rattle.runs_core.specs.Closing.{AreLeftFrom, AreWorkedFrom, lists_of}
+use Rattle.runs_core.specs.Shares.{HaveHandled, numbered, worker_of}
 use Rattle.runs_core.specs.Teams.{Reads}
 use Rattle.runs_core.specs.declared.desk.WorkerEnd.{WorkerEnd}
 
@@ -52,15 +53,6 @@ pub record IsAnsweredBy (setup : Setup) (books : List Closed) (worker : ℕ) (po
   pub answered : IsAnswered setup worker posts (map answer_view answers) (lists_of worker books)
   pub refused : refusals ≡ refusals_in (map answer_view answers)
 
--- round by round a driver has heard one answer for each item of the round before, in the order of the items; of each worker these are the
--- answers that handling its posts gave
-pub record HasHeard {D : Type 0} (given : D → List (ℕ × Body)) (ended : D → Bool) (hears : D → List Answer → D → Type 0) (setup : Setup) (workers : ℕ) (books : List Closed) (handled : List (List Post)) (refusals : List (List (Option AccountFault))) (old new : D) : Type 0 where
-  pub heard : List (List Answer)
-  pub rounds : HearsRounds given ended hears [] old heard new
-  pub whole : AnswersEach 0 (given new) (all_heard heard)
-  pub answered : (worker : ℕ) → worker < workers
-      → IsAnsweredBy setup books worker (slice_index_or handled worker []) (slice_index_or refusals worker []) (answers_to workers worker (given new) (all_heard heard))
-
 -- ---- of what the workers have left
 
 -- the workers from this number on have left what handling their posts comes to, with these answers
@@ -80,3 +72,10 @@ pub record HasHeardFrom {D K S T : Type 0} (given : D → List (ℕ × Body)) (e
   pub lists : List (List Answer)
   pub are_answers : AreAnswers (length left) 0 (given new) (all_heard heard) lists
   pub answered : AreAnsweredFrom read setup 0 lists left
+
+-- a driver was served until it ended, and its workers have left what handling its items comes to
+pub record HasLeft {D K S T : Type 0} (given : D → List (ℕ × Body)) (ended : D → Bool) (hears : D → List Answer → D → Type 0) (read : Reads K T) (keys : List K) (setup : Setup) (workers : ℕ) (old new : D) (ends : List (WorkerEnd S T)) : Type 0 where
+  pub handled : HaveHandled workers (given new) (map (λ one. one.posts.items) ends)
+  pub left : AreLeftFrom read keys (keys_of setup.accounts) ends
+  pub worked : AreWorkedFrom read setup 0 ends
+  pub heard : HasHeardFrom given ended hears read setup ends old new

@@ -7,6 +7,7 @@ pub mod Headline
 pub mod Hearing
 pub mod Mails
 pub mod RunFaults
+pub mod Runs
 pub mod Sending
 pub mod Shares
 pub mod Teams

@@ -1,5 +1,5 @@
 -- The names of what can end a run.
-use Rattle.std.specs.Prelude.{ℕ, List, codes}
+use Rattle.std.specs.Prelude.{◌≡◌, ◌≢◌, ℕ, List, Result, Err, codes}
 use Rattle.runs_core.specs.declared.run_fault.RunFault.{RunFault}
 use Rattle.runs_core.specs.declared.run_fault.RunFault.TheVariants as fault
 use Rattle.workers_core.specs.declared.worker_fault.WorkerFault.{WorkerFault}
@@ -18,3 +18,11 @@ name_of fault.GateClosed = codes "GateClosed"
 name_of fault.Mismatch = codes "Mismatch"
 name_of fault.Channel = codes "Channel"
 name_of fault.Thread = codes "Thread"
+
+-- a step that asks no gate: it fails neither by a gate nor for the number of workers
+abbrev pub AsksNoGate : {X : Type 0} → Result X RunFault → Type 0
+AsksNoGate result = (result ≢ Err fault.GateClosed) × (result ≢ Err fault.Workers)
+
+-- a step that may ask a gate: it fails by one only where that may answer false, and never for the number of workers
+abbrev pub MayAskGate : {X : Type 0} → Type 0 → Result X RunFault → Type 0
+MayAskGate may_shut result = (result ≡ Err fault.GateClosed → may_shut) × (result ≢ Err fault.Workers)

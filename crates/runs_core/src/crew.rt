@@ -1,9 +1,10 @@
 //! The workers of a run.
 
-ghost use Rattle.std.specs.Prelude.{◌≡◌, ◌≢◌, ◌++◌, ◌∷◌, [], List, length, map, IfOk, OnOk};
+ghost use Rattle.std.specs.Prelude.{◌≡◌, ◌++◌, ◌∷◌, [], List, length, map, IfOk, OnOk};
 ghost use Rattle.std.specs.Vec.Iter.{into_iter_items};
 ghost use Rattle.runs_core.specs.Crews.{count_of, joined, posts_by};
 ghost use Rattle.runs_core.specs.Desks.{GoesOn};
+ghost use Rattle.runs_core.specs.RunFaults.{AsksNoGate, MayAskGate};
 ghost use Rattle.runs_core.specs.Sending.{heard_by, promises_of, sent_by};
 ghost use Rattle.runs_core.specs.Teams.{reads};
 ghost use Rattle.workers_core.specs.Handled.{answer_view};
@@ -65,8 +66,7 @@ impl<S: Shared, G: Gate> Crew<'_, S, G> {
             length replies.others.items ≡ length self.old.links.items) }
         ensures count { count_of self.new ≡ count_of self.old }
         ensures promises { promises_of self.new.links.items ≡ promises_of self.old.links.items }
-        ensures gate { result ≡ Err RunFault.GateClosed → G.may_shut gate.now }
-        ensures workers { result ≢ Err RunFault.Workers }
+        ensures fault { MayAskGate (G.may_shut gate.now) result }
     {
         let mut others = Vec::with_capacity(alloc, self.links.len())?;
         let mut shares = shares.into_iter();
@@ -100,8 +100,7 @@ impl<S: Shared, G: Gate> Crew<'_, S, G> {
             self.old.desk mine.items (map answer_view answers.items) self.new.desk) }
         ensures heard { map heard_by self.new.links.items ≡ map heard_by self.old.links.items }
         ensures promises { promises_of self.new.links.items ≡ promises_of self.old.links.items }
-        ensures gate { result ≡ Err RunFault.GateClosed → G.may_shut gate.now }
-        ensures workers { result ≢ Err RunFault.Workers }
+        ensures fault { MayAskGate (G.may_shut gate.now) result }
     {
         send_all(rt, &mut self.links, shares)?;
         let answers = self.desk.answer_all(rt, alloc, mine, gate);
@@ -121,7 +120,7 @@ fn send_all<S: Shared, R: Wait, G: Gate>(
         (map (λ share. share.items) (into_iter_items shares))) }
     ensures heard { map heard_by links.new.items ≡ map heard_by links.old.items }
     ensures promises { promises_of links.new.items ≡ promises_of links.old.items }
-    ensures fault { (result ≢ Err RunFault.GateClosed) × (result ≢ Err RunFault.Workers) }
+    ensures fault { AsksNoGate result }
 {
     let mut at = 0;
     for share in shares {
@@ -145,7 +144,7 @@ fn hear_all<S: Shared, R: Wait, G: Gate>(
     ensures lists { OnOk result (length lists.new.items ≡ length links.old.items) }
     ensures posts { map sent_by links.new.items ≡ map sent_by links.old.items }
     ensures promises { promises_of links.new.items ≡ promises_of links.old.items }
-    ensures fault { (result ≢ Err RunFault.GateClosed) × (result ≢ Err RunFault.Workers) }
+    ensures fault { AsksNoGate result }
 {
     let mut fault = None;
     for at in 0..links.len() {
@@ -170,7 +169,7 @@ fn hear_one<S: Shared, R: Wait, G: Gate>(
         ≡ map (λ list. list.items) lists.old.items ++ answers ∷ [])) }
     ensures outbox { link.new.outbox ≡ link.old.outbox }
     ensures child { link.new.child ≡ link.old.child }
-    ensures fault { (result ≢ Err RunFault.GateClosed) × (result ≢ Err RunFault.Workers) }
+    ensures fault { AsksNoGate result }
 {
     let answers = link.hear(rt, alloc)?;
     lists.push(answers)?;

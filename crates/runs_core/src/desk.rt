@@ -1,8 +1,9 @@
 //! A worker at its desk: it handles posts, and puts down the refusal of each.
 
-ghost use Rattle.std.specs.Prelude.{◌≡◌, ◌≢◌, ◌∷◌, [], map, IfOk, OnOk};
+ghost use Rattle.std.specs.Prelude.{◌≡◌, ◌∷◌, [], map, IfOk, OnOk};
 ghost use Rattle.std.specs.Map.{keys_of};
 ghost use Rattle.runs_core.specs.Desks.{GoesOn, HasAnswered};
+ghost use Rattle.runs_core.specs.RunFaults.{AsksNoGate, MayAskGate};
 ghost use Rattle.runs_core.specs.Teams.{IsFresh, IsLeft, reads};
 ghost use Rattle.workers_core.specs.Handled.{answer_view};
 ghost use Rattle.workers_core.specs.Workers.{IsReady, accounts_of, holding, number_of, posts_of, seats_of, setup_of};
@@ -46,7 +47,7 @@ impl<'s, S: Shared> Desk<'s, S> {
             (map S.key accounts.now) number seats.items }
         ensures begins { IfOk result (λ desk. HasAnswered (λ account. (S.terms account).number)
             S.key (reads S.key_of S.number_of S.mine_of) setup.now accounts.now number [] [] desk) }
-        ensures fault { (result ≢ Err RunFault.GateClosed) × (result ≢ Err RunFault.Workers) }
+        ensures fault { AsksNoGate result }
     {
         let worker = Worker::new(alloc, number, setup, accounts, seats)?;
         Ok(Desk {
@@ -68,8 +69,7 @@ impl<'s, S: Shared> Desk<'s, S> {
         ensures goes_on { IfOk result (λ answers. GoesOn (λ account. (S.terms account).number)
             S.key (reads S.key_of S.number_of S.mine_of)
             self.old posts.items (map answer_view answers.items) self.new) }
-        ensures gate { result ≡ Err RunFault.GateClosed → G.may_shut gate.now }
-        ensures workers { result ≢ Err RunFault.Workers }
+        ensures fault { MayAskGate (G.may_shut gate.now) result }
     {
         let mut answers = Vec::with_capacity(alloc, posts.len())?;
         for post in posts {
@@ -86,8 +86,7 @@ impl<'s, S: Shared> Desk<'s, S> {
         ensures goes_on { IfOk result (λ answer. GoesOn (λ account. (S.terms account).number)
             S.key (reads S.key_of S.number_of S.mine_of)
             self.old (post ∷ []) (answer_view answer ∷ []) self.new) }
-        ensures gate { result ≡ Err RunFault.GateClosed → G.may_shut gate.now }
-        ensures workers { result ≢ Err RunFault.Workers }
+        ensures fault { MayAskGate (G.may_shut gate.now) result }
     {
         self.refusals.reserve(1)?;
         let answer = self.worker.handle(rt, post, gate)?;

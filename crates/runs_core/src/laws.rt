@@ -20,8 +20,8 @@ pub fn books_are_right()
 /// In the book of an account the Credits of a worker are just the recharges of that account which
 /// the worker handled and which weren't refused, in order.
 ///
-/// The premise is a clause of `serve` (`worked`); `Books` has what each worker handled, and which of
-/// that was refused.
+/// The premise is a part of what `serve` says of a run (`worked` of `IsRun`); `Books` has what each
+/// worker handled, and which of that was refused.
 pub fn recharges_are_in_the_books()
     ensures { RechargesAreInTheBooks }
 {}

@@ -3,13 +3,12 @@
 #![tactic(auto)]
 
 mod books;
-mod closing;
 mod crew;
-mod dealing;
 mod desk;
 mod driver;
 mod laws;
-mod opening;
+mod opened;
+mod piles;
 mod rounds;
 mod run_fault;
 mod serving;

@@ -1,10 +1,11 @@
 //! The rounds of a run: what the driver gives is handed out to the workers, and their answers go
 //! back to it.
 
-ghost use Rattle.std.specs.Prelude.{◌≡◌, ◌≢◌, ◌≤◌, ◌<◌, ◌^◌, ◌+◌, ◌++◌, ◌∷◌, ℕ, [], List, length, map, not, true, false, All, IfOk, OnOk};
+ghost use Rattle.std.specs.Prelude.{◌≡◌, ◌≤◌, ◌<◌, ◌^◌, ◌+◌, ◌++◌, ◌∷◌, ℕ, [], List, length, map, not, true, false, All, IfOk, OnOk};
 ghost use Rattle.std.specs.List.{HoldsAt};
 ghost use Rattle.runs_core.specs.Crews.{HasPlayed, HasServed, IsServedRound, count_of};
 ghost use Rattle.runs_core.specs.Hearing.{AreAnswers};
+ghost use Rattle.runs_core.specs.RunFaults.{AsksNoGate, MayAskGate};
 ghost use Rattle.runs_core.specs.Sending.{promises_of};
 ghost use Rattle.runs_core.specs.Shares.{AreShares, item_at, item_of, worker_of};
 ghost use Rattle.runs_core.specs.Teams.{reads};
@@ -12,7 +13,7 @@ ghost use Rattle.workers_core.specs.Workers.{IsReady, accounts_of, setup_of};
 ghost use Rattle.run_values.specs.declared.post.Body.{Body};
 
 use crate::crew::{Crew, Replies};
-use crate::opening::empty_piles;
+use crate::piles::empty_piles;
 use crate::{Driver, RunFault};
 use run_values::{Answer, Body, Post};
 use shared_account::{Gate, Shared};
@@ -41,8 +42,7 @@ pub(crate) fn play<D: Driver, S: Shared, R: Wait, G: Gate>(
         driver.old driver.new crew.new) }
     ensures count { count_of crew.new ≡ count_of crew.old }
     ensures promises { promises_of crew.new.links.items ≡ promises_of crew.old.links.items }
-    ensures gate { result ≡ Err RunFault.GateClosed → G.may_shut gate.now }
-    ensures workers { result ≢ Err RunFault.Workers }
+    ensures fault { MayAskGate (G.may_shut gate.now) result }
 {
     let mut answers = Vec::new(alloc);
     for _ in rt.forever() {
@@ -77,8 +77,7 @@ fn play_round<D: Driver, S: Shared, R: Wait, G: Gate>(
     ensures crew { result ≡ Ok false → crew.new ≡ crew.old }
     ensures count { count_of crew.new ≡ count_of crew.old }
     ensures promises { promises_of crew.new.links.items ≡ promises_of crew.old.links.items }
-    ensures gate { result ≡ Err RunFault.GateClosed → G.may_shut gate.now }
-    ensures workers { result ≢ Err RunFault.Workers }
+    ensures fault { MayAskGate (G.may_shut gate.now) result }
 {
     let first = driver.given().len();
     if !driver.round(answers.as_slice())? {
@@ -105,7 +104,7 @@ fn share_out(
     requires moments { All (λ item. item.0 ≤ HORIZON) added.now }
     ensures shares { IfOk result (λ shares.
         AreShares workers first added.now (map (λ share. share.items) shares.items)) }
-    ensures fault { (result ≢ Err RunFault.GateClosed) × (result ≢ Err RunFault.Workers) }
+    ensures fault { AsksNoGate result }
 {
     let mut shares = empty_piles(alloc, workers)?;
     for place in 0..added.len() {
@@ -148,7 +147,7 @@ fn queues(alloc: Global, replies: Replies) -> Result<Vec<VecDeque<Answer>>, RunF
     ensures count { IfOk result (λ queues. 0 < length queues.items) }
     ensures items { IfOk result (λ queues. map (λ queue. queue.items) queues.items
         ≡ replies.first.items ∷ map (λ list. list.items) replies.others.items) }
-    ensures fault { (result ≢ Err RunFault.GateClosed) × (result ≢ Err RunFault.Workers) }
+    ensures fault { AsksNoGate result }
 {
     let Replies { first, others } = replies;
     let mut queues = Vec::with_capacity(alloc, others.len())?;
@@ -171,7 +170,7 @@ fn merge(
     requires none { answers.old.items ≡ [] }
     ensures answers { OnOk result (AreAnswers (length queues.old.items) first added.now
         answers.new.items (map (λ queue. queue.items) queues.old.items)) }
-    ensures fault { (result ≢ Err RunFault.GateClosed) × (result ≢ Err RunFault.Workers) }
+    ensures fault { AsksNoGate result }
 {
     for place in 0..added.len() {
         let worker = worker_of(queues.len(), &added[place].1);
@@ -184,7 +183,7 @@ fn merge(
 /// All answers have been taken.
 fn none_left(queues: &[VecDeque<Answer>]) -> Result<(), RunFault>
     ensures none { OnOk result (All (λ queue. queue.items ≡ []) queues.now) }
-    ensures fault { (result ≢ Err RunFault.GateClosed) × (result ≢ Err RunFault.Workers) }
+    ensures fault { AsksNoGate result }
 {
     for queue in queues {
         if !queue.is_empty() {
@@ -198,7 +197,7 @@ fn none_left(queues: &[VecDeque<Answer>]) -> Result<(), RunFault>
 fn next_answer(queue: &mut VecDeque<Answer>, number: u64) -> Result<Answer, RunFault>
     ensures number { IfOk result (λ answer. answer.number ≡ number) }
     ensures taken { IfOk result (λ answer. queue.old.items ≡ answer ∷ queue.new.items) }
-    ensures fault { (result ≢ Err RunFault.GateClosed) × (result ≢ Err RunFault.Workers) }
+    ensures fault { AsksNoGate result }
 {
     match queue.pop_front() {
         Some(answer) if answer.number == number => Ok(answer),

@@ -1,22 +1,20 @@
 //! A run, from its setup to its books.
 
-ghost use Rattle.std.specs.Prelude.{◌≡◌, ◌≢◌, ◌≤◌, ◌<◌, ◌↔◌, [], List, true, false, length, map, All, IfOk, OnOk};
+ghost use Rattle.std.specs.Prelude.{◌≡◌, ◌≤◌, ◌<◌, ◌↔◌, [], true, false, length, map, IfOk, OnOk};
 ghost use Rattle.std.specs.Map.{keys_of};
-ghost use Rattle.account_core.specs.Answers.{IsLegal};
-ghost use Rattle.shared_account.specs.Own.{IsMerged};
-ghost use Rattle.runs_core.specs.Closing.{AreLeftFrom, AreServedBy, AreWorked, AreWorkedFrom, terms_shown};
 ghost use Rattle.runs_core.specs.Crews.{HasPlayed, count_of};
 ghost use Rattle.runs_core.specs.Desks.{HasAnswered};
-ghost use Rattle.runs_core.specs.Hearing.{HasHeard, HasHeardFrom};
+ghost use Rattle.runs_core.specs.Hearing.{HasLeft};
+ghost use Rattle.runs_core.specs.RunFaults.{MayAskGate};
+ghost use Rattle.runs_core.specs.Runs.{HasRun, run_shown};
 ghost use Rattle.runs_core.specs.Sending.{ArePromised, promises_of};
-ghost use Rattle.runs_core.specs.Shares.{HaveHandled};
-ghost use Rattle.runs_core.specs.Teams.{AreFresh, are_workers, reads, terms_of};
+ghost use Rattle.runs_core.specs.Teams.{AreFresh, are_workers, reads};
 ghost use Rattle.std.specs.Vec.Iter.{into_iter_items};
 
-use crate::closing::close_accounts;
+use crate::books::close_accounts;
 use crate::crew::Crew;
 use crate::desk::{Desk, WorkerEnd};
-use crate::opening::{Opened, open_accounts};
+use crate::opened::{Opened, open_accounts};
 use crate::rounds::play;
 use crate::threads::{finish_all, start_all};
 use crate::{Books, Driver, RunFault};
@@ -36,12 +34,16 @@ const MAX_WORKERS: u32 = 16;
 /// round the others get their posts before the first begins, so a gate that holds one of its posts
 /// holds up no other worker in that round.
 ///
-/// In each round the driver hears what handling the items of the round before gave: one answer for
-/// each item, in the order of the items.
+/// * `run`: in each round the driver hears what handling the items of the round before gave, and the
+///   books are what handling all that it has given comes to. `HasRun` says what that is, a sentence
+///   each.
+/// * `ended`, `plan`: with books the driver has ended, and always its plan is what it was.
+/// * `workers`, `nothing`: `Workers` exactly where there can't be so many workers; then nothing is
+///   started.
+/// * `gate`: `GateClosed` only with a gate that may answer false.
 ///
-/// `Workers` where there can't be so many workers: then nothing is started. After any other fault
-/// all workers are waited for; the fault told is that of the failed worker with the least number,
-/// else the run's own.
+/// After any fault but `Workers` all workers are waited for; the fault told is that of the failed
+/// worker with the least number, else the run's own.
 pub fn serve<D: Driver, R: Wait + Threads + Sync, G: Gate + Sync>(
     rt: &R,
     alloc: Global,
@@ -51,26 +53,12 @@ pub fn serve<D: Driver, R: Wait + Threads + Sync, G: Gate + Sync>(
     gate: &G,
 ) -> Result<Books, RunFault>
     requires given { D.given driver.old ≡ [] }
-    ensures workers { (result ≡ Err RunFault.Workers) ↔ (are_workers workers ≡ false) }
-    ensures nothing { result ≡ Err RunFault.Workers → driver.new ≡ driver.old }
+    ensures run { IfOk result (λ all. HasRun D.given D.ended D.hears
+        setup.now workers driver.old driver.new (run_shown all)) }
     ensures ended { OnOk result (D.ended driver.new ≡ true) }
     ensures plan { D.plan driver.new ≡ D.plan driver.old }
-    ensures handled { IfOk result (λ all. HaveHandled workers (D.given driver.new)
-        (map (λ posts. posts.items) all.handled.items)) }
-    ensures books { IfOk result (λ all.
-        map terms_shown all.books.items ≡ terms_of setup.now.limit workers setup.now.accounts) }
-    ensures legal { IfOk result
-        (λ all. All (λ book. IsLegal book.opening book.until book.history) all.books.items) }
-    ensures merged { IfOk result
-        (λ all. All (λ book. IsMerged book.history book.own) all.books.items) }
-    ensures served { IfOk result (λ all. All (λ book. AreServedBy book.account
-        (map (λ posts. posts.items) all.handled.items) book.own) all.books.items) }
-    ensures worked { IfOk result (λ all. AreWorked setup.now all.books.items 0
-        (map (λ posts. posts.items) all.handled.items)
-        (map (λ one. one.items) all.refusals.items)) }
-    ensures heard { IfOk result (λ all. HasHeard D.given D.ended D.hears setup.now workers
-        all.books.items (map (λ posts. posts.items) all.handled.items)
-        (map (λ one. one.items) all.refusals.items) driver.old driver.new) }
+    ensures workers { (result ≡ Err RunFault.Workers) ↔ (are_workers workers ≡ false) }
+    ensures nothing { result ≡ Err RunFault.Workers → driver.new ≡ driver.old }
     ensures gate { result ≡ Err RunFault.GateClosed → G.may_shut gate.now }
 {
     serve_over::<D, TurnAccount, R, G>(rt, alloc, setup, driver, workers, gate)
@@ -86,26 +74,12 @@ pub fn serve_over<D: Driver, S: Shared, R: Wait + Threads + Sync, G: Gate + Sync
     gate: &G,
 ) -> Result<Books, RunFault>
     requires given { D.given driver.old ≡ [] }
-    ensures workers { (result ≡ Err RunFault.Workers) ↔ (are_workers workers ≡ false) }
-    ensures nothing { result ≡ Err RunFault.Workers → driver.new ≡ driver.old }
+    ensures run { IfOk result (λ all. HasRun D.given D.ended D.hears
+        setup.now workers driver.old driver.new (run_shown all)) }
     ensures ended { OnOk result (D.ended driver.new ≡ true) }
     ensures plan { D.plan driver.new ≡ D.plan driver.old }
-    ensures handled { IfOk result (λ all. HaveHandled workers (D.given driver.new)
-        (map (λ posts. posts.items) all.handled.items)) }
-    ensures books { IfOk result (λ all.
-        map terms_shown all.books.items ≡ terms_of setup.now.limit workers setup.now.accounts) }
-    ensures legal { IfOk result
-        (λ all. All (λ book. IsLegal book.opening book.until book.history) all.books.items) }
-    ensures merged { IfOk result
-        (λ all. All (λ book. IsMerged book.history book.own) all.books.items) }
-    ensures served { IfOk result (λ all. All (λ book. AreServedBy book.account
-        (map (λ posts. posts.items) all.handled.items) book.own) all.books.items) }
-    ensures worked { IfOk result (λ all. AreWorked setup.now all.books.items 0
-        (map (λ posts. posts.items) all.handled.items)
-        (map (λ one. one.items) all.refusals.items)) }
-    ensures heard { IfOk result (λ all. HasHeard D.given D.ended D.hears setup.now workers
-        all.books.items (map (λ posts. posts.items) all.handled.items)
-        (map (λ one. one.items) all.refusals.items) driver.old driver.new) }
+    ensures workers { (result ≡ Err RunFault.Workers) ↔ (are_workers workers ≡ false) }
+    ensures nothing { result ≡ Err RunFault.Workers → driver.new ≡ driver.old }
     ensures gate { result ≡ Err RunFault.GateClosed → G.may_shut gate.now }
 {
     if workers < 1 || workers > MAX_WORKERS {
@@ -141,16 +115,10 @@ fn run_workers<D: Driver, S: Shared, R: Wait + Threads + Sync, G: Gate + Sync>(
         (map S.key accounts.now) 0 (map (λ team. team.items) teams.items) }
     ensures ended { OnOk result (D.ended driver.new ≡ true) }
     ensures plan { D.plan driver.new ≡ D.plan driver.old }
-    ensures handled { IfOk result (λ left. HaveHandled (length teams.items) (D.given driver.new)
-        (map (λ one. one.posts.items) left.items)) }
-    ensures left { IfOk result (λ left. AreLeftFrom (reads S.key_of S.number_of S.mine_of)
-        (map S.key accounts.now) (keys_of setup.now.accounts) left.items) }
-    ensures worked { IfOk result (λ left.
-        AreWorkedFrom (reads S.key_of S.number_of S.mine_of) setup.now 0 left.items) }
-    ensures heard { IfOk result (λ left. HasHeardFrom D.given D.ended D.hears
-        (reads S.key_of S.number_of S.mine_of) setup.now left.items driver.old driver.new) }
-    ensures gate { result ≡ Err RunFault.GateClosed → G.may_shut gate.now }
-    ensures workers { result ≢ Err RunFault.Workers }
+    ensures left { IfOk result (λ left. HasLeft D.given D.ended D.hears
+        (reads S.key_of S.number_of S.mine_of) (map S.key accounts.now)
+        setup.now (length teams.items) driver.old driver.new left.items) }
+    ensures fault { MayAskGate (G.may_shut gate.now) result }
 {
     let served = thread::scope(
         thread::scope_env(),
@@ -165,19 +133,10 @@ fn run_workers<D: Driver, S: Shared, R: Wait + Threads + Sync, G: Gate + Sync>(
             ensures { (result.driver.ghost_name ≡ driver.entry.ghost_name)
                 × (D.plan result.driver.now ≡ D.plan driver.entry.now)
                 × OnOk result.left (D.ended result.driver.now ≡ true)
-                × IfOk result.left
-                (λ left. HaveHandled (length teams.items) (D.given result.driver.now)
-                (map (λ one. one.posts.items) left.items))
-                × IfOk result.left (λ left. AreLeftFrom (reads S.key_of S.number_of S.mine_of)
-                (map S.key accounts.entry.now) (keys_of setup.entry.now.accounts) left.items)
-                × IfOk result.left
-                (λ left. AreWorkedFrom (reads S.key_of S.number_of S.mine_of)
-                setup.entry.now 0 left.items)
-                × IfOk result.left (λ left. HasHeardFrom D.given D.ended D.hears
-                (reads S.key_of S.number_of S.mine_of) setup.entry.now left.items
-                driver.entry.now result.driver.now)
-                × (result.left ≡ Err RunFault.GateClosed → G.may_shut gate.entry.now)
-                × (result.left ≢ Err RunFault.Workers) }
+                × IfOk result.left (λ left. HasLeft D.given D.ended D.hears
+                (reads S.key_of S.number_of S.mine_of) (map S.key accounts.entry.now)
+                setup.entry.now (length teams.items) driver.entry.now result.driver.now left.items)
+                × MayAskGate (G.may_shut gate.entry.now) result.left }
         {
             let left = run_in(scope, rt, alloc, setup, accounts, teams, driver, gate);
             Served { driver, left }
@@ -214,16 +173,10 @@ fn run_in<'s, E, D: Driver, S: Shared, R: Wait + Threads + Sync, G: Gate + Sync>
         (map S.key accounts.now) 0 (map (λ team. team.items) teams.items) }
     ensures ended { OnOk result (D.ended driver.new ≡ true) }
     ensures plan { D.plan driver.new ≡ D.plan driver.old }
-    ensures handled { IfOk result (λ left. HaveHandled (length teams.items) (D.given driver.new)
-        (map (λ one. one.posts.items) left.items)) }
-    ensures left { IfOk result (λ left. AreLeftFrom (reads S.key_of S.number_of S.mine_of)
-        (map S.key accounts.now) (keys_of setup.now.accounts) left.items) }
-    ensures worked { IfOk result (λ left.
-        AreWorkedFrom (reads S.key_of S.number_of S.mine_of) setup.now 0 left.items) }
-    ensures heard { IfOk result (λ left. HasHeardFrom D.given D.ended D.hears
-        (reads S.key_of S.number_of S.mine_of) setup.now left.items driver.old driver.new) }
-    ensures gate { result ≡ Err RunFault.GateClosed → G.may_shut gate.now }
-    ensures workers { result ≢ Err RunFault.Workers }
+    ensures left { IfOk result (λ left. HasLeft D.given D.ended D.hears
+        (reads S.key_of S.number_of S.mine_of) (map S.key accounts.now)
+        setup.now (length teams.items) driver.old driver.new left.items) }
+    ensures fault { MayAskGate (G.may_shut gate.now) result }
 {
     let mut left = Vec::with_capacity(alloc, teams.len())?;
     let links = Vec::with_capacity(alloc, teams.len())?;
@@ -284,8 +237,7 @@ fn start_and_play<'s, E, D: Driver, S: Shared, R: Wait + Threads + Sync, G: Gate
         setup.now accounts.now driver.old driver.new crew.new) }
     ensures promised { ArePromised setup.now accounts.now gate.now 1
         (promises_of crew.new.links.items) }
-    ensures gate { result ≡ Err RunFault.GateClosed → G.may_shut gate.now }
-    ensures workers { result ≢ Err RunFault.Workers }
+    ensures fault { MayAskGate (G.may_shut gate.now) result }
 {
     start_all(
         scope,

@@ -1,8 +1,9 @@
 //! The workers of a run are started, and waited for.
 
-ghost use Rattle.std.specs.Prelude.{◌≡◌, ◌≢◌, ◌<◌, ◌+◌, ◌++◌, ◌∷◌, [], length, map, All, IfErr, IfOk, OnOk};
+ghost use Rattle.std.specs.Prelude.{◌≡◌, ◌<◌, ◌+◌, ◌++◌, ◌∷◌, [], length, map, All, IfErr, IfOk, OnOk};
 ghost use Rattle.std.specs.Map.{keys_of};
 ghost use Rattle.std.specs.Vec.Iter.{into_iter_items};
+ghost use Rattle.runs_core.specs.RunFaults.{AsksNoGate, MayAskGate};
 ghost use Rattle.runs_core.specs.Sending.{AreLeftBy, ArePromised, IsFirstFault, IsLeftBy, MayBeShut, heard_by, promises_of, sent_by};
 ghost use Rattle.runs_core.specs.Teams.{AreFresh, IsFresh, reads};
 ghost use Rattle.runs_core.specs.declared.desk.WorkerEnd.{WorkerEnd};
@@ -39,7 +40,7 @@ pub(crate) fn start_all<'s, E, S: Shared, R: Wait + Threads + Sync, G: Gate + Sy
     ensures silent { All (λ link. sent_by link ≡ []) links.new.items }
     ensures unheard { All (λ link. heard_by link ≡ []) links.new.items }
     ensures promised { ArePromised setup.now accounts.now gate.now 1 (promises_of links.new.items) }
-    ensures fault { (result ≢ Err RunFault.GateClosed) × (result ≢ Err RunFault.Workers) }
+    ensures fault { AsksNoGate result }
 {
     let mut number = 1;
     for team in teams {
@@ -74,7 +75,7 @@ fn start_one<'s, E, S: Shared, R: Wait + Threads + Sync, G: Gate + Sync>(
     ensures silent { All (λ link. sent_by link ≡ []) links.new.items }
     ensures unheard { All (λ link. heard_by link ≡ []) links.new.items }
     ensures promised { ArePromised setup.now accounts.now gate.now 1 (promises_of links.new.items) }
-    ensures fault { (result ≢ Err RunFault.GateClosed) × (result ≢ Err RunFault.Workers) }
+    ensures fault { AsksNoGate result }
 {
     let link = start(scope, rt, alloc, number, setup, accounts, seats, gate)?;
     links.push(link)?;
@@ -95,9 +96,7 @@ pub(crate) fn finish_all<S: Shared, R: Wait + Threads, G: Gate>(
         (promises_of links.entry.items) (map heard_by links.entry.items) left.new.items) }
     ensures first { IfErr result (λ fault. IsFirstFault (reads S.key_of S.number_of S.mine_of) S.key
         G.may_shut (promises_of links.entry.items) fault) }
-    ensures gate { result ≡ Err RunFault.GateClosed
-        → MayBeShut G.may_shut (promises_of links.entry.items) }
-    ensures workers { result ≢ Err RunFault.Workers }
+    ensures fault { MayAskGate (MayBeShut G.may_shut (promises_of links.entry.items)) result }
 {
     let mut fault = None;
     for link in links {
@@ -122,8 +121,7 @@ fn finish_one<S: Shared, R: Wait + Threads, G: Gate>(
         × (one.posts.items ≡ sent_by link.entry)
         × IsLeftBy (reads S.key_of S.number_of S.mine_of) S.key link.entry.child.promise
         (heard_by link.entry) one) }
-    ensures gate { result ≡ Err RunFault.GateClosed → G.may_shut link.entry.child.promise.gate.now }
-    ensures workers { result ≢ Err RunFault.Workers }
+    ensures fault { MayAskGate (G.may_shut link.entry.child.promise.gate.now) result }
 {
     let one = link.finish(rt)?;
     left.push(one)?;

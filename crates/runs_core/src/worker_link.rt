@@ -1,8 +1,9 @@
 //! The main thread's side of a worker in a thread of its own.
 
-ghost use Rattle.std.specs.Prelude.{◌≡◌, ◌≢◌, ◌++◌, ◌∷◌, [], true, map, IfOk, OnOk};
+ghost use Rattle.std.specs.Prelude.{◌≡◌, ◌++◌, ◌∷◌, [], true, map, IfOk, OnOk};
 ghost use Rattle.std.specs.Map.{keys_of};
 ghost use Rattle.runs_core.specs.Mails.{items_in};
+ghost use Rattle.runs_core.specs.RunFaults.{AsksNoGate, MayAskGate};
 ghost use Rattle.runs_core.specs.Teams.{IsFresh, IsLeft, reads};
 ghost use Rattle.workers_core.specs.Ends.{ArePaired, IsSameInbox, IsSameOutbox, sent, taken};
 ghost use Rattle.workers_core.specs.Handled.{answer_view};
@@ -58,7 +59,7 @@ pub(crate) fn start<'s, E, S: Shared, R: Wait + Threads + Sync, G: Gate + Sync>(
     ensures gate { IfOk result (λ link. link.child.promise.gate.now ≡ gate.now) }
     ensures sent { IfOk result (λ link. sent link.outbox ≡ []) }
     ensures heard { IfOk result (λ link. taken link.inbox ≡ []) }
-    ensures fault { (result ≢ Err RunFault.GateClosed) × (result ≢ Err RunFault.Workers) }
+    ensures fault { AsksNoGate result }
 {
     let (outbox, posts) = mailbox::<Vec<Post>>(alloc, MAILBOX)?;
     let (answers, inbox) = mailbox::<Vec<Answer>>(alloc, MAILBOX)?;
@@ -83,8 +84,7 @@ pub(crate) fn start<'s, E, S: Shared, R: Wait + Threads + Sync, G: Gate + Sync>(
             × IsLeft (reads S.key_of S.number_of S.mine_of) (map S.key accounts.entry.now)
             setup.entry.now number f.left.posts.items f.left.refusals.items
             (map answer_view (items_in (sent f.outbox))) f.left.seats.items)
-            × (result ≡ Err RunFault.GateClosed → G.may_shut gate.entry.now)
-            × (result ≢ Err RunFault.Workers) }
+            × MayAskGate (G.may_shut gate.entry.now) result }
     {
         work(
             rt, alloc, number, setup, accounts, seats, posts, answers, gate,
@@ -108,7 +108,7 @@ impl<S: Shared, G: Gate> WorkerLink<'_, S, G> {
             ≡ items_in (sent self.old.outbox) ++ posts.items) }
         ensures inbox { self.new.inbox ≡ self.old.inbox }
         ensures child { self.new.child ≡ self.old.child }
-        ensures fault { (result ≢ Err RunFault.GateClosed) × (result ≢ Err RunFault.Workers) }
+        ensures fault { AsksNoGate result }
     {
         if posts.is_empty() {
             return Ok(());
@@ -126,7 +126,7 @@ impl<S: Shared, G: Gate> WorkerLink<'_, S, G> {
             ≡ items_in (taken self.old.inbox) ++ answers.items) }
         ensures outbox { self.new.outbox ≡ self.old.outbox }
         ensures child { self.new.child ≡ self.old.child }
-        ensures fault { (result ≢ Err RunFault.GateClosed) × (result ≢ Err RunFault.Workers) }
+        ensures fault { AsksNoGate result }
     {
         if !self.awaits {
             return Ok(Vec::new(alloc));
@@ -146,9 +146,7 @@ impl<S: Shared, G: Gate> WorkerLink<'_, S, G> {
             self.entry.child.promise.setup.now self.entry.child.promise.number
             left.posts.items left.refusals.items
             (map answer_view (items_in (taken self.entry.inbox))) left.seats.items) }
-        ensures gate { result ≡ Err RunFault.GateClosed
-            → G.may_shut self.entry.child.promise.gate.now }
-        ensures workers { result ≢ Err RunFault.Workers }
+        ensures fault { MayAskGate (G.may_shut self.entry.child.promise.gate.now) result }
     {
         let WorkerLink {
             mut outbox,
@@ -173,7 +171,7 @@ impl<S: Shared, G: Gate> WorkerLink<'_, S, G> {
 fn take_last<R: Wait>(rt: &R, inbox: &mut Inbox<Vec<Answer>>) -> Result<(), RunFault>
     ensures same { IsSameInbox inbox.old inbox.new }
     ensures last { OnOk result (taken inbox.new ≡ taken inbox.old ++ mail.Close ∷ []) }
-    ensures fault { (result ≢ Err RunFault.GateClosed) × (result ≢ Err RunFault.Workers) }
+    ensures fault { AsksNoGate result }
 {
     match inbox.take_mail(rt) {
         Ok(Mail::Close) => Ok(()),

@@ -1,9 +1,10 @@
 //! The thread of a worker.
 
-ghost use Rattle.std.specs.Prelude.{◌≡◌, ◌≢◌, ◌++◌, [], List, true, map, IfOk, OnOk};
+ghost use Rattle.std.specs.Prelude.{◌≡◌, ◌++◌, [], List, true, map, IfOk, OnOk};
 ghost use Rattle.std.specs.Map.{keys_of};
 ghost use Rattle.runs_core.specs.Desks.{GoesOn};
 ghost use Rattle.runs_core.specs.Mails.{items_in};
+ghost use Rattle.runs_core.specs.RunFaults.{MayAskGate};
 ghost use Rattle.runs_core.specs.Teams.{IsFresh, IsLeft, reads};
 ghost use Rattle.workers_core.specs.Ends.{IsSameInbox, IsSameOutbox, sent, taken};
 ghost use Rattle.workers_core.specs.Handled.{answer_view};
@@ -47,8 +48,7 @@ pub(crate) fn work<S: Shared, R: Wait, G: Gate>(
         (map S.key accounts.now) setup.now number finished.left.posts.items
         finished.left.refusals.items (map answer_view (items_in (sent finished.outbox)))
         finished.left.seats.items) }
-    ensures gate { result ≡ Err RunFault.GateClosed → G.may_shut gate.now }
-    ensures workers { result ≢ Err RunFault.Workers }
+    ensures fault { MayAskGate (G.may_shut gate.now) result }
 {
     let mut desk = Desk::new(alloc, number, setup, accounts, seats)?;
     answer_rounds(rt, alloc, &mut desk, &mut inbox, &mut outbox, gate)?;
@@ -80,8 +80,7 @@ fn answer_rounds<S: Shared, R: Wait, G: Gate>(
     ensures goes_on { OnOk result (GoesOn (λ account. (S.terms account).number)
         S.key (reads S.key_of S.number_of S.mine_of) desk.old
         (items_in (taken inbox.new)) (map answer_view (items_in (sent outbox.new))) desk.new) }
-    ensures gate { result ≡ Err RunFault.GateClosed → G.may_shut gate.now }
-    ensures workers { result ≢ Err RunFault.Workers }
+    ensures fault { MayAskGate (G.may_shut gate.now) result }
 {
     for _ in rt.forever() {
         match inbox.take_mail(rt) {
@@ -110,8 +109,7 @@ fn answer_round<S: Shared, R: Wait, G: Gate>(
         × GoesOn (λ account. (S.terms account).number)
         S.key (reads S.key_of S.number_of S.mine_of)
         desk.old posts.items (map answer_view answers) desk.new) }
-    ensures gate { result ≡ Err RunFault.GateClosed → G.may_shut gate.now }
-    ensures workers { result ≢ Err RunFault.Workers }
+    ensures fault { MayAskGate (G.may_shut gate.now) result }
 {
     let answers = desk.answer_all(rt, alloc, posts, gate)?;
     let Ok(()) = outbox.send_mail(rt, Mail::Work(answers)) else {

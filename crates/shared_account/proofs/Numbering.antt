@@ -1,25 +1,21 @@
 -- The first seats of an account are all of its seats.
-use Rattle.std.proofs.Common.{◌≡◌, ℕ, ◌+◌, Bool, true, false, List, [], ◌∷◌, ◌++◌, length, length-append, map, refl, ap, ◌∙◌, arith, zero, suc}
-use Rattle.std.specs.Prelude.{◌==◌, ◌&&◌, All, Err, IfOk, Ok, Result}
-use Rattle.std.proofs.lemmas.Bool.{eq-eqb}
+use Rattle.std.proofs.Common.{◌≡◌, ℕ, ◌+◌, true, List, [], ◌∷◌, ◌++◌, length, length-append, map, refl, ap, ◌∙◌, arith, zero, suc}
+use Rattle.std.specs.Prelude.{◌==◌, All, Err, IfOk, Ok, Result}
+use Rattle.std.proofs.lemmas.Bool.{and_from, eq-eqb}
 use Rattle.std.proofs.lemmas.List.{length-map, map-append}
 use Rattle.std.proofs.lemmas.List.Elements.{All-nil, All-push}
 use Rattle.shared_account.specs.Seats.{SeatView, are_all, are_numbered, fresh_seats}
 use Rattle.shared_account.proofs.Merging.{first_by}
 
-both : (here rest : Bool) → here ≡ true → rest ≡ true → here && rest ≡ true
-both true rest here_is rest_is = rest_is
-both false rest here_is rest_is = cc
-
 numbered_push : (first : ℕ) (numbers : List ℕ) (last : ℕ) → are_numbered first numbers ≡ true → last ≡ first + length numbers
     → are_numbered first (numbers ++ last ∷ []) ≡ true
 numbered_push first [] last are is =
     let same : last ≡ first = omega (arith, is) in
-    both (last == first) true (eq-eqb last first same) refl
+    and_from (last == first) true (eq-eqb last first same) refl
 numbered_push first (number ∷ numbers) last are is =
     let parts = first_by (number == first) (are_numbered (first + 1) numbers) are in
     let next : last ≡ first + 1 + length numbers = omega (arith, is) in
-    both (number == first) (are_numbered (first + 1) (numbers ++ last ∷ [])) parts.0 (numbered_push (first + 1) numbers last parts.1 next)
+    and_from (number == first) (are_numbered (first + 1) (numbers ++ last ∷ [])) parts.0 (numbered_push (first + 1) numbers last parts.1 next)
 
 fresh_length : (account seats : ℕ) → length (fresh_seats account seats) ≡ seats
 fresh_length account zero = refl
@@ -40,7 +36,7 @@ pub fresh_are_all : (account seats : ℕ) → are_all seats (map (λ seat. seat.
 fresh_are_all account seats =
     let number = λ (place : SeatView). place.number in
     let count : length (map number (fresh_seats account seats)) ≡ seats = length-map (fresh_seats account seats) number ∙ fresh_length account seats in
-    both (length (map number (fresh_seats account seats)) == seats) (are_numbered 0 (map number (fresh_seats account seats))) (eq-eqb _ seats count) (fresh_numbered account seats)
+    and_from (length (map number (fresh_seats account seats)) == seats) (are_numbered 0 (map number (fresh_seats account seats))) (eq-eqb _ seats count) (fresh_numbered account seats)
 
 -- what is true of each of them
 pub fresh_each : (P : SeatView → Type 0) (account : ℕ) → ((seat : ℕ) → P (record { account = account; number = seat; mine = [] })) → (seats : ℕ)

@@ -3,6 +3,7 @@ use Rattle.std.proofs.Common.{◌≡◌, ◌+◌, ◌-◌, ◌≤◌, ◌<◌, �
 use Rattle.std.specs.Prelude.{◌||◌, ◌&&◌, if◌then◌else◌, is_some, nat_le, nat_lt, ⊤, IfSome}
 use Rattle.std.proofs.lemmas.Bool.Decides.{nat_tests}
 use Rattle.std.proofs.lemmas.List.Elements.{All-append, All-cons, All-nil}
+use Rattle.std.proofs.lemmas.Bool.{le-leb}
 use Rattle.cap_values.specs.declared.charge.Charge.{Charge}
 use Rattle.cap_values.specs.declared.arms.Arms.{Arms}
 use Rattle.cap_values.specs.declared.cause.Cause.{Cause}
@@ -258,9 +259,6 @@ switched_by config (e ∷ t) is = came_by e.at (last_moment t) e.what (switched 
 
 -- ---- a split within a day
 
-at_most : (n m : ℕ) → n ≤ m → nat_le n m ≡ true
-at_most n m le = grind (arith, nat_tests)
-
 above : (n m : ℕ) → nat_le n m ≡ false → m < n
 above n m is = grind (arith, nat_tests)
 
@@ -269,14 +267,14 @@ all_three a b c first second third = rw (first, second, third) refl
 
 split_by : (came_first : Bool) (answer switch now : ℕ) → nat_le switch answer ≡ came_first → now ≤ answer + 864000 → switch ≤ now
     → is_time_info (if came_first then info.Switch (now - answer) None else info.Switch (now - switch) (Some (switch - answer))) ≡ true
-split_by true answer switch now is within came = at_most (now - answer) 864000 (omega (arith, within))
+split_by true answer switch now is within came = le-leb (now - answer) 864000 (omega (arith, within))
 split_by false answer switch now is within came =
     let later = above switch answer is in
-    all_three (nat_le (now - switch) 864000) (nat_le 1 (switch - answer)) (nat_le (switch - answer) 864000) (at_most (now - switch) 864000 (omega (arith, within, later)))
-    (at_most 1 (switch - answer) (omega (arith, later))) (at_most (switch - answer) 864000 (omega (arith, within, came)))
+    all_three (nat_le (now - switch) 864000) (nat_le 1 (switch - answer)) (nat_le (switch - answer) 864000) (le-leb (now - switch) 864000 (omega (arith, within, later)))
+    (le-leb 1 (switch - answer) (omega (arith, later))) (le-leb (switch - answer) 864000 (omega (arith, within, came)))
 
 split_in_range : (answer : ℕ) (switch : Option ℕ) (now : ℕ) → now ≤ answer + 864000 → IfSome switch (λ moment. moment ≤ now) → is_time_info (split answer switch now) ≡ true
-split_in_range answer None now within came = at_most (now - answer) 864000 (omega (arith, within))
+split_in_range answer None now within came = le-leb (now - answer) 864000 (omega (arith, within))
 split_in_range answer (Some switch) now within came = split_by (nat_le switch answer) answer switch now refl within came
 
 -- ---- each item

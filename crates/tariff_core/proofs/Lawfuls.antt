@@ -1,7 +1,7 @@
 -- What the test of lawful times tells, and when it passes.
 use Rattle.std.proofs.Common.{◌≡◌, ℕ, ◌+◌, ◌≤◌, Bool, true, false, refl, ◌∙◌, arith}
 use Rattle.std.specs.Prelude.{◌==◌, ◌&&◌, ◌||◌, Some, None, not, is_some, nat_le, if◌then◌else◌}
-use Rattle.std.proofs.lemmas.Bool.{eq-eqb, eqb-true, le-leb, leb-true}
+use Rattle.std.proofs.lemmas.Bool.{and_from, and_parts, eq-eqb, eqb-true, le-leb, leb-true}
 use Rattle.tariff_core.specs.Ceiling.{are_times, may_come}
 use Rattle.tariff_core.specs.Lawful.{is_lawful}
 use Rattle.tariff_core.specs.Laws.{MayStand}
@@ -10,14 +10,6 @@ use Rattle.tariff_core.specs.Reading.{times_read, times_stated}
 use Rattle.tariff_core.specs.Times.{Elapsed}
 use Rattle.tariff_core.specs.declared.time_info.TimeInfo.{TimeInfo}
 use Rattle.tariff_core.specs.declared.time_info.TimeInfo.TheVariants as info
-
-both : (a b : Bool) → (a && b) ≡ true → (a ≡ true) × (b ≡ true)
-both true true h = (refl, refl)
-both true false h = cc
-both false b h = cc
-
-both_are : (a b : Bool) → a ≡ true → b ≡ true → (a && b) ≡ true
-both_are a b x y = rw (x, y) refl
 
 implied : (a b : Bool) → (not a || b) ≡ true → a ≡ true → b ≡ true
 implied true b h x = h
@@ -46,25 +38,25 @@ zero_or false n h = eq-eqb n 0 (h refl)
 
 pub comes : (plan : Rates) (old : Elapsed) (granted : ℕ) (new : Elapsed) → may_come plan old granted new ≡ true → Comes plan old granted new
 comes plan old granted new h =
-    let (times, lawful) = both (are_times new) (is_lawful plan old new granted) h in
-    let (first, within) = both _ (nat_le (new.before + new.after) granted) lawful in
-    let (second, rated) = both _ (not new.switched || is_some plan.after) first in
-    let (third, kept) = both _ (not old.switched || (new.switched && (new.before == old.before))) second in
-    let (before, after) = both (nat_le old.before new.before) (nat_le old.after new.after) third in
+    let (times, lawful) = and_parts (are_times new) (is_lawful plan old new granted) h in
+    let (first, within) = and_parts _ (nat_le (new.before + new.after) granted) lawful in
+    let (second, rated) = and_parts _ (not new.switched || is_some plan.after) first in
+    let (third, kept) = and_parts _ (not old.switched || (new.switched && (new.before == old.before))) second in
+    let (before, after) = and_parts (nat_le old.before new.before) (nat_le old.after new.after) third in
     record {
       unswitched = or_zero new.switched new.after times;
       before = leb-true old.before new.before before;
       after = leb-true old.after new.after after;
-      kept = λ s. let (switched, same) = both new.switched (new.before == old.before) (implied old.switched _ kept s) in (switched, eqb-true new.before old.before same);
+      kept = λ s. let (switched, same) = and_parts new.switched (new.before == old.before) (implied old.switched _ kept s) in (switched, eqb-true new.before old.before same);
       rated = implied new.switched (is_some plan.after) rated;
       within = leb-true (new.before + new.after) granted within;
     }
 
 pub may_come_by : (plan : Rates) (old : Elapsed) (granted : ℕ) (new : Elapsed) → Comes plan old granted new → may_come plan old granted new ≡ true
 may_come_by plan old granted new h =
-    both_are _ _ (zero_or new.switched new.after h.unswitched)
-    (both_are _ _ (both_are _ _ (both_are _ _ (both_are _ _ (le-leb old.before new.before h.before) (le-leb old.after new.after h.after))
-    (implies old.switched _ (λ s. both_are _ _ (h.kept s).0 (eq-eqb new.before old.before (h.kept s).1))))
+    and_from _ _ (zero_or new.switched new.after h.unswitched)
+    (and_from _ _ (and_from _ _ (and_from _ _ (and_from _ _ (le-leb old.before new.before h.before) (le-leb old.after new.after h.after))
+    (implies old.switched _ (λ s. and_from _ _ (h.kept s).0 (eq-eqb new.before old.before (h.kept s).1))))
     (implies new.switched _ h.rated)) (le-leb (new.before + new.after) granted h.within))
 
 -- ---- the laws of lawful times
@@ -88,7 +80,7 @@ pub coming_follows : (plan : Rates) (first : Elapsed) (granted : ℕ) (second th
     → are_times third ≡ true → is_lawful plan second third granted ≡ true → may_come plan first granted third ≡ true
 coming_follows plan first granted second third may times lawful =
     let one = comes plan first granted second may in
-    let two = comes plan second granted third (both_are (are_times third) (is_lawful plan second third granted) times lawful) in
+    let two = comes plan second granted third (and_from (are_times third) (is_lawful plan second third granted) times lawful) in
     may_come_by plan first granted third (record {
       unswitched = two.unswitched;
       before = omega (arith, one.before, two.before);
@@ -107,7 +99,7 @@ taken ranges times new are is = by_test _ refl is
         → (are_times new ≡ true) × (new.before + new.after ≤ 864000)
     by_test true passes is =
         let same : times ≡ new = cc in
-        let within = leb-true (times.before + times.after) 864000 (both ranges _ passes).1 in
+        let within = leb-true (times.before + times.after) 864000 (and_parts ranges _ passes).1 in
         rw (← same) (are, within)
     by_test false passes is = cc
 

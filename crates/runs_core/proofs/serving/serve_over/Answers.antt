@@ -1,5 +1,5 @@
 use Rattle.std.proofs.Common.{length, map, sym, subst, ◌∙◌}
-use Rattle.runs_core.proofs.Columns.{heard_so, worked_so}
+use Rattle.runs_core.proofs.Columns.{run_so}
 use Rattle.std.proofs.lemmas.List.{length-map}
 use Rattle.runs_core.proofs.Finishing.{numbers_of}
 use Rattle.runs_core.proofs.Numbers.{numbered_from, seats_each}
@@ -16,25 +16,24 @@ pub close_accounts-requires-clause-left : goal.close_accounts-requires-clause-le
 close_accounts-requires-clause-left g c = λ _ _.
     subst (λ numbers. AreLeftFrom (reads g.S.Shared.key_of g.S.Shared.number_of g.S.Shared.mine_of) (map g.S.Shared.key c.in_ok-accounts.field-0.accounts.items) numbers c.in_ok-left.left.items)
     (sym (numbers_of g.S.Shared.terms c.args.setup.now.limit c.args.workers c.args.setup.now.accounts c.in_ok-accounts.field-0.accounts.items c.in_ok-accounts.ensures.accounts))
-    (rw (c.as_slice.ensures.value) at c.in_ok-left.ensures.left)
-
-pub returns-clause-worked : goal.returns-clause-worked
-returns-clause-worked g c =
-    worked_so (reads g.S.Shared.key_of g.S.Shared.number_of g.S.Shared.mine_of) c.args.setup.now c.in_ok-left.left.items c.close_accounts.result c.in_ok-left.ensures.worked
-    c.close_accounts.ensures.handled c.close_accounts.ensures.refusals c.close_accounts.ensures.lists
+    (rw (c.as_slice.ensures.value) at c.in_ok-left.ensures.left.left)
 
 pub close_accounts-requires-clause-numbers : goal.close_accounts-requires-clause-numbers
 close_accounts-requires-clause-numbers g c = λ _ _.
-    numbered_from (reads g.S.Shared.key_of g.S.Shared.number_of g.S.Shared.mine_of) c.args.setup.now 0 c.in_ok-left.left.items c.in_ok-left.ensures.worked
+    numbered_from (reads g.S.Shared.key_of g.S.Shared.number_of g.S.Shared.mine_of) c.args.setup.now 0 c.in_ok-left.left.items c.in_ok-left.ensures.left.worked
 
 pub close_accounts-requires-clause-seats : goal.close_accounts-requires-clause-seats
 close_accounts-requires-clause-seats g c = λ _ _.
     seats_each g.S.Shared.terms c.args.setup.now.limit c.args.workers (length c.in_ok-left.left.items) c.args.setup.now.accounts c.in_ok-accounts.field-0.accounts.items
     c.in_ok-accounts.ensures.accounts
-    (sym c.in_ok-accounts.ensures.count ∙ sym c.in_ok-left.ensures.handled.count ∙ length-map c.in_ok-left.left.items (λ one. one.posts.items))
+    (sym c.in_ok-accounts.ensures.count ∙ sym c.in_ok-left.ensures.left.handled.count ∙ length-map c.in_ok-left.left.items (λ one. one.posts.items))
 
-pub returns-clause-heard : goal.returns-clause-heard
-returns-clause-heard g c =
-    heard_so g.D.Driver.given g.D.Driver.ended g.D.Driver.hears (reads g.S.Shared.key_of g.S.Shared.number_of g.S.Shared.mine_of) c.args.setup.now c.args.workers c.in_ok-left.left.items _ _ c.close_accounts.result
-    (sym c.in_ok-accounts.ensures.count ∙ sym c.in_ok-left.ensures.handled.count ∙ length-map c.in_ok-left.left.items (λ one. one.posts.items))
-    c.in_ok-left.ensures.heard c.close_accounts.ensures.handled c.close_accounts.ensures.refusals c.close_accounts.ensures.lists
+pub returns-clause-run : goal.returns-clause-run
+returns-clause-run g c =
+    let opened = c.in_ok-accounts.ensures in
+    let close = c.close_accounts.ensures in
+    run_so g.D.Driver.given g.D.Driver.ended g.D.Driver.hears (reads g.S.Shared.key_of g.S.Shared.number_of g.S.Shared.mine_of) _ c.args.setup.now c.args.workers _ _ _ c.in_ok-left.left.items
+    (map g.S.Shared.terms c.in_ok-accounts.field-0.accounts.items) c.close_accounts.result
+    (sym opened.count ∙ sym c.in_ok-left.ensures.left.handled.count ∙ length-map c.in_ok-left.left.items (λ one. one.posts.items))
+    opened.count c.in_ok-left.ensures.left opened.accounts
+    close.terms close.legal close.merged close.served close.handled close.refusals close.lists

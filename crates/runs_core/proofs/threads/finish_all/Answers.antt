@@ -32,13 +32,12 @@ returns-in-None-fault-clause-left g c =
     subst (λ links. AreLeftBy (reads g.S.Shared.key_of g.S.Shared.number_of g.S.Shared.mine_of) g.S.Shared.key (promises_of links) (map heard_by links) c.loop-link.left.items)
     (all_finished _ _ _ _ _ _ _ none c.loop-link.invariant) (c.loop-link.invariant.left_by c.in-None-fault.is)
 
-pub returns-in-Some-fault-clause-gate : goal.returns-in-Some-fault-clause-gate
-returns-in-Some-fault-clause-gate g c = λ closed.
-    let none : length (into_iter_items c.loop-link.link-iterator) ≡ 0 = omega (arith, c.in-None.ensures.steps.0, c.loop-link.link-iterator.rest.ok) in
-    subst (λ links. MayBeShut g.G.Gate.may_shut (promises_of links)) (all_finished _ _ _ _ _ _ _ none c.loop-link.invariant) (c.loop-link.invariant.shut (cc))
-
-pub returns-in-Some-fault-clause-workers : goal.returns-in-Some-fault-clause-workers
-returns-in-Some-fault-clause-workers g c = λ is. c.loop-link.invariant.workers (cc)
+pub returns-in-Some-fault-clause-fault : goal.returns-in-Some-fault-clause-fault
+returns-in-Some-fault-clause-fault g c =
+    let none : length (into_iter_items c.loop-link.link-iterator) ≡ 0 = omega (arith, c.in-None.ensures.steps.0, c.loop-link.link-iterator.rest.ok) in (
+      λ closed. subst (λ links. MayBeShut g.G.Gate.may_shut (promises_of links)) (all_finished _ _ _ _ _ _ _ none c.loop-link.invariant) (c.loop-link.invariant.shut (cc)),
+      λ is. c.loop-link.invariant.workers (cc),
+    )
 
 pub returns-in-Some-fault-clause-first : goal.returns-in-Some-fault-clause-first
 returns-in-Some-fault-clause-first g c =

@@ -1,4 +1,4 @@
-use Rattle.std.proofs.Common.{◌≡◌, ◌+◌, ◌-◌, min, sym, arith}
+use Rattle.std.proofs.Common.{◌+◌, ◌-◌, min, sym, arith}
 use Rattle.tariff_core.specs.RatesOf.{rates_of}
 use Rattle.tariff_core.proofs.AffordLemmas.{halving_ends, units_covered_are}
 use Rattle.tariff_core.proofs.affording.afford.Goals as goal

@@ -4,7 +4,7 @@ use Rattle.std.specs.Vec.Iter.{into_iter_items}
 use Rattle.account_core.specs.Answers.{IsLegal}
 use Rattle.shared_account.specs.Own.{IsMerged}
 use Rattle.runs_core.specs.Closing.{AreAllThere, AreOf, terms_shown}
-use Rattle.runs_core.proofs.closing.close_each.Given as goal
+use Rattle.runs_core.proofs.books.close_each.Given as goal
 
 abbrev pub invariant-loop-account : goal.invariant-loop-account
 invariant-loop-account g l =

@@ -1,13 +1,13 @@
 //! The accounts of a run are opened.
 
-ghost use Rattle.std.specs.Prelude.{◌≡◌, ◌≤◌, [], length, map, replicate, IfOk, IfErr};
+ghost use Rattle.std.specs.Prelude.{◌≡◌, ◌≤◌, [], length, map, IfOk, IfErr};
 ghost use Rattle.runs_core.specs.Teams.{AreFresh, IsNew, reads, terms_of};
 
 use crate::RunFault;
-use crate::dealing::deal;
+use crate::piles::{deal, empty_piles};
 use run_values::{OpeningCredit, RunSetup};
 use shared_account::Shared;
-use std::alloc::{AllocError, Global};
+use std::alloc::Global;
 use tariff_core::MAX_MONEY;
 
 /// The accounts of a run, in order, and the seats of each worker, one of each account.
@@ -79,15 +79,4 @@ fn open_account<S: Shared, R>(
         Ok(made) => Ok(made),
         Err(_) => Err(RunFault::OutOfMemory),
     }
-}
-
-/// So many piles without items.
-pub(crate) fn empty_piles<T: Drop>(alloc: Global, count: usize) -> Result<Vec<Vec<T>>, AllocError>
-    ensures { IfOk result (λ piles. map (λ pile. pile.items) piles.items ≡ replicate count []) }
-{
-    let mut piles = Vec::with_capacity(alloc, count)?;
-    for _ in 0..count {
-        piles.push(Vec::new(alloc))?;
-    }
-    Ok(piles)
 }

@@ -6,7 +6,7 @@ use Rattle.runs_core.proofs.Numbers.{AreRising}
 use Rattle.runs_core.proofs.Rows.{AreRows}
 use Rattle.runs_core.specs.Closing.{AreLeftFrom, AreNumberedFrom}
 use Rattle.runs_core.specs.Teams.{reads}
-use Rattle.runs_core.proofs.closing.close_accounts.Given as goal
+use Rattle.runs_core.proofs.books.close_accounts.Given as goal
 
 abbrev pub invariant-loop-one : goal.invariant-loop-one
 invariant-loop-one g l =

@@ -9,7 +9,7 @@ use Rattle.runs_core.specs.Closing.{AreNumberedFrom}
 use Rattle.runs_core.specs.Dealing.{dealt}
 use Rattle.runs_core.proofs.Shifting.{empty_by}
 use Rattle.runs_core.proofs.Rows.{books_served, map_twice, rows_for, rows_count, rows_dealt, rows_of, team_count}
-use Rattle.runs_core.proofs.closing.close_accounts.Goals as goal
+use Rattle.runs_core.proofs.books.close_accounts.Goals as goal
 
 pub loop-one-init : goal.loop-one-init
 loop-one-init g c =

@@ -1,7 +1,7 @@
 use Rattle.std.proofs.Common.{◌≡◌, map}
 use Rattle.std.specs.Prelude.{take, length}
 use Rattle.runs_core.specs.Teams.{AreFresh, reads, terms_of}
-use Rattle.runs_core.proofs.opening.open_accounts.Given as goal
+use Rattle.runs_core.proofs.opened.open_accounts.Given as goal
 
 abbrev pub invariant-loop-place : goal.invariant-loop-place
 invariant-loop-place g l =

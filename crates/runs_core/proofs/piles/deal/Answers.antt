@@ -2,7 +2,7 @@ use Rattle.std.proofs.Common.{rules, arith, sym, ◌∙◌}
 use Rattle.std.proofs.lemmas.List.{length-map}
 use Rattle.std.specs.Vec.Iter.{into_iter_items}
 use Rattle.runs_core.proofs.Deals.{none_dealt, has_pile, one_dealt}
-use Rattle.runs_core.proofs.dealing.deal.Goals as goal
+use Rattle.runs_core.proofs.piles.deal.Goals as goal
 
 pub loop-item-init : goal.loop-item-init
 loop-item-init g c = none_dealt _ _ _ c.into_iter-item-iterator.ensures.into_iter_gives.0

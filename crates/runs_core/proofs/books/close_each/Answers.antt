@@ -5,7 +5,7 @@ use Rattle.account_core.specs.Answers.{IsLegal}
 use Rattle.shared_account.specs.Own.{IsMerged}
 use Rattle.runs_core.proofs.Shifting.{empty_by, empty_rows, none_left, one_shifted}
 use Rattle.runs_core.specs.Closing.{terms_shown}
-use Rattle.runs_core.proofs.closing.close_each.Goals as goal
+use Rattle.runs_core.proofs.books.close_each.Goals as goal
 
 pub loop-account-preserved : goal.loop-account-preserved
 loop-account-preserved g c =

@@ -1,7 +1,7 @@
 use Rattle.std.proofs.Common.{arith}
 use Rattle.runs_core.specs.Teams.{reads}
 use Rattle.runs_core.proofs.Teaming.{none_opened, one_opened}
-use Rattle.runs_core.proofs.opening.open_accounts.Goals as goal
+use Rattle.runs_core.proofs.opened.open_accounts.Goals as goal
 
 pub loop-place-init : goal.loop-place-init
 loop-place-init g c =
