@@ -1,6 +1,6 @@
 -- A round, and the run that it carries on.
 use Rattle.std.proofs.Common.{◌≡◌, ◌++◌, ℕ, Bool, true, false, Option, Some, None, List, [], ◌∷◌, drop, refl, sym, ◌∙◌, subst}
-use Rattle.std.specs.Prelude.{MatchOption}
+use Rattle.std.specs.Prelude.{◌≤◌, All, MatchOption}
 use Rattle.cap_values.specs.declared.number.Number.{Number}
 use Rattle.run_texts.specs.declared.script_row.Happening.{Happening}
 use Rattle.run_texts.specs.declared.script_row.Happening.TheVariants as happening
@@ -23,6 +23,7 @@ use Rattle.ssf_core.specs.declared.deliveries.Delivery.{Delivery}
 use Rattle.script_player.specs.declared.input.Input.{Input}
 use Rattle.script_player.specs.declared.input.Input.TheVariants as what
 use Rattle.script_player.proofs.Chainings.{chain_more}
+use Rattle.script_player.proofs.Endings.{delivery_past, none_left, timer_past}
 
 -- ---- a network stays whole
 
@@ -90,19 +91,23 @@ round_is network delivered played after queue left delay rows taken next ended a
 }
 
 -- the end of a player
-pub end_is : (network : Shown) (queue left : List Delivery) (delay : ℕ) (rows : List ScriptRow) (taken : ℕ) (ended : Bool) (answers : List Answer) (due : Option ℕ) → network.whole ≡ true
+pub end_is : (network : Shown) (queue left : List Delivery) (delay : ℕ) (rows : List ScriptRow) (taken : ℕ) (ended : Bool) (answers : List Answer) (due : Option ℕ)
+    → All (λ (row : ScriptRow). row.at ≤ 1000000000000) rows → network.whole ≡ true
     → (network.whole ≡ true → IsFirstDue network.ssfs due) → next_of (play_at network queue delay rows taken ended) answers due ≡ None → left ≡ queue ++ deliveries_of delay network.given answers
     → IsEnd (play_at network queue delay rows taken ended) (play_at network left delay rows taken true) answers
-end_is network queue left delay rows taken ended answers due whole first none waiting = record {
-  due = due;
-  first_due = first whole;
-  none = none;
-  same_network = refl;
-  same_queue = waiting;
-  same_left = refl;
-  same_delay = refl;
-  ended = refl;
-}
+end_is network queue left delay rows taken ended answers due in_range whole first none waits =
+    let row = next_row (drop taken rows) in
+    let delivery = next_delivery (queue ++ deliveries_of delay network.given answers) in
+    record {
+      no_row = none_left rows taken delivery due in_range none;
+      delivery_past = delivery_past row delivery due none;
+      timers_past = timer_past network.ssfs row delivery due (first whole) none;
+      same_network = refl;
+      same_queue = waits;
+      same_left = refl;
+      same_delay = refl;
+      ended = refl;
+    }
 
 -- the next moment of a player, of what its parts give
 pub next_is : (network : Shown) (queue waiting : List Delivery) (delay : ℕ) (rows : List ScriptRow) (taken : ℕ) (ended : Bool) (answers : List Answer) (row delivery due moment : Option ℕ)

@@ -1,15 +1,17 @@
 -- The rounds of a run.
-use Rattle.std.specs.Prelude.{◌≡◌, ◌++◌, ℕ, Bool, true, false, Option, Some, None, List}
+use Rattle.std.specs.Prelude.{◌≡◌, ◌<◌, ◌++◌, ℕ, Bool, true, false, Option, Some, List, []}
+use Rattle.std.specs.Option.{ForSome}
 use Rattle.run_values.specs.declared.answer.Answer.{Answer}
 use Rattle.ssf_core.specs.Deliveries.{next_delivery}
 use Rattle.script_player.specs.Deliveries.{deliveries_of}
-use Rattle.script_player.specs.Dues.{IsFirstDue}
+use Rattle.script_player.specs.Dues.{HasTimer, IsFirstDue}
 use Rattle.ssf_core.specs.Moments.{in_reach, sooner}
 use Rattle.script_player.specs.Networks.{Shown}
 use Rattle.script_player.specs.Plays.{Play}
 use Rattle.script_player.specs.Rows.{next_row}
 use Rattle.script_player.specs.Steps.{DeliversDue, PlaysDue, RunsTimers}
 use Rattle.ssf_core.specs.declared.deliveries.Delivery.{Delivery}
+use Rattle.tariff_core.specs.declared.times.TheConstants.{HORIZON}
 
 -- the deliveries that wait once answers were heard: each operation of an answer comes last, a delay after the moment of its item
 abbrev pub waiting : Play → List Answer → List Delivery
@@ -33,11 +35,11 @@ pub record IsRound (before after : Play) (answers : List Answer) : Type 0 where
   pub same_delay : after.delay ≡ before.delay
   pub running : after.ended ≡ false
 
--- the run ends: no moment is next
+-- the run ends: no row is left, and of the deliveries the first, and each timer that runs, lies past the last moment that a gsmSSF takes
 pub record IsEnd (before after : Play) (answers : List Answer) : Type 0 where
-  pub due : Option ℕ
-  pub first_due : IsFirstDue before.network.ssfs due
-  pub none : next_of before answers due ≡ None
+  pub no_row : before.left ≡ []
+  pub delivery_past : ForSome (next_delivery (waiting before answers)) (λ at. HORIZON < at)
+  pub timers_past : (call at : ℕ) → HasTimer before.network.ssfs call at → HORIZON < at
   pub same_network : after.network ≡ before.network
   pub same_queue : after.queue ≡ waiting before answers
   pub same_left : after.left ≡ before.left

@@ -1,6 +1,6 @@
 -- What the refusals of a held account come to for a caller who can't see it.
 use Rattle.std.proofs.Common.{◌≡◌, ℕ, Bool, true, false, Option, Some, None, List, Result, Ok, Err, inl, inr, refl, sym, subst}
-use Rattle.std.specs.Prelude.{◌+◌, if◌then◌else◌, length, nat_lt, reverse, IfErr, IsOk}
+use Rattle.std.specs.Prelude.{◌+◌, ◌⊎◌, if◌then◌else◌, length, nat_lt, reverse, IfErr, IsOk}
 use Rattle.account_core.specs.Answers.{misplaced}
 use Rattle.account_core.specs.Asked.{Asked, Credits, Reserves, Returns, Settles, call_of, is_in_range}
 use Rattle.account_core.specs.Events.{EntryData}
@@ -10,7 +10,7 @@ use Rattle.account_core.specs.Places.{IsClosing, needed_by, or_else, over_limit,
 use Rattle.account_core.specs.declared.entry.Reply.{Reply}
 use Rattle.account_core.specs.declared.fault.AccountFault.{AccountFault}
 use Rattle.account_core.specs.declared.fault.AccountFault.TheVariants as fault
-use Rattle.shared_account.specs.Kinds.{IsReplyTo, IsReturn}
+use Rattle.shared_account.specs.Kinds.{ClosesCall, IsFaultOf, IsRefused, IsReplyTo, IsReturn, OpensCall}
 use Rattle.shared_account.proofs.Answering.{answer_fits}
 
 pub fits_of : (account : Ledger) (asked : Asked) (told : Reply) → told ≡ answer_of account asked → IsReplyTo asked told
@@ -82,3 +82,63 @@ returning_of account mine (Reserves call plan wanted least at) (Err why) refused
 returning_of account mine (Settles call number info) (Err why) refused closing return own = absurd return
 returning_of account mine (Returns call) (Err why) refused closing return own =
     return_closed (is_open (known call (reverse account.history))) account call why refl (λ is. fails why (closing is own)) refused
+
+-- ---- the kind of a fault
+
+over_full : (b : Bool) (asked : Asked) (why : AccountFault) → is_in_range asked ≡ true → (if b then Some fault.HistoryFull else None) ≡ Some why → IsFaultOf asked why
+over_full true asked why ranged is = let same : fault.HistoryFull ≡ why = cc is in let F : AccountFault → Type 0 = IsFaultOf asked in subst F same ranged
+over_full false asked why ranged is = cc is
+
+used_or : (b c : Bool) (asked : Asked) (why : AccountFault) → OpensCall asked → is_in_range asked ≡ true
+    → or_else (if b then Some fault.CallUsed else None) (if c then Some fault.HistoryFull else None) ≡ Some why → IsFaultOf asked why
+used_or true c asked why opens ranged is = let same : fault.CallUsed ≡ why = cc is in let F : AccountFault → Type 0 = IsFaultOf asked in subst F same (opens, ranged)
+used_or false c asked why opens ranged is = over_full c asked why ranged is
+
+closed_or : (b c : Bool) (asked : Asked) (why : AccountFault) → ClosesCall asked → is_in_range asked ≡ true
+    → or_else (if b then None else Some fault.NotOpen) (if c then Some fault.HistoryFull else None) ≡ Some why → IsFaultOf asked why
+closed_or true c asked why closes ranged is = over_full c asked why ranged is
+closed_or false c asked why closes ranged is = let same : fault.NotOpen ≡ why = cc is in let F : AccountFault → Type 0 = IsFaultOf asked in subst F same closes
+
+in_place : (call : CallFacts) (c : Bool) (asked : Asked) (why : AccountFault) → is_in_range asked ≡ true
+    → or_else (misplaced call asked) (if c then Some fault.HistoryFull else None) ≡ Some why → IsFaultOf asked why
+in_place call c (Credits amount moment) why ranged is = over_full c (Credits amount moment) why ranged is
+in_place call c (Reserves number plan wanted least at) why ranged is = used_or call.returned c (Reserves number plan wanted least at) why tt ranged is
+in_place call c (Settles number mail info) why ranged is = closed_or (is_open call) c (Settles number mail info) why tt ranged is
+in_place call c (Returns number) why ranged is = closed_or (is_open call) c (Returns number) why tt ranged is
+
+ranged_or : (b c : Bool) (call : CallFacts) (asked : Asked) (why : AccountFault) → is_in_range asked ≡ b
+    → or_else (if b then misplaced call asked else Some fault.OutOfRange) (if c then Some fault.HistoryFull else None) ≡ Some why → IsFaultOf asked why
+ranged_or true c call asked why ranged is = in_place call c asked why ranged is
+ranged_or false c call asked why ranged is = let same : fault.OutOfRange ≡ why = cc is in let F : AccountFault → Type 0 = IsFaultOf asked in subst F same ranged
+
+unranged_has : (b : Bool) (call : CallFacts) (asked : Asked) (over : Option AccountFault) → or_else (if b then misplaced call asked else Some fault.OutOfRange) over ≡ None → b ≡ true
+unranged_has true call asked over is = refl
+unranged_has false call asked over is = cc is
+
+refusal_kind : (limit : ℕ) (h : List EntryData) (asked : Asked) (why : AccountFault) → refusal limit h asked ≡ Some why → IsFaultOf asked why
+unfolding refusal
+refusal_kind limit h asked why is =
+    ranged_or (is_in_range asked) (nat_lt limit (length h + owed h + needed_by (known (call_of asked) h) asked)) (known (call_of asked) h) asked why refl is
+
+memory_kind : (limit : ℕ) (h : List EntryData) (asked : Asked) → refusal limit h asked ≡ None → is_in_range asked ≡ true
+unfolding refusal
+memory_kind limit h asked is =
+    unranged_has (is_in_range asked) (known (call_of asked) h) asked (over_limit limit (length h + owed h) (needed_by (known (call_of asked) h) asked)) is
+
+pub fault_kind : (account : Ledger) (asked : Asked) (why : AccountFault) → IsRefusal account asked why → IsFaultOf asked why
+fault_kind account asked why (inl is) = refusal_kind account.limit (reverse account.history) asked why is
+fault_kind account asked why (inr is) =
+    let F : AccountFault → Type 0 = IsFaultOf asked in subst F (sym is.1) (memory_kind account.limit (reverse account.history) asked is.0)
+
+pub kind_of : (account : Ledger) (asked : Asked) (told : Result Reply AccountFault) → IfErr told (IsRefusal account asked) → IfErr told (IsFaultOf asked)
+kind_of account asked (Ok answered) refused = tt
+kind_of account asked (Err why) refused = fault_kind account asked why refused
+
+-- a call that a gate or an account has refused
+pub refused_kind : (account : Ledger) (asked : Asked) (why : AccountFault) → (why ≡ fault.GateClosed) ⊎ IsRefusal account asked why → IsFaultOf asked why
+refused_kind account asked why (inl gate) = let F : AccountFault → Type 0 = IsFaultOf asked in subst F (sym gate) tt
+refused_kind account asked why (inr is) = fault_kind account asked why is
+
+pub refused_by : (account : Ledger) (asked : Asked) (why : AccountFault) → (why ≡ fault.GateClosed) ⊎ IsRefusal account asked why → IsRefused asked why
+refused_by account asked why (inl gate) = inl gate
+refused_by account asked why (inr is) = inr (record { account = account; refused = is })

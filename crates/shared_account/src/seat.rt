@@ -5,7 +5,7 @@ ghost use Rattle.account_core.specs.Asked.{call_of, is_in_range};
 ghost use Rattle.account_core.specs.Events.{asked_of, entry_data};
 ghost use Rattle.account_core.specs.Ledger.{IsRefusal, answer_of, event_by, refusal_of};
 ghost use Rattle.account_core.specs.Places.{IsClosing};
-ghost use Rattle.shared_account.specs.Kinds.{IsReplyTo, IsReturn};
+ghost use Rattle.shared_account.specs.Kinds.{IsFaultOf, IsReplyTo, IsReturn};
 ghost use Rattle.shared_account.specs.Own.{of_call};
 
 mod entering;
@@ -107,6 +107,7 @@ impl Seat {
         ensures refused { IfErr result (λ fault. IsRefusal account.old (asked_of op) fault) }
         ensures ungated { result ≢ Err AccountFault.GateClosed }
         ensures kind { IfOk result (λ reply. IsReplyTo (asked_of op) reply) }
+        ensures fault { IfErr result (λ fault. IsFaultOf (asked_of op) fault) }
         ensures range { result ≡ Err AccountFault.OutOfRange → is_in_range (asked_of op) ≡ false }
         ensures returning { IsReturn (asked_of op) → IsClosing (reverse self.old.mine) (asked_of op)
             → IfErr result (λ fault. fault ≡ AccountFault.NotOpen) }

@@ -17,17 +17,23 @@ use tariff_core::MAX_MONEY;
 /// are asking too, that `NotOpen`, `CallUsed` or `HistoryFull` was right; and nothing of who comes
 /// first, nor that a call returns.
 ///
+/// It also says what it means that the account refused an operation with a fault (`refuses`). Nothing
+/// but a call shows that, so whoever is generic over the form can't tell of a refusal that no
+/// account gave.
+///
 /// A seat is of the account whose key it has: the account's number, or whatever else a form tells
 /// its seats by.
 pub trait Shared: Sync + Drop {
-    ghost use Rattle.std.specs.Prelude.{◌≡◌, ◌≤◌, ◌↔◌, ◌++◌, ◌∷◌, [], ℕ, List, true, false, map, All, OnErr, IfOk, IfErr};
+    ghost use Rattle.std.specs.Prelude.{◌≡◌, ◌≤◌, ◌↔◌, ◌⊎◌, ◌++◌, ◌∷◌, [], ℕ, List, true, false, map, reverse, All, OnErr, IfOk, IfErr};
     ghost use Rattle.std.specs.Coded.{Coded};
     ghost use Rattle.account_core.specs.Answers.{IsLegal};
-    ghost use Rattle.account_core.specs.Asked.{is_in_range};
+    ghost use Rattle.account_core.specs.Asked.{Asked, is_in_range};
     ghost use Rattle.account_core.specs.Events.{EntryData, asked_of};
     ghost use Rattle.account_core.specs.Ledger.{event_by};
+    ghost use Rattle.account_core.specs.Places.{IsClosing};
+    ghost use Rattle.account_core.specs.declared.fault.AccountFault.{AccountFault};
     ghost use Rattle.account_core.specs.declared.fault.AccountFault.TheVariants as out;
-    ghost use Rattle.shared_account.specs.Kinds.{IsReplyTo};
+    ghost use Rattle.shared_account.specs.Kinds.{IsFaultOf, IsReplyTo, IsReturn};
     ghost use Rattle.shared_account.specs.Own.{IsMerged};
     ghost use Rattle.shared_account.specs.Seats.{are_all};
     ghost use Rattle.shared_account.specs.Terms.{Terms};
@@ -49,6 +55,8 @@ pub trait Shared: Sync + Drop {
     ghost number_of: { Self.Seat → ℕ };
 
     ghost mine_of: { Self.Seat → List EntryData };
+
+    ghost refuses: { Self → Asked → AccountFault → Type 0 };
 
     /// An account with this number, an opening credit of 0 to `MAX_MONEY`, a last moment, if it has
     /// one, an empty history and the number of entries that this may grow to; and its seats, 1 to 16
@@ -79,7 +87,8 @@ pub trait Shared: Sync + Drop {
 
     /// Asks the account from one of its seats, once it is this call's turn. A fault makes no entry.
     /// `GateClosed` comes first, where the gate, asked while the account is held, answers false;
-    /// then the faults of `Account::apply`.
+    /// then the faults of `Account::apply`. A Return of a call that this seat's own entries show
+    /// granted and not returned is refused by nothing but `NotOpen` and `GateClosed`.
     fn call<R: Wait, G: Gate>(
         &self,
         rt: &R,
@@ -94,8 +103,13 @@ pub trait Shared: Sync + Drop {
             ≡ mine_of seat.old ++ event_by (number_of seat.old) (asked_of op) reply ∷ []) }
         ensures kind { IfOk result (λ reply. IsReplyTo (asked_of op) reply) }
         ensures kept { OnErr result (mine_of seat.new ≡ mine_of seat.old) }
+        ensures refused { IfErr result (λ fault. refuses self.now (asked_of op) fault) }
+        ensures fault { IfErr result (λ fault. IsFaultOf (asked_of op) fault) }
         ensures range { result ≡ Err out.OutOfRange → is_in_range (asked_of op) ≡ false }
-        ensures gate { result ≡ Err out.GateClosed → G.may_shut gate.now };
+        ensures gate { result ≡ Err out.GateClosed → G.may_shut gate.now }
+        ensures returning { IsReturn (asked_of op)
+            → IsClosing (reverse (mine_of seat.old)) (asked_of op)
+            → IfErr result (λ fault. (fault ≡ out.NotOpen) ⊎ (fault ≡ out.GateClosed)) };
 
     /// Ends the sharing: the account's book, where all of its seats are handed in, in the order of
     /// their numbers.

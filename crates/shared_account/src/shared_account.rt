@@ -7,7 +7,7 @@ ghost use Rattle.account_core.specs.Events.{asked_of};
 ghost use Rattle.account_core.specs.Ledger.{event_by};
 ghost use Rattle.account_core.specs.Places.{IsClosing};
 ghost use Rattle.shared_account.specs.Closed.{IsMismatch};
-ghost use Rattle.shared_account.specs.Kinds.{IsReplyTo, IsReturn};
+ghost use Rattle.shared_account.specs.Kinds.{IsFaultOf, IsRefused, IsReplyTo, IsReturn};
 ghost use Rattle.shared_account.specs.Own.{IsMerged};
 ghost use Rattle.shared_account.specs.Seats.{are_all, fresh_seats};
 ghost use Rattle.shared_account.specs.declared.fault.CloseFault.TheVariants as close;
@@ -111,6 +111,8 @@ impl SharedAccount {
         }) }
         ensures kind { IfOk result (λ reply. IsReplyTo (asked_of op) reply) }
         ensures kept { OnErr result (seat.new ≡ seat.old) }
+        ensures refused { IfErr result (λ fault. IsRefused (asked_of op) fault) }
+        ensures fault { IfErr result (λ fault. IsFaultOf (asked_of op) fault) }
         ensures range { result ≡ Err AccountFault.OutOfRange → is_in_range (asked_of op) ≡ false }
         ensures gate { result ≡ Err AccountFault.GateClosed → G.may_shut gate.now }
         ensures returning { IsReturn (asked_of op) → IsClosing (reverse seat.old.mine) (asked_of op)

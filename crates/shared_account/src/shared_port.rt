@@ -1,9 +1,10 @@
 //! The port of a shared account.
 
-ghost use Rattle.std.specs.Prelude.{◌≡◌, ◌++◌, ◌∷◌, [], IfOk, OnErr};
+ghost use Rattle.std.specs.Prelude.{◌≡◌, ◌⊎◌, ◌++◌, ◌∷◌, [], reverse, IfErr, IfOk, OnErr};
 ghost use Rattle.account_core.specs.Events.{asked_of};
 ghost use Rattle.account_core.specs.Ledger.{event_by};
-ghost use Rattle.shared_account.specs.Kinds.{IsReplyTo};
+ghost use Rattle.account_core.specs.Places.{IsClosing};
+ghost use Rattle.shared_account.specs.Kinds.{IsFaultOf, IsReplyTo, IsReturn};
 ghost use Rattle.std.specs.Coded.{Coded-set};
 
 use crate::{Gate, Shared};
@@ -52,7 +53,14 @@ impl<S: Shared, R: Wait, G: Gate> Port for SharedPort<'_, S, R, G> {
             ++ event_by (S.number_of self.old.seat.now) (asked_of op) reply ∷ []) }
         ensures kind { IfOk result (λ reply. IsReplyTo (asked_of op) reply) }
         ensures kept { OnErr result (S.mine_of self.new.seat.now ≡ S.mine_of self.old.seat.now) }
+        ensures refused { IfErr result (λ fault.
+            S.refuses self.old.account.now (asked_of op) fault) }
+        ensures fault { IfErr result (λ fault. IsFaultOf (asked_of op) fault) }
         ensures gate { result ≡ Err AccountFault.GateClosed → G.may_shut self.old.gate.now }
+        ensures returning { IsReturn (asked_of op)
+            → IsClosing (reverse (S.mine_of self.old.seat.now)) (asked_of op)
+            → IfErr result (λ fault.
+            (fault ≡ AccountFault.NotOpen) ⊎ (fault ≡ AccountFault.GateClosed)) }
     {
         self.account.call(self.rt, self.seat, op, self.gate)
     }

@@ -12,6 +12,7 @@ use std::alloc::Global;
 use std::sync::Wait;
 
 impl Shared for SharedAccount {
+    ghost use Rattle.shared_account.specs.Kinds.{IsRefused};
     ghost use Rattle.std.specs.Coded.{coded_ℕ};
     ghost use Rattle.std.specs.Prelude.{ℕ};
 
@@ -30,6 +31,8 @@ impl Shared for SharedAccount {
     ghost number_of = { λ seat. seat.number };
 
     ghost mine_of = { λ seat. seat.mine };
+
+    ghost refuses = { λ _ asked fault. IsRefused asked fault };
 
     fn new<R>(
         rt: &R,

@@ -6,7 +6,7 @@ ghost use Rattle.account_core.specs.Asked.{call_of, is_in_range};
 ghost use Rattle.account_core.specs.Events.{asked_of};
 ghost use Rattle.account_core.specs.Ledger.{IsRefusal, answer_of, event_by, refusal_of};
 ghost use Rattle.account_core.specs.Places.{IsClosing};
-ghost use Rattle.shared_account.specs.Kinds.{IsReplyTo, IsReturn};
+ghost use Rattle.shared_account.specs.Kinds.{IsFaultOf, IsReplyTo, IsReturn};
 ghost use Rattle.shared_account.specs.Own.{of_call};
 ghost use Rattle.shared_account.specs.Plays.{HasCome, IsLater, with_entry};
 ghost use Rattle.shared_account.specs.Sitting.{IsAt};
@@ -80,6 +80,7 @@ pub(crate) fn ask_in_turn(
     ensures refused { IfErr result (λ fault. IsRefusal chair.old.me.0.seen (asked_of op) fault) }
     ensures ungated { result ≢ Err AccountFault.GateClosed }
     ensures kind { IfOk result (λ reply. IsReplyTo (asked_of op) reply) }
+    ensures fault { IfErr result (λ fault. IsFaultOf (asked_of op) fault) }
     ensures range { result ≡ Err AccountFault.OutOfRange → is_in_range (asked_of op) ≡ false }
     ensures closing { IsClosing (reverse chair.old.me.0.seen.history) (asked_of op)
         → of_call (call_of (asked_of op)) chair.old.me.0.seen.history

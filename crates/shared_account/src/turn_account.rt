@@ -7,7 +7,7 @@ ghost use Rattle.account_core.specs.Events.{asked_of};
 ghost use Rattle.account_core.specs.Ledger.{IsRefusal, event_by};
 ghost use Rattle.account_core.specs.Places.{IsClosing};
 ghost use Rattle.shared_account.specs.Closed.{IsMismatch};
-ghost use Rattle.shared_account.specs.Kinds.{IsReplyTo, IsReturn};
+ghost use Rattle.shared_account.specs.Kinds.{IsFaultOf, IsReplyTo, IsReturn};
 ghost use Rattle.shared_account.specs.Own.{IsMerged, of_call, own};
 ghost use Rattle.shared_account.specs.Seats.{are_all};
 ghost use Rattle.shared_account.specs.Plays.{with_entry};
@@ -145,6 +145,7 @@ impl TurnAccount {
         ensures kept { OnErr result (seat.new.place ≡ seat.old.place) }
         ensures refused { IfErr result (λ fault. (fault ≡ AccountFault.GateClosed)
             ⊎ IsRefusal seat.new.view (asked_of op) fault) }
+        ensures fault { IfErr result (λ fault. IsFaultOf (asked_of op) fault) }
         ensures range { result ≡ Err AccountFault.OutOfRange → is_in_range (asked_of op) ≡ false }
         ensures gate { result ≡ Err AccountFault.GateClosed → G.may_shut gate.now }
         ensures closing { IsClosing (reverse seat.new.view.history) (asked_of op)
@@ -251,6 +252,7 @@ fn enter<G: Gate>(
     ensures kept { OnErr result (seat.new ≡ seat.old) }
     ensures refused { IfErr result (λ fault. (fault ≡ AccountFault.GateClosed)
         ⊎ IsRefusal chair.old.me.0.seen (asked_of op) fault) }
+    ensures fault { IfErr result (λ fault. IsFaultOf (asked_of op) fault) }
     ensures range { result ≡ Err AccountFault.OutOfRange → is_in_range (asked_of op) ≡ false }
     ensures gate { result ≡ Err AccountFault.GateClosed → G.may_shut gate.now }
     ensures closing { IsClosing (reverse chair.old.me.0.seen.history) (asked_of op)

@@ -13,6 +13,7 @@ use std::alloc::Global;
 use std::sync::Wait;
 
 impl Shared for TurnAccount {
+    ghost use Rattle.shared_account.specs.Kinds.{IsRefused};
     ghost use Rattle.atomic_table.specs.Seated.{TableId, table_id_coded};
 
     type Seat = TurnSeat;
@@ -30,6 +31,8 @@ impl Shared for TurnAccount {
     ghost number_of = { λ seat. seat.place.number };
 
     ghost mine_of = { λ seat. seat.place.mine };
+
+    ghost refuses = { λ _ asked fault. IsRefused asked fault };
 
     fn new<R>(
         rt: &R,

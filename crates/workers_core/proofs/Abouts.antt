@@ -83,7 +83,7 @@ kept_or_done : (call : ℕ) (phase : Phase) (step : Step) → IsAbout call phase
 kept_or_done call phase (Ok next) about keeps = keeps
 kept_or_done call phase (Err fault) about keeps = (about, tt, refl)
 
-kept_got : (call : ℕ) (phase : Phase) (got : Got) → IsAbout call phase → KeepsTo call (Ok (after_got phase got))
+pub kept_got : (call : ℕ) (phase : Phase) (got : Got) → IsAbout call phase → KeepsTo call (Ok (after_got phase got))
 kept_got call phase (Ok reply) about = kept_or_done call phase (on_reply phase reply) about (keeps_replied call phase reply about)
 kept_got call phase (Err fault) about = kept_or_done call phase (on_refusal phase) about (keeps_unanswered call phase about)
 
@@ -93,7 +93,7 @@ pub talked_about : (call : ℕ) (first : Says × Phase) (gots : List Got) → Is
 talked_about call first [] about = about
 talked_about call first (got ∷ earlier) about = (kept_got call (talked first earlier).1 got (talked_about call first earlier about)).0
 
-says_of_call : (call : ℕ) (first : Says × Phase) (gots : List Got) → IsAbout call first.1 → SaysOf call first.0 → SaysOf call (talked first gots).0
+pub says_of_call : (call : ℕ) (first : Says × Phase) (gots : List Got) → IsAbout call first.1 → SaysOf call first.0 → SaysOf call (talked first gots).0
 says_of_call call first [] about says = says
 says_of_call call first (got ∷ earlier) about says = (kept_got call (talked first earlier).1 got (talked_about call first earlier about)).1
 
@@ -149,7 +149,7 @@ part_of_none : {X : Type 0} (part : List X) → IsPart part [] → part ≡ []
 part_of_none [] is = refl
 part_of_none (x ∷ part) is = absurd is
 
-no_settle : (seat : ℕ) (said : Says) (got : Got) → settled_by said ≡ [] → settles_of (entry_of seat said got) ≡ []
+pub no_settle : (seat : ℕ) (said : Says) (got : Got) → settled_by said ≡ [] → settles_of (entry_of seat said got) ≡ []
 no_settle seat said got none = part_of_none (settles_of (entry_of seat said got)) (let P : List Report → Type 0 = λ l. IsPart (settles_of (entry_of seat said got)) l in subst P none (entry_settles seat said got))
 
 -- a talk settles at most the report with which it begins

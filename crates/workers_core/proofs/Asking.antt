@@ -4,24 +4,23 @@ use Rattle.std.specs.Prelude.{◌==◌, Contains, if◌then◌else◌, slice_ind
 use Rattle.std.specs.Map.{keys_of}
 use Rattle.std.proofs.lemmas.List.{append_assoc, map-append}
 use Rattle.std.proofs.lemmas.List.Elements.{All-head, All-tail, Contains-append_left, Contains-append_right, Contains-push}
-use Rattle.account_core.specs.Asked.{Asked, Returns, Settles}
+use Rattle.account_core.specs.Asked.{Asked}
 use Rattle.account_core.specs.Events.{EntryData}
 use Rattle.account_core.specs.declared.fault.AccountFault.{AccountFault}
 use Rattle.cap_values.specs.NumberDigits.{digits_of}
-use Rattle.cap_values.specs.declared.event.Event.TheVariants as event
 use Rattle.cap_values.specs.declared.message.SsfMsg.{SsfMsg}
 use Rattle.cap_values.specs.declared.message.SsfMsg.TheVariants as msg
 use Rattle.cap_values.specs.declared.number.Number.{Number}
-use Rattle.dialogue_core.specs.Phases.{Conditions, Phase, Says, Sequel, FirstAsk, Running, Settling, Returning, Nothing, Closes, Asks}
-use Rattle.dialogue_core.specs.Table.{on_begin, conditions, going_on, reserve, on_message}
+use Rattle.dialogue_core.specs.Phases.{Conditions, Phase, Says, FirstAsk, Running, Asks}
+use Rattle.dialogue_core.specs.Table.{on_begin, conditions, reserve, on_message}
 use Rattle.tariff_core.specs.Routes.{HasNoRoute}
 use Rattle.tariff_core.specs.declared.route.Route.{Route}
 use Rattle.workers_core.proofs.Chaining.{first_sound, once_sound}
-use Rattle.workers_core.proofs.Entering.{place_within}
+use Rattle.workers_core.proofs.Growing.{place_within}
 use Rattle.workers_core.proofs.Handling.{Means, home_within, many_keys, means_on, own_of, same_number}
 use Rattle.workers_core.specs.Chains.{AreHandled, IsHandledOnce, at_first, seat_numbers}
 use Rattle.workers_core.specs.Handled.{Holding, IsBegun, IsDone, IsRouted, IsTalked, AnswerView, grown}
-use Rattle.workers_core.specs.Laws.{CallsAreReserved, CallsAreReturned, HasNoDialogue, IsHandledAfter, IsReserved, IsRunning, PostsAreHandled, ReportsAreSettled, asked_at, ends_call}
+use Rattle.workers_core.specs.Laws.{CallsAreReserved, HasNoDialogue, IsHandledAfter, IsReserved, IsRunning, PostsAreHandled, asked_at}
 use Rattle.run_values.specs.Setups.{Setup, account_of}
 use Rattle.workers_core.specs.Talks.{Got, entries_of, entry_of, is_ask, last_fault, talked}
 use Rattle.workers_core.specs.Verdicts.{DialogueAt, Verdict, Strays, Rejects, Recharges, Begins, GoesOn, begins, goes_on, home_of, spoken, verdict_on}
@@ -214,48 +213,27 @@ calls_are_reserved setup number before post lists old call other place calling c
 
 -- ---- a call that goes on
 
--- where its dialogue takes a message and asks for something, that is entered
-taken_on : (setup : Setup) (number : ℕ) (before : List Post) (post : Post) (lists : List (List EntryData)) (old : Holding) (call place : ℕ) (message : SsfMsg) (asked : Conditions → Asked) (to : Conditions → Phase)
-    → IsHandledAfter setup number before post lists old → (running : IsRunning old call place) → post.body ≡ Ssf call message
-    → on_message (Running running.terms) post.number post.at message ≡ Ok (Asks (asked running.terms), to running.terms)
-    → Contains (asked_at lists place) (asked running.terms) × (running.terms.call ≡ call)
-taken_on setup number before post lists old call place message asked to is running body takes =
+-- its dialogue takes a message and asks the account at its place for something
+pub record IsTaken (setup : Setup) (number : ℕ) (before : List Post) (post : Post) (lists : List (List EntryData)) (old : Holding) (call place : ℕ) (is : IsHandledAfter setup number before post lists old) (said : Says) (to : Phase) : Type 0 where
+  pub sound : IsSound (keys_of setup.accounts) before old
+  pub within : place < length old.lists
+  pub talk : IsTalked (seat_numbers number setup) call place (said, to) old is.between is.handles.told
+
+pub taken_on : (setup : Setup) (number : ℕ) (before : List Post) (post : Post) (lists : List (List EntryData)) (old : Holding) (call place : ℕ) (message : SsfMsg) (said : Says) (to : Phase)
+    → (is : IsHandledAfter setup number before post lists old) → (running : IsRunning old call place) → post.body ≡ Ssf call message
+    → on_message (Running running.terms) post.number post.at message ≡ Ok (said, to)
+    → IsTaken setup number before post lists old call place is said to × (running.terms.call ≡ call)
+taken_on setup number before post lists old call place message said to is running body takes =
     let numbers = seat_numbers number setup in
     let standing : DialogueAt = record { phase = Running running.terms; place = place } in
     let sound = sound_all setup numbers [] before is.refused (at_first setup) old (first_sound setup) is.begins in
     let own = own_of (length (keys_of setup.accounts)) before call standing (old.talks call) running.is (sound.talks call) in
-    let verdict_is : verdict_on setup old.talks post.number post.at post.body ≡ GoesOn call place (Asks (asked running.terms)) (to running.terms) =
-    ap (verdict_on setup old.talks post.number post.at) body ∙ ap (spoken setup post.number post.at call message) running.is ∙ ap (goes_on call place) takes in
-    let talk : IsTalked numbers call place (Asks (asked running.terms), to running.terms) old is.between is.handles.told =
-    subst (λ v. IsDone setup numbers post.at v old is.between is.handles.told) verdict_is is.handles.handled.done in
-    let within = place_within setup before old place sound (rw (← many_keys setup) own.placed) in
-    let entered = asks_first numbers call place (asked running.terms) (to running.terms) old is.between is.handles.told within is.handles.refused talk in
-    (rw (← is.lists_are) (stays_after setup numbers is.after is.refused_after is.between is.new place (asked running.terms) is.ends entered), own.about)
-
-pub reports_are_settled : ReportsAreSettled
-reports_are_settled setup number before post lists old call place active info is running body =
-    let entered = taken_on setup number before post lists old call place (msg.ChargingReport active info) (λ t. Settles t.call post.number info) (λ t. Settling t active post.at) is running body refl in
-    let P : ℕ → Type 0 = λ c. Contains (asked_at lists place) (Settles c post.number info) in
-    subst P entered.1 entered.0
-
--- what follows when a message ends a call
-sequel_to : SsfMsg → Sequel
-sequel_to (msg.InitialDp other calling called) = Nothing
-sequel_to (msg.EventReport event leg mode) = going_on mode
-sequel_to (msg.ChargingReport active info) = Nothing
-sequel_to msg.Ended = Closes
-
-gives_back : (t : Conditions) (number at : ℕ) (message : SsfMsg) → ends_call message ≡ true → on_message (Running t) number at message ≡ Ok (Asks (Returns t.call), Returning (sequel_to message))
-unfolding sequel_to
-gives_back t number at (msg.InitialDp other calling called) ends = absurd (cc)
-gives_back t number at (msg.EventReport event.Answer leg mode) ends = absurd (cc)
-gives_back t number at (msg.EventReport event leg mode) ends = refl
-gives_back t number at (msg.ChargingReport active info) ends = absurd (cc)
-gives_back t number at msg.Ended ends = refl
-
-pub calls_are_returned : CallsAreReturned
-calls_are_returned setup number before post lists old call place message is running body ends =
-    let entered = taken_on setup number before post lists old call place message (λ t. Returns t.call) (λ t. Returning (sequel_to message)) is running body
-    (gives_back running.terms post.number post.at message ends) in
-    let P : ℕ → Type 0 = λ c. Contains (asked_at lists place) (Returns c) in
-    subst P entered.1 entered.0
+    let verdict_is : verdict_on setup old.talks post.number post.at post.body ≡ GoesOn call place said to =
+    ap (verdict_on setup old.talks post.number post.at) body ∙ ap (spoken setup post.number post.at call message) running.is ∙ ap (goes_on call place) takes in (
+      record {
+        sound = sound;
+        within = place_within setup before old place sound (rw (← many_keys setup) own.placed);
+        talk = subst (λ v. IsDone setup numbers post.at v old is.between is.handles.told) verdict_is is.handles.handled.done;
+      },
+      own.about,
+    )

@@ -5,7 +5,7 @@ use Rattle.workers_core.specs.Laws.{WhatIsSaidIsSent}
 use Rattle.workers_core.specs.Talks.{AllAsk, Got, is_ask, last_fault, sent_by}
 
 -- the first of the replies would need a pending ask
-nothing_asked : (first : Says × Phase) (gots : List Got) → is_ask first.0 ≡ false → AllAsk first gots → gots ≡ []
+pub nothing_asked : (first : Says × Phase) (gots : List Got) → is_ask first.0 ≡ false → AllAsk first gots → gots ≡ []
 nothing_asked first [] rests asked = refl
 nothing_asked first (got ∷ []) rests asked = let pending = asked.0 in absurd (cc)
 nothing_asked first (got ∷ (last ∷ earlier)) rests asked = let none = nothing_asked first (last ∷ earlier) rests asked.1 in cc

@@ -1,9 +1,8 @@
 -- The recharges of a worker are entered, each once, or refused.
-use Rattle.std.proofs.Common.{◌≡◌, ◌≢◌, ◌<◌, ◌++◌, ◌∙◌, ℕ, zero, suc, Bool, true, false, Option, Some, None, Ok, Err, List, [], ◌∷◌, length, map, refl, sym, ap, subst, arith, append-nil, get_or}
+use Rattle.std.proofs.Common.{◌≡◌, ◌<◌, ◌++◌, ◌∙◌, ℕ, zero, suc, Bool, true, false, Option, Some, None, Ok, Err, List, [], ◌∷◌, length, map, refl, sym, ap, subst, arith, append-nil, get_or}
 use Rattle.std.specs.Prelude.{◌==◌, slice_index_or}
 use Rattle.std.specs.Map.{keys_of}
 use Rattle.std.proofs.lemmas.Bool.Decides.{nat_tests}
-use Rattle.std.proofs.lemmas.Grind.{flat_map-append}
 use Rattle.std.proofs.lemmas.List.{append_assoc}
 use Rattle.account_core.specs.Asked.{Credits}
 use Rattle.account_core.specs.Events.{EntryData}
@@ -13,12 +12,13 @@ use Rattle.dialogue_core.specs.Phases.{Says, Asks}
 use Rattle.dialogue_core.specs.Table.{Step, on_begin}
 use Rattle.workers_core.proofs.Abouts.{TakesTo, begun_about, begun_says, takes_told, talk_credits}
 use Rattle.workers_core.proofs.Chaining.{first_sound, once_sound}
-use Rattle.workers_core.proofs.Handling.{Means, at_place, many_keys, means_on, own_of, same_number}
+use Rattle.workers_core.proofs.Growing.{place_within, read_grown}
+use Rattle.workers_core.proofs.Handling.{Means, at_place, means_on, own_of, same_number}
 use Rattle.workers_core.specs.Chains.{AreHandled, at_first}
-use Rattle.workers_core.specs.Handled.{Holding, IsDone, IsTalked, AnswerView, grown}
+use Rattle.workers_core.specs.Handled.{Holding, IsDone, IsTalked, AnswerView}
 use Rattle.workers_core.specs.Laws.{RechargesAreEntered, accepted_of, credited_by}
 use Rattle.run_values.specs.Openings.{no_credit}
-use Rattle.workers_core.specs.Served.{AreServed, Money, credited_in, credits_of}
+use Rattle.workers_core.specs.Served.{Money, credited_in, credits_of}
 use Rattle.run_values.specs.Setups.{Setup, place_of}
 use Rattle.workers_core.specs.Talks.{Got, entries_of, entry_of, last_fault}
 use Rattle.workers_core.specs.Verdicts.{Verdict, Strays, Rejects, Recharges, Begins, GoesOn, recharged, verdict_on}
@@ -28,38 +28,13 @@ use Rattle.run_values.specs.declared.post.Body.{Body}
 use Rattle.run_values.specs.declared.post.Body.TheVariants.{Ssf, Recharge}
 use Rattle.run_values.specs.declared.post.Post.{Post}
 
--- ---- the list of one account
-
-served_many : (accounts : List ℕ) (posts : List Post) (lists : List (List EntryData)) → AreServed accounts posts lists → length lists ≡ length accounts
-served_many [] posts [] are = refl
-served_many [] posts (mine ∷ lists) are = absurd are
-served_many (account ∷ accounts) posts [] are = absurd are
-served_many (account ∷ accounts) posts (mine ∷ lists) are = ap suc (served_many accounts posts lists are.1)
-
--- a place of the setup has a list
-pub place_within : (setup : Setup) (posts : List Post) (old : Holding) (place : ℕ) → IsSound (keys_of setup.accounts) posts old → place < length setup.accounts → place < length old.lists
-place_within setup posts old place sound within = rw (served_many (keys_of setup.accounts) posts old.lists sound.served, many_keys setup) within
-
--- the Credits of one list, where another or this one has grown
-credits_grown : (lists : List (List EntryData)) (at place : ℕ) (entries : List EntryData) (more : List Money) → place < length lists → (at ≡ place → credits_of entries ≡ more) → (at ≢ place → more ≡ [])
-    → credits_of (slice_index_or (grown lists at entries) place []) ≡ credits_of (slice_index_or lists place []) ++ more
-credits_grown [] at place entries more within here elsewhere = absurd (omega (arith, within))
-credits_grown (mine ∷ lists) zero zero entries more within here elsewhere =
-    flat_map-append (λ (e : EntryData). credited_in e.asked) mine entries ∙ ap (λ l. credits_of mine ++ l) (here refl)
-credits_grown (mine ∷ lists) zero (suc place) entries more within here elsewhere =
-    sym (append-nil (credits_of (slice_index_or lists place []))) ∙ ap (λ l. credits_of (slice_index_or lists place []) ++ l) (sym (elsewhere (λ is. omega (arith, is))))
-credits_grown (mine ∷ lists) (suc at) zero entries more within here elsewhere =
-    sym (append-nil (credits_of mine)) ∙ ap (λ l. credits_of mine ++ l) (sym (elsewhere (λ is. omega (arith, is))))
-credits_grown (mine ∷ lists) (suc at) (suc place) entries more within here elsewhere =
-    credits_grown lists at place entries more (omega (arith, within)) (λ is. here (ap suc is)) (λ not. elsewhere (λ is. not (omega (arith, is))))
-
 -- ---- a message of a call adds no Credit
 
 none_more : (setup : Setup) (numbers : List ℕ) (call at place : ℕ) (first : Says × _) (old new : Holding) (t : AnswerView) → place < length old.lists
     → ((seat : ℕ) (gots : List Got) → credits_of (entries_of seat first gots) ≡ []) → IsTalked numbers call at first old new t
     → credits_of (slice_index_or new.lists place []) ≡ credits_of (slice_index_or old.lists place []) ++ []
 none_more setup numbers call at place first old new t within none is =
-    rw is.lists (credits_grown old.lists at place (entries_of (slice_index_or numbers at 0) first is.gots) [] within (λ here. none (slice_index_or numbers at 0) is.gots) (λ elsewhere. refl))
+    rw is.lists (read_grown (λ (e : EntryData). credited_in e.asked) old.lists at place (entries_of (slice_index_or numbers at 0) first is.gots) [] (λ here. omega (arith, here, within)) (λ here. none (slice_index_or numbers at 0) is.gots) (λ elsewhere. refl))
 
 message_adds : (setup : Setup) (numbers : List ℕ) (posts : List Post) (place number at call : ℕ) (message : SsfMsg) (v : Verdict) (old new : Holding) (t : AnswerView) → place < length old.lists
     → IsSound (keys_of setup.accounts) posts old → Means setup old.talks number at (Ssf call message) v → IsDone setup numbers at v old new t
@@ -119,7 +94,8 @@ recharge_adds setup numbers account other place amount at until None refusal old
     rw (done.lists, others_money account other amount until refusal (differs (other == account) not)) (sym (append-nil (credits_of (slice_index_or old.lists place []))))
 recharge_adds setup numbers account other place amount at until (Some there) refusal old new t within its found refused done =
     rw done.lists
-    (credits_grown old.lists there place (entry_of (slice_index_or numbers there 0) (Asks (Credits amount until)) done.got) (credited_by account (Recharge other amount until) refusal) within
+    (read_grown (λ (e : EntryData). credited_in e.asked) old.lists there place (entry_of (slice_index_or numbers there 0) (Asks (Credits amount until)) done.got)
+    (credited_by account (Recharge other amount until) refusal) (λ here. omega (arith, here, within))
     (λ here. its_money account other amount until (slice_index_or numbers there 0) refusal done.got (same_place setup account other place its (found ∙ ap Some here)) (sym refused ∙ done.refused))
     (λ elsewhere. others_money account other amount until refusal (differs (other == account) (λ same. elsewhere (one_place setup account other there place its found same)))))
 

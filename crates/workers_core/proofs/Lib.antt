@@ -5,9 +5,14 @@ pub mod Chaining
 pub mod Closes
 pub mod Doings
 pub mod Entering
+pub mod Growing
 pub mod Handling
 pub mod Orders
 pub mod Parts
+pub mod Refused
 pub mod Reserving
+pub mod Returnings
+pub mod Settlings
 pub mod Talking
+pub mod Through
 pub mod Verdicts

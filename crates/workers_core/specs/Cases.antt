@@ -1,8 +1,8 @@
 -- The case of a post, as the code has it, and what acting on it does.
-use Rattle.std.specs.Prelude.{◌≡◌, ◌==◌, ◌<◌, ◌++◌, ◌⊎◌, ℕ, true, false, Option, Some, None, Ok, Err, List, [], ◌∷◌, IsSome, if◌then◌else◌}
+use Rattle.std.specs.Prelude.{◌≡◌, ◌==◌, ◌<◌, ◌++◌, ◌⊎◌, ℕ, true, false, Option, Some, None, Ok, Err, List, [], ◌∷◌, IfSome, IsSome, if◌then◌else◌}
 use Rattle.std.specs.BTreeMap.{BTreeMap, get}
 use Rattle.std.specs.Ordering.{nat_cmp}
-use Rattle.account_core.specs.Asked.{Asked}
+use Rattle.account_core.specs.Asked.{Asked, Credits}
 use Rattle.account_core.specs.Events.{EntryData}
 use Rattle.account_core.specs.declared.fault.AccountFault.{AccountFault}
 use Rattle.cap_values.specs.NumberDigits.{digits_of}
@@ -13,6 +13,7 @@ use Rattle.dialogue_core.specs.Table.{on_begin}
 use Rattle.dialogue_core.specs.Views.{phase_of, says_of}
 use Rattle.tariff_core.specs.declared.route.Route.{Route}
 use Rattle.workers_core.specs.Handled.{Holding, IsRecharged, IsRouted, IsTalked, IsUnasked, AnswerView}
+use Rattle.workers_core.specs.Refusals.{IsRefusedAsk, IsRefusedTalk, Refusing}
 use Rattle.run_values.specs.Setups.{Setup}
 use Rattle.workers_core.specs.Talks.{Got, after_got, entry_of}
 use Rattle.workers_core.specs.Verdicts.{DialogueAt, Verdict, Strays, Rejects, Recharges, Begins, GoesOn}
@@ -84,3 +85,14 @@ pub record IsCredited (seat : ℕ) (asked : Asked) (before after : List EntryDat
   pub orders : told.orders ≡ []
   pub stray : told.stray ≡ false
   pub refuses : told.refused ≡ or_fault None got
+
+-- a post was refused with a fault, by its case: the account at the case's place has given that fault to what was asked
+abbrev pub IsRefusedCase : (ℕ → Refusing) → Case → AccountFault → Type 0
+IsRefusedCase Refuses case.Stray fault = ⊥
+IsRefusedCase Refuses case.Rejected fault = ⊥
+IsRefusedCase Refuses (case.Recharge place amount until) fault = IsRefusedAsk (Refuses place) (Credits amount until) fault
+IsRefusedCase Refuses (case.Talk call talk turn) fault = IsRefusedTalk (Refuses talk.place) (says_of turn, phase_of talk.dialogue) fault
+
+-- what is told after an ask is what was told before it, or a fault that the ask was refused with
+abbrev pub IsToldOf : Refusing → Asked → Option AccountFault → Option AccountFault → Type 0
+IsToldOf Refuses asked old new = (new ≡ old) ⊎ IfSome new (IsRefusedAsk Refuses asked)

@@ -1,5 +1,5 @@
 -- What holds of every talk, and of all that a worker has handled.
-use Rattle.std.specs.Prelude.{◌≡◌, ◌++◌, ℕ, Bool, true, false, Option, Some, None, List, [], ◌∷◌, All, Contains, length, map, slice_index_or}
+use Rattle.std.specs.Prelude.{◌≡◌, ◌≢◌, ◌==◌, ◌++◌, ℕ, Bool, true, false, Option, Some, None, List, [], ◌∷◌, All, Contains, if◌then◌else◌, length, map, slice_index_or}
 use Rattle.account_core.specs.Asked.{Asked, Credits, Reserves, Returns, Settles}
 use Rattle.account_core.specs.Events.{EntryData}
 use Rattle.account_core.specs.declared.fault.AccountFault.{AccountFault}
@@ -16,7 +16,7 @@ use Rattle.tariff_core.specs.declared.route.Route.{Route}
 use Rattle.tariff_core.specs.declared.time_info.TimeInfo.{TimeInfo}
 use Rattle.workers_core.specs.Chains.{AreHandled, IsHandledOnce, IsWorked, at_first, seat_numbers}
 use Rattle.workers_core.specs.Handled.{Holding, IsTalked, AnswerView}
-use Rattle.workers_core.specs.Served.{Money, credits_of, recharged_in}
+use Rattle.workers_core.specs.Served.{IsPart, Money, Report, credits_of, recharged_in, reports_of, returns_of, settles_of}
 use Rattle.run_values.specs.Setups.{Setup, place_of}
 use Rattle.workers_core.specs.Talks.{is_ask, sent_by}
 use Rattle.workers_core.specs.Verdicts.{home_of}
@@ -137,12 +137,21 @@ pub record IsRunning (h : Holding) (call place : ℕ) : Type 0 where
   pub terms : Conditions
   pub is : h.talks call ≡ Some (record { phase = Running terms; place = place })
 
--- a report of a call that goes on is settled, with the number of its post, or was refused
+-- of the reports that are settled in a list, a post has these: they stand behind those that the list had before, all of them of the posts before it, and those behind them
+-- are of the posts after it, in the order of the posts
+pub record AreSettledFor (before after : List Post) (its : List Report) (old mine : List EntryData) : Type 0 where
+  pub later : List Report
+  pub is : settles_of mine ≡ settles_of old ++ (its ++ later)
+  pub of_earlier : IsPart (settles_of old) (reports_of before)
+  pub of_later : IsPart later (reports_of after)
+
+-- a report of a call that goes on is settled just once, in its place and with the number of its post, at the call's account and at no other; or it was refused
 abbrev pub ReportsAreSettled : Type 0
 ReportsAreSettled =
     (setup : Setup) (number : ℕ) (before : List Post) (post : Post) (lists : List (List EntryData)) (old : Holding) (call place : ℕ) (active : Bool) (info : TimeInfo)
-    → IsHandledAfter setup number before post lists old → IsRunning old call place → post.body ≡ Ssf call (ChargingReport active info)
-    → Contains (asked_at lists place) (Settles call post.number info)
+    → (handled : IsHandledAfter setup number before post lists old) → IsRunning old call place → post.body ≡ Ssf call (ChargingReport active info)
+    → (at : ℕ)
+    → AreSettledFor before handled.after (if at == place then (post.number, call, info) ∷ [] else []) (slice_index_or old.lists at []) (slice_index_or lists at [])
 
 -- a message that ends a call which goes on: an event other than Answer, or Ended
 abbrev pub ends_call : SsfMsg → Bool
@@ -152,9 +161,16 @@ ends_call (EventReport event leg mode) = true
 ends_call (ChargingReport active info) = false
 ends_call Ended = true
 
--- a call that goes on and is ended by a message is returned, or its Return was refused
+-- of the calls that are returned in a list, a post has these: they stand behind those that the list had before, and no other Return there is of the call
+pub record AreReturnedFor (call : ℕ) (its : List ℕ) (old mine : List EntryData) : Type 0 where
+  pub later : List ℕ
+  pub is : returns_of mine ≡ returns_of old ++ (its ++ later)
+  pub none_earlier : All (λ other. other ≢ call) (returns_of old)
+  pub none_later : All (λ other. other ≢ call) later
+
+-- a call that goes on and is ended by a message is returned just once, in the message's place, at the call's account and at no other; or its Return was refused
 abbrev pub CallsAreReturned : Type 0
 CallsAreReturned =
     (setup : Setup) (number : ℕ) (before : List Post) (post : Post) (lists : List (List EntryData)) (old : Holding) (call place : ℕ) (message : SsfMsg)
     → IsHandledAfter setup number before post lists old → IsRunning old call place → post.body ≡ Ssf call message → ends_call message ≡ true
-    → Contains (asked_at lists place) (Returns call)
+    → (at : ℕ) → AreReturnedFor call (if at == place then call ∷ [] else []) (slice_index_or old.lists at []) (slice_index_or lists at [])

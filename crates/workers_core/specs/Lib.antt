@@ -4,6 +4,7 @@ pub mod Ends
 pub mod Handled
 pub mod Laws
 pub mod Logs
+pub mod Refusals
 pub mod Served
 pub mod Talks
 pub mod Verdicts

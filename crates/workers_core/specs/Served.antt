@@ -97,6 +97,17 @@ held_in (Returns call) = call ∷ []
 abbrev pub held_of : List EntryData → List ℕ
 held_of mine = flat_map (λ event. held_in event.asked) mine
 
+-- the call that an operation returns
+abbrev pub returned_in : Asked → List ℕ
+returned_in (Credits amount until) = []
+returned_in (Reserves call plan wanted least moment) = []
+returned_in (Settles call number info) = []
+returned_in (Returns call) = call ∷ []
+
+-- the calls of the Returns among entries
+abbrev pub returns_of : List EntryData → List ℕ
+returns_of mine = flat_map (λ event. returned_in event.asked) mine
+
 -- the entries that a seat of an account made for posts: each Settle is of a charging report and carries its post's number, each Credit is of a
 -- recharge of the account, both in the order of the posts, and each Reserve or Return is of a call that had an InitialDp
 pub record IsServed (account : ℕ) (posts : List Post) (mine : List EntryData) : Type 0 where

@@ -1,13 +1,14 @@
 //! What a worker does in the case of a post.
 
-ghost use Rattle.std.specs.Prelude.{◌≡◌, ◌≢◌, ◌==◌, ◌∷◌, ◌<◌, [], ℕ, None, Some, true, false, length, map, if◌then◌else◌, IfOk, IfErr, IsSome, OnOk};
+ghost use Rattle.std.specs.Prelude.{◌≡◌, ◌≢◌, ◌==◌, ◌∷◌, ◌<◌, [], ℕ, None, Some, true, false, length, map, if◌then◌else◌, IfErr, IfOk, IfSome, IsSome, OnOk};
 ghost use Rattle.std.specs.BTreeMap.{get};
 ghost use Rattle.std.specs.Ordering.{nat_cmp};
 ghost use Rattle.account_core.specs.Events.{asked_of};
 ghost use Rattle.cap_values.specs.Orders.{Release, orders_of};
 ghost use Rattle.dialogue_core.specs.Views.{phase_of, says_of};
-ghost use Rattle.workers_core.specs.Cases.{HasRoom, IsActed, IsCredited, IsWithin, with_room};
+ghost use Rattle.workers_core.specs.Cases.{HasRoom, IsActed, IsCredited, IsRefusedCase, IsWithin, with_room};
 ghost use Rattle.workers_core.specs.Handled.{IsRecharged, IsTalked, answer_view};
+ghost use Rattle.workers_core.specs.Refusals.{HasRefusedAt, IsRefusedAsk};
 ghost use Rattle.workers_core.specs.Workers.{standing_of, standings_in};
 
 use crate::WorkerFault;
@@ -81,6 +82,8 @@ pub(crate) fn act<S: Shared, R: Wait, G: Gate>(
         (record { lists = map S.mine_of seats.old.items; talks = standings_in talks.old })
         (record { lists = map S.mine_of seats.new.items; talks = standings_in talks.new })
         (answer_view answer)) }
+    ensures refused { IfOk result (λ answer. IfSome answer.refused
+        (IsRefusedCase (HasRefusedAt S.refuses accounts.now) case)) }
     ensures fault { IfErr result (λ fault. fault ≡ WorkerFault.GateClosed) }
     ensures gate { result ≡ Err WorkerFault.GateClosed → G.may_shut gate.now }
 {
@@ -161,6 +164,8 @@ fn recharge<S: Shared, R: Wait, G: Gate>(
     ensures number { IfOk result (λ answer. answer.number ≡ number) }
     ensures credited { IfOk result (λ answer. IsCredited (S.number_of seat.old)
         (asked_of credit) (S.mine_of seat.old) (S.mine_of seat.new) (answer_view answer)) }
+    ensures refused { IfOk result (λ answer. IfSome answer.refused
+        (IsRefusedAsk (S.refuses account.now) (asked_of credit))) }
     ensures fault { IfErr result (λ fault. fault ≡ WorkerFault.GateClosed) }
     ensures gate { result ≡ Err WorkerFault.GateClosed → G.may_shut gate.now }
 {

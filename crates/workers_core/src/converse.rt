@@ -1,10 +1,11 @@
 //! The talk of a dialogue with its account, until it says something else.
 
-ghost use Rattle.std.specs.Prelude.{◌≡◌, ◌≢◌, None, IfOk, IfErr};
+ghost use Rattle.std.specs.Prelude.{◌≡◌, ◌≢◌, None, IfErr, IfOk, IfSome};
 ghost use Rattle.account_core.specs.Events.{asked_of};
 ghost use Rattle.cap_values.specs.Orders.{orders_of};
 ghost use Rattle.dialogue_core.specs.Views.{phase_of, says_of};
-ghost use Rattle.workers_core.specs.Cases.{IsAsked};
+ghost use Rattle.workers_core.specs.Cases.{IsAsked, IsToldOf};
+ghost use Rattle.workers_core.specs.Refusals.{IsRefusedTalk};
 ghost use Rattle.workers_core.specs.Talks.{IsTalk, after_got, sent_by};
 
 use crate::WorkerFault;
@@ -40,6 +41,8 @@ pub(crate) fn converse<S: Shared, R: Wait, G: Gate>(
         (says_of turn, phase_of dialogue.old)
         (S.mine_of seat.old) (S.mine_of seat.new)
         (phase_of dialogue.new) (orders_of said.ops.items) said.refused) }
+    ensures refused { IfOk result (λ said. IfSome said.refused
+        (IsRefusedTalk (S.refuses account.now) (says_of turn, phase_of dialogue.old))) }
     ensures fault { IfErr result (λ fault. fault ≡ WorkerFault.GateClosed) }
     ensures gate { result ≡ Err WorkerFault.GateClosed → G.may_shut gate.now }
 {
@@ -71,6 +74,8 @@ fn ask<S: Shared, R: Wait, G: Gate>(
     ensures asked { IfOk result (λ turn. IsAsked (S.number_of seat.old) (asked_of op)
         (S.mine_of seat.old) (S.mine_of seat.new)
         (phase_of dialogue.old) (phase_of dialogue.new) (says_of turn) refused.old refused.new) }
+    ensures told { IfOk result (λ _.
+        IsToldOf (S.refuses account.now) (asked_of op) refused.old refused.new) }
     ensures fault { IfErr result (λ fault. fault ≡ WorkerFault.GateClosed) }
     ensures gate { result ≡ Err WorkerFault.GateClosed → G.may_shut gate.now }
 {

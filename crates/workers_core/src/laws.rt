@@ -33,13 +33,14 @@ pub fn calls_are_reserved()
     ensures { CallsAreReserved }
 {}
 
-/// A ChargingReport of a call that goes on is settled at the call's account with the number of its
-/// post, or it was refused.
+/// A ChargingReport of a call that goes on is settled just once, at the call's account and at no
+/// other: in its place among the reports, and with the number of its post. Or it was refused.
 pub fn reports_are_settled()
     ensures { ReportsAreSettled }
 {}
 
-/// A call that goes on and is ended by a message is returned at its account, or that was refused.
+/// A call that goes on and is ended by a message is returned just once, at its account and at no
+/// other, in the message's place. Or its Return was refused.
 pub fn calls_are_returned()
     ensures { CallsAreReturned }
 {}

@@ -1,8 +1,9 @@
 //! A worker: it handles the posts of its calls and the recharges of its accounts.
 
-ghost use Rattle.std.specs.Prelude.{◌≡◌, ◌++◌, ◌∷◌, ◌≤◌, ℕ, [], None, Option, true, map, All, IfErr, IfOk, OnOk};
+ghost use Rattle.std.specs.Prelude.{◌≡◌, ◌++◌, ◌∷◌, ◌≤◌, ℕ, [], None, Option, true, map, All, IfErr, IfOk, IfSome, OnOk};
 ghost use Rattle.std.specs.Map.{keys_of};
 ghost use Rattle.workers_core.specs.Handled.{IsHandled, IsRecharged, answer_view};
+ghost use Rattle.workers_core.specs.Refusals.{HasRefusedAt, IsRefusedPost};
 ghost use Rattle.workers_core.specs.Served.{AreServed};
 ghost use Rattle.cap_values.specs.Orders.{Release, orders_of};
 ghost use Rattle.workers_core.specs.Verdicts.{Recharges, Rejects, strays, verdict};
@@ -71,7 +72,8 @@ impl<'s, S: Shared> Worker<'s, S> {
     /// among them each further InitialDp, and any other message of a call without dialogue: it sends
     /// no operation and asks no account. An InitialDp from a number that is no subscriber's is
     /// answered by ReleaseCall(21), and no account is asked. Else the dialogue of the call talks with
-    /// its account until it sends operations or is done, or the account is recharged.
+    /// its account until it sends operations or is done, or the account is recharged. A refusal that
+    /// the answer tells is one that this account gave to what it was asked for the post.
     ///
     /// `OutOfMemory` comes before any account is asked; `GateClosed` where a gate is closed. After
     /// either the worker isn't used again.
@@ -87,6 +89,9 @@ impl<'s, S: Shared> Worker<'s, S> {
         ensures handled { IfOk result (λ answer. IsHandled (setup_of self.old) (map
             S.number_of (seats_of self.old)) post
             (holding S.mine_of self.old) (holding S.mine_of self.new) (answer_view answer)) }
+        ensures refused { IfOk result (λ answer. IfSome answer.refused
+            (IsRefusedPost (HasRefusedAt S.refuses (accounts_of self.old)) (setup_of self.old)
+            post.at (verdict (setup_of self.old) (talks_of self.old) post))) }
         ensures stray { IfOk result (λ answer. answer.stray ≡ strays
             (verdict (setup_of self.old) (talks_of self.old) post)) }
         ensures stray_asks_nothing { IfOk result (λ answer. answer.stray ≡ true

@@ -5,6 +5,7 @@ use Rattle.dialogue_core.specs.Views.{phase_of, says_of}
 use Rattle.workers_core.specs.Handled.{answer_view}
 use Rattle.workers_core.specs.Workers.{standings_in}
 use Rattle.workers_core.proofs.Doings.{as_many, grown_at, numbered_at, on_ok, own_account, recharged_by, same_seats, stands_now, talked_by}
+use Rattle.workers_core.proofs.Refused.{ask_there, talk_there}
 use Rattle.workers_core.proofs.acting.act.Goals as goal
 
 pub recharge-requires-after_bounds : goal.recharge-requires-after_bounds
@@ -61,3 +62,16 @@ returns-in_ok-said-in-Talk-clause-acted g c =
     (λ entries. grown_at g.S.Shared.mine_of c.args.seats.now.items c.in-Talk.talk.place c.index_mut-in-Talk.result.now c.converse.new.seat entries there c.index_mut-in-Talk.ensures.value)
     (stands_now c.args.talks.now c.keep.new.talks c.in-Talk.call (record { dialogue = c.converse.new.dialogue; place = c.in-Talk.talk.place }) c.keep.ensures)
     refl refl refl)
+
+pub returns-in-Recharge-clause-refused : goal.returns-in-Recharge-clause-refused
+returns-in-Recharge-clause-refused g c =
+    rw c.in-Recharge.is
+    (IfOk-weaker c.recharge.result _ _ (λ answer is.
+    ask_there g.S.Shared.refuses c.args.accounts.now c.in-Recharge.place c.index-accounts-place.result _ answer.refused (rw c.in-Recharge.is at c.requires.within) c.index-accounts-place.is is)
+    c.recharge.ensures.refused)
+
+pub returns-in_ok-said-in-Talk-clause-refused : goal.returns-in_ok-said-in-Talk-clause-refused
+returns-in_ok-said-in-Talk-clause-refused g c =
+    rw c.in-Talk.is
+    (talk_there g.S.Shared.refuses c.args.accounts.now c.in-Talk.talk.place c.index-accounts-place-in-Talk.result (says_of c.in-Talk.turn, phase_of c.in-Talk.talk.dialogue)
+    c.in_ok-said-in-Talk.said.refused (rw c.in-Talk.is at c.requires.within) c.index-accounts-place-in-Talk.is c.in_ok-said-in-Talk.ensures.refused)

@@ -1,6 +1,7 @@
 use Rattle.std.proofs.Common.{arith, ◌∙◌}
 use Rattle.account_core.specs.Events.{asked_of}
 use Rattle.dialogue_core.specs.Views.{phase_of, says_of}
+use Rattle.workers_core.proofs.Refused.{told_more}
 use Rattle.workers_core.proofs.Talking.{fewer_asked, so_asked}
 use Rattle.workers_core.proofs.converse.converse.Goals as goal
 
@@ -22,4 +23,8 @@ loop-turn-preserved g c = record {
       (says_of c.in_ok-turn.turn) c.loop-turn.refused c.ask.new.refused
       (rw c.in-Ask.is at c.loop-turn.invariant.so_far)
       (rw c.loop-turn.invariant.same_number at c.in_ok-turn.ensures.asked);
+  told =
+      told_more (g.S.Shared.refuses c.args.account.now) (g.S.Shared.number_of c.args.seat.now) (says_of c.args.turn, phase_of c.args.dialogue.now) (g.S.Shared.mine_of c.args.seat.now)
+      (g.S.Shared.mine_of c.loop-turn.seat) (asked_of c.in-Ask.op) (phase_of c.loop-turn.dialogue) c.loop-turn.refused c.ask.new.refused
+      (rw c.in-Ask.is at c.loop-turn.invariant.so_far) c.in_ok-turn.ensures.told c.loop-turn.invariant.told;
 }

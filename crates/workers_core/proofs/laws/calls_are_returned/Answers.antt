@@ -1,5 +1,5 @@
-use Rattle.workers_core.proofs.Asking as asking
+use Rattle.workers_core.proofs.Returnings as returnings
 use Rattle.workers_core.proofs.laws.calls_are_returned.Goals as goal
 
 pub returns : goal.returns
-returns c = asking.calls_are_returned
+returns c = returnings.calls_are_returned

@@ -1,5 +1,5 @@
-use Rattle.workers_core.proofs.Asking as asking
+use Rattle.workers_core.proofs.Settlings as settlings
 use Rattle.workers_core.proofs.laws.reports_are_settled.Goals as goal
 
 pub returns : goal.returns
-returns c = asking.reports_are_settled
+returns c = settlings.reports_are_settled

@@ -22,7 +22,7 @@ invariant_of-self-in_default c =
     let whole = reached_whole i.network.config i.delay i.rows.items _ (c.self.invariant.2 c.if-not-self.false) in
     let next = next_is i.network i.deliveries.items c.put_down.new.deliveries.items i.delay i.rows.items i.taken i.ended c.args.answers.now c.next_row-row.result c.next_delivery-delivery.result
     c.first_due.result c.next_moment.result c.next_moment.ensures.least row c.next_delivery-delivery.ensures.first waits in
-    let turn = end_is i.network i.deliveries.items c.put_down.new.deliveries.items i.delay i.rows.items i.taken i.ended c.args.answers.now c.first_due.result whole c.first_due.ensures
+    let turn = end_is i.network i.deliveries.items c.put_down.new.deliveries.items i.delay i.rows.items i.taken i.ended c.args.answers.now c.first_due.result c.self.invariant.0.in_range whole c.first_due.ensures
     (sym next ∙ c.in_default.is) waits in (
       record {
         delay_within_day = c.self.invariant.0.delay_within_day;
@@ -44,7 +44,7 @@ returns-in_default-clause-turn c =
     let whole = reached_whole i.network.config i.delay i.rows.items _ (c.self.invariant.2 c.if-not-self.false) in
     let next = next_is i.network i.deliveries.items c.put_down.new.deliveries.items i.delay i.rows.items i.taken i.ended c.args.answers.now c.next_row-row.result c.next_delivery-delivery.result
     c.first_due.result c.next_moment.result c.next_moment.ensures.least row c.next_delivery-delivery.ensures.first waits in
-    let turn = end_is i.network i.deliveries.items c.put_down.new.deliveries.items i.delay i.rows.items i.taken i.ended c.args.answers.now c.first_due.result whole c.first_due.ensures
+    let turn = end_is i.network i.deliveries.items c.put_down.new.deliveries.items i.delay i.rows.items i.taken i.ended c.args.answers.now c.first_due.result c.self.invariant.0.in_range whole c.first_due.ensures
     (sym next ∙ c.in_default.is) waits in
     rw (← c.self.view_is) (λ running. turn)
 
@@ -59,7 +59,7 @@ returns-in_default-clause-heard c =
     let whole = reached_whole i.network.config i.delay i.rows.items _ (c.self.invariant.2 c.if-not-self.false) in
     let next = next_is i.network i.deliveries.items c.put_down.new.deliveries.items i.delay i.rows.items i.taken i.ended c.args.answers.now c.next_row-row.result c.next_delivery-delivery.result
     c.first_due.result c.next_moment.result c.next_moment.ensures.least row c.next_delivery-delivery.ensures.first waits in
-    let turn = end_is i.network i.deliveries.items c.put_down.new.deliveries.items i.delay i.rows.items i.taken i.ended c.args.answers.now c.first_due.result whole c.first_due.ensures
+    let turn = end_is i.network i.deliveries.items c.put_down.new.deliveries.items i.delay i.rows.items i.taken i.ended c.args.answers.now c.first_due.result c.self.invariant.0.in_range whole c.first_due.ensures
     (sym next ∙ c.in_default.is) waits in
     rw (← c.self.view_is)
     (λ running config delay rows heard has. heard_more config delay rows heard c.args.answers.now (play_at i.network i.deliveries.items i.delay i.rows.items i.taken i.ended) _ false running turn has)

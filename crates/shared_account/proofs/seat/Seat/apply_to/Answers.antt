@@ -4,8 +4,18 @@ use Rattle.account_core.specs.Events.{asked_of}
 use Rattle.account_core.specs.Ledger.{IsRefusal}
 use Rattle.account_core.specs.Places.{IsClosing}
 use Rattle.shared_account.proofs.Owning.{closing_alike}
-use Rattle.shared_account.proofs.Refusing.{fits_of, range_of, returning_of}
+use Rattle.shared_account.proofs.Refusing.{fits_of, kind_of, range_of, returning_of}
 use Rattle.shared_account.proofs.seat.Seat.apply_to.Goals as goal
+
+pub returns-in_err-admitted-clause-fault : goal.returns-in_err-admitted-clause-fault
+returns-in_err-admitted-clause-fault c =
+    let refused : IfErr c.from_residual.result (IsRefusal c.args.account.now (asked_of c.args.op)) = search rules in
+    kind_of c.args.account.now (asked_of c.args.op) c.from_residual.result refused
+
+pub returns-in_err-enter-clause-fault : goal.returns-in_err-enter-clause-fault
+returns-in_err-enter-clause-fault c =
+    let refused : IfErr c.from_residual-in_err-enter.result (IsRefusal c.args.account.now (asked_of c.args.op)) = search rules in
+    kind_of c.args.account.now (asked_of c.args.op) c.from_residual-in_err-enter.result refused
 
 pub returns-in_err-admitted-clause-range : goal.returns-in_err-admitted-clause-range
 returns-in_err-admitted-clause-range c =

@@ -1,10 +1,12 @@
 use Rattle.std.proofs.Common.{◌≡◌, ◌∙◌, ℕ, List, All, length, map, ap, sym, subst}
 use Rattle.std.proofs.lemmas.List.{length-map}
 use Rattle.workers_core.specs.Handled.{answer_view}
+use Rattle.workers_core.specs.Refusals.{HasRefusedAt}
 use Rattle.workers_core.specs.Verdicts.{verdict}
 use Rattle.workers_core.specs.Workers.{holding, standings_in}
 use Rattle.workers_core.proofs.Handling.{case_within, done_by, recharged_so, rejected_so, sound_after, stray_is, stray_lists}
 use Rattle.run_values.specs.declared.opening_credit.OpeningCredit.{OpeningCredit}
+use Rattle.workers_core.proofs.Refused.{post_refused}
 use Rattle.workers_core.proofs.worker.Worker.handle.Goals as goal
 
 done : goal.returns-clause-handled
@@ -52,3 +54,8 @@ returns-clause-rejected g c = λ is. rejected_so _ _ _ _ _ _ (answer_view c.in_o
 
 pub returns-clause-recharged : goal.returns-clause-recharged
 returns-clause-recharged g c = λ place amount until is. recharged_so _ _ _ _ _ _ (answer_view c.in_ok-answer.answer) place amount until (done g c).done is
+
+pub returns-clause-refused : goal.returns-clause-refused
+returns-clause-refused g c =
+    post_refused (HasRefusedAt g.S.Shared.refuses c.args.self.now.accounts.now) c.args.self.now.setup.now c.args.post.at
+    (verdict c.args.self.now.setup.now (standings_in c.args.self.now.talks) c.args.post) c.judge-case.result c.in_ok-answer.answer.refused c.judge-case.ensures c.in_ok-answer.ensures.refused

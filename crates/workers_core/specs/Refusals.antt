@@ -1,0 +1,50 @@
+-- The refusals that a worker tells of: each is one that an account has given it.
+use Rattle.std.specs.Prelude.{◌≡◌, ◌<◌, ℕ, Option, List, length, slice_index_or}
+use Rattle.account_core.specs.Asked.{Asked, Credits}
+use Rattle.account_core.specs.declared.fault.AccountFault.{AccountFault}
+use Rattle.cap_values.specs.NumberDigits.{digits_of}
+use Rattle.cap_values.specs.declared.number.Number.{Number}
+use Rattle.dialogue_core.specs.Phases.{Phase, Says, Asks}
+use Rattle.dialogue_core.specs.Table.{on_begin}
+use Rattle.shared_account.specs.Kinds.{IsFaultOf}
+use Rattle.tariff_core.specs.declared.route.Route.{Route}
+use Rattle.run_values.specs.Setups.{Setup}
+use Rattle.workers_core.specs.Handled.{IsRouted}
+use Rattle.workers_core.specs.Talks.{Got, talked}
+use Rattle.workers_core.specs.Verdicts.{Verdict, Strays, Rejects, Recharges, Begins, GoesOn}
+
+-- which faults an account has given to what it was asked
+abbrev pub Refusing : Type 1
+Refusing = Asked → AccountFault → Type 0
+
+-- an ask was refused with a fault, which is of a kind that the ask has
+abbrev pub IsRefusedAsk : Refusing → Asked → AccountFault → Type 0
+IsRefusedAsk Refuses asked fault = Refuses asked fault × IsFaultOf asked fault
+
+-- the account at a place has refused an ask with a fault
+pub record HasRefusedAt {S : Type 0} (Refuses : S → Refusing) (accounts : List S) (place : ℕ) (asked : Asked) (fault : AccountFault) : Type 0 where
+  pub account : S
+  pub within : place < length accounts
+  pub account_is : account ≡ slice_index_or accounts place account
+  pub refuses : Refuses account asked fault
+
+-- in a talk from what is said first, an ask that was pending was refused with this fault
+pub record IsRefusedTalk (Refuses : Refusing) (first : Says × Phase) (fault : AccountFault) : Type 0 where
+  pub earlier : List Got
+  pub asked : Asked
+  pub pending : (talked first earlier).0 ≡ Asks asked
+  pub refused : IsRefusedAsk Refuses asked fault
+
+-- the talk of a call that begins was refused
+pub record IsRefusedBeginning (Refuses : Refusing) (setup : Setup) (at call : ℕ) (called : Number) (fault : AccountFault) : Type 0 where
+  pub route : Option Route
+  pub routed : IsRouted setup.tariff (digits_of called) at route
+  pub refused : IsRefusedTalk Refuses (on_begin call at setup.service.wanted setup.service.least route) fault
+
+-- a post was refused with a fault, by the verdict on it: the account at the verdict's place has given that fault to what was asked for the post
+abbrev pub IsRefusedPost : (ℕ → Refusing) → Setup → ℕ → Verdict → AccountFault → Type 0
+IsRefusedPost Refuses setup at Strays fault = ⊥
+IsRefusedPost Refuses setup at Rejects fault = ⊥
+IsRefusedPost Refuses setup at (Recharges place amount until) fault = IsRefusedAsk (Refuses place) (Credits amount until) fault
+IsRefusedPost Refuses setup at (Begins call place called) fault = IsRefusedBeginning (Refuses place) setup at call called fault
+IsRefusedPost Refuses setup at (GoesOn call place said phase) fault = IsRefusedTalk (Refuses place) (said, phase) fault
