@@ -1,0 +1,8 @@
+//! What was said in a run: each message, and the operations that answer it, as a table.
+#![tactic(auto)]
+
+mod rows;
+mod table;
+mod words;
+
+pub use table::trace_table;

@@ -1,0 +1,175 @@
+//! The rows of a post and of its answer.
+
+ghost use Rattle.std.specs.Prelude.{◌≡◌, ◌++◌, Some, map, OnOk, string_bytes};
+ghost use Rattle.run_trace.specs.Said.{message_said, operation_said, post_said, refused_said, report_said, stray_said};
+ghost use Rattle.run_trace.specs.Tables.{answer_rows, call_of, head_text, row, said_text, sender_of, service_rows};
+
+use crate::words::{
+    Field, digits, event_word, leg_number, mode_word, release_word, short_field, state_word,
+};
+use account_core::AccountFault;
+use cap_values::{ScfOp, SsfMsg};
+use run_values::{Answer, Body};
+use std::alloc::AllocError;
+use std::fmt;
+use tariff_core::TimeInfo;
+
+/// What the rows of a post and of its answer begin with: the moment, the number and the call.
+#[derive(Clone, Copy)]
+pub(crate) struct Head {
+    pub at: u64,
+    pub number: u64,
+    pub call: Option<u64>,
+}
+
+impl fmt::Display for Head {
+    ghost use Rattle.std.specs.Prelude.{Some};
+    ghost use Rattle.run_trace.specs.Tables.{head_text};
+
+    ghost output = { λ head. Some (head_text head.at head.number head.call) };
+
+    fn fmt<W: fmt::Write>(&self, f: &mut fmt::Formatter<W>) -> fmt::Result {
+        let (at, number, call) = (self.at, self.number, Field(self.call));
+        write!(f, "{at},{number},{call}")
+    }
+}
+
+/// The call of a post, if it has one.
+pub(crate) fn call_of(body: &Body) -> Option<u64>
+    ensures { result ≡ call_of body.now }
+{
+    match *body {
+        Body::Ssf { call, .. } => Some(call),
+        Body::Recharge { .. } => None,
+    }
+}
+
+/// Adds the row of a post.
+pub(crate) fn write_post(text: &mut String, head: Head, body: &Body) -> Result<(), AllocError>
+    ensures { OnOk result (string_bytes text.new ≡ string_bytes text.old
+        ++ row (head_text head.at head.number head.call) (sender_of body.now)
+        (post_said body.now)) }
+{
+    match *body {
+        Body::Ssf { msg, .. } => {
+            write!(text, "{head},switch,")?;
+            write_message(text, &msg)
+        }
+        Body::Recharge {
+            account,
+            amount,
+            until,
+        } => {
+            let until = Field(until);
+            writeln!(text, "{head},operator,Recharge,{account},{amount},{until},")
+        }
+    }
+}
+
+/// Adds what a message says, to the end of its row.
+fn write_message(text: &mut String, msg: &SsfMsg) -> Result<(), AllocError>
+    ensures { OnOk result (string_bytes text.new ≡ string_bytes text.old
+        ++ said_text (message_said msg.now)) }
+{
+    match *msg {
+        SsfMsg::InitialDp {
+            calling,
+            called,
+            ..
+        } => {
+            let (calling, called) = (digits(&calling), digits(&called));
+            writeln!(text, "InitialDP,{calling},{called},,")
+        }
+        SsfMsg::EventReport { event, leg, mode } => {
+            let (event, leg, mode) = (event_word(event), leg_number(leg), mode_word(mode));
+            writeln!(text, "EventReportBCSM,{event},{leg},{mode},")
+        }
+        SsfMsg::ChargingReport { active, info } => write_report(text, active, info),
+        SsfMsg::Ended => writeln!(text, "Ended,,,,"),
+    }
+}
+
+/// Adds what a charging report says, to the end of its row.
+fn write_report(text: &mut String, active: bool, info: TimeInfo) -> Result<(), AllocError>
+    ensures { OnOk result (string_bytes text.new ≡ string_bytes text.old
+        ++ said_text (report_said active info)) }
+{
+    let state = state_word(active);
+    match info {
+        TimeInfo::NoSwitch { t } => writeln!(text, "ApplyChargingReport,{state},n,{t},"),
+        TimeInfo::Switch { since, interval } => {
+            let interval = short_field(interval);
+            writeln!(text, "ApplyChargingReport,{state},s,{since},{interval}")
+        }
+    }
+}
+
+/// Adds the rows of an answer: its operations, in order, then whether the post was stray, and the
+/// fault that an ask of an account got.
+pub(crate) fn write_answer(text: &mut String, head: Head, answer: &Answer) -> Result<(), AllocError>
+    ensures { OnOk result (string_bytes text.new ≡ string_bytes text.old
+        ++ answer_rows (head_text head.at head.number head.call) (Some answer.now)) }
+{
+    write_operations(text, head, answer.ops.as_slice())?;
+    write_stray(text, head, answer.stray)?;
+    write_refused(text, head, answer.refused)
+}
+
+/// Adds the rows of operations, in order.
+fn write_operations(text: &mut String, head: Head, ops: &[ScfOp]) -> Result<(), AllocError>
+    ensures { OnOk result (string_bytes text.new ≡ string_bytes text.old
+        ++ service_rows (head_text head.at head.number head.call) (map operation_said ops.now)) }
+{
+    for op in ops {
+        write!(text, "{head},service,")?;
+        write_operation(text, op)?;
+    }
+    Ok(())
+}
+
+/// Adds the row of a post that had no place.
+fn write_stray(text: &mut String, head: Head, stray: bool) -> Result<(), AllocError>
+    ensures { OnOk result (string_bytes text.new ≡ string_bytes text.old
+        ++ service_rows (head_text head.at head.number head.call) (stray_said stray)) }
+{
+    if stray {
+        writeln!(text, "{head},service,stray,,,,")
+    } else {
+        Ok(())
+    }
+}
+
+/// Adds the row of the fault that an ask of an account got, if one did.
+fn write_refused(
+    text: &mut String,
+    head: Head,
+    refused: Option<AccountFault>,
+) -> Result<(), AllocError>
+    ensures { OnOk result (string_bytes text.new ≡ string_bytes text.old
+        ++ service_rows (head_text head.at head.number head.call) (refused_said refused)) }
+{
+    match refused {
+        Some(fault) => writeln!(text, "{head},service,refused,{fault},,,"),
+        None => Ok(()),
+    }
+}
+
+/// Adds what an operation says, to the end of its row.
+fn write_operation(text: &mut String, op: &ScfOp) -> Result<(), AllocError>
+    ensures { OnOk result (string_bytes text.new ≡ string_bytes text.old
+        ++ said_text (operation_said op.now)) }
+{
+    match *op {
+        ScfOp::RequestReport(_) => writeln!(text, "RequestReportBCSMEvent,,,,"),
+        ScfOp::ApplyCharging(charge) => {
+            let (period, switch) = (charge.period, short_field(charge.switch));
+            let release = release_word(charge.release);
+            writeln!(text, "ApplyCharging,{period},{switch},{release},")
+        }
+        ScfOp::Continue => writeln!(text, "Continue,,,,"),
+        ScfOp::ReleaseCall(cause) => {
+            let value = cause.value;
+            writeln!(text, "ReleaseCall,{value},,,")
+        }
+    }
+}
