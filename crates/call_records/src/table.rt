@@ -1,6 +1,7 @@
 //! The table of calls.
 
 ghost use Rattle.std.specs.Prelude.{◌≡◌, ◌++◌, [], IfOk, OnOk, string_bytes, unwrap_or};
+ghost use Rattle.std.specs.Fmt.{decimal};
 ghost use Rattle.entry_rows.specs.Columns.{number_or_empty};
 ghost use Rattle.call_records.specs.Records.{prefix_of};
 ghost use Rattle.call_records.specs.Tables.{call_text, digits_text, moments_text, record_row, word_of};
@@ -84,10 +85,19 @@ fn write_digits(text: &mut String, digits: &[u8]) -> Result<(), AllocError>
         ≡ string_bytes text.old ++ digits_text digits.now) }
 {
     for digit in digits {
-        let value = digit.saturating_sub(b'0');
-        write!(text, "{value}")?;
+        write_digit(text, digit.saturating_sub(b'0'))?;
     }
     Ok(())
+}
+
+/// Adds a number in decimals: one of a single digit as a character, which is quicker.
+fn write_digit(text: &mut String, number: u8) -> Result<(), AllocError>
+    ensures { OnOk result (string_bytes text.new ≡ string_bytes text.old ++ decimal number) }
+{
+    match char::from_digit(u32::from(number), 10) {
+        Some(digit) => text.push(digit),
+        None => write!(text, "{number}"),
+    }
 }
 
 /// Adds a number where there is one.
