@@ -1,5 +1,5 @@
 -- The checks follow the books, row after row.
-use Rattle.std.proofs.Common.{◌≡◌, ◌<◌, ℕ, zero, suc, length, arith, Bool, true, false, cond, List, [], ◌∷◌, ◌++◌, Option, Some, None, Result, Ok, Err, reverse, refl, sym, ap, ◌∙◌, append_assoc, append-nil}
+use Rattle.std.proofs.Common.{◌≡◌, ◌<◌, ℕ, zero, suc, length, arith, Bool, true, false, cond, List, [], ◌∷◌, ◌++◌, Option, Some, None, Result, Ok, Err, reverse, refl, sym, ap, ◌∙◌, append-nil}
 use Rattle.std.specs.BTreeMap.{insert_entry}
 use Rattle.std.specs.Bool.{Decides}
 use Rattle.std.proofs.lemmas.List.Concat.{flat_map-append}
@@ -12,7 +12,7 @@ use Rattle.std.specs.declared.cmp.Ordering.{Ordering}
 use Rattle.std.specs.declared.cmp.Ordering.TheVariants as order
 use Rattle.account_core.specs.Checked.{IsCheckOf}
 use Rattle.account_core.specs.declared.history_check.HistoryCheck.{HistoryCheck}
-use Rattle.std.specs.BTreeMap.{BTreeMap}
+use Rattle.std.specs.Global.{Vec}
 use Rattle.account_core.specs.Answers.{IsLegalPast}
 use Rattle.account_core.specs.Events.{EntryData}
 use Rattle.table_core.specs.Faults.{Refuses}
@@ -26,7 +26,8 @@ use Rattle.entry_rows.specs.Versions.{version_at}
 use Rattle.book_texts.specs.Audits.{AreVerdicts, GivesAudit, verdict_line}
 use Rattle.book_texts.specs.BookRows.{HasColumns}
 use Rattle.book_texts.specs.Books.{Books, Told, books_headers}
-use Rattle.book_texts.specs.Checks.{AreChecks, AreSaidBy, Comes, GivesChecks, TellsChecks, audited_by}
+use Rattle.book_texts.specs.Checks.{AreChecks, AreSaidBy, Comes, GivesChecks, HaveChecks, IsOrdered, ListComes, TellsChecks, audited_by, entries_of}
+use Rattle.book_texts.specs.declared.account_checks.AccountChecks.{AccountChecks}
 use Rattle.book_texts.specs.declared.audit.Audit.{Audit}
 
 -- a check has heard what is told
@@ -113,13 +114,20 @@ module _ (cmp : ℕ → ℕ → Ordering) (account : ℕ) (told : Told) (check :
 
 -- ---- what a row comes to
 
-pub row_taken : (meaning : Result Books RowKind) (checks : List (ℕ × HistoryCheck)) → Comes None meaning checks → (next : Books) × (meaning ≡ Ok next) × AreChecks next checks
+pub row_taken : (meaning : Result Books RowKind) (checks : AccountChecks) → Comes None meaning checks → (next : Books) × (meaning ≡ Ok next) × HaveChecks next checks
 row_taken (Ok next) checks are = (next, refl, are)
 row_taken (Err why) checks never = absurd never
 
-pub row_refused : (meaning : Result Books RowKind) (checks : List (ℕ × HistoryCheck)) (kind : RowKind) → Comes (Some kind) meaning checks → meaning ≡ Err kind
+pub row_refused : (meaning : Result Books RowKind) (checks : AccountChecks) (kind : RowKind) → Comes (Some kind) meaning checks → meaning ≡ Err kind
 row_refused (Ok next) checks kind never = absurd never
 row_refused (Err why) checks kind is = ap (λ k. Err k) (sym is)
+
+-- where the checks of a list or a map are those after a row, and they are in order
+pub list_comes : (refused : Option RowKind) (meaning : Result Books RowKind) (checks : AccountChecks) → ListComes refused meaning (entries_of checks) → IsOrdered checks → Comes refused meaning checks
+list_comes None (Ok books) checks are ordered = (are, ordered)
+list_comes None (Err why) checks are ordered = are
+list_comes (Some kind) (Ok books) checks are ordered = are
+list_comes (Some kind) (Err why) checks are ordered = are
 
 -- a row that is as wide as its header has the columns of the header's version
 pub has_columns : (header : ℕ) (fields : Fields) → header < length books_headers → length fields ≡ width_at books_headers header
@@ -130,14 +138,14 @@ has_columns (suc (suc zero)) fields one wide = ((omega (arith, wide), λ two. om
 has_columns (suc (suc (suc header))) fields one wide = absurd (omega (arith, one))
 
 -- a fault that the table's reader passes on is that of the meaning
-pub fault_told : (known : Option (List ℕ)) (answer : Result (BTreeMap ℕ HistoryCheck) TableFault) (why : TableFault) (P : List ℕ → Type 0) (meaning : List ℕ → Result Books RowFault)
+pub fault_told : (known : Option (List ℕ)) (answer : Result (Vec (ℕ × HistoryCheck)) TableFault) (why : TableFault) (P : List ℕ → Type 0) (meaning : List ℕ → Result Books RowFault)
     → IsErrAnd answer (λ met. met ≡ why) → IfSome known P → ((text : List ℕ) → P text → Refuses why (meaning text)) → IfSome known (λ text. GivesChecks answer (meaning text))
 fault_told known (Ok checks) why P meaning met holds so = absurd met
 fault_told known (Err other) why P meaning met holds so = map_known known P _ holds (λ text at. rw met (so text at))
 
 -- ---- what the checks say
 
-said_more : (done : List (ℕ × HistoryCheck)) (verdicts : List (ℕ × Bool)) (account : ℕ) (check : HistoryCheck) (legal : Bool) → AreSaidBy done verdicts
+pub said_more : (done : List (ℕ × HistoryCheck)) (verdicts : List (ℕ × Bool)) (account : ℕ) (check : HistoryCheck) (legal : Bool) → AreSaidBy done verdicts
     → ((opening : ℕ) (until : Option ℕ) (h : List EntryData) → IsCheckOf opening until h check → Decides legal (IsLegalPast opening until h))
     → AreSaidBy (done ++ (account, check) ∷ []) (verdicts ++ (account, legal) ∷ [])
 said_more [] [] account check legal said says = ((refl, says), tt)
@@ -153,19 +161,6 @@ still_passes legal true before = cc
 still_fails : (legal some : Bool) → not some ≡ false → false ≡ not (some || (not legal || false))
 still_fails legal true before = refl
 still_fails legal false before = cc
-
--- the verdict of one check more
-pub record IsToldMore (done next all : List (ℕ × HistoryCheck)) (verdicts : List (ℕ × Bool)) : Type 0 where
-  pub split : done ++ next ≡ all
-  pub said : AreSaidBy done verdicts
-
-pub told_more : (done left next all : List (ℕ × HistoryCheck)) (verdicts : List (ℕ × Bool)) (account : ℕ) (check : HistoryCheck) (legal : Bool) → done ++ left ≡ all
-    → left ≡ (account, check) ∷ next → AreSaidBy done verdicts → ((opening : ℕ) (until : Option ℕ) (h : List EntryData) → IsCheckOf opening until h check → Decides legal (IsLegalPast opening until h))
-    → IsToldMore (done ++ (account, check) ∷ []) next all (verdicts ++ (account, legal) ∷ [])
-told_more done left next all verdicts account check legal split is said says = record {
-  split = append_assoc done ((account, check) ∷ []) next ∙ ap (λ l. done ++ l) (sym is) ∙ split;
-  said = said_more done verdicts account check legal said says;
-}
 
 pub lines_more : (verdicts : List (ℕ × Bool)) (verdict : ℕ × Bool) (text : List ℕ) → text ≡ flat_map verdict_line verdicts
     → text ++ verdict_line verdict ≡ flat_map verdict_line (verdicts ++ verdict ∷ [])
@@ -194,7 +189,7 @@ verdicts_are (book ∷ books) (check ∷ checks) (verdict ∷ verdicts) are said
     ((said.0.0 ∙ are.0.0, said.0.1 book.1.opening book.1.until (reverse book.1.history) are.0.1), verdicts_are books checks verdicts are.1 said.1)
 
 -- from the checks of the table's books to an audit of them
-pub audit_told : (checks : BTreeMap ℕ HistoryCheck) (audit : Audit) (meaning : Result Books RowFault) → TellsChecks checks.entries audit → GivesChecks (Ok checks) meaning
+pub audit_told : (checks : Vec (ℕ × HistoryCheck)) (audit : Audit) (meaning : Result Books RowFault) → TellsChecks checks.items audit → GivesChecks (Ok checks) meaning
     → GivesAudit (Ok (audited_by audit)) meaning
-audit_told checks audit (Ok books) tells are = record { verdicts = tells.verdicts; are = verdicts_are books checks.entries tells.verdicts are tells.said; told = tells.told }
+audit_told checks audit (Ok books) tells are = record { verdicts = tells.verdicts; are = verdicts_are books checks.items tells.verdicts are tells.said; told = tells.told }
 audit_told checks audit (Err why) tells never = absurd never

@@ -3,4 +3,5 @@ pub mod CheckLemmas
 pub mod OneText
 pub mod PrintedRows
 pub mod ReadBooks
+pub mod RisingLemmas
 pub mod TextLemmas

@@ -1,8 +1,8 @@
 -- What the checks of histories are while a table of books is read, and what they say.
-use Rattle.std.specs.Prelude.{◌≡◌, ℕ, Bool, List, Option, Some, None, Result, Ok, Err, reverse}
-use Rattle.std.specs.BTreeMap.{BTreeMap}
+use Rattle.std.specs.Prelude.{◌≡◌, ◌≢◌, ◌<◌, ℕ, Bool, List, Option, Some, None, Result, Ok, Err, ⊤, length, reverse, slice_index_or}
 use Rattle.std.specs.Bool.{Decides}
-use Rattle.std.specs.List.{AllZip}
+use Rattle.std.specs.List.{AllZip, HoldsAt}
+use Rattle.std.specs.Global.{Vec}
 use Rattle.account_core.specs.Answers.{IsLegalPast}
 use Rattle.account_core.specs.Checked.{IsCheckOf}
 use Rattle.account_core.specs.Events.{EntryData}
@@ -13,6 +13,8 @@ use Rattle.table_core.specs.declared.fault.RowKind.{RowKind}
 use Rattle.table_core.specs.declared.fault.TableFault.{TableFault}
 use Rattle.book_texts.specs.Audits.{Audited, audited}
 use Rattle.book_texts.specs.Books.{Books, Told}
+use Rattle.book_texts.specs.declared.account_checks.AccountChecks.{AccountChecks}
+use Rattle.book_texts.specs.declared.account_checks.AccountChecks.TheVariants.{Rising, Mixed}
 use Rattle.book_texts.specs.declared.audit.Audit.{Audit}
 use Rattle.std.specs.Prelude.{string_bytes}
 
@@ -24,16 +26,53 @@ IsCheck book check = (check.0 ≡ book.0) × IsCheckOf book.1.opening book.1.unt
 abbrev pub AreChecks : Books → List (ℕ × HistoryCheck) → Type 0
 AreChecks books checks = AllZip IsCheck books checks
 
--- a row is refused where its meaning is that fault; else the checks are those of the books after it
-abbrev pub Comes : Option RowKind → Result Books RowKind → List (ℕ × HistoryCheck) → Type 0
-Comes None (Ok books) checks = AreChecks books checks
+-- each account with its check, by rising number
+abbrev pub entries_of : AccountChecks → List (ℕ × HistoryCheck)
+entries_of (Rising list) = list.items
+entries_of (Mixed map) = map.entries
+
+-- each account's number is above those before it
+abbrev pub AreRising : List (ℕ × HistoryCheck) → Type 0
+AreRising checks = (i j : ℕ) (d : ℕ × HistoryCheck) → i < j → j < length checks → (slice_index_or checks i d).0 < (slice_index_or checks j d).0
+
+-- a check is that of an account with a lower number, and of another account
+abbrev pub IsBelow : ℕ → ℕ × HistoryCheck → Type 0
+IsBelow account check = check.0 < account
+
+-- of another account
+abbrev pub IsOther : ℕ → ℕ × HistoryCheck → Type 0
+IsOther account check = check.0 ≢ account
+
+-- the check at a place is that of the account
+abbrev pub StandsAt : List (ℕ × HistoryCheck) → ℕ → ℕ → Type 0
+StandsAt checks account place = (place < length checks) × HoldsAt (λ check. check.0 ≡ account) checks place
+
+-- the accounts of a list rise; a map keeps its order itself
+abbrev pub IsOrdered : AccountChecks → Type 0
+IsOrdered (Rising list) = AreRising list.items
+IsOrdered (Mixed map) = ⊤
+
+-- each account has its check, in order
+abbrev pub HaveChecks : Books → AccountChecks → Type 0
+HaveChecks books checks = AreChecks books (entries_of checks) × IsOrdered checks
+
+-- a row is refused where its meaning is that fault; else these are the checks of the books after it
+abbrev pub ListComes : Option RowKind → Result Books RowKind → List (ℕ × HistoryCheck) → Type 0
+ListComes None (Ok books) checks = AreChecks books checks
+ListComes None (Err why) checks = ⊥
+ListComes (Some kind) (Ok books) checks = ⊥
+ListComes (Some kind) (Err why) checks = kind ≡ why
+
+-- the same of the checks while a table is read
+abbrev pub Comes : Option RowKind → Result Books RowKind → AccountChecks → Type 0
+Comes None (Ok books) checks = HaveChecks books checks
 Comes None (Err why) checks = ⊥
 Comes (Some kind) (Ok books) checks = ⊥
 Comes (Some kind) (Err why) checks = kind ≡ why
 
 -- an answer is the checks of the table's books, or the table's fault
-abbrev pub GivesChecks : Result (BTreeMap ℕ HistoryCheck) TableFault → Result Books RowFault → Type 0
-GivesChecks (Ok checks) (Ok books) = AreChecks books checks.entries
+abbrev pub GivesChecks : Result (Vec (ℕ × HistoryCheck)) TableFault → Result Books RowFault → Type 0
+GivesChecks (Ok checks) (Ok books) = AreChecks books checks.items
 GivesChecks (Ok checks) (Err why) = ⊥
 GivesChecks (Err fault) meaning = Refuses fault meaning
 

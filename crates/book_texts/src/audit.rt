@@ -10,7 +10,6 @@ ghost use Rattle.book_texts.specs.Checks.{TellsChecks, audited_by};
 use crate::checks::check_books;
 use account_core::HistoryCheck;
 use std::alloc::{AllocError, Global};
-use std::collections::BTreeMap;
 use std::io::Read;
 use table_core::TableFault;
 
@@ -37,16 +36,16 @@ pub fn audit_books<I: Read + Drop>(alloc: Global, reader: I) -> Result<Audit, Ta
         GivesAudit (result_map_both audited_by (λ fault. fault) result) (books_of (rows_of text))) }
 {
     let checks = check_books(alloc, reader)?;
-    Ok(tell(alloc, &checks)?)
+    Ok(tell(alloc, checks.as_slice())?)
 }
 
 /// What these checks say.
-fn tell(alloc: Global, checks: &BTreeMap<u32, HistoryCheck>) -> Result<Audit, AllocError>
-    ensures { IfOk result (TellsChecks checks.now.entries) }
+fn tell(alloc: Global, checks: &[(u32, HistoryCheck)]) -> Result<Audit, AllocError>
+    ensures { IfOk result (TellsChecks checks.now) }
 {
     let mut lines = String::new(alloc);
     let mut passes = true;
-    for (account, check) in checks.iter() {
+    for (account, check) in checks {
         let legal = check.is_legal();
         passes = passes && legal;
         write_verdict(&mut lines, *account, legal)?;

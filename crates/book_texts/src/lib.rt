@@ -2,6 +2,7 @@
 //! entries, and the audit of such a table.
 #![tactic(auto)]
 
+mod account_checks;
 mod audit;
 mod book_row;
 mod calls;

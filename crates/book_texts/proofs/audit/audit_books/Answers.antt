@@ -6,4 +6,4 @@ use Rattle.book_texts.proofs.audit.audit_books.Goals as goal
 
 pub returns : goal.returns
 returns g c = map_known (g.I.Read.remaining c.args.reader) _ _ c.in_ok-checks.ensures
-    (λ text are. audit_told c.in_ok-checks.checks c.in_ok-tell.field-0 (books_of (rows_of text)) c.in_ok-tell.ensures are)
+    (λ text are. audit_told c.in_ok-checks.checks c.in_ok-tell.field-0 (books_of (rows_of text)) (rw c.as_slice.ensures.value at c.in_ok-tell.ensures) are)

@@ -14,7 +14,7 @@ returns-in_err-table g c =
 
 pub loop-checks-init : goal.loop-checks-init
 loop-checks-init g c =
-    ([], opened books_form g.I.Read.remaining _ c.in_ok-table.table c.in_ok-table.ensures.first c.in_ok-table.ensures.opens, rw c.new-checks.ensures.empty tt)
+    ([], opened books_form g.I.Read.remaining _ c.in_ok-table.table c.in_ok-table.ensures.first c.in_ok-table.ensures.opens, c.new-checks.ensures)
 
 pub returns-in_err-next_row : goal.returns-in_err-next_row
 returns-in_err-next_row g c =
@@ -56,4 +56,4 @@ returns g c =
     let (books, read, are) = c.loop-checks.invariant in
     map_known (g.I.Read.remaining c.args.reader) _ _
     (ended books_form g.I.Read.remaining _ c.loop-checks.table c.next_row.new.self books read (rw c.if-branch.false at c.in_ok-next_row.ensures.steps))
-    (λ text is. rw is are)
+    (λ text is. rw (is, c.in_ok-into_list.ensures) are.0)

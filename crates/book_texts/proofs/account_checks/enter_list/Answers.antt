@@ -1,0 +1,36 @@
+use Rattle.std.proofs.Common.{◌∷◌, [], ◌++◌, refl, reverse}
+use Rattle.std.proofs.lemmas.List.{reverse-append}
+use Rattle.std.specs.BTreeMap.{is_at}
+use Rattle.std.specs.Ordering.{nat_cmp}
+use Rattle.account_core.specs.Events.{entry_data}
+use Rattle.book_texts.proofs.CheckLemmas.{checks_set, found, is_found, not_found}
+use Rattle.book_texts.proofs.RisingLemmas.{absent, present, set_there}
+use Rattle.book_texts.proofs.account_checks.enter_list.Goals as goal
+
+pub returns-in_default-clause-comes : goal.returns-in_default-clause-comes
+returns-in_default-clause-comes c = λ books are.
+    let others = rw c.as_slice.ensures.value at c.in_default.ensures.absent in
+    let none = not_found _ _ (found (is_at (nat_cmp c.args.account)) books c.args.list.now.items are) (absent c.args.account c.args.list.now.items others) in
+    rw none refl
+
+pub hear-requires : goal.hear-requires
+hear-requires c =
+    let (books, are) = c.requires.are in
+    let item = c.index_mut.result.now in
+    let there = rw c.as_slice.ensures.value at c.in-Some.ensures.found in
+    let (told, is, heard) = is_found _ _ item.1 (found (is_at (nat_cmp c.args.account)) books c.args.list.now.items are)
+    (present c.args.account c.args.list.now.items c.in-Some.place item c.requires.rising there c.index_mut.ensures.value) in
+    (told.opening, told.until, reverse told.history, heard)
+
+pub returns-clause-comes : goal.returns-clause-comes
+returns-clause-comes c = λ books are.
+    let item = c.index_mut.result.now in
+    let there = rw c.as_slice.ensures.value at c.in-Some.ensures.found in
+    let (told, is, heard) = is_found _ _ item.1 (found (is_at (nat_cmp c.args.account)) books c.args.list.now.items are)
+    (present c.args.account c.args.list.now.items c.in-Some.place item c.requires.rising there c.index_mut.ensures.value) in
+    let event = entry_data c.args.entry in
+    let after = c.in_ok-hear.ensures.heard told.opening told.until (reverse told.history) heard in
+    let set_is = set_there c.args.account c.args.list.now.items c.in-Some.place item c.hear.new.self c.requires.rising there c.index_mut.ensures.value in
+    rw (is, ← set_is)
+    (checks_set (is_at (nat_cmp c.args.account)) (record told { history = told.history ++ event ∷ [] }) c.hear.new.self
+    (rw (reverse-append told.history (event ∷ [])) after) books c.args.list.now.items are)

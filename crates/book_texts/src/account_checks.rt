@@ -1,0 +1,195 @@
+//! The checks of the accounts of a table of books, by the accounts' numbers.
+
+ghost use Rattle.std.specs.Prelude.{◌≡◌, ◌≤◌, ℕ, Option, [], true, All, IfNone, IfOk, IfSome, OnOk};
+ghost use Rattle.account_core.specs.Checked.{IsCheckOf};
+ghost use Rattle.account_core.specs.Events.{entry_data};
+ghost use Rattle.book_texts.specs.Books.{Books, entered, opened, told_of};
+ghost use Rattle.book_texts.specs.Checks.{AreChecks, AreRising, Comes, HaveChecks, IsBelow, IsOther, ListComes, StandsAt, entries_of};
+
+use account_core::{Entry, HistoryCheck};
+use std::alloc::{AllocError, Global};
+use std::collections::BTreeMap;
+use std::mem;
+use table_core::RowKind;
+use tariff_core::MAX_MONEY;
+
+/// A check of each account's history.
+#[derive(Drop)]
+pub(crate) enum AccountChecks {
+    /// The accounts opened by rising number: a list in this order, in which a search is quickest.
+    Rising(Vec<(u32, HistoryCheck)>),
+    /// They did not: a map, so that no order of openings takes long.
+    Mixed(BTreeMap<u32, HistoryCheck>),
+}
+
+impl AccountChecks {
+    /// Those of no accounts.
+    pub fn new(alloc: Global) -> AccountChecks
+        ensures { HaveChecks [] result }
+    {
+        AccountChecks::Rising(Vec::new(alloc))
+    }
+
+    /// Opens an account with this credit and last moment. `Repeated` where it is open.
+    pub fn open(
+        &mut self,
+        alloc: Global,
+        account: u32,
+        opening: u64,
+        until: Option<u64>,
+    ) -> Result<Option<RowKind>, AllocError>
+        requires small { opening ≤ MAX_MONEY }
+        requires have { (books : Books) × HaveChecks books self.old }
+        ensures { IfOk result (λ refused. (books : Books) → HaveChecks books self.old
+            → Comes refused (opened account opening until books (told_of account books)) self.new) }
+    {
+        let check = HistoryCheck::new(alloc, opening, until);
+        match self {
+            AccountChecks::Rising(list) => {
+                if is_above(list.as_slice(), account) {
+                    list.push((account, check))?;
+                    return Ok(None);
+                }
+                let list = mem::replace(list, Vec::new(alloc));
+                let mut map = mapped(alloc, list)?;
+                let refused = open_in(&mut map, account, check)?;
+                *self = AccountChecks::Mixed(map);
+                Ok(refused)
+            }
+            AccountChecks::Mixed(map) => open_in(map, account, check),
+        }
+    }
+
+    /// Tells an entry to the check of its account. `Unknown` where it isn't open.
+    pub fn enter(&mut self, account: u32, entry: Entry) -> Result<Option<RowKind>, AllocError>
+        requires { (books : Books) × HaveChecks books self.old }
+        ensures { IfOk result (λ refused. (books : Books) → HaveChecks books self.old
+            → Comes refused (entered account (entry_data entry) books (told_of account books))
+            self.new) }
+    {
+        match self {
+            AccountChecks::Rising(list) => enter_list(list, account, entry),
+            AccountChecks::Mixed(map) => enter_map(map, account, entry),
+        }
+    }
+
+    /// Each account with its check, by rising number.
+    pub fn into_list(self, alloc: Global) -> Result<Vec<(u32, HistoryCheck)>, AllocError>
+        ensures { IfOk result (λ list. list.items ≡ entries_of self) }
+    {
+        match self {
+            AccountChecks::Rising(list) => Ok(list),
+            AccountChecks::Mixed(map) => listed(alloc, map),
+        }
+    }
+}
+
+/// Whether an account's number is above all of a list.
+#[inline(always)]
+fn is_above(list: &[(u32, HistoryCheck)], account: u32) -> bool
+    requires { AreRising list.now }
+    ensures { result ≡ true → All (IsBelow account) list.now }
+{
+    match list.last() {
+        Some(last) => last.0 < account,
+        None => true,
+    }
+}
+
+/// Where an account stands in a list, if it does.
+#[inline(always)]
+fn place_of(list: &[(u32, HistoryCheck)], account: u32) -> Option<usize>
+    requires { AreRising list.now }
+    ensures found { IfSome result (StandsAt list.now account) }
+    ensures absent { IfNone result (All (IsOther account) list.now) }
+{
+    list.binary_search_by_key(&account, |check| check.0).ok()
+}
+
+/// Tells an entry to the check of its account in a list.
+#[inline(always)]
+fn enter_list(
+    list: &mut Vec<(u32, HistoryCheck)>,
+    account: u32,
+    entry: Entry,
+) -> Result<Option<RowKind>, AllocError>
+    requires rising { AreRising list.old.items }
+    requires are { (books : Books) × AreChecks books list.old.items }
+    ensures comes { IfOk result (λ refused. (books : Books) → AreChecks books list.old.items
+        → ListComes refused (entered account (entry_data entry) books (told_of account books))
+        list.new.items) }
+    ensures rising { OnOk result (AreRising list.new.items) }
+{
+    let Some(place) = place_of(list.as_slice(), account) else {
+        return Ok(Some(RowKind::Unknown));
+    };
+    list[place].1.hear(entry)?;
+    Ok(None)
+}
+
+/// Tells an entry to the check of its account in a map.
+fn enter_map(
+    map: &mut BTreeMap<u32, HistoryCheck>,
+    account: u32,
+    entry: Entry,
+) -> Result<Option<RowKind>, AllocError>
+    requires { (books : Books) × AreChecks books map.old.entries }
+    ensures { IfOk result (λ refused. (books : Books) → AreChecks books map.old.entries
+        → ListComes refused (entered account (entry_data entry) books (told_of account books))
+        map.new.entries) }
+{
+    let Some(check) = map.get_mut(&account) else {
+        return Ok(Some(RowKind::Unknown));
+    };
+    check.hear(entry)?;
+    Ok(None)
+}
+
+/// Adds the check of an account that opens to a map, where it has none.
+fn open_in(
+    map: &mut BTreeMap<u32, HistoryCheck>,
+    account: u32,
+    check: HistoryCheck,
+) -> Result<Option<RowKind>, AllocError>
+    ensures { IfOk result (λ refused. (books : Books) (opening : ℕ) (until : Option ℕ)
+        → AreChecks books map.old.entries → IsCheckOf opening until [] check
+        → ListComes refused (opened account opening until books (told_of account books))
+        map.new.entries) }
+{
+    if map.contains_key(&account) {
+        return Ok(Some(RowKind::Repeated));
+    }
+    map.insert(account, check)?;
+    Ok(None)
+}
+
+/// A map of what a list has.
+#[cold]
+#[inline(never)]
+fn mapped(
+    alloc: Global,
+    list: Vec<(u32, HistoryCheck)>,
+) -> Result<BTreeMap<u32, HistoryCheck>, AllocError>
+    requires { AreRising list.items }
+    ensures { IfOk result (λ map. map.entries ≡ list.items) }
+{
+    let mut map = BTreeMap::new(alloc);
+    for (account, check) in list {
+        map.insert(account, check)?;
+    }
+    Ok(map)
+}
+
+/// A list of what a map has.
+fn listed(
+    alloc: Global,
+    map: BTreeMap<u32, HistoryCheck>,
+) -> Result<Vec<(u32, HistoryCheck)>, AllocError>
+    ensures { IfOk result (λ list. list.items ≡ map.entries) }
+{
+    let mut list = Vec::new(alloc);
+    for (account, check) in map {
+        list.push((account, check))?;
+    }
+    Ok(list)
+}
