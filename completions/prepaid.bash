@@ -8,14 +8,14 @@ _prepaid()
         words='price replay run audit quote help --help -h --version -V'
     elif [[ $previous == --default ]]; then
         words='proceed release'
-    elif [[ $previous == --* && $previous != --book && $previous != --calls && $previous != --help && $previous != --version ]]; then
+    elif [[ $previous == --* && $previous != --book && $previous != --calls && $previous != --trace && $previous != --help && $previous != --version ]]; then
         # a number comes next
         words=''
     else
         case ${COMP_WORDS[1]} in
             price) words='--fee --before --after --free --help -h' ;;
             replay) words='--opening --limit --help -h' ;;
-            run) words='--workers --wanted --least --tssf --tccd --delay --default --book --calls --help -h' ;;
+            run) words='--workers --wanted --least --tssf --tccd --delay --default --book --calls --trace --help -h' ;;
             audit) words='--help -h' ;;
             quote) words='--called --at --for --credit --help -h' ;;
             help) words='price replay run audit quote help' ;;

@@ -12,7 +12,7 @@ cd "$(dirname "$0")/.."
 calls=crates/refused_growths/out/refused_growths
 prepaid=crates/prepaid/out/prepaid
 commands='command/help command/price command/replay command/run command/run_book command/run_calls
-    command/audit command/audit_altered'
+    command/run_trace command/audit command/audit_altered'
 
 # The words of a command and its input, what it prints, and its status.
 words_of() {
@@ -23,6 +23,7 @@ words_of() {
         command/run) echo 'run' ;;
         command/run_book) echo 'run --book' ;;
         command/run_calls) echo 'run --calls' ;;
+        command/run_trace) echo 'run --trace' ;;
         command/audit*) echo 'audit' ;;
     esac
 }
@@ -67,6 +68,18 @@ answer_of() {
             echo 'call,calling,called,account,prefix,start,answer,end,before,after,paid,outcome'
             echo '1,491700001,4930,7,49,0,100,402,300,0,550,ended'
             ;;
+        command/run_trace)
+            echo 'moment,number,call,from,what,x1,x2,x3,x4'
+            echo '0,0,1,switch,InitialDP,491700001,4930,,'
+            echo '0,0,1,service,RequestReportBCSMEvent,,,,'
+            echo '0,0,1,service,ApplyCharging,600,,,'
+            echo '0,0,1,service,Continue,,,,'
+            echo '100,1,1,switch,EventReportBCSM,answer,,notify,'
+            echo '400,2,1,switch,ApplyChargingReport,inactive,n,300,'
+            echo '400,3,1,switch,EventReportBCSM,disconnect,1,interrupted,'
+            echo '400,3,1,service,Continue,,,,'
+            echo '402,4,1,switch,Ended,,,,'
+            ;;
         command/audit) echo 'account 7 yes' ;;
         command/audit_altered)
             echo 'account 7 no'
@@ -93,6 +106,13 @@ ungranted_of() {
         command/run_calls)
             echo 'call,calling,called,account,prefix,start,answer,end,before,after,paid,outcome'
             echo '1,491700001,4930,7,49,0,,2,0,0,0,refused'
+            ;;
+        command/run_trace)
+            echo 'moment,number,call,from,what,x1,x2,x3,x4'
+            echo '0,0,1,switch,InitialDP,491700001,4930,,'
+            echo '0,0,1,service,ReleaseCall,41,,,'
+            echo '0,0,1,service,refused,OutOfMemory,,,'
+            echo '2,1,1,switch,Ended,,,,'
             ;;
     esac
 }

@@ -19,7 +19,7 @@ from .tables import (
 
 MAX_INPUT = 16_777_216
 # What `run` may print in place of its lines.
-TABLES = ("--book", "--calls")
+TABLES = ("--book", "--calls", "--trace")
 # More entries than an input has room for.
 NO_LIMIT = 2**32
 ARGUMENTS = Fault("prepaid: arguments")
@@ -28,7 +28,7 @@ TAKEN = {
     "replay": {"--opening", "--limit"},
     "audit": set(),
     "quote": {"--called", "--at", "--for", "--credit"},
-    "run": {"--workers", "--wanted", "--least", "--tssf", "--tccd", "--delay", "--default", "--book", "--calls"},
+    "run": {"--workers", "--wanted", "--least", "--tssf", "--tccd", "--delay", "--default", *TABLES},
 }
 
 
@@ -40,7 +40,8 @@ def command(words, text, book=None):
         given = options_in(words[0], words[1:])
         if words[0] == "run":
             run = do_run(given, text, book)
-            text = run.book() if "--book" in given else run.calls() if "--calls" in given else run.lines()
+            table = next((it for it in TABLES if it in given), None)
+            text = {None: run.lines, "--book": run.book, "--calls": run.calls, "--trace": run.trace}[table]()
             return 0, text, "", not run.is_contended
         if words[0] == "audit":
             return *do_audit(text), "", True
@@ -56,7 +57,7 @@ def options_in(name, words):
         if word not in TAKEN[name] or word in given or word not in TABLES and not left:
             raise ARGUMENTS
         given[word] = True if word in TABLES else left.pop(0)
-    if all(it in given for it in TABLES):
+    if sum(it in given for it in TABLES) > 1:
         raise ARGUMENTS
     return given
 

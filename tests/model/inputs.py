@@ -115,7 +115,7 @@ def runs(it, few=False):
         if given[name] != defaults[name] or it.random() < 0.2:
             words += [f"--{name}", str(given[name])]
     # where several workers meet at an account, only a book tells in which order
-    table_of = it.choices(["--book", "--calls", ""], [1, 1, 1] if given["workers"] == 1 else [8, 1, 1])[0]
+    table_of = it.choices(["--book", "--calls", "--trace", ""], [1, 1, 1, 1] if given["workers"] == 1 else [8, 1, 1, 1])[0]
     words += [table_of] if table_of else []
     first, starts = tariff(it)
     base = max(0, it.choice([0, 1, 3]) * DAY + it.choice(starts) - it.choice([0, 5, 10, 100, 305]))

@@ -1,7 +1,7 @@
 """A run: the play of a script over accounts, round by round."""
 import dataclasses
 
-from . import calls
+from . import calls, trace
 from .account import Account
 from .service import is_stray, talk
 from .switch import Refused, Switch
@@ -55,7 +55,7 @@ class Run:
         self.tariff, self.options, self.openings = tariff, options, accounts
         self.accounts = {it: Account(*accounts[it]) for it in sorted(accounts)}
         self.switches, self.talks, self.deliveries, self.number = {}, {}, [], 0
-        self.told = {}
+        self.told, self.traced = {}, []
         # whether workers met at an account in one round, so that the order of their operations is open
         self.is_contended, self.met = False, {}
         self.orders = None if book is None else {it: [] for it in accounts}
@@ -96,8 +96,9 @@ class Run:
             if call is not None:
                 calls.hear(self.told, now, call, message)
         answers = self.answered(now, posts)
-        for (call, _), (_, ops) in zip(posts, sorted(answers.items())):
-            self.deliveries += [(now + self.options.delay, call, op) for op in ops]
+        for (call, message), (number, answer) in zip(posts, sorted(answers.items())):
+            self.deliveries += [(now + self.options.delay, call, op) for op in answer.ops]
+            self.traced += trace.rows(now, number, call, message, answer)
 
     def give(self, call, posts, do):
         """Gives a call's switch an input, and puts what it sends to the posts."""
@@ -110,7 +111,7 @@ class Run:
         switch.sent.clear()
 
     def answered(self, now, posts):
-        """The operations that answer each post, by its number. Each worker goes through its posts in order."""
+        """The answer to each post, by its number. Each worker goes through its posts in order."""
         answers, queues, self.met = {}, {}, {}
         for call, message in posts:
             owner = message[1] if call is None else call
@@ -132,7 +133,7 @@ class Run:
             for at, (seat, worker) in enumerate(workers):
                 while asks[at] and self.is_next(seat, *asks[at]):
                     reply = self.accounts[asks[at][0]].apply(seat, asks[at][1])
-                    asks[at] = send(worker, ("refused",) if isinstance(reply, str) else reply)
+                    asks[at] = send(worker, ("refused", reply) if isinstance(reply, str) else reply)
             if asks == before:
                 raise Fault(f"model: at {now} no order of these is the book's: {[it for it in asks if it]}", 9)
 
@@ -150,34 +151,38 @@ class Run:
     def work(self, now, queue, answers):
         """What a worker asks, (account, operation) after the other, as it goes through its posts."""
         for number, call, message in queue:
+            answers[number] = answer = trace.Answer()
             if call is None:
-                yield message[1], ("credit", *message[2:])
-                answers[number] = []
+                note(answer, (yield message[1], ("credit", *message[2:])))
             else:
-                answers[number] = yield from self.handle(now, number, call, message)
+                yield from self.handle(now, number, call, message, answer)
 
-    def handle(self, now, number, call, message):
+    def handle(self, now, number, call, message, answer):
+        """What is asked for a message, and what it is answered."""
         if call not in self.talks:
             if message[0] != "initial dp":
-                return []
+                answer.is_stray = True
+                return
             if message[1] not in self.subscribers:
-                return [("release", 21)]
+                answer.ops = [("release", 21)]
+                return
             found = route(self.tariff, message[2], now)
             dialogue = talk(call, now, found, self.options.wanted, self.options.least)
             account, given = self.subscribers[message[1]], None
         else:
             dialogue, account, state = self.talks[call]
             if is_stray(state, message):
-                return []
+                answer.is_stray = True
+                return
             given = number, now, message
         turn = send(dialogue, given)
         while turn and turn[0] == "ask":
-            turn = send(dialogue, (yield account, turn[1]))
+            turn = send(dialogue, note(answer, (yield account, turn[1])))
         if turn is None:
             del self.talks[call]
-            return []
+            return
         self.talks[call] = dialogue, account, turn[0]
-        return turn[1]
+        answer.ops = turn[1]
 
     def lines(self):
         rows = [f"account {number} opening {it.opening} available {it.available()} entries {len(it.entries)}" for number, it in self.accounts.items()]
@@ -190,12 +195,22 @@ class Run:
     def calls(self):
         return calls.table(self.told, self.tariff, self.subscribers, self.accounts)
 
+    def trace(self):
+        return trace.table(self.traced)
+
     def book(self):
         rows = [HEADER]
         for number, account in self.accounts.items():
             rows.append(f"{number},,opening,,{account.opening},{shown(self.openings[number][1])}" + "," * 9)
             rows += [f"{number},{seat},{op_fields(op)},{reply_fields(reply)}" for seat, op, reply in account.entries]
         return "".join(f"{it}\n" for it in rows)
+
+
+def note(answer, reply):
+    """Notes a fault in the answer, and gives the reply."""
+    if reply[0] == "refused":
+        answer.refused = reply[1]
+    return reply
 
 
 def send(generator, given):

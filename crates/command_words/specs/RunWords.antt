@@ -47,16 +47,18 @@ abbrev pub is_yes : Option Text → Bool
 is_yes None = false
 is_yes (Some text) = bytes_eq text (codes "true")
 
--- what is printed: the lines, where none is asked for of the table of books and the table of calls. Only one of the tables may be
-abbrev pub output_of : Bool → Bool → Option RunOutput
-output_of false false = Some output.Lines
-output_of true false = Some output.Book
-output_of false true = Some output.Calls
-output_of true true = None
+-- what is printed: the lines, where none is asked for of the table of books, the table of calls and the trace. Only one of these may be
+abbrev pub output_of : Bool → Bool → Bool → Option RunOutput
+output_of false false false = Some output.Lines
+output_of true false false = Some output.Book
+output_of false true false = Some output.Calls
+output_of false false true = Some output.Trace
+output_of _ _ _ = None
 
 -- what the options ask to print
 abbrev pub output_in : List Row → Option RunOutput
-output_in options = output_of (is_yes (first_of (codes "book") options)) (is_yes (first_of (codes "calls") options))
+output_in options =
+    output_of (is_yes (first_of (codes "book") options)) (is_yes (first_of (codes "calls") options)) (is_yes (first_of (codes "trace") options))
 
 -- what the options ask for, where each has a number or a word of its own
 unfoldable pub ask_in : List Row → Option RunAsk

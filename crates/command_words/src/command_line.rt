@@ -3,7 +3,7 @@
 ghost use Rattle.std.specs.Prelude.{◌≡◌, false, IfOk};
 ghost use Rattle.clap.specs.Words.{app_of, new_app, rule_of, with_rule};
 ghost use Rattle.clap.specs.declared.builder.command.Command.TheViews.{out-Command as fields_of};
-ghost use Rattle.command_words.specs.CommandLine.{audit_app, bare_app, flag_rule, option_rule, other_rules, price_app, program_app, quote_app, replay_app, required_rule, run_app, service_rules, switch_rules, with_rules};
+ghost use Rattle.command_words.specs.CommandLine.{audit_app, bare_app, flag_rule, option_rule, other_rules, output_rules, price_app, program_app, quote_app, replay_app, required_rule, run_app, service_rules, switch_rules, with_rules};
 
 use crate::help;
 use clap::{Arg, ArgAction, Command};
@@ -79,7 +79,8 @@ fn run_command<'a>(alloc: Global) -> Result<Command<'a>, AllocError>
     let command = input_command(alloc, "run", about, usage, help::RUN);
     let command = add_service_options(alloc, command)?;
     let command = add_switch_options(alloc, command)?;
-    add_other_options(alloc, command)
+    let command = add_other_options(alloc, command)?;
+    add_output_options(alloc, command)
 }
 
 #[tactic(auto, unfolding(crate::specs::CommandLine::audit_app))]
@@ -148,7 +149,7 @@ fn add_switch_options<'a>(alloc: Global, command: Command<'a>) -> Result<Command
     )
 }
 
-/// How many serve the run, what comes of a call without orders, and what is printed.
+/// How many serve the run, and what comes of a call without orders.
 fn add_other_options<'a>(alloc: Global, command: Command<'a>) -> Result<Command<'a>, AllocError>
     requires { (fields_of command).has_globals ≡ false }
     ensures app { IfOk result (λ more. app_of more
@@ -158,14 +159,31 @@ fn add_other_options<'a>(alloc: Global, command: Command<'a>) -> Result<Command<
     let workers = option(alloc, "workers", "How many workers serve it, 1 to 16 [2]");
     let command = add(command, workers)?;
     let handling = "Without orders: proceed, release [release]";
-    let command = add(command, named(alloc, "default", "WORD", handling))?;
+    add(command, named(alloc, "default", "WORD", handling))
+}
+
+/// What is printed.
+fn add_output_options<'a>(alloc: Global, command: Command<'a>) -> Result<Command<'a>, AllocError>
+    requires { (fields_of command).has_globals ≡ false }
+    ensures app { IfOk result (λ more. app_of more
+        ≡ with_rules (app_of command.entry) output_rules) }
+    ensures local { IfOk result (λ more. (fields_of more).has_globals ≡ false) }
+{
     let command = add(
         command,
         flag(alloc, "book", "Prints the book, in place of the lines"),
     )?;
-    add(
+    let command = add(
         command,
         flag(alloc, "calls", "Prints the calls, in place of the lines"),
+    )?;
+    add(
+        command,
+        flag(
+            alloc,
+            "trace",
+            "Prints each message and its answer, likewise",
+        ),
     )
 }
 

@@ -99,7 +99,7 @@ Exit status:
 A fault is one line on standard error, and then nothing is printed:
   prepaid: arguments
       No options of run: mostly a file name (use < FILE), an option given twice, a unit such
-      as 60s, or --book beside --calls
+      as 60s, or two of --book, --calls and --trace
   prepaid: input: Config
       A time is out of the relation above
   prepaid: input: TooLong

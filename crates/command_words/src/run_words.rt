@@ -4,7 +4,7 @@ ghost use Rattle.std.specs.Prelude.{◌≡◌, ◌<◌, option_map};
 ghost use Rattle.clap.specs.Words.{found_of, rows_of};
 ghost use Rattle.command_words.specs.Arguments.{IsRequestOf};
 ghost use Rattle.command_words.specs.Capped.{capped, capped_ask};
-ghost use Rattle.command_words.specs.RunWords.{ask_in, handling_of, is_yes, number_of, number_or, output_of, run_in, workers_in};
+ghost use Rattle.command_words.specs.RunWords.{ask_in, handling_of, is_yes, number_of, number_or, output_in, output_of, run_in, workers_in};
 
 use crate::fault::WordsFault;
 use crate::options::{option_text, optional_number};
@@ -43,9 +43,7 @@ fn run_ask(options: &ArgMatches<'_>) -> Option<RunAsk>
     let tccd = setting(option_text(options, "tccd"), 50)?;
     let delay = setting(option_text(options, "delay"), 2)?;
     let default_handling = handling(option_text(options, "default"))?;
-    let book = is_yes(option_text(options, "book"));
-    let calls = is_yes(option_text(options, "calls"));
-    let output = output(book, calls)?;
+    let output = output(options)?;
     Some(RunAsk {
         workers,
         wanted,
@@ -100,16 +98,27 @@ fn handling(text: Option<&str>) -> Option<DefaultHandling>
     }
 }
 
-/// What is to be printed, by whether the books and whether the calls are asked for; none where both
-/// are.
-fn output(book: bool, calls: bool) -> Option<RunOutput>
-    ensures { result ≡ output_of book calls }
+/// What is to be printed; none where more than one of the books, the calls and the trace are asked
+/// for.
+fn output(options: &ArgMatches<'_>) -> Option<RunOutput>
+    ensures { result ≡ output_in (rows_of (found_of options.now)) }
 {
-    match (book, calls) {
-        (false, false) => Some(RunOutput::Lines),
-        (true, false) => Some(RunOutput::Book),
-        (false, true) => Some(RunOutput::Calls),
-        (true, true) => None,
+    let book = is_yes(option_text(options, "book"));
+    let calls = is_yes(option_text(options, "calls"));
+    let trace = is_yes(option_text(options, "trace"));
+    output_of(book, calls, trace)
+}
+
+/// The same, by whether each is asked for.
+fn output_of(book: bool, calls: bool, trace: bool) -> Option<RunOutput>
+    ensures { result ≡ output_of book calls trace }
+{
+    match (book, calls, trace) {
+        (false, false, false) => Some(RunOutput::Lines),
+        (true, false, false) => Some(RunOutput::Book),
+        (false, true, false) => Some(RunOutput::Calls),
+        (false, false, true) => Some(RunOutput::Trace),
+        _ => None,
     }
 }
 

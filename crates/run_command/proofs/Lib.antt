@@ -1,3 +1,4 @@
+pub mod ListenLemmas
 pub mod Passing
 pub mod PlayLemmas
 pub mod Timing

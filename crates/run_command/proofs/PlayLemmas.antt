@@ -15,7 +15,7 @@ use Rattle.run_values.specs.declared.post.Body.{Body}
 use Rattle.runs_core.specs.Hearing.{HearsRounds}
 
 -- from round to round
-abbrev Rounds : (Play → List Answer → Play → Type 0) → List Answer → Play → List (List Answer) → Play → Type 0
+abbrev pub Rounds : (Play → List Answer → Play → Type 0) → List Answer → Play → List (List Answer) → Play → Type 0
 Rounds Heard before_this old heard new = HearsRounds (λ (p : Play). p.network.given) (λ (p : Play). p.ended) Heard before_this old heard new
 
 chained : (before_this : List Answer) (old : Play) (heard : List (List Answer)) (new : Play) → Rounds Hears before_this old heard new → Chain Hears old heard new

@@ -15,6 +15,8 @@ use Rattle.run_texts.specs.InputFaults.{Refuses}
 use Rattle.run_texts.specs.Inputs.{RunInput, input_of}
 use Rattle.run_command.specs.declared.error.RunError.{RunError}
 use Rattle.run_command.specs.declared.error.RunError.TheVariants as error
+use Rattle.run_trace.specs.Tables.{trace_text}
+use Rattle.runs_core.specs.Hearing.{all_heard}
 use Rattle.runs_core.specs.Teams.{are_workers}
 use Rattle.runs_core.specs.declared.run_fault.RunFault.{RunFault}
 use Rattle.runs_core.specs.declared.run_fault.RunFault.TheVariants as run
@@ -22,11 +24,13 @@ use Rattle.shared_account.specs.Closed.{Closed}
 use Rattle.run_values.specs.declared.answer.Answer.{Answer}
 use Rattle.run_values.specs.declared.post.Body.{Body}
 
--- the text of what a run has come to: the lines of its accounts and calls, the table of its books, or that of its calls
-abbrev pub IsTextOf : RunOutput → Run → List ℕ → Type 0
-IsTextOf output.Lines run text = IsRunText run.books text
-IsTextOf output.Book run text = text ≡ book_text run.books
-IsTextOf output.Calls run text = IsCallText run text
+-- the text of what a run has come to, where these answers were heard: the lines of its accounts and calls, the table of its books, that of its calls,
+-- or the trace of what was given to its workers and of their answers
+abbrev pub IsTextOf : RunOutput → Run → List Answer → List ℕ → Type 0
+IsTextOf output.Lines run heard text = IsRunText run.books text
+IsTextOf output.Book run heard text = text ≡ book_text run.books
+IsTextOf output.Calls run heard text = IsCallText run text
+IsTextOf output.Trace run heard text = text ≡ trace_text run.given heard
 
 -- the text is that of the books of a run over the input, as it was asked for, to which the script of the input was played
 pub record IsRunOf (ask : RunAsk) (input : List ℕ) (text : List ℕ) : Type 0 where
@@ -38,7 +42,7 @@ pub record IsRunOf (ask : RunAsk) (input : List ℕ) (text : List ℕ) : Type 0 
   pub given_by : IsGivenBy ask said.script heard given
   pub books : List Closed
   pub are_books : AreBooksOf ask said given heard books
-  pub printed : IsTextOf ask.output (record { setup = are_books.setup; given = given; books = books }) text
+  pub printed : IsTextOf ask.output (record { setup = are_books.setup; given = given; books = books }) (all_heard heard) text
   -- an audit of the table of the books says yes for each account, where there is room for all of their rows
   pub passes : ask.output ≡ output.Book → row_count books ≤ 1000000 → PassTheAudit books
 

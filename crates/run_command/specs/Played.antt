@@ -5,16 +5,19 @@ use Rattle.run_command.specs.Books.{AreBooksOf}
 use Rattle.run_command.specs.Plays.{IsGivenBy}
 use Rattle.run_command.specs.declared.playing.Played.{Played}
 use Rattle.run_options.specs.declared.run_ask.RunAsk.{RunAsk}
+use Rattle.run_options.specs.declared.run_output.RunOutput.TheVariants as output
 use Rattle.run_texts.specs.Inputs.{RunInput}
 use Rattle.run_values.specs.declared.answer.Answer.{Answer}
+use Rattle.runs_core.specs.Hearing.{all_heard}
 
 -- what a play has come to: its setup, what its player has given, and its books
 abbrev pub run_of : Played → Run
-run_of played = record { setup = played.setup; given = played.player.network.given; books = played.books.items }
+run_of played = record { setup = played.setup; given = played.listener.player.network.given; books = played.books.items }
 
--- what was given is the play of this input's script, and the books are those of a run over the input, with this setup
+-- what was given is the play of this input's script, and the books are those of a run over the input, with this setup; the answers are kept for a trace
 pub record AreOfPlay (ask : RunAsk) (said : RunInput) (played : Played) : Type 0 where
   pub heard : List (List Answer)
   pub given_by : IsGivenBy ask said.script heard (run_of played).given
   pub books : AreBooksOf ask said (run_of played).given heard (run_of played).books
   pub setup : books.setup ≡ played.setup
+  pub kept : ask.output ≡ output.Trace → played.listener.heard.items ≡ all_heard heard

@@ -4,6 +4,7 @@
 
 mod error;
 mod laws;
+mod listening;
 mod playing;
 mod running;
 

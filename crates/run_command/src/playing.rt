@@ -11,6 +11,7 @@ ghost use Rattle.run_texts.specs.Views.{are_in_order};
 ghost use Rattle.run_texts.specs.declared.script_row.ScriptRow.{ScriptRow};
 ghost use Rattle.run_values.specs.Setups.{IsWithin};
 
+use crate::listening::Listener;
 use crate::{RunError, laws};
 use account_core::MAX_LIMIT;
 use run_options::RunOptions;
@@ -29,8 +30,8 @@ use tariff_core::LAST_MOMENT;
 pub(crate) struct Played {
     /// What the run was set up with.
     pub setup: RunSetup,
-    /// The player of the script, which has all that it gave.
-    pub player: ScriptPlayer,
+    /// The player of the script, which has all that it gave, and the answers that it kept.
+    pub listener: Listener,
     /// The books of the accounts.
     pub books: Vec<Book>,
 }
@@ -56,14 +57,15 @@ pub(crate) fn play<R: Wait + Threads + Sync>(
         script,
     } = texts;
     let setup = RunSetup::of(alloc, directory, tariff, options.service, MAX_LIMIT)?;
-    let mut player = ScriptPlayer::new(alloc, script, options.ssf, options.delay)?;
+    let player = ScriptPlayer::new(alloc, script, options.ssf, options.delay)?;
+    let mut listener = Listener::new(alloc, player, options.output);
     let workers = options.workers;
-    let Books { books, .. } = serve(rt, alloc, &setup, &mut player, workers, &OpenGate)?;
-    laws::is_played(&player);
+    let Books { books, .. } = serve(rt, alloc, &setup, &mut listener, workers, &OpenGate)?;
+    laws::is_played(&listener.player);
     let _ = setup.accounts();
     Ok(Played {
         setup,
-        player,
+        listener,
         books,
     })
 }

@@ -9,4 +9,6 @@ pub enum RunOutput {
     Book,
     /// The table of calls.
     Calls,
+    /// The trace: the table of what was said.
+    Trace,
 }

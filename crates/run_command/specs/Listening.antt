@@ -1,0 +1,11 @@
+-- A player that keeps the answers that it hears.
+use Rattle.std.specs.Prelude.{◌≡◌, ◌++◌, true, false, List}
+use Rattle.run_command.specs.declared.listening.Listener.{Listener}
+use Rattle.run_values.specs.declared.answer.Answer.{Answer}
+use Rattle.script_player.specs.Runs.{Hears}
+
+-- a listener hears answers as its player does, and keeps them where it keeps any
+pub record Listens (before : Listener) (answers : List Answer) (after : Listener) : Type 0 where
+  pub plays : before.player.ended ≡ false → Hears before.player answers after.player
+  pub keeps : after.keeps ≡ before.keeps
+  pub kept : before.keeps ≡ true → after.heard.items ≡ before.heard.items ++ answers

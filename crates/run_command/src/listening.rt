@@ -1,0 +1,98 @@
+//! A player that keeps the answers that it hears.
+
+ghost use Rattle.std.specs.Prelude.{◌≡◌, ◌↔◌, ◌++◌, [], IsTrue, OnOk};
+
+use arrayvec::ArrayVec;
+use run_options::RunOutput;
+use run_values::{Answer, Body};
+use runs_core::Driver;
+use script_player::ScriptPlayer;
+use std::alloc::{AllocError, Global};
+
+/// Plays a script, and keeps the answers that it hears where a trace is to be printed of them.
+#[derive(Drop)]
+pub(crate) struct Listener {
+    /// The player of the script.
+    pub player: ScriptPlayer,
+    /// Whether answers are kept.
+    pub keeps: bool,
+    /// The answers that were kept, in order.
+    pub heard: Vec<Answer>,
+}
+
+impl Listener {
+    /// A player that has kept nothing yet, for a run that prints this.
+    pub(crate) fn new(alloc: Global, player: ScriptPlayer, output: RunOutput) -> Listener
+        ensures player { result.player ≡ player }
+        ensures keeps { IsTrue result.keeps ↔ (output ≡ RunOutput.Trace) }
+        ensures heard { result.heard.items ≡ [] }
+    {
+        Listener {
+            player,
+            keeps: matches!(output, RunOutput::Trace),
+            heard: Vec::new(alloc),
+        }
+    }
+}
+
+impl Driver for Listener {
+    ghost use Rattle.std.specs.Prelude.{ℕ, List};
+    ghost use Rattle.run_command.specs.Listening.{Listens};
+    ghost use Rattle.run_texts.specs.declared.script_row.ScriptRow.{ScriptRow};
+    ghost use Rattle.ssf_core.specs.declared.config.SsfConfig.{SsfConfig};
+
+    ghost given = { λ listener. listener.player.network.given };
+
+    ghost ended = { λ listener. listener.player.ended };
+
+    ghost Plan = { SsfConfig × ℕ × List ScriptRow };
+
+    ghost plan = { λ listener. (
+      listener.player.network.config,
+      listener.player.delay,
+      listener.player.taken ++ listener.player.left,
+    ) };
+
+    ghost hears = { Listens };
+
+    fn given(&self) -> &[(u64, Body)] {
+        self.player.given()
+    }
+
+    fn ended(&self) -> bool {
+        self.player.ended()
+    }
+
+    fn round(&mut self, answers: &[Answer]) -> Result<bool, AllocError> {
+        if self.keeps {
+            keep(&mut self.heard, answers)?;
+        }
+        self.player.round(answers)
+    }
+}
+
+/// Puts copies of answers behind others.
+fn keep(heard: &mut Vec<Answer>, answers: &[Answer]) -> Result<(), AllocError>
+    ensures { OnOk result (heard.new.items ≡ heard.old.items ++ answers.now) }
+{
+    for answer in answers {
+        heard.push(copy_of(answer))?;
+    }
+    Ok(())
+}
+
+/// A copy of an answer.
+fn copy_of(answer: &Answer) -> Answer
+    ensures { result ≡ answer.now }
+{
+    let mut ops = ArrayVec::new();
+    for op in answer.ops.as_slice() {
+        ops.push(*op);
+    }
+    Answer {
+        number: answer.number,
+        ops,
+        stray: answer.stray,
+        refused: answer.refused,
+    }
+}
