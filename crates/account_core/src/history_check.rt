@@ -54,6 +54,7 @@ impl HistoryCheck {
 
     /// Takes one entry more, from any seat. The only error is want of memory, which is taken for the
     /// first entry and for a call that is new; the check is then still that of the entries before.
+    #[inline(always)]
     pub fn hear(&mut self, entry: Entry) -> Result<(), AllocError>
         requires { (opening : ℕ) × (until : Option ℕ) × (h : List EntryData)
             × IsCheckOf opening until h self.old }
@@ -80,6 +81,7 @@ impl HistoryCheck {
     }
 
     /// Takes one entry more, where there is a tally, or no need of one.
+    #[inline(always)]
     fn judge(&mut self, entry: Entry) -> Result<(), AllocError>
         requires begun { HasBegun self.old }
         requires of { (opening : ℕ) × (until : Option ℕ) × (h : List EntryData)

@@ -49,6 +49,7 @@ impl Tally {
 
     /// Adds an entry to those so far where it is legal after them, and tells whether it is. Memory
     /// is taken where the entry's call is new, which is 0 at a Credit.
+    #[inline(always)]
     pub fn hear(&mut self, entry: Entry) -> Result<bool, AllocError>
         requires { (h : List EntryData) × IsTallied h self.old }
         ensures legal { IfOk result (λ legal. legal ≡ true → (h : List EntryData) →
@@ -82,6 +83,7 @@ impl Tally {
 
 /// Keeps what is known of a call after an entry of it, where the entry is legal after a history
 /// with these funds, of which so much is available, and this last moment; tells whether it is.
+#[inline(always)]
 fn renew_state(
     calls: &mut CallStates,
     entry: Entry,
@@ -115,6 +117,7 @@ fn renew_state(
 
 /// What is known of a call after an entry of it, where the entry is legal after a history with
 /// these funds, of which so much is available, and this last moment.
+#[inline(always)]
 fn after_legal(
     entry: Entry,
     state: &CallState,
