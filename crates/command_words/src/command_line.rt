@@ -182,7 +182,7 @@ fn add_output_options<'a>(alloc: Global, command: Command<'a>) -> Result<Command
         flag(
             alloc,
             "trace",
-            "Prints each message and its answer, likewise",
+            "Prints what was said, in place of the lines",
         ),
     )
 }
