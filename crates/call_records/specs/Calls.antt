@@ -1,11 +1,12 @@
 -- What the posts of a run tell of a call: its start, its moments, and what was reported of it.
 use Rattle.std.specs.Prelude.{◌==◌, ℕ, Bool, Option, Some, None, List, [], ◌∷◌, if◌then◌else◌, is_some}
-use Rattle.std.specs.Option.{option_or}
+use Rattle.std.specs.Option.{option_map, option_or}
 use Rattle.cap_values.specs.Codes.{event_code}
 use Rattle.cap_values.specs.declared.event.Event.{Event}
 use Rattle.cap_values.specs.declared.event.Event.TheVariants as event
 use Rattle.cap_values.specs.declared.message.SsfMsg.{SsfMsg}
 use Rattle.cap_values.specs.declared.message.SsfMsg.TheVariants as message
+use Rattle.cap_values.specs.declared.number.Number.{Number}
 use Rattle.run_values.specs.declared.post.Body.{Body}
 use Rattle.run_values.specs.declared.post.Body.TheVariants as body
 use Rattle.call_records.specs.declared.reports.CallReports.{CallReports}
@@ -39,6 +40,10 @@ report_by event at _ = None
 -- the start of a call
 abbrev pub start_of : ℕ → List (ℕ × Body) → Option Start
 start_of call given = first_told call start_by given
+
+-- the calling and the called number that a call starts with
+abbrev pub parties_of : ℕ → List (ℕ × Body) → Option (Number × Number)
+parties_of call given = option_map (λ start. (start.calling, start.called)) (start_of call given)
 
 -- the moment at which an event of a call was reported
 abbrev pub reported_at : Event → ℕ → List (ℕ × Body) → Option ℕ

@@ -10,8 +10,8 @@ use Rattle.book_texts.specs.Typed.{IsTyped, IsTypedAsked}
 use Rattle.entry_rows.specs.Fits.{FitsAsked, FitsEvent}
 use Rattle.run_books.proofs.Listed.{all_passing}
 use Rattle.run_books.proofs.Openings.{IsOpenedWithin}
-use Rattle.run_books.proofs.Posts.{IsTimelyAsked, handled_timely, mine_timely, served_at}
-use Rattle.run_books.specs.Timely.{AreTimely}
+use Rattle.run_books.proofs.Posts.{IsTimelyAsked, handled_all, mine_timely, served_at}
+use Rattle.run_books.specs.Timely.{AreTimely, IsTimely}
 use Rattle.run_values.specs.Setups.{Setup}
 use Rattle.run_values.specs.declared.answer.Answer.{Answer}
 use Rattle.run_values.specs.declared.post.Body.{Body}
@@ -33,7 +33,7 @@ asked_fits (Returns call) range typed timely = typed
 
 -- ---- an entry of a history stands in the list of its seat
 
-own_holds : (P : EntryData → Type 0) (history : List EntryData) (lists : List (List EntryData)) → IsMerged history lists
+pub own_holds : (P : EntryData → Type 0) (history : List EntryData) (lists : List (List EntryData)) → IsMerged history lists
     → ((seat : ℕ) → seat < length lists → All P (slice_index_or lists seat [])) → All P history
 own_holds P history lists merged each = λ k d within.
     let event : EntryData = slice_index_or history k d in
@@ -52,7 +52,7 @@ module _ (reserves : ReservesAreInTheBooks) (ranges : EntriesAreInRange) (setup 
       own_holds (λ (event : EntryData). IsTimelyAsked event.asked) book.history book.own (run.merged place d within) (λ seat here.
       let (there, served) = served_at book.account shown.handled book.own seat (run.served place d within) here in
       mine_timely setup place book.account (slice_index_or shown.handled seat []) (slice_index_or book.own seat []) served
-      (handled_timely workers given shown.handled seat run.shares timely there)
+      (handled_all IsTimely workers given shown.handled seat run.shares timely there)
       (reserves setup shown.books shown.handled shown.refusals seat book.account place book run.worked there is))
 
   pub history_fits : (place : ℕ) (d : Closed) → place < length shown.books → IsBookOf setup shown.books (slice_index_or shown.books place d).account place (slice_index_or shown.books place d)

@@ -1,4 +1,4 @@
--- What the workers of a run handle is as timely as what its driver gives, and so is what they settle and credit.
+-- What the workers of a run handle is as what its driver gives, as timely too, and so is what they settle and credit.
 use Rattle.std.proofs.Common.{◌<◌, ◌+◌, ℕ, zero, suc, Bool, true, false, Option, List, [], ◌∷◌, length, map, arith, All}
 use Rattle.std.specs.Prelude.{◌==◌, if◌then◌else◌, slice_index_or, IfSome}
 use Rattle.std.proofs.lemmas.List.Elements.{All-cons, All-filter, All-head, All-nil, All-same, All-tail}
@@ -8,7 +8,7 @@ use Rattle.cap_values.specs.declared.message.SsfMsg.{SsfMsg}
 use Rattle.cap_values.specs.declared.message.SsfMsg.TheVariants.{InitialDp, EventReport, ChargingReport, Ended}
 use Rattle.entry_rows.specs.Fits.{FitsReport, IsMoment}
 use Rattle.run_books.proofs.Listed.{all_joined, all_part, all_pieces, all_unmapped}
-use Rattle.run_books.specs.Timely.{AreTimely, IsTimely, IsTimelyMessage}
+use Rattle.run_books.specs.Timely.{IsTimely, IsTimelyMessage}
 use Rattle.run_values.specs.Setups.{Setup}
 use Rattle.run_values.specs.declared.post.Body.{Body}
 use Rattle.run_values.specs.declared.post.Body.TheVariants.{Ssf, Recharge}
@@ -20,19 +20,20 @@ use Rattle.workers_core.specs.Served.{IsServed, Money, Report, credited_in, cred
 
 -- ---- what each worker handles
 
-numbered_timely : (first : ℕ) (given : List (ℕ × Body)) → AreTimely given → All (λ item. IsTimely item.body) (numbered first given)
-numbered_timely first [] timely = All-nil (λ (item : Item). IsTimely item.body)
-numbered_timely first (next ∷ given) timely =
-    All-cons (λ (item : Item). IsTimely item.body) (item_at first next) (numbered (first + 1) given) (All-head (λ (item : ℕ × Body). IsTimely item.1) next given timely)
-    (numbered_timely (first + 1) given (All-tail (λ (item : ℕ × Body). IsTimely item.1) next given timely))
+numbered_all : (P : Body → Type 0) (first : ℕ) (given : List (ℕ × Body)) → All (λ item. P item.1) given → All (λ item. P item.body) (numbered first given)
+numbered_all P first [] all = All-nil (λ (item : Item). P item.body)
+numbered_all P first (next ∷ given) all =
+    All-cons (λ (item : Item). P item.body) (item_at first next) (numbered (first + 1) given) (All-head (λ (item : ℕ × Body). P item.1) next given all)
+    (numbered_all P (first + 1) given (All-tail (λ (item : ℕ × Body). P item.1) next given all))
 
-pub handled_timely : (workers : ℕ) (given : List (ℕ × Body)) (handled : List (List Post)) (worker : ℕ) → HaveHandled workers given handled → AreTimely given
-    → worker < length handled → All (λ post. IsTimely post.body) (slice_index_or handled worker [])
-handled_timely workers given handled worker have timely within =
-    let P : Item → Type 0 = λ item. IsTimely item.body in
+-- what holds of all that was given holds of what a worker handles
+pub handled_all : (P : Body → Type 0) (workers : ℕ) (given : List (ℕ × Body)) (handled : List (List Post)) (worker : ℕ) → HaveHandled workers given handled → All (λ item. P item.1) given
+    → worker < length handled → All (λ post. P post.body) (slice_index_or handled worker [])
+handled_all P workers given handled worker have all within =
+    let Q : Item → Type 0 = λ item. P item.body in
     let posts : List Post = slice_index_or handled worker [] in
-    let shared : All P (share workers given worker) = All-filter (λ (item : Item). worker_of workers item.body == worker) P (numbered 0 given) (numbered_timely 0 given timely) in
-    all_unmapped P item_of posts (All-same P (map item_of posts) (share workers given worker) (have.each worker (omega (arith, have.count, within))) shared)
+    let shared : All Q (share workers given worker) = All-filter (λ (item : Item). worker_of workers item.body == worker) Q (numbered 0 given) (numbered_all P 0 given all) in
+    all_unmapped Q item_of posts (All-same Q (map item_of posts) (share workers given worker) (have.each worker (omega (arith, have.count, within))) shared)
 
 -- ---- the reports and the recharges among posts
 

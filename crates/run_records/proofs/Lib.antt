@@ -1,0 +1,3 @@
+pub mod Grants
+pub mod Reserves
+pub mod Unrouted

@@ -1,0 +1,5 @@
+use Rattle.run_records.proofs.Unrouted.{unrouted_pay_nothing}
+use Rattle.run_records.proofs.laws.unrouted_calls_pay_nothing.Goals as goal
+
+pub returns : goal.returns
+returns c = unrouted_pay_nothing c.reserves_are_in_the_books.ensures
