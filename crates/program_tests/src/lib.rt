@@ -27,4 +27,6 @@ mod replays;
 #[cfg(test)]
 mod runs;
 #[cfg(test)]
+mod traces;
+#[cfg(test)]
 mod words;
