@@ -4,7 +4,7 @@ use Rattle.std.specs.Option.{option_map}
 use Rattle.std.specs.Prelude.{◌⊎◌, if◌then◌else◌, is_none, is_some, unwrap_or}
 use Rattle.account_core.specs.Known.{CallFacts, known, paid_under}
 use Rattle.tariff_core.specs.Rates.{Rates}
-use Rattle.call_records.specs.Calls.{parties_of, reports_of}
+use Rattle.call_records.specs.Calls.{parties_of, reports_of, start_of}
 use Rattle.call_records.specs.Laws.{UnservedCallsPayNothing, is_unserved}
 use Rattle.call_records.specs.Records.{IsPrefixOf, IsRecord, Run, ended_by, granted_outcome}
 use Rattle.call_records.specs.Standings.{past_of, standing_of}
@@ -15,6 +15,8 @@ use Rattle.call_records.specs.declared.reports.CallReports.{CallReports}
 use Rattle.call_records.specs.declared.standing.Standing.{Standing}
 use Rattle.call_records.specs.declared.starts.Start.{Start}
 use Rattle.cap_values.specs.NumberDigits.{digits_of}
+use Rattle.cap_values.specs.declared.number.Number.{Number}
+use Rattle.run_values.specs.declared.post.Body.{Body}
 use Rattle.tariff_core.specs.Bands.{Band}
 use Rattle.tariff_core.specs.Routes.{HasNoRoute}
 
@@ -48,7 +50,7 @@ unserved_by (Some account) true true denied reports standing same known is =
     absurd (true≢false (sym is ∙ granted_by standing.forfeited reports.end reports standing))
 unserved_by (Some account) true false denied reports standing same known is = inr refl
 
-none_paid : (plan : Option Rates) (known : CallFacts) → is_some plan ≡ false → unwrap_or (paid_under plan known) 0 ≡ 0
+pub none_paid : (plan : Option Rates) (known : CallFacts) → is_some plan ≡ false → unwrap_or (paid_under plan known) 0 ≡ 0
 none_paid None known none = refl
 none_paid (Some plan) known none = absurd (true≢false none)
 
@@ -116,3 +118,11 @@ unrouted_has_none run call record_is unrouted =
 -- the parties of a record are those that its call starts with
 pub parties_start : (run : Run) (call : CallRecord) (record_is : IsRecord run call) → parties_of call.call run.given ≡ Some (record_is.start.calling, record_is.start.called)
 parties_start run call record_is = ap (option_map (λ (start : Start). (start.calling, start.called))) record_is.begins
+
+some_mapped : {X Y : Type 0} (f : X → Y) (found : Option X) (y : Y) → option_map f found ≡ Some y → is_some found ≡ true
+some_mapped f None y is = cc
+some_mapped f (Some x) y is = refl
+
+-- a call with parties has started
+pub started_by : (call : ℕ) (given : List (ℕ × Body)) (parties : Number × Number) → parties_of call given ≡ Some parties → is_some (start_of call given) ≡ true
+started_by call given parties is = some_mapped (λ (start : Start). (start.calling, start.called)) (start_of call given) parties is

@@ -1,3 +1,5 @@
 pub mod Grants
 pub mod Reserves
+pub mod Sums
+pub mod Totals
 pub mod Unrouted

@@ -21,7 +21,7 @@ use Rattle.tariff_core.specs.Routes.{HasNoRoute, IsPrefixFor}
 
 -- ---- a call that was granted anything has begun
 
-reversed : (P : EntryData → Type 0) (h : List EntryData) → All P h → All P (reverse h)
+pub reversed : (P : EntryData → Type 0) (h : List EntryData) → All P h → All P (reverse h)
 reversed P [] all = All-nil P
 reversed P (event ∷ h) all =
     All-same P (reverse (event ∷ h)) (reverse h ++ event ∷ []) (reverse-append (event ∷ []) h)

@@ -1,7 +1,9 @@
 -- What the records of a run's calls tell of what was paid.
-use Rattle.std.specs.Prelude.{◌≡◌, ℕ, true, Option, List}
+use Rattle.std.specs.Prelude.{◌≡◌, ℕ, true, Option, List, reverse, sum_by, unwrap_or}
+use Rattle.account_core.specs.Available.{calls}
+use Rattle.account_core.specs.Known.{known, paid_if_granted}
 use Rattle.account_core.specs.declared.fault.AccountFault.{AccountFault}
-use Rattle.call_records.specs.Records.{IsRecord, Run}
+use Rattle.call_records.specs.Records.{AreRecords, IsRecord, Run}
 use Rattle.call_records.specs.declared.call_record.CallRecord.{CallRecord}
 use Rattle.call_records.specs.declared.outcome.Outcome.TheVariants as outcome
 use Rattle.run_books.specs.Runs.{HasAccounts}
@@ -10,6 +12,7 @@ use Rattle.run_values.specs.declared.answer.Answer.{Answer}
 use Rattle.run_values.specs.declared.post.Post.{Post}
 use Rattle.runs_core.specs.Runs.{IsRun}
 use Rattle.runs_core.specs.Teams.{are_workers}
+use Rattle.shared_account.specs.Closed.{Closed}
 
 -- a run that a driver was served in, whose calls start with the parties that each of their InitialDPs names
 pub record IsServedRun (run : Run) : Type 0 where
@@ -25,3 +28,15 @@ pub record IsServedRun (run : Run) : Type 0 where
 -- a call to a number without a route has paid nothing
 abbrev pub UnroutedCallsPayNothing : Type 0
 UnroutedCallsPayNothing = (run : Run) (call : CallRecord) → IsServedRun run → IsRecord run call → call.outcome ≡ outcome.NoRoute → call.paid ≡ 0
+
+-- what a call has paid in a book, 0 where it was granted nothing there
+abbrev pub paid_in : ℕ → Closed → ℕ
+paid_in call book = unwrap_or (paid_if_granted (known call (reverse book.history))) 0
+
+-- what the calls of a book have paid, all together
+abbrev pub paid_by_calls : Closed → ℕ
+paid_by_calls book = sum_by (λ call. paid_in call book) (calls (reverse book.history))
+
+-- the records of a run's calls have paid what the calls of its books have
+abbrev pub RecordsSumUp : Type 0
+RecordsSumUp = (run : Run) (records : List CallRecord) → IsServedRun run → AreRecords run records → sum_by (λ call. call.paid) records ≡ sum_by paid_by_calls run.books

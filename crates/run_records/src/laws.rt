@@ -1,6 +1,6 @@
 //! Laws of the records of a run's calls, each the contract of a function that does nothing.
 
-ghost use Rattle.run_records.specs.Laws.{UnroutedCallsPayNothing};
+ghost use Rattle.run_records.specs.Laws.{RecordsSumUp, UnroutedCallsPayNothing};
 
 use runs_core::reserves_are_in_the_books;
 
@@ -12,6 +12,14 @@ use runs_core::reserves_are_in_the_books;
 /// (`HaveTheirParties`). A script starts no call twice.
 pub fn unrouted_calls_pay_nothing()
     ensures { UnroutedCallsPayNothing }
+{
+    reserves_are_in_the_books();
+}
+
+/// The records of all calls of a run have paid, all together, what the calls of its books have. It
+/// takes what `unrouted_calls_pay_nothing` takes, and that these are all records (`AreRecords`).
+pub fn records_sum_up()
+    ensures { RecordsSumUp }
 {
     reserves_are_in_the_books();
 }

@@ -3,4 +3,4 @@
 
 mod laws;
 
-pub use laws::unrouted_calls_pay_nothing;
+pub use laws::{records_sum_up, unrouted_calls_pay_nothing};
