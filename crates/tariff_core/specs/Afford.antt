@@ -4,6 +4,7 @@ use Rattle.std.proofs.Common.{zero, suc}
 use Rattle.tariff_core.specs.Ceiling.{ceiling_of}
 use Rattle.tariff_core.specs.Rates.{Rates}
 use Rattle.tariff_core.specs.Times.{Elapsed}
+use Rattle.tariff_core.specs.declared.times.TheConstants.{DAY}
 
 -- the greatest number up to n of units whose ceiling the money covers, 0 if there is none
 unfoldable pub units_covered : Rates → Elapsed → ℕ → ℕ → ℕ
@@ -12,4 +13,4 @@ units_covered plan old money (suc n) = if nat_le (ceiling_of plan old (suc n)) m
 
 -- the same of what is wanted, as far as a day goes
 abbrev pub units_afforded : Rates → Elapsed → ℕ → ℕ → ℕ
-units_afforded plan old wanted money = units_covered plan old money (min wanted (864000 - (old.before + old.after)))
+units_afforded plan old wanted money = units_covered plan old money (min wanted (DAY - (old.before + old.after)))

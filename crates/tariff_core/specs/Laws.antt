@@ -8,6 +8,7 @@ use Rattle.tariff_core.specs.Rates.{Rates}
 use Rattle.tariff_core.specs.Reading.{times_read}
 use Rattle.tariff_core.specs.Times.{Elapsed}
 use Rattle.tariff_core.specs.declared.time_info.TimeInfo.{TimeInfo}
+use Rattle.tariff_core.specs.declared.times.TheConstants.{DAY}
 
 -- a call with these times may be charged under the plan
 pub record MayStand (plan : Rates) (times : Elapsed) : Type 0 where
@@ -26,8 +27,8 @@ CeilingIsNotPassed = (plan : Rates) (old : Elapsed) (more : ℕ) (new : Elapsed)
 
 -- the units afforded are at most those wanted, and go no further than a day
 abbrev pub AffordedAreWithin : Type 0
-AffordedAreWithin = (plan : Rates) (old : Elapsed) (wanted money : ℕ) → old.before + old.after ≤ 864000
-    → (units_afforded plan old wanted money ≤ wanted) × (old.before + old.after + units_afforded plan old wanted money ≤ 864000)
+AffordedAreWithin = (plan : Rates) (old : Elapsed) (wanted money : ℕ) → old.before + old.after ≤ DAY
+    → (units_afforded plan old wanted money ≤ wanted) × (old.before + old.after + units_afforded plan old wanted money ≤ DAY)
 
 -- the money covers them, if there are any
 abbrev pub AffordedAreCovered : Type 0
@@ -37,7 +38,7 @@ AffordedAreCovered = (plan : Rates) (old : Elapsed) (wanted money : ℕ)
 -- and of more, within what is wanted and a day, it covers none
 abbrev pub AffordedAreLast : Type 0
 AffordedAreLast = (plan : Rates) (old : Elapsed) (wanted money units : ℕ)
-    → units_afforded plan old wanted money < units → units ≤ wanted → old.before + old.after + units ≤ 864000 → money < ceiling_of plan old units
+    → units_afforded plan old wanted money < units → units ≤ wanted → old.before + old.after + units ≤ DAY → money < ceiling_of plan old units
 
 -- times that a call may come to may be charged under its plan, and lie within what was granted
 abbrev pub ComingTimesStand : Type 0
@@ -55,4 +56,4 @@ ComingIsTransitive = (plan : Rates) (first : Elapsed) (granted : ℕ) (second th
 
 -- what is read from a report are times within a day
 abbrev pub ReadTimesAre : Type 0
-ReadTimesAre = (old : Elapsed) (report : TimeInfo) (new : Elapsed) → times_read old report ≡ Some new → (are_times new ≡ true) × (new.before + new.after ≤ 864000)
+ReadTimesAre = (old : Elapsed) (report : TimeInfo) (new : Elapsed) → times_read old report ≡ Some new → (are_times new ≡ true) × (new.before + new.after ≤ DAY)

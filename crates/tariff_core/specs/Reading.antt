@@ -3,12 +3,13 @@ use Rattle.std.specs.Prelude.{◌+◌, ◌==◌, ◌&&◌, ◌||◌, ℕ, Bool, 
 use Rattle.tariff_core.specs.Times.{Elapsed}
 use Rattle.tariff_core.specs.declared.time_info.TimeInfo.{TimeInfo}
 use Rattle.tariff_core.specs.declared.time_info.TimeInfo.TheVariants as info
+use Rattle.tariff_core.specs.declared.times.TheConstants.{DAY}
 
 -- whether the parts of a report lie within their ranges
 abbrev pub is_time_info : TimeInfo → Bool
-is_time_info (info.NoSwitch time) = nat_le time 864000
-is_time_info (info.Switch since None) = nat_le since 864000
-is_time_info (info.Switch since (Some interval)) = nat_le since 864000 && nat_le 1 interval && nat_le interval 864000
+is_time_info (info.NoSwitch time) = nat_le time DAY
+is_time_info (info.Switch since None) = nat_le since DAY
+is_time_info (info.Switch since (Some interval)) = nat_le since DAY && nat_le 1 interval && nat_le interval DAY
 
 -- the times that a report states, after those that were known. Left out, the time before the switch is as known, or none
 abbrev pub times_stated : Elapsed → TimeInfo → Elapsed
@@ -20,9 +21,9 @@ times_stated old (info.Switch since (Some interval)) = record { before = interva
 abbrev pub times_read : Elapsed → TimeInfo → Option Elapsed
 times_read old report =
     let times = times_stated old report in
-    if is_time_info report && nat_le (times.before + times.after) 864000 then Some times else None
+    if is_time_info report && nat_le (times.before + times.after) DAY then Some times else None
 
 -- the time before the switch that a report says, where it is within its range
 abbrev pub interval_read : Elapsed → Option ℕ → Option ℕ
 interval_read old None = Some (if old.switched then old.before else 0)
-interval_read old (Some interval) = if (interval == 0) || nat_lt 864000 interval then None else Some interval
+interval_read old (Some interval) = if (interval == 0) || nat_lt DAY interval then None else Some interval

@@ -11,6 +11,8 @@ use Rattle.tariff_core.specs.TariffFaults.{kind_from}
 use Rattle.tariff_core.specs.declared.tariff_fault.TariffFault.{TariffFault}
 use Rattle.tariff_core.specs.declared.tariff_fault.TariffKind.{TariffKind}
 use Rattle.tariff_core.specs.declared.tariff_fault.TariffKind.TheVariants as kind
+use Rattle.tariff_core.specs.declared.plan.TheConstants.{MAX_RATE}
+use Rattle.tariff_core.specs.declared.times.TheConstants.{DAY}
 
 -- 0 to 15 digits
 abbrev pub is_prefix : List ℕ → Bool
@@ -37,7 +39,7 @@ start_in fields = ok_or (time_of (field_in fields 1)) kind.From
 
 -- a fee or a rate
 abbrev pub money_in : List (List ℕ) → ℕ → Result ℕ TariffKind
-money_in fields place = ok_or (decimal_of 1000000000 (field_in fields place)) kind.Money
+money_in fields place = ok_or (decimal_of MAX_RATE (field_in fields place)) kind.Money
 
 -- a row has the four fields of the older header, or five
 abbrev pub HasColumns : ℕ → List (List ℕ) → Type 0
@@ -45,7 +47,7 @@ HasColumns header fields = (4 ≤ length fields) × (header ≢ 0 → 4 < length
 
 -- the free units in a row: none under the older header, the first
 abbrev pub free_in : ℕ → List (List ℕ) → Result ℕ TariffKind
-free_in header fields = if header == 0 then Ok 0 else ok_or (decimal_of 864000 (field_in fields 4)) kind.Free
+free_in header fields = if header == 0 then Ok 0 else ok_or (decimal_of DAY (field_in fields 4)) kind.Free
 
 -- what a row says
 abbrev pub band_in : ℕ → List (List ℕ) → Result Band TariffKind

@@ -12,7 +12,7 @@ pub fn afford(plan: &Plan, old: Times, wanted: u32, money: u64) -> u32
     requires { old.switched ≡ true → IsSome plan.now.after }
     ensures exact { result ≡ units_afforded (rates_of plan.now) old wanted money }
     ensures wanted { result ≤ wanted }
-    ensures room { old.before + old.after + result ≤ 864000 }
+    ensures room { old.before + old.after + result ≤ DAY }
 {
     let most = wanted.min(DAY - old.total());
     if ceiling(plan, old, most) <= money {

@@ -111,7 +111,7 @@ impl Bands {
 
     /// The row of a prefix at a time of day: the latest that starts at it or before.
     pub fn latest(&self, prefix: Prefix, time: u32) -> Option<Row>
-        requires { time < 864000 }
+        requires { time < DAY }
         ensures none { IfNone result
             (All (λ band. band.prefix ≡ digits_of prefix → time < band.start) self.now) }
         ensures row { IfSome result
@@ -131,7 +131,7 @@ impl Bands {
 
     /// The row of a prefix that starts next after a time of day, on that day.
     pub fn soonest(&self, prefix: Prefix, time: u32) -> Option<Row>
-        requires { time < 864000 }
+        requires { time < DAY }
         ensures none { IfNone result
             (All (λ band. band.prefix ≡ digits_of prefix → band.start ≤ time) self.now) }
         ensures row { IfSome result

@@ -2,6 +2,8 @@
 
 ghost use Rattle.std.specs.Prelude.{◌≡◌, ◌≤◌, IsOk, IfOk, ◌↔◌, unwrap_or};
 ghost use Rattle.tariff_core.specs.Rates.{AreRates};
+ghost use Rattle.tariff_core.specs.declared.plan.TheConstants.{MAX_RATE};
+ghost use Rattle.tariff_core.specs.declared.times.TheConstants.{DAY};
 
 use crate::DAY;
 use thiserror::Error;
@@ -27,10 +29,10 @@ pub struct Plan {
     /// How many units of 100 ms cost nothing, 0 to `DAY`: the first of the time before the switch,
     /// and where that was shorter, the first after it. The fee is charged all the same.
     pub free: u32,
-    pub ghost fee_in_range: { fee ≤ 1000000000 },
-    pub ghost before_in_range: { before ≤ 1000000000 },
-    pub ghost after_in_range: { unwrap_or after 0 ≤ 1000000000 },
-    pub ghost free_within_day: { free ≤ 864000 },
+    pub ghost fee_in_range: { fee ≤ MAX_RATE },
+    pub ghost before_in_range: { before ≤ MAX_RATE },
+    pub ghost after_in_range: { unwrap_or after 0 ≤ MAX_RATE },
+    pub ghost free_within_day: { free ≤ DAY },
 }
 
 impl Plan {
@@ -56,7 +58,7 @@ impl Plan {
 
     /// The same plan with so many free units of 100 ms, 0 to `DAY`.
     pub fn with_free(self, free: u32) -> Result<Plan, PlanRange>
-        ensures made { IsOk result ↔ (free ≤ 864000) }
+        ensures made { IsOk result ↔ (free ≤ DAY) }
         ensures rates { IfOk result
             (λ plan. rates_of plan ≡ record (rates_of self) { free = free }) }
     {

@@ -5,7 +5,7 @@ ghost use Rattle.tariff_core.specs.Lawful.{is_lawful};
 ghost use Rattle.tariff_core.specs.Price.{price_of, price_at};
 ghost use Rattle.tariff_core.specs.RatesOf.{rates_of};
 
-use crate::{Plan, Times};
+use crate::{DAY, Plan, Times};
 
 /// The most that a call can cost: the highest fee, and a day at the highest rate.
 pub const MAX_PRICE: u64 = 1_441_000_000_000;
@@ -18,9 +18,9 @@ const MINUTE: u64 = 600;
 /// its rate, rounded up once. The time before the switch uses the free units up first. Without a
 /// second rate the time after the switch costs nothing.
 pub fn price(plan: &Plan, before: u32, after: u32) -> u64
-    requires { before + after ≤ 864000 }
+    requires { before + after ≤ DAY }
     ensures exact { result ≡ price_of (rates_of plan.now) before after }
-    ensures bounded { result ≤ 1441000000000 }
+    ensures bounded { result ≤ MAX_PRICE }
 {
     if before == 0 && after == 0 {
         return 0;
@@ -35,9 +35,9 @@ pub fn price(plan: &Plan, before: u32, after: u32) -> u64
 /// lawful one after the other.
 #[tactic(auto, using(crate::proofs::Prices::price_at_grows))]
 pub fn debit(plan: &Plan, old: Times, new: Times) -> u64
-    requires { is_lawful (rates_of plan.now) old new 864000 ≡ true }
+    requires { is_lawful (rates_of plan.now) old new DAY ≡ true }
     ensures exact { price_at (rates_of plan.now) old + result ≡ price_at (rates_of plan.now) new }
-    ensures bounded { price_at (rates_of plan.now) new ≤ 1441000000000 }
+    ensures bounded { price_at (rates_of plan.now) new ≤ MAX_PRICE }
 {
     price(plan, new.before(), new.after()) - price(plan, old.before(), old.after())
 }

@@ -1,6 +1,8 @@
 //! The rows of a tariff table.
 
 ghost use Rattle.std.specs.Prelude.{◌<◌, ◌≤◌};
+ghost use Rattle.tariff_core.specs.declared.plan.TheConstants.{MAX_RATE};
+ghost use Rattle.tariff_core.specs.declared.times.TheConstants.{DAY};
 
 use crate::place::Place;
 
@@ -10,9 +12,9 @@ pub(crate) struct Cost {
     pub fee: u64,
     pub rate: u64,
     pub free: u32,
-    pub ghost fee_in_range: { fee ≤ 1000000000 },
-    pub ghost rate_in_range: { rate ≤ 1000000000 },
-    pub ghost free_within_day: { free ≤ 864000 },
+    pub ghost fee_in_range: { fee ≤ MAX_RATE },
+    pub ghost rate_in_range: { rate ≤ MAX_RATE },
+    pub ghost free_within_day: { free ≤ DAY },
 }
 
 /// A row of a tariff table.
@@ -20,5 +22,5 @@ pub(crate) struct Cost {
 pub(crate) struct Row {
     pub place: Place,
     pub cost: Cost,
-    pub ghost in_day: { place.start < 864000 },
+    pub ghost in_day: { place.start < DAY },
 }

@@ -38,7 +38,7 @@ pub(crate) fn read_row(header: usize, fields: &ByteRecord) -> Result<Row, Tariff
 fn free_units(header: usize, fields: &ByteRecord) -> Result<u32, TariffKind>
     requires { HasColumns header (fields_of fields.now) }
     ensures value { result ≡ free_in header (fields_of fields.now) }
-    ensures within_day { IfOk result (λ free. free ≤ 864000) }
+    ensures within_day { IfOk result (λ free. free ≤ DAY) }
 {
     if header == 0 {
         return Ok(0);

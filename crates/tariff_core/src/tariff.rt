@@ -13,7 +13,7 @@ use crate::prefix::{PREFIX_DIGITS, Prefix};
 use crate::route::{Quote, Route};
 use crate::row::Row;
 use crate::tariff_fault::{TariffFault, TariffKind};
-use crate::{DAY, HORIZON, Plan};
+use crate::{DAY, HORIZON, MAX_RATE, Plan};
 use std::alloc::Global;
 use std::io::Read;
 use std::marker::Model;
@@ -125,7 +125,7 @@ impl Tariff {
 
     /// The row of a prefix at a time of day.
     fn band_at(&self, prefix: Prefix, time: u32) -> Row
-        requires in_day { time < 864000 }
+        requires in_day { time < DAY }
         requires midnight { has_band (digits_of prefix) 0 self.now ≡ true }
         ensures { IsBandAt self.now (digits_of prefix) time (band_of result) }
     {
@@ -134,7 +134,7 @@ impl Tariff {
 
     /// The row of a prefix that starts next after a time of day, where it has more than `band`.
     fn next_band(&self, prefix: Prefix, time: u32, band: Row) -> Option<Row>
-        requires in_day { time < 864000 }
+        requires in_day { time < DAY }
         requires midnight { has_band (digits_of prefix) 0 self.now ≡ true }
         requires band { IsBandAt self.now (digits_of prefix) time (band_of band) }
         ensures only { IfNone result (IsOnly self.now (digits_of prefix) (band_of band)) }
@@ -153,10 +153,10 @@ impl Tariff {
 
 /// How long after a time of day a start is: later on that day, else on the next.
 fn wait(time: u32, start: u32) -> u32
-    requires time { time < 864000 }
-    requires start { start < 864000 }
+    requires time { time < DAY }
+    requires start { start < DAY }
     ensures value { result ≡ wait time start }
-    ensures within_day { (1 ≤ result) × (result ≤ 864000) }
+    ensures within_day { (1 ≤ result) × (result ≤ DAY) }
 {
     if time < start {
         start - time
@@ -167,7 +167,7 @@ fn wait(time: u32, start: u32) -> u32
 
 /// The route of a row, and the rate and the moment of its switch.
 fn route(band: Row, after: Option<u64>, switch_at: Option<u64>) -> Route
-    requires rate { unwrap_or after 0 ≤ 1000000000 }
+    requires rate { unwrap_or after 0 ≤ MAX_RATE }
     requires both { is_some switch_at ≡ is_some after }
     ensures fee { result.plan.fee ≡ band.cost.fee }
     ensures first_rate { result.plan.before ≡ band.cost.rate }

@@ -67,7 +67,7 @@ impl Times {
     /// The time before the switch, or all of it where there was none.
     pub fn before(self) -> u32
         ensures value { result ≡ self.before }
-        ensures within_day { self.before + self.after ≤ 864000 }
+        ensures within_day { self.before + self.after ≤ DAY }
     {
         self.before
     }
@@ -75,7 +75,7 @@ impl Times {
     /// The time after the switch.
     pub fn after(self) -> u32
         ensures value { result ≡ self.after }
-        ensures within_day { self.before + self.after ≤ 864000 }
+        ensures within_day { self.before + self.after ≤ DAY }
         ensures unswitched { self.switched ≡ false → self.after ≡ 0 }
     {
         self.after
@@ -91,7 +91,7 @@ impl Times {
     /// The whole time that was talked.
     pub fn total(self) -> u32
         ensures value { result ≡ self.before + self.after }
-        ensures within_day { result ≤ 864000 }
+        ensures within_day { result ≤ DAY }
     {
         self.before + self.after
     }
