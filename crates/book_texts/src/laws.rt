@@ -1,9 +1,15 @@
 //! Laws of the texts of books, each the contract of a function that does nothing else.
 
+ghost use Rattle.account_core.specs.Events.{asked_of};
+ghost use Rattle.tariff_core.specs.RatesOf.{rates_of};
+ghost use Rattle.entry_rows.specs.Fits.{FitsPlan};
+ghost use Rattle.book_texts.specs.Typed.{IsTypedAsked};
 ghost use Rattle.book_texts.specs.Laws.{BooksAreRead, BooksHaveOneText, PrintedBooksPass};
 
+use account_core::Op;
 use entry_rows::{operations_are_read, replies_are_read};
 use table_core::{printed_decimals_are_read, printed_tables_are_read};
+use tariff_core::Plan;
 
 /// What `run_lines` says of its text leaves no byte of it open.
 pub fn books_have_one_text()
@@ -21,4 +27,32 @@ pub fn printed_books_are_read()
     printed_tables_are_read();
     operations_are_read();
     replies_are_read();
+}
+
+/// The numbers of an operation are in the ranges of their types.
+pub(crate) fn op_is_typed(op: Op)
+    ensures { IsTypedAsked (asked_of op) }
+{
+    match op {
+        Op::Credit { .. } => {}
+        Op::Reserve { call: _, plan, .. } => plan_is_typed(plan),
+        Op::Settle {
+            call: _,
+            number: _,
+            ..
+        } => {}
+        Op::Return { call: _ } => {}
+    }
+}
+
+/// The fee, the rates and the free units of a plan are in their ranges.
+fn plan_is_typed(plan: Plan)
+    ensures { FitsPlan (rates_of plan) }
+{
+    let Plan {
+        fee: _,
+        before: _,
+        after: _,
+        free: _,
+    } = plan;
 }

@@ -2,16 +2,14 @@
 
 ghost use Rattle.std.specs.Prelude.{◌≡◌, ◌++◌, All, OnOk, IfOk, string_bytes};
 ghost use Rattle.account_core.specs.Events.{asked_of, entry_data};
-ghost use Rattle.tariff_core.specs.RatesOf.{rates_of};
-ghost use Rattle.entry_rows.specs.Fits.{FitsPlan};
 ghost use Rattle.book_texts.specs.BookTexts.{book_rows, book_text, entry_row};
 ghost use Rattle.book_texts.specs.Typed.{IsTyped, IsTypedAsked};
 
-use account_core::{Entry, Op};
+use crate::laws;
+use account_core::Entry;
 use entry_rows::{write_answer, write_opening, write_operation};
 use shared_account::Book;
 use std::alloc::{AllocError, Global};
-use tariff_core::Plan;
 
 /// The table of these books, version 3: a header, and for each book, in order, a row of its opening
 /// and a row for each entry of its history. Where there is a table, the calls, the plans and the
@@ -54,37 +52,9 @@ fn write_entry(text: &mut String, account: u32, entry: &Entry) -> Result<(), All
         ++ entry_row account (entry_data entry.now)) }
     ensures typed { IsTypedAsked (asked_of entry.now.op) }
 {
-    op_is_typed(entry.op);
+    laws::op_is_typed(entry.op);
     let seat = entry.seat;
     write!(text, "{account},{seat},")?;
     write_operation(text, entry.op)?;
     write_answer(text, entry.reply)
-}
-
-/// The numbers of an operation are in the ranges of their types.
-fn op_is_typed(op: Op)
-    ensures { IsTypedAsked (asked_of op) }
-{
-    match op {
-        Op::Credit { .. } => {}
-        Op::Reserve { call: _, plan, .. } => plan_is_typed(plan),
-        Op::Settle {
-            call: _,
-            number: _,
-            ..
-        } => {}
-        Op::Return { call: _ } => {}
-    }
-}
-
-/// The fee, the rates and the free units of a plan are in their ranges.
-fn plan_is_typed(plan: Plan)
-    ensures { FitsPlan (rates_of plan) }
-{
-    let Plan {
-        fee: _,
-        before: _,
-        after: _,
-        free: _,
-    } = plan;
 }

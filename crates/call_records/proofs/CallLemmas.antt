@@ -114,11 +114,6 @@ pub no_start : (call : ℕ) (given : List (ℕ × Body)) (post : ℕ × Body) �
 no_start call given post none =
     sym (told_more call start_by given post ∙ ap (λ s. option_or (start_of call given) s) none ∙ or_none (start_of call given))
 
--- what follows where a call succeeds
-pub on_ok : {X E P Q : Type 0} (answer : Result X E) → (P → Q) → OnOk answer P → OnOk answer Q
-on_ok (Ok x) follows holds = follows holds
-on_ok (Err why) follows holds = holds
-
 -- the reports of a call after a message more of it
 pub message_kept : (call : ℕ) (given : List (ℕ × Body)) (at : ℕ) (msg : SsfMsg) (reports : CallReports) → reports ≡ reports_of call given
     → reports_with reports (λ tell. tell at msg) ≡ reports_of call (given ++ (at, body.Ssf call msg) ∷ [])

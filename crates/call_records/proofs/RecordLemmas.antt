@@ -50,9 +50,3 @@ same_calls call (other ∷ calls) = λ i. same_test call other i || same_calls c
 -- a call has a start where it is among the keys
 pub started : (call : ℕ) (starts : List (ℕ × Start)) → is_some (lookup (is_at (nat_cmp call)) starts) ≡ list_any (λ other. call == other) (keys_of starts)
 started call starts = is_some-lookup (is_at (nat_cmp call)) starts ∙ same_calls call (keys_of starts)
-
--- the parts of a row, one after another
-pub row_joined : (text number comma calling called account prefix moments word end : List ℕ)
-    → ((((((((((text ++ (number ++ comma)) ++ calling) ++ comma) ++ called) ++ comma) ++ account) ++ comma) ++ prefix) ++ comma) ++ moments) ++ (word ++ end)
-    ≡ text ++ (number ++ (comma ++ (calling ++ (comma ++ (called ++ (comma ++ (account ++ (comma ++ (prefix ++ (comma ++ (moments ++ (word ++ end))))))))))))
-row_joined text number comma calling called account prefix moments word end = simp append_assoc

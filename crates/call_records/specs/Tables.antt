@@ -1,9 +1,10 @@
 -- The table of calls.
-use Rattle.std.specs.Prelude.{◌≡◌, ◌-◌, ℕ, List, [], ◌++◌, codes, unwrap_or}
+use Rattle.std.specs.Prelude.{◌≡◌, ℕ, List, [], ◌++◌, codes, unwrap_or}
 use Rattle.std.specs.Fmt.{decimal}
 use Rattle.std.specs.List.{flat_map}
 use Rattle.cap_values.specs.NumberDigits.{digits_of}
 use Rattle.entry_rows.specs.Columns.{field, number_or_empty}
+use Rattle.table_core.specs.Decimals.{digits_text}
 use Rattle.call_records.specs.Records.{AreRecords, Run, prefix_of}
 use Rattle.call_records.specs.declared.outcome.Outcome.{Outcome}
 use Rattle.call_records.specs.declared.outcome.Outcome.TheVariants as outcome
@@ -25,10 +26,6 @@ word_of outcome.Ended = codes "ended"
 word_of outcome.Cut = codes "cut"
 word_of outcome.Released = codes "released"
 
--- digits, each in decimals
-abbrev pub digits_text : List ℕ → List ℕ
-digits_text digits = flat_map (λ byte. decimal (byte - 48)) digits
-
 -- the numbers of a row, each with a comma behind it
 abbrev pub moments_text : CallRecord → List ℕ
 moments_text call =
@@ -38,7 +35,7 @@ moments_text call =
 -- a row: `call,calling,called,account,prefix,start,answer,end,before,after,paid,outcome`
 abbrev pub record_row : CallRecord → List ℕ
 record_row call =
-    field (decimal call.call) (field (digits_text (digits_of call.calling)) (field (digits_text (digits_of call.called))
+    field (decimal call.call) (field (digits_of call.calling) (field (digits_of call.called)
     (field (number_or_empty call.account) (field (digits_text (unwrap_or (prefix_of call) [])) (moments_text call ++ (word_of call.outcome ++ codes "\n"))))))
 
 -- the header of the table

@@ -1,13 +1,14 @@
 //! The table of calls.
 
 ghost use Rattle.std.specs.Prelude.{◌≡◌, ◌++◌, [], IfOk, OnOk, string_bytes, unwrap_or};
-ghost use Rattle.std.specs.Fmt.{decimal};
-ghost use Rattle.entry_rows.specs.Columns.{number_or_empty};
 ghost use Rattle.call_records.specs.Records.{prefix_of};
-ghost use Rattle.call_records.specs.Tables.{call_text, digits_text, moments_text, record_row, word_of};
+ghost use Rattle.call_records.specs.Tables.{call_text, moments_text, record_row, word_of};
+ghost use Rattle.table_core.specs.Decimals.{digits_text};
 
 use crate::{CallRecord, Outcome};
+use entry_rows::Field;
 use std::alloc::{AllocError, Global};
+use table_core::write_digits;
 
 /// The table of these calls, in order: a header, and a row of each.
 pub fn call_table(alloc: Global, calls: &[CallRecord]) -> Result<String, AllocError>
@@ -28,30 +29,14 @@ pub fn call_table(alloc: Global, calls: &[CallRecord]) -> Result<String, AllocEr
 fn write_record(text: &mut String, call: &CallRecord) -> Result<(), AllocError>
     ensures { OnOk result (string_bytes text.new ≡ string_bytes text.old ++ record_row call.now) }
 {
-    let number = call.call;
-    write!(text, "{number},")?;
-    write_digits(text, call.calling.as_bytes())?;
-    write!(text, ",")?;
-    write_digits(text, call.called.as_bytes())?;
-    write!(text, ",")?;
-    write_account(text, call.account)?;
-    write!(text, ",")?;
+    let (number, account) = (call.call, Field::short(call.account));
+    let (calling, called) = (call.calling, call.called);
+    write!(text, "{number},{calling},{called},{account},")?;
     write_prefix(text, call)?;
     write!(text, ",")?;
     write_moments(text, call)?;
     let word = word(call.outcome);
     writeln!(text, "{word}")
-}
-
-/// Adds the number of an account, if there is one.
-fn write_account(text: &mut String, account: Option<u32>) -> Result<(), AllocError>
-    ensures { OnOk result (string_bytes text.new
-        ≡ string_bytes text.old ++ number_or_empty account) }
-{
-    match account {
-        Some(account) => write!(text, "{account}"),
-        None => Ok(()),
-    }
 }
 
 /// Adds the digits of the prefix of a call, if it has one.
@@ -70,45 +55,9 @@ fn write_moments(text: &mut String, call: &CallRecord) -> Result<(), AllocError>
     ensures { OnOk result (string_bytes text.new
         ≡ string_bytes text.old ++ moments_text call.now) }
 {
-    let (start, paid) = (call.start, call.paid);
-    let (before, after) = (call.times.before(), call.times.after());
-    write!(text, "{start},")?;
-    write_optional(text, call.answer)?;
-    write!(text, ",")?;
-    write_optional(text, call.end)?;
-    write!(text, ",{before},{after},{paid},")
-}
-
-/// Adds digits.
-fn write_digits(text: &mut String, digits: &[u8]) -> Result<(), AllocError>
-    ensures { OnOk result (string_bytes text.new
-        ≡ string_bytes text.old ++ digits_text digits.now) }
-{
-    for digit in digits {
-        write_digit(text, digit.saturating_sub(b'0'))?;
-    }
-    Ok(())
-}
-
-/// Adds a number in decimals: one of a single digit as a character, which is quicker.
-fn write_digit(text: &mut String, number: u8) -> Result<(), AllocError>
-    ensures { OnOk result (string_bytes text.new ≡ string_bytes text.old ++ decimal number) }
-{
-    match char::from_digit(u32::from(number), 10) {
-        Some(digit) => text.push(digit),
-        None => write!(text, "{number}"),
-    }
-}
-
-/// Adds a number where there is one.
-fn write_optional(text: &mut String, number: Option<u64>) -> Result<(), AllocError>
-    ensures { OnOk result (string_bytes text.new
-        ≡ string_bytes text.old ++ number_or_empty number) }
-{
-    match number {
-        Some(number) => write!(text, "{number}"),
-        None => Ok(()),
-    }
+    let (start, answer, end) = (call.start, Field(call.answer), Field(call.end));
+    let (before, after, paid) = (call.times.before(), call.times.after(), call.paid);
+    write!(text, "{start},{answer},{end},{before},{after},{paid},")
 }
 
 /// The word for what became of a call.

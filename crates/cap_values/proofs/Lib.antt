@@ -1,2 +1,3 @@
 pub mod ArmingLemmas
+pub mod AsciiDigits
 pub mod NumberLemmas

@@ -2,7 +2,8 @@
 use Rattle.std.specs.Prelude.{◌&&◌, ℕ, Bool, List, length, nat_le}
 use Rattle.std.specs.Char.{is_ascii_digit}
 use Rattle.std.specs.List.{list_all}
+use Rattle.cap_values.specs.declared.number.TheConstants.{MAX_DIGITS}
 
--- 1 to 15 ASCII digits
+-- 1 to `MAX_DIGITS` ASCII digits
 abbrev pub is_number : List ℕ → Bool
-is_number text = nat_le 1 (length text) && nat_le (length text) 15 && list_all is_ascii_digit text
+is_number text = nat_le 1 (length text) && nat_le (length text) MAX_DIGITS && list_all is_ascii_digit text

@@ -2,9 +2,11 @@
 
 ghost use Rattle.std.specs.Prelude.{◌≡◌, ◌↔◌, ◌≤◌, ◌-◌, IsTrue, IsOk, IfOk, IfErr, take, drop, replicate};
 ghost use Rattle.cap_values.specs.Numbers.{is_number};
+ghost use Rattle.cap_values.specs.declared.number.TheConstants.{MAX_DIGITS};
 
 use crate::ValueFault;
 use std::cmp::Ordering;
+use std::fmt;
 use table_core::are_digits;
 
 /// The most digits that a number has.
@@ -14,11 +16,11 @@ pub const MAX_DIGITS: usize = 15;
 /// ASCII digits. Numbers stand in the order of their digits, compared from the first one on.
 #[derive(Clone, Copy, Debug)]
 pub struct Number {
-    digits: [u8; 15],
-    len: usize,
-    ghost short: { len ≤ 15 },
+    digits: [u8; MAX_DIGITS],
+    len: u8,
+    ghost short: { len ≤ MAX_DIGITS },
     ghost in_range: { IsTrue (is_number (take len digits)) },
-    ghost zeros_behind: { drop len digits ≡ replicate (15 - len) 0 },
+    ghost zeros_behind: { drop len digits ≡ replicate (MAX_DIGITS - len) 0 },
 }
 
 impl Number {
@@ -35,16 +37,33 @@ impl Number {
             return Err(ValueFault::ParameterOutOfRange);
         }
         let len = bytes.len();
-        let mut digits = [0; 15];
+        let mut digits = [0; MAX_DIGITS];
         digits[..len].copy_from_slice(bytes);
-        Ok(Number { digits, len })
+        Ok(Number {
+            digits,
+            len: len as u8,
+        })
     }
 
     /// The digits, in ASCII.
     pub fn as_bytes(&self) -> &[u8]
         ensures { result.now ≡ digits_of self.now }
     {
-        &self.digits[..self.len]
+        &self.digits[..usize::from(self.len)]
+    }
+}
+
+impl fmt::Display for Number {
+    ghost use Rattle.std.specs.Prelude.{Some};
+    ghost use Rattle.cap_values.specs.NumberDigits.{digits_of};
+
+    ghost output = { λ number. Some (digits_of number) };
+
+    fn fmt<W: fmt::Write>(&self, f: &mut fmt::Formatter<W>) -> fmt::Result {
+        match str::from_utf8(self.as_bytes()) {
+            Ok(digits) => f.write_str(digits),
+            Err(_) => unreachable!(),
+        }
     }
 }
 

@@ -4,28 +4,10 @@ ghost use Rattle.std.specs.Prelude.{◌≡◌, ◌++◌, OnOk, string_bytes};
 ghost use Rattle.account_core.specs.Events.{asked_of};
 ghost use Rattle.entry_rows.specs.Columns.{answer_of, answer_text, opening_of, operation_of, operation_text, settle_of};
 
+use crate::Field;
 use account_core::{Op, Reply};
 use std::alloc::AllocError;
-use std::fmt;
 use tariff_core::TimeInfo;
-
-/// A number where there is one, else an empty field.
-#[derive(Clone, Copy)]
-struct Field(Option<u64>);
-
-impl fmt::Display for Field {
-    ghost use Rattle.std.specs.Prelude.{Some};
-    ghost use Rattle.entry_rows.specs.Columns.{number_or_empty};
-
-    ghost output = { λ field. Some (number_or_empty field.0) };
-
-    fn fmt<W: fmt::Write>(&self, f: &mut fmt::Formatter<W>) -> fmt::Result {
-        match self.0 {
-            Some(number) => write!(f, "{number}"),
-            None => f.write_str(""),
-        }
-    }
-}
 
 /// Adds the columns of an opening, from op to x7, each with a comma behind it.
 pub fn write_opening(text: &mut String, opening: u64, until: Option<u64>) -> Result<(), AllocError>
@@ -73,7 +55,7 @@ fn write_settle(text: &mut String, call: u64, number: u64, info: TimeInfo) -> Re
     match info {
         TimeInfo::NoSwitch { t } => write!(text, "settle,{call},{number},n,{t},,,,,"),
         TimeInfo::Switch { since, interval } => {
-            let interval = Field(interval.map(u64::from));
+            let interval = Field::short(interval);
             write!(text, "settle,{call},{number},s,{since},{interval},,,,")
         }
     }

@@ -5,6 +5,7 @@
 #![tactic(auto)]
 
 mod columns;
+mod field;
 mod laws;
 mod operation;
 mod places;
@@ -14,6 +15,7 @@ mod version;
 mod words;
 
 pub use columns::{write_answer, write_opening, write_operation};
+pub use field::Field;
 pub use laws::{operations_are_read, replies_are_read};
 pub use operation::{is_money_blank, is_op_blank, read_op, read_until};
 pub use reply::{is_reply_blank, read_reply};

@@ -1,7 +1,7 @@
 -- The lines that `quote` prints.
 use Rattle.std.specs.Prelude.{◌≡◌, ◌⊎◌, ◌-◌, ◌/◌, ◌%◌, ℕ, List, [], ◌∷◌, ◌++◌, Option, Some, None, codes, min}
 use Rattle.std.specs.Fmt.{decimal}
-use Rattle.std.specs.List.{flat_map}
+use Rattle.table_core.specs.Decimals.{digits_text}
 use Rattle.tariff_core.specs.Afford.{units_afforded}
 use Rattle.tariff_core.specs.Bands.{Band}
 use Rattle.tariff_core.specs.Price.{price_of}
@@ -16,7 +16,7 @@ use Rattle.command_words.specs.QuoteWishes.{QuoteWish}
 -- the digits of a prefix, and `-` for none
 abbrev pub prefix_text : List ℕ → List ℕ
 prefix_text [] = codes "-"
-prefix_text (digit ∷ digits) = flat_map (λ byte. decimal (byte - 48)) (digit ∷ digits)
+prefix_text (digit ∷ digits) = digits_text (digit ∷ digits)
 
 -- a number below 100 in two digits
 abbrev pub two_digits : ℕ → List ℕ

@@ -1,14 +1,13 @@
 //! The lines that `quote` prints.
 
 ghost use Rattle.std.specs.Prelude.{◌≡◌, ◌+◌, ◌-◌, ◌++◌, ◌≤◌, ◌<◌, IfOk, IfSome, OnOk, string_bytes};
-ghost use Rattle.std.specs.List.{flat_map};
-ghost use Rattle.std.specs.Fmt.{decimal};
 ghost use Rattle.tariff_core.specs.RatesOf.{rates_of};
 ghost use Rattle.command_words.specs.QuoteWishes.{wish_of};
 ghost use Rattle.prepaid_command.specs.Quotes.{IsQuoteText, afford_line, band_line, before_switch, plan_text, prefix_text, price_line, quote_lines, switch_line, time_text, two_digits};
 
 use command_words::QuoteAsk;
 use std::alloc::{AllocError, Global};
+use table_core::write_digits;
 use tariff_core::{DAY, HORIZON, LAST_MOMENT, Plan, Quote, Route, Tariff, Times, afford, price};
 
 /// What a call to a number costs at a moment: the band and the switch, and the price of a call and
@@ -79,18 +78,6 @@ fn write_prefix(text: &mut String, prefix: &[u8]) -> Result<(), AllocError>
         return write!(text, "-");
     }
     write_digits(text, prefix)
-}
-
-/// Adds digits.
-fn write_digits(text: &mut String, digits: &[u8]) -> Result<(), AllocError>
-    ensures { OnOk result (string_bytes text.new ≡ string_bytes text.old
-        ++ flat_map (λ byte. decimal (byte - 48)) digits.now) }
-{
-    for digit in digits {
-        let value = digit.saturating_sub(b'0');
-        write!(text, "{value}")?;
-    }
-    Ok(())
 }
 
 /// Adds a time of day as `HH:MM`.

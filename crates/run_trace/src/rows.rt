@@ -4,11 +4,10 @@ ghost use Rattle.std.specs.Prelude.{◌≡◌, ◌++◌, Some, map, OnOk, string
 ghost use Rattle.run_trace.specs.Said.{message_said, operation_said, post_said, refused_said, report_said, stray_said};
 ghost use Rattle.run_trace.specs.Tables.{answer_rows, call_of, head_text, row, said_text, sender_of, service_rows};
 
-use crate::words::{
-    Field, digits, event_word, leg_number, mode_word, release_word, short_field, state_word,
-};
+use crate::words::{event_word, leg_number, mode_word, release_word, state_word};
 use account_core::AccountFault;
 use cap_values::{ScfOp, SsfMsg};
+use entry_rows::Field;
 use run_values::{Answer, Body};
 use std::alloc::AllocError;
 use std::fmt;
@@ -76,10 +75,7 @@ fn write_message(text: &mut String, msg: &SsfMsg) -> Result<(), AllocError>
             calling,
             called,
             ..
-        } => {
-            let (calling, called) = (digits(&calling), digits(&called));
-            writeln!(text, "InitialDP,{calling},{called},,")
-        }
+        } => writeln!(text, "InitialDP,{calling},{called},,"),
         SsfMsg::EventReport { event, leg, mode } => {
             let (event, leg, mode) = (event_word(event), leg_number(leg), mode_word(mode));
             writeln!(text, "EventReportBCSM,{event},{leg},{mode},")
@@ -98,7 +94,7 @@ fn write_report(text: &mut String, active: bool, info: TimeInfo) -> Result<(), A
     match info {
         TimeInfo::NoSwitch { t } => writeln!(text, "ApplyChargingReport,{state},n,{t},"),
         TimeInfo::Switch { since, interval } => {
-            let interval = short_field(interval);
+            let interval = Field::short(interval);
             writeln!(text, "ApplyChargingReport,{state},s,{since},{interval}")
         }
     }
@@ -162,7 +158,7 @@ fn write_operation(text: &mut String, op: &ScfOp) -> Result<(), AllocError>
     match *op {
         ScfOp::RequestReport(_) => writeln!(text, "RequestReportBCSMEvent,,,,"),
         ScfOp::ApplyCharging(charge) => {
-            let (period, switch) = (charge.period, short_field(charge.switch));
+            let (period, switch) = (charge.period, Field::short(charge.switch));
             let release = release_word(charge.release);
             writeln!(text, "ApplyCharging,{period},{switch},{release},")
         }

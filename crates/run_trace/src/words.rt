@@ -1,46 +1,10 @@
-//! The words of a trace, and its fields that may be empty.
+//! The words of a trace.
 
 ghost use Rattle.std.specs.Prelude.{◌≡◌};
-ghost use Rattle.cap_values.specs.NumberDigits.{digits_of};
 ghost use Rattle.run_trace.specs.Said.{event_word, leg_number, mode_word, release_word, state_word};
 
-use cap_values::{Event, Leg, Mode, Number};
-use std::fmt;
-
-/// A number where there is one, else an empty field.
-#[derive(Clone, Copy)]
-pub(crate) struct Field(pub Option<u64>);
-
-impl fmt::Display for Field {
-    ghost use Rattle.std.specs.Prelude.{Some};
-    ghost use Rattle.entry_rows.specs.Columns.{number_or_empty};
-
-    ghost output = { λ field. Some (number_or_empty field.0) };
-
-    fn fmt<W: fmt::Write>(&self, f: &mut fmt::Formatter<W>) -> fmt::Result {
-        match self.0 {
-            Some(number) => write!(f, "{number}"),
-            None => f.write_str(""),
-        }
-    }
-}
-
-/// The same of a number of 32 bits.
-pub(crate) fn short_field(number: Option<u32>) -> Field
-    ensures { result.0 ≡ number }
-{
-    Field(number.map(u64::from))
-}
-
-/// The digits of a party's number.
-pub(crate) fn digits(number: &Number) -> &str
-    ensures { result.now ≡ digits_of number.now }
-{
-    match str::from_utf8(number.as_bytes()) {
-        Ok(digits) => digits,
-        Err(_) => unreachable!(),
-    }
-}
+use cap_values::{Event, Leg, Mode};
+use entry_rows::Field;
 
 /// The word for an event.
 pub(crate) fn event_word(event: Event) -> &'static str

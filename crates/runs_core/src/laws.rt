@@ -1,5 +1,6 @@
 //! The laws of the books of a run, each the contract of a function that does nothing.
 
+ghost use Rattle.std.specs.Prelude.{◌≡◌};
 ghost use Rattle.runs_core.specs.Entered.{RechargesAreInTheBooks, ReservesAreInTheBooks};
 ghost use Rattle.runs_core.specs.Headline.{BooksAreRight};
 
@@ -31,4 +32,9 @@ pub fn recharges_are_in_the_books()
 /// of `recharges_are_in_the_books`.
 pub fn reserves_are_in_the_books()
     ensures { ReservesAreInTheBooks }
+{}
+
+/// What was lent to a scope that has ended is as the scope left it.
+pub(crate) fn loan_has_ended<T>(lent: &mut T)
+    ensures { lent.new ≡ lent.old }
 {}

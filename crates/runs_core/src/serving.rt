@@ -17,7 +17,7 @@ use crate::desk::{Desk, WorkerEnd};
 use crate::opened::{Opened, open_accounts};
 use crate::rounds::play;
 use crate::threads::{finish_all, start_all};
-use crate::{Books, Driver, RunFault};
+use crate::{Books, Driver, RunFault, laws};
 use run_values::RunSetup;
 use shared_account::{Gate, Shared, TurnAccount};
 use std::alloc::Global;
@@ -143,14 +143,9 @@ fn run_workers<D: Driver, S: Shared, R: Wait + Threads + Sync, G: Gate + Sync>(
         },
     );
     let Served { driver, left } = served;
-    take_back(driver);
+    laws::loan_has_ended(driver);
     left
 }
-
-/// Ends the loan of what was lent to a scope.
-fn take_back<T>(lent: &mut T)
-    ensures { lent.new ≡ lent.old }
-{}
 
 /// Starts the workers but for the first in a scope, plays the rounds, and waits for the workers. The
 /// fault told is that of the failed worker with the least number, else the run's own.

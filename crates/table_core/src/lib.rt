@@ -6,6 +6,7 @@
 #![tactic(auto)]
 
 mod decimals;
+mod digits;
 mod fault;
 mod fields;
 mod printed;
@@ -13,6 +14,7 @@ mod rows;
 mod table;
 
 pub use decimals::{are_digits, decimal, is_decimal};
+pub use digits::write_digits;
 pub use fault::{RowFault, RowKind, TableFault};
 pub use fields::{field, is_blank, is_word, number, optional};
 pub use printed::{printed_decimals_are_read, printed_tables_are_read};

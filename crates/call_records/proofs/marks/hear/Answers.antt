@@ -1,13 +1,13 @@
 use Rattle.std.proofs.Common.{◌==◌, refl, ap, ◌∙◌}
+use Rattle.std.proofs.lemmas.Result.{on_ok_weaker}
 use Rattle.account_core.specs.Asked.{call_of}
 use Rattle.account_core.specs.Events.{asked_of, entry_data}
-use Rattle.call_records.proofs.CallLemmas.{on_ok}
 use Rattle.call_records.proofs.MarkLemmas.{marks_kept}
 use Rattle.call_records.specs.Kept.{marks_in}
 use Rattle.call_records.proofs.marks.hear.Goals as goal
 
 pub returns : goal.returns
-returns c = on_ok c.keep.result (λ kept h have other.
+returns c = on_ok_weaker c.keep.result (λ kept h have other.
     let call = call_of (asked_of c.args.entry.op) in
     let before = c.marks_of.ensures ∙ ap (marks_in c.args.marks.now) c.call-call.ensures ∙ have call in
     kept other ∙ rw c.call-call.ensures

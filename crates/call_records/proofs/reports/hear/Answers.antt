@@ -1,11 +1,12 @@
 use Rattle.std.proofs.Common.{◌==◌, refl, sym, ◌∙◌}
+use Rattle.std.proofs.lemmas.Result.{on_ok_weaker}
 use Rattle.run_values.specs.declared.post.Body.TheVariants as body
-use Rattle.call_records.proofs.CallLemmas.{on_ok, reports_kept, reports_more}
+use Rattle.call_records.proofs.CallLemmas.{reports_kept, reports_more}
 use Rattle.call_records.specs.Kept.{reports_in}
 use Rattle.call_records.proofs.reports.hear.Goals as goal
 
 pub returns-in-Ssf : goal.returns-in-Ssf
-returns-in-Ssf c = on_ok c.keep.result (λ kept given have other.
+returns-in-Ssf c = on_ok_weaker c.keep.result (λ kept given have other.
     let call = c.in-Ssf.call in
     let own = c.after-after.ensures call given (c.reports_of.ensures ∙ have call) in
     kept other ∙ rw c.in-Ssf.is

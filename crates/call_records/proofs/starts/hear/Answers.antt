@@ -1,9 +1,10 @@
 use Rattle.std.proofs.Common.{◌≡◌, ◌==◌, ℕ, List, [], ◌∷◌, ◌++◌, None, sym, ap, ◌∙◌}
+use Rattle.std.proofs.lemmas.Result.{on_ok_weaker}
 use Rattle.std.specs.Prelude.{if◌then◌else◌}
 use Rattle.std.specs.Option.{option_or}
 use Rattle.run_values.specs.declared.post.Body.{Body}
 use Rattle.run_values.specs.declared.post.Body.TheVariants as body
-use Rattle.call_records.proofs.CallLemmas.{on_ok, or_none, told_more}
+use Rattle.call_records.proofs.CallLemmas.{or_none, told_more}
 use Rattle.call_records.specs.Calls.{start_by, start_of}
 use Rattle.call_records.proofs.starts.hear.Goals as goal
 
@@ -13,7 +14,7 @@ returns-in-Ssf c =
     let told : (given : List (ℕ × Body)) (other : ℕ)
     → option_or (start_of other given) (if call == other then c.start_by.result else None) ≡ start_of other (given ++ (c.args.at, c.args.body) ∷ [])
     = λ given other. rw (c.in-Ssf.is, c.start_by.ensures) (sym (told_more other start_by given (c.args.at, body.Ssf call c.in-Ssf.msg))) in
-    on_ok c.begin.result (λ begun given have other.
+    on_ok_weaker c.begin.result (λ begun given have other.
     begun other ∙ ap (λ known. option_or known (if call == other then c.start_by.result else None)) (have other) ∙ told given other) c.begin.ensures
 
 pub returns-in-Recharge : goal.returns-in-Recharge

@@ -1,4 +1,4 @@
--- The digits of a number are text.
+-- The digits of a number are ASCII.
 use Rattle.std.proofs.Common.{◌≡◌, ◌<◌, ℕ, zero, suc, Bool, true, false, List, [], ◌∷◌, length, refl, arith}
 use Rattle.std.specs.Prelude.{◌&&◌, nat_le}
 use Rattle.std.specs.Char.{is_ascii_digit}

@@ -1,6 +1,6 @@
 use Rattle.std.proofs.Common.{◌≡◌, ◌++◌, string_bytes, take}
-use Rattle.call_records.specs.Tables.{digits_text}
-use Rattle.call_records.proofs.table.write_digits.Given as goal
+use Rattle.table_core.specs.Decimals.{digits_text}
+use Rattle.table_core.proofs.digits.write_digits.Given as goal
 
 -- the digits so far stand behind the text
 abbrev pub invariant-loop-digit : goal.invariant-loop-digit
