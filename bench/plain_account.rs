@@ -166,11 +166,11 @@ impl Account {
             Op::Credit { amount, until } => self.credit(amount, until),
             Op::Reserve { wanted, least, at, .. } => {
                 let late = self.last_moment.is_some_and(|last| at > last);
-                match call.reserve(u64::from(wanted), u64::from(least), &mut self.available) {
-                    Some(units) if !late => {
+                match call.reserve(u64::from(wanted), u64::from(least), late, &mut self.available) {
+                    Some(units) => {
                         Reply::Granted { units: units as u32, last: units < u64::from(wanted), available: self.available }
                     }
-                    _ => Reply::Denied { available: self.available },
+                    None => Reply::Denied { available: self.available },
                 }
             }
             Op::Settle { info, .. } => {

@@ -7,7 +7,7 @@ use Rattle.account_core.specs.Events.{EntryData}
 use Rattle.account_core.specs.Expiry.{last_moment}
 use Rattle.account_core.specs.Known.{CallFacts, known, taken_of}
 use Rattle.account_core.specs.Replies.{reply_for}
-use Rattle.account_core.specs.Sound.{AnswersFit, IsSound, IsSoundPast}
+use Rattle.account_core.specs.Sound.{AnswersFit, IsSoundPast}
 use Rattle.account_core.specs.declared.entry.Reply.{Reply}
 use Rattle.account_core.proofs.Fitting.{answer_for, money_within}
 
@@ -16,9 +16,6 @@ module _ (opening : ℕ) (h : List EntryData) (sound : IsSoundPast opening h) wh
   funds_kept funds funds_are = omega (arith, funds_are, sound.capped)
 
   module _ (asked : Asked) (call : CallFacts) (call_is : call ≡ known (call_of asked) h) where
-    pub sound_call : IsSound call
-    sound_call = let P : CallFacts → Type 0 = λ k. IsSound k in subst P (sym call_is) (sound.each (call_of asked))
-
     pub money_kept : (credit : ℕ) → credit ≡ available opening h → credit + taken_of call ≤ 1000000000000000
     money_kept credit credit_is =
         let P : CallFacts → Type 0 = λ k. credit + taken_of k ≤ 1000000000000000 in

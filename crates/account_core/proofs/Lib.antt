@@ -1,4 +1,5 @@
 pub mod Answering
+pub mod Asking
 pub mod Entering
 pub mod Expiring
 pub mod Fitting

@@ -6,7 +6,7 @@ use Rattle.tariff_core.specs.Rates.{Rates}
 use Rattle.tariff_core.specs.Reading.{times_read}
 use Rattle.tariff_core.specs.Times.{Elapsed, no_times}
 use Rattle.tariff_core.specs.declared.time_info.TimeInfo.{TimeInfo}
-use Rattle.account_core.specs.Asked.{Asked, Reserves, Settles, Returns, call_of}
+use Rattle.account_core.specs.Asked.{Asked, Credits, Reserves, Settles, Returns, call_of}
 use Rattle.account_core.specs.Events.{EntryData}
 use Rattle.account_core.specs.declared.entry.Reply.{Reply}
 use Rattle.account_core.specs.declared.entry.Reply.TheVariants as reply
@@ -70,6 +70,11 @@ known_after known Rests = known
 abbrev pub known : ℕ → List EntryData → CallFacts
 known call [] = nothing_known
 known call (event ∷ h) = known_after (known call h) (deed call event)
+
+-- what a history says of the call that is asked for, and nothing at a Credit, which is of none
+abbrev pub known_asked : Asked → List EntryData → CallFacts
+known_asked (Credits amount moment) h = nothing_known
+known_asked asked h = known (call_of asked) h
 
 -- a call is open from its first grant until it is returned
 abbrev pub is_open : CallFacts → Bool

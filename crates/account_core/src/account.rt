@@ -3,11 +3,10 @@
 ghost use Rattle.std.specs.Prelude.{◌≡◌, ◌≢◌, ◌≤◌, ◌++◌, ◌∷◌, [], None, Some, map, reverse, IsOk, OnOk, OnErr, IfOk, IfErr};
 ghost use Rattle.account_core.specs.Admitting.{IsAdmitted};
 ghost use Rattle.account_core.specs.Answers.{IsLegal, inadmissible};
-ghost use Rattle.account_core.specs.Asked.{call_of};
 ghost use Rattle.account_core.specs.Available.{available};
 ghost use Rattle.account_core.specs.Events.{asked_of, entry_data};
 ghost use Rattle.account_core.specs.Kept.{known_of};
-ghost use Rattle.account_core.specs.Known.{known, paid_if_granted};
+ghost use Rattle.account_core.specs.Known.{known, known_asked, paid_if_granted};
 ghost use Rattle.account_core.specs.Ledger.{IsRefusal, answer_of, event_by, refusal_of};
 ghost use Rattle.account_core.specs.Places.{IsClosing};
 
@@ -117,7 +116,7 @@ impl Account {
         ensures ungated { result ≢ Err AccountFault.GateClosed }
         ensures closing { IsClosing (reverse self.now.history) (asked_of op) → IsOk result }
     {
-        let call = self.state(op.call());
+        let call = self.asked_state(&op);
         match self.judge(&op, &call) {
             Some(fault) => Err(fault),
             None => Ok(Admitted { op, call }),
@@ -151,7 +150,7 @@ impl Account {
         ensures value { result ≡ refusal_of self.now (asked_of op.now) }
         ensures closing { IsClosing (reverse self.now.history) (asked_of op.now) → result ≡ None }
     {
-        self.judge(op, &self.state(op.call()))
+        self.judge(op, &self.asked_state(op))
     }
 
     /// The entries, oldest first. They are a legal history.
@@ -188,12 +187,25 @@ impl Account {
         }
     }
 
+    /// What the account knows of the call that is asked for. A Credit is of none, so that nothing is
+    /// looked up for it.
+    #[inline(always)]
+    fn asked_state(&self, op: &Op) -> CallState
+        ensures { known_of result ≡ known_asked (asked_of op.now) (reverse self.now.history) }
+    {
+        match *op {
+            Op::Credit { .. } => CallState::Fresh,
+            Op::Reserve { call, .. } | Op::Settle { call, .. } | Op::Return { call } => {
+                self.state(call)
+            }
+        }
+    }
+
     /// Why an operation would be refused, by what is known of its call.
     #[tactic(auto, unfolding(crate::specs::Places::refusal))]
     #[inline(always)]
     fn judge(&self, op: &Op, call: &CallState) -> Option<AccountFault>
-        requires { known_of call.now
-            ≡ known (call_of (asked_of op.now)) (reverse self.now.history) }
+        requires { known_of call.now ≡ known_asked (asked_of op.now) (reverse self.now.history) }
         ensures value { result ≡ refusal_of self.now (asked_of op.now) }
         ensures closing { IsClosing (reverse self.now.history) (asked_of op.now) → result ≡ None }
     {
@@ -204,7 +216,7 @@ impl Account {
     #[inline(always)]
     fn answer(&self, op: Op, call: &CallState) -> Reply
         requires known { known_of call.now
-            ≡ known (call_of (asked_of op)) (reverse self.now.history) }
+            ≡ known_asked (asked_of op) (reverse self.now.history) }
         requires admissible { inadmissible (reverse self.now.history) (asked_of op) ≡ None }
         ensures { result ≡ answer_of self.now (asked_of op) }
     {

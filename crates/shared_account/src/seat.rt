@@ -118,7 +118,11 @@ impl Seat {
             ≡ of_call (call_of (asked_of op)) self.old.mine
             → IsOk result }
     {
-        let admitted = account.admit(op)?;
-        Ok(self.enter(account, admitted)?)
+        match op {
+            Op::Credit { amount, until } => self.apply_credit(account, amount, until),
+            Op::Reserve { call, .. } | Op::Settle { call, .. } | Op::Return { call } => {
+                self.apply_of_call(account, call, op)
+            }
+        }
     }
 }

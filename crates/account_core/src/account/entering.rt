@@ -2,10 +2,10 @@
 
 ghost use Rattle.std.specs.Prelude.{◌≡◌, ◌+◌, ◌≤◌, ◌++◌, ◌∷◌, [], None, Some, nat_eq, reverse, vec_capacity, vec_len, IsOk, OnErr, OnOk};
 ghost use Rattle.std.specs.HashMap.{IsUnchanged, Updates, get};
-ghost use Rattle.account_core.specs.Asked.{IsCredit, IsOfCall, call_of};
+ghost use Rattle.account_core.specs.Asked.{IsCredit, IsOfCall};
 ghost use Rattle.account_core.specs.Events.{asked_of, entry_data};
 ghost use Rattle.account_core.specs.Kept.{known_of};
-ghost use Rattle.account_core.specs.Known.{known};
+ghost use Rattle.account_core.specs.Known.{known, known_asked};
 ghost use Rattle.account_core.specs.Ledger.{answer_of, refusal_of};
 ghost use Rattle.account_core.specs.Places.{IsClosing};
 
@@ -20,7 +20,7 @@ impl Account {
     #[inline(always)]
     pub(super) fn keep(&mut self, entry: Entry, before: CallState) -> Result<(), AllocError>
         requires known { known_of before
-            ≡ known (call_of (asked_of entry.op)) (reverse self.old.history) }
+            ≡ known_asked (asked_of entry.op) (reverse self.old.history) }
         requires admitted { refusal_of self.old (asked_of entry.op) ≡ None }
         requires answered { entry.reply ≡ answer_of self.old (asked_of entry.op) }
         ensures ok { OnOk result (self.new ≡

@@ -1,51 +1,84 @@
 //! An account's entries, kept in a seat's list too.
 
-ghost use Rattle.std.specs.Prelude.{◌≡◌, ◌+◌, ◌≤◌, ◌++◌, ◌∷◌, [], None, Some, reverse, vec_capacity, vec_len, unwrap_or, IsOk, IsSome, OnOk, OnErr, IfOk};
+ghost use Rattle.std.specs.Prelude.{◌≡◌, ◌≢◌, ◌+◌, ◌≤◌, ◌++◌, ◌∷◌, [], None, Some, reverse, vec_capacity, vec_len, unwrap_or, IsOk, IsSome, OnOk, OnErr, IfOk, IfErr};
 ghost use Rattle.std.specs.BTreeMap.{IsUnchanged, Updates, get};
 ghost use Rattle.std.specs.Ordering.{nat_cmp};
 ghost use Rattle.account_core.specs.Admitting.{IsAdmitted};
-ghost use Rattle.account_core.specs.Asked.{IsCredit, IsOfCall};
+ghost use Rattle.account_core.specs.Asked.{Credits, IsCredit, IsOfCall};
 ghost use Rattle.account_core.specs.Events.{asked_of};
-ghost use Rattle.account_core.specs.Ledger.{answer_of, event_by};
+ghost use Rattle.account_core.specs.Ledger.{IsRefusal, answer_of, event_by, refusal_of};
 ghost use Rattle.account_core.specs.Places.{IsClosing};
 
 use crate::Seat;
-use account_core::{Account, Admitted, CallStage, Entry, Op, Reply, places_go_with_entries};
+use account_core::{
+    Account, AccountFault, Admitted, CallStage, Entry, Op, Reply, places_go_with_entries,
+};
 use std::alloc::AllocError;
 use std::collections::BTreeMap;
 
 impl Seat {
-    /// Enters what the account admits, there and in the seat's list. All room that the seat needs is
-    /// made first.
-    pub(super) fn enter(
+    /// Asks for a Credit, of which nothing but the totals is looked at.
+    #[inline(always)]
+    pub(super) fn apply_credit(
         &mut self,
         account: &mut Account,
-        admitted: Admitted,
-    ) -> Result<Reply, AllocError>
-        requires { IsAdmitted account.old admitted }
+        amount: u64,
+        until: Option<u64>,
+    ) -> Result<Reply, AccountFault>
         ensures answered { IfOk result (λ reply. reply
-            ≡ answer_of account.old (asked_of admitted.op)) }
+            ≡ answer_of account.old (Credits amount until)) }
         ensures entered { IfOk result (λ reply. account.new ≡ record account.old {
-          history = account.old.history ++ event_by self.old.number (asked_of admitted.op) reply
+          history = account.old.history ++ event_by self.old.number (Credits amount until) reply
               ∷ [];
         }) }
         ensures mine { IfOk result (λ reply. self.new ≡ record self.old {
-          mine = self.old.mine ++ event_by self.old.number (asked_of admitted.op) reply ∷ [];
+          mine = self.old.mine ++ event_by self.old.number (Credits amount until) reply ∷ [];
         }) }
+        ensures admitted { OnOk result (refusal_of account.old (Credits amount until) ≡ None) }
         ensures account_kept { OnErr result (account.new ≡ account.old) }
         ensures kept { OnErr result (self.new ≡ self.old) }
-        ensures closing { IsClosing (reverse account.old.history) (asked_of admitted.op)
-            → IsClosing (reverse self.old.mine) (asked_of admitted.op) → IsOk result }
+        ensures refused { IfErr result (λ fault.
+            IsRefusal account.old (Credits amount until) fault) }
+        ensures ungated { result ≢ Err AccountFault.GateClosed }
     {
-        match admitted.op() {
-            Op::Credit { .. } => self.enter_credit(account, admitted),
-            Op::Reserve { call, .. } | Op::Settle { call, .. } | Op::Return { call } => {
-                self.enter_call(account, call, admitted)
-            }
+        match account.admit(Op::Credit { amount, until }) {
+            Ok(admitted) => Ok(self.enter_credit(account, admitted)?),
+            Err(fault) => Err(fault),
         }
     }
 
-    /// Enters a Credit.
+    /// Asks for an operation of a call.
+    pub(super) fn apply_of_call(
+        &mut self,
+        account: &mut Account,
+        call: u64,
+        op: Op,
+    ) -> Result<Reply, AccountFault>
+        requires { IsOfCall call (asked_of op) }
+        ensures answered { IfOk result (λ reply. reply ≡ answer_of account.old (asked_of op)) }
+        ensures entered { IfOk result (λ reply. account.new ≡ record account.old {
+          history = account.old.history ++ event_by self.old.number (asked_of op) reply ∷ [];
+        }) }
+        ensures mine { IfOk result (λ reply. self.new ≡ record self.old {
+          mine = self.old.mine ++ event_by self.old.number (asked_of op) reply ∷ [];
+        }) }
+        ensures admitted { OnOk result (refusal_of account.old (asked_of op) ≡ None) }
+        ensures account_kept { OnErr result (account.new ≡ account.old) }
+        ensures kept { OnErr result (self.new ≡ self.old) }
+        ensures refused { IfErr result (λ fault. IsRefusal account.old (asked_of op) fault) }
+        ensures ungated { result ≢ Err AccountFault.GateClosed }
+        ensures closing { IsClosing (reverse account.old.history) (asked_of op)
+            → IsClosing (reverse self.old.mine) (asked_of op) → IsOk result }
+    {
+        match account.admit(op) {
+            Ok(admitted) => Ok(self.enter_call(account, call, admitted)?),
+            Err(fault) => Err(fault),
+        }
+    }
+
+    /// Enters a Credit that the account admits, there and in the seat's list. All room that the seat
+    /// needs is made first.
+    #[inline(always)]
     fn enter_credit(
         &mut self,
         account: &mut Account,
@@ -74,7 +107,8 @@ impl Seat {
         Ok(reply)
     }
 
-    /// Enters an operation of a call.
+    /// Enters an operation of a call that the account admits, as a Credit is entered.
+    #[inline(always)]
     fn enter_call(
         &mut self,
         account: &mut Account,
