@@ -19,11 +19,11 @@ use Rattle.workers_core.proofs.Chaining.{first_sound, once_sound}
 use Rattle.workers_core.proofs.Growing.{place_within}
 use Rattle.workers_core.proofs.Handling.{Means, home_within, many_keys, means_on, own_of, same_number}
 use Rattle.workers_core.specs.Chains.{AreHandled, IsHandledOnce, at_first, seat_numbers}
-use Rattle.workers_core.specs.Handled.{Holding, IsBegun, IsDone, IsRouted, IsTalked, AnswerView, grown}
+use Rattle.workers_core.specs.Handled.{Holding, IsBegun, IsDone, IsTalked, AnswerView, grown}
 use Rattle.workers_core.specs.Laws.{CallsAreReserved, HasNoDialogue, IsHandledAfter, IsReserved, IsRunning, PostsAreHandled, asked_at}
 use Rattle.run_values.specs.Setups.{Setup, account_of}
 use Rattle.workers_core.specs.Talks.{Got, entries_of, entry_of, is_ask, last_fault, talked}
-use Rattle.workers_core.specs.Verdicts.{DialogueAt, Verdict, Strays, Rejects, Recharges, Begins, GoesOn, begins, goes_on, home_of, spoken, verdict_on}
+use Rattle.workers_core.specs.Verdicts.{DialogueAt, IsRouted, Verdict, Strays, Rejects, Recharges, Begins, GoesOn, begins, goes_on, home_of, spoken, verdict_on}
 use Rattle.workers_core.specs.Workers.{IsSound}
 use Rattle.run_values.specs.declared.post.Body.TheVariants.{Ssf}
 use Rattle.run_values.specs.declared.post.Post.{Post}

@@ -7,10 +7,11 @@ use Rattle.account_core.specs.declared.fault.AccountFault.{AccountFault}
 use Rattle.dialogue_core.specs.Phases.{Phase, Says, Asks}
 use Rattle.workers_core.proofs.Talking.{IsSoFar}
 use Rattle.workers_core.specs.Cases.{IsCase, IsRefusedCase, IsToldOf}
-use Rattle.workers_core.specs.Refusals.{HasRefusedAt, IsRefusedAsk, IsRefusedPost, IsRefusedTalk, Refusing}
+use Rattle.workers_core.specs.Refusals.{HasRefusedAt, IsRefusalOf, IsRefusedAsk, IsRefusedPost, IsRefusedTalk, MayHaveRefused, Refusing}
 use Rattle.run_values.specs.Setups.{Setup}
+use Rattle.run_values.specs.declared.post.Post.{Post}
 use Rattle.workers_core.specs.Talks.{Got, talked}
-use Rattle.workers_core.specs.Verdicts.{Verdict}
+use Rattle.workers_core.specs.Verdicts.{DialogueAt, Verdict, Strays, Rejects, Recharges, Begins, GoesOn, verdict}
 use Rattle.workers_core.specs.declared.case.Case.{Case}
 use Rattle.workers_core.specs.declared.case.Case.TheVariants as case
 
@@ -62,3 +63,22 @@ pub post_refused : (Refuses : ℕ → Refusing) (setup : Setup) (at : ℕ) (v : 
     → IfSome told (IsRefusedCase Refuses case) → IfSome told (IsRefusedPost Refuses setup at v)
 post_refused Refuses setup at v case None is refused = tt
 post_refused Refuses setup at v case (Some fault) is refused = by_verdict Refuses setup at v case fault is refused
+
+-- ---- whatever the accounts gave
+
+any_talk : (Refuses : Refusing) (first : Says × Phase) (fault : AccountFault) → IsRefusedTalk Refuses first fault → IsRefusedTalk MayHaveRefused first fault
+any_talk Refuses first fault is = record { earlier = is.earlier; asked = is.asked; pending = is.pending; refused = (tt, is.refused.1) }
+
+any_post : (Refuses : ℕ → Refusing) (setup : Setup) (at : ℕ) (v : Verdict) (fault : AccountFault) → IsRefusedPost Refuses setup at v fault
+    → IsRefusedPost (λ place. MayHaveRefused) setup at v fault
+any_post Refuses setup at Strays fault is = is
+any_post Refuses setup at Rejects fault is = is
+any_post Refuses setup at (Recharges place amount until) fault is = (tt, is.1)
+any_post Refuses setup at (Begins call place called) fault is =
+    record { route = is.route; routed = is.routed; refused = any_talk (Refuses place) _ fault is.refused }
+any_post Refuses setup at (GoesOn call place said phase) fault is = any_talk (Refuses place) (said, phase) fault is
+
+pub kind_told : (Refuses : ℕ → Refusing) (setup : Setup) (talks : ℕ → Option DialogueAt) (post : Post) (told : Option AccountFault)
+    → IfSome told (IsRefusedPost Refuses setup post.at (verdict setup talks post)) → IfSome told (IsRefusalOf setup talks post)
+kind_told Refuses setup talks post None is = tt
+kind_told Refuses setup talks post (Some fault) is = any_post Refuses setup post.at (verdict setup talks post) fault is

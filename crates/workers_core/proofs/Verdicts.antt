@@ -4,7 +4,7 @@ use Rattle.std.specs.Prelude.{IfNone, IfSome}
 use Rattle.tariff_core.specs.Bands.{Band}
 use Rattle.tariff_core.specs.Routes.{HasNoRoute, IsRoute}
 use Rattle.tariff_core.specs.declared.route.Route.{Route}
-use Rattle.workers_core.specs.Handled.{IsRouted}
+use Rattle.workers_core.specs.Verdicts.{IsRouted}
 
 pub routed_by : (bands : List Band) (called : List ℕ) (at : ℕ) (route : Option Route) → IfNone route (HasNoRoute bands called) → IfSome route (IsRoute bands called at)
     → IsRouted bands called at route

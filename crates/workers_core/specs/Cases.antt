@@ -12,11 +12,11 @@ use Rattle.dialogue_core.specs.Phases.{Phase, Says, Asks}
 use Rattle.dialogue_core.specs.Table.{on_begin}
 use Rattle.dialogue_core.specs.Views.{phase_of, says_of}
 use Rattle.tariff_core.specs.declared.route.Route.{Route}
-use Rattle.workers_core.specs.Handled.{Holding, IsRecharged, IsRouted, IsTalked, IsUnasked, AnswerView}
+use Rattle.workers_core.specs.Handled.{Holding, IsRecharged, IsTalked, IsUnasked, AnswerView}
 use Rattle.workers_core.specs.Refusals.{IsRefusedAsk, IsRefusedTalk, Refusing}
 use Rattle.run_values.specs.Setups.{Setup}
 use Rattle.workers_core.specs.Talks.{Got, after_got, entry_of}
-use Rattle.workers_core.specs.Verdicts.{DialogueAt, Verdict, Strays, Rejects, Recharges, Begins, GoesOn}
+use Rattle.workers_core.specs.Verdicts.{DialogueAt, IsRouted, Verdict, Strays, Rejects, Recharges, Begins, GoesOn}
 use Rattle.workers_core.specs.Workers.{standing_of}
 use Rattle.workers_core.specs.declared.case.Case.{Case}
 use Rattle.workers_core.specs.declared.case.Case.TheVariants as case

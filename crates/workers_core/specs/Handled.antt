@@ -1,5 +1,5 @@
 -- What the handling of a post does.
-use Rattle.std.specs.Prelude.{◌≡◌, ◌++◌, ◌==◌, ℕ, Bool, true, false, Option, Some, None, List, [], ◌∷◌, if◌then◌else◌, slice_set, slice_index_or}
+use Rattle.std.specs.Prelude.{◌≡◌, ◌++◌, ◌==◌, ℕ, Bool, true, false, Option, Some, None, List, [], ◌∷◌, IfSome, if◌then◌else◌, slice_set, slice_index_or}
 use Rattle.account_core.specs.Asked.{Credits}
 use Rattle.account_core.specs.Events.{EntryData}
 use Rattle.account_core.specs.declared.fault.AccountFault.{AccountFault}
@@ -8,12 +8,11 @@ use Rattle.cap_values.specs.Orders.{Order, Release, orders_of}
 use Rattle.cap_values.specs.declared.number.Number.{Number}
 use Rattle.dialogue_core.specs.Phases.{Phase, Says, Asks}
 use Rattle.dialogue_core.specs.Table.{on_begin}
-use Rattle.tariff_core.specs.Bands.{Band}
-use Rattle.tariff_core.specs.Routes.{HasNoRoute, IsRoute}
 use Rattle.tariff_core.specs.declared.route.Route.{Route}
 use Rattle.run_values.specs.Setups.{Setup}
+use Rattle.workers_core.specs.Refusals.{IsRefusalOf}
 use Rattle.workers_core.specs.Talks.{AllAsk, Got, entries_of, entry_of, is_ask, last_fault, sent_by, talked}
-use Rattle.workers_core.specs.Verdicts.{DialogueAt, Verdict, Strays, Rejects, Recharges, Begins, GoesOn, verdict}
+use Rattle.workers_core.specs.Verdicts.{DialogueAt, IsRouted, Verdict, Strays, Rejects, Recharges, Begins, GoesOn, verdict}
 use Rattle.run_values.specs.declared.answer.Answer.{Answer}
 use Rattle.run_values.specs.declared.post.Post.{Post}
 
@@ -76,11 +75,6 @@ pub record IsTalked (numbers : List ℕ) (call place : ℕ) (first : Says × Pha
   pub lists : new.lists ≡ grown old.lists place (entries_of (slice_index_or numbers place 0) first gots)
   pub talks : StandsNow call (record { phase = phase; place = place }) old.talks new.talks
 
--- the route of a called number at a moment, if it has one
-abbrev pub IsRouted : List Band → List ℕ → ℕ → Option Route → Type 0
-IsRouted bands called at None = HasNoRoute bands called
-IsRouted bands called at (Some route) = IsRoute bands called at route
-
 -- the dialogue of a call begins
 pub record IsBegun (setup : Setup) (numbers : List ℕ) (at call place : ℕ) (called : Number) (old new : Holding) (told : AnswerView) : Type 0 where
   pub route : Option Route
@@ -95,7 +89,8 @@ IsDone setup numbers at (Recharges place amount until) old new told = IsRecharge
 IsDone setup numbers at (Begins call place called) old new told = IsBegun setup numbers at call place called old new told
 IsDone setup numbers at (GoesOn call place said phase) old new told = IsTalked numbers call place (said, phase) old new told
 
--- a post is handled, where the seats have these numbers
+-- a post is handled, where the seats have these numbers; a refusal that the answer tells is of a kind that an ask for the post has
 pub record IsHandled (setup : Setup) (numbers : List ℕ) (post : Post) (old new : Holding) (told : AnswerView) : Type 0 where
   pub number : told.number ≡ post.number
   pub done : IsDone setup numbers post.at (verdict setup old.talks post) old new told
+  pub kind : IfSome told.refused (IsRefusalOf setup old.talks post)

@@ -9,9 +9,9 @@ use Rattle.dialogue_core.specs.Table.{on_begin}
 use Rattle.shared_account.specs.Kinds.{IsFaultOf}
 use Rattle.tariff_core.specs.declared.route.Route.{Route}
 use Rattle.run_values.specs.Setups.{Setup}
-use Rattle.workers_core.specs.Handled.{IsRouted}
+use Rattle.run_values.specs.declared.post.Post.{Post}
 use Rattle.workers_core.specs.Talks.{Got, talked}
-use Rattle.workers_core.specs.Verdicts.{Verdict, Strays, Rejects, Recharges, Begins, GoesOn}
+use Rattle.workers_core.specs.Verdicts.{DialogueAt, IsRouted, Verdict, Strays, Rejects, Recharges, Begins, GoesOn, verdict}
 
 -- which faults an account has given to what it was asked
 abbrev pub Refusing : Type 1
@@ -48,3 +48,11 @@ IsRefusedPost Refuses setup at Rejects fault = ⊥
 IsRefusedPost Refuses setup at (Recharges place amount until) fault = IsRefusedAsk (Refuses place) (Credits amount until) fault
 IsRefusedPost Refuses setup at (Begins call place called) fault = IsRefusedBeginning (Refuses place) setup at call called fault
 IsRefusedPost Refuses setup at (GoesOn call place said phase) fault = IsRefusedTalk (Refuses place) (said, phase) fault
+
+-- an account may have given any fault to what it was asked
+abbrev pub MayHaveRefused : Refusing
+MayHaveRefused asked fault = Unit {0}
+
+-- a fault that an ask for a post may have got, by the verdict on the post: it is of a kind that the ask has
+abbrev pub IsRefusalOf : Setup → (ℕ → Option DialogueAt) → Post → AccountFault → Type 0
+IsRefusalOf setup talks post = IsRefusedPost (λ place. MayHaveRefused) setup post.at (verdict setup talks post)

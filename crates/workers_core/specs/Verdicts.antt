@@ -1,10 +1,13 @@
 -- What a post comes to before anything is asked.
-use Rattle.std.specs.Prelude.{ℕ, Bool, true, false, Option, Some, None, Ok, Err, option_and_then}
+use Rattle.std.specs.Prelude.{ℕ, Bool, true, false, Option, Some, None, Ok, Err, List, option_and_then}
 use Rattle.cap_values.specs.declared.message.SsfMsg.{SsfMsg}
 use Rattle.cap_values.specs.declared.message.SsfMsg.TheVariants.{InitialDp, EventReport, ChargingReport, Ended}
 use Rattle.cap_values.specs.declared.number.Number.{Number}
 use Rattle.dialogue_core.specs.Phases.{Phase, Says}
 use Rattle.dialogue_core.specs.Table.{Step, on_message}
+use Rattle.tariff_core.specs.Bands.{Band}
+use Rattle.tariff_core.specs.Routes.{HasNoRoute, IsRoute}
+use Rattle.tariff_core.specs.declared.route.Route.{Route}
 use Rattle.run_values.specs.Setups.{Setup, account_of, place_of}
 use Rattle.run_values.specs.declared.post.Body.{Body}
 use Rattle.run_values.specs.declared.post.Body.TheVariants.{Ssf, Recharge}
@@ -27,6 +30,11 @@ pub data Verdict : Type 0 where
   Recharges : (place amount : ℕ) (until : Option ℕ) → Verdict
   Begins : (call place : ℕ) (called : Number) → Verdict
   GoesOn : (call place : ℕ) (said : Says) (phase : Phase) → Verdict
+
+-- the route of a called number at a moment, if it has one
+abbrev pub IsRouted : List Band → List ℕ → ℕ → Option Route → Type 0
+IsRouted bands called at None = HasNoRoute bands called
+IsRouted bands called at (Some route) = IsRoute bands called at route
 
 -- a recharge, at the place of its account
 abbrev pub recharged : ℕ → Option ℕ → Option ℕ → Verdict

@@ -6,8 +6,13 @@ use Rattle.workers_core.specs.Verdicts.{verdict}
 use Rattle.workers_core.specs.Workers.{holding, standings_in}
 use Rattle.workers_core.proofs.Handling.{case_within, done_by, recharged_so, rejected_so, sound_after, stray_is, stray_lists}
 use Rattle.run_values.specs.declared.opening_credit.OpeningCredit.{OpeningCredit}
-use Rattle.workers_core.proofs.Refused.{post_refused}
+use Rattle.workers_core.proofs.Refused.{kind_told, post_refused}
 use Rattle.workers_core.proofs.worker.Worker.handle.Goals as goal
+
+pub returns-clause-refused : goal.returns-clause-refused
+returns-clause-refused g c =
+    post_refused (HasRefusedAt g.S.Shared.refuses c.args.self.now.accounts.now) c.args.self.now.setup.now c.args.post.at
+    (verdict c.args.self.now.setup.now (standings_in c.args.self.now.talks) c.args.post) c.judge-case.result c.in_ok-answer.answer.refused c.judge-case.ensures c.in_ok-answer.ensures.refused
 
 done : goal.returns-clause-handled
 done g c = record {
@@ -17,6 +22,9 @@ done g c = record {
       (verdict c.args.self.now.setup.now (standings_in c.args.self.now.talks) c.args.post) c.judge-case.result (map g.S.Shared.mine_of c.args.self.now.seats.items)
       (standings_in c.args.self.now.talks) (standings_in c.make_room.new.talks) _ (answer_view c.in_ok-answer.answer) c.judge-case.ensures c.in_ok-make_room.ensures.others
       c.in_ok-answer.ensures.acted;
+  kind =
+      kind_told (HasRefusedAt g.S.Shared.refuses c.args.self.now.accounts.now) c.args.self.now.setup.now (standings_in c.args.self.now.talks) c.args.post
+      c.in_ok-answer.answer.refused (returns-clause-refused g c);
 }
 
 pub act-requires-clause-within : goal.act-requires-clause-within
@@ -54,8 +62,3 @@ returns-clause-rejected g c = λ is. rejected_so _ _ _ _ _ _ (answer_view c.in_o
 
 pub returns-clause-recharged : goal.returns-clause-recharged
 returns-clause-recharged g c = λ place amount until is. recharged_so _ _ _ _ _ _ (answer_view c.in_ok-answer.answer) place amount until (done g c).done is
-
-pub returns-clause-refused : goal.returns-clause-refused
-returns-clause-refused g c =
-    post_refused (HasRefusedAt g.S.Shared.refuses c.args.self.now.accounts.now) c.args.self.now.setup.now c.args.post.at
-    (verdict c.args.self.now.setup.now (standings_in c.args.self.now.talks) c.args.post) c.judge-case.result c.in_ok-answer.answer.refused c.judge-case.ensures c.in_ok-answer.ensures.refused
