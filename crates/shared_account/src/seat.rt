@@ -93,6 +93,7 @@ impl Seat {
     /// want of memory, be it the account's or the seat's, comes last. A Return of an open call, and
     /// its first Settle since its last grant, always succeed where the seat's own entries show the
     /// same, and so where the call's entries in the account are those in the seat's list.
+    #[inline(always)]
     pub fn apply_to(&mut self, account: &mut Account, op: Op) -> Result<Reply, AccountFault>
         ensures answered { IfOk result (λ reply. reply ≡ answer_of account.old (asked_of op)) }
         ensures entered { IfOk result (λ reply. account.new ≡ record account.old {

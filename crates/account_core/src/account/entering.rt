@@ -37,6 +37,7 @@ impl Account {
     }
 
     /// Keeps a Credit.
+    #[inline(always)]
     fn keep_credit(&mut self, entry: Entry) -> Result<(), AllocError>
         requires credit { IsCredit (asked_of entry.op) }
         requires admitted { refusal_of self.old (asked_of entry.op) ≡ None }

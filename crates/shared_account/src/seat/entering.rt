@@ -48,6 +48,7 @@ impl Seat {
     }
 
     /// Asks for an operation of a call.
+    #[inline(never)]
     pub(super) fn apply_of_call(
         &mut self,
         account: &mut Account,
