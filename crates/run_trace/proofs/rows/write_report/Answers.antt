@@ -6,4 +6,4 @@ returns-in-NoSwitch c = rw c.in-NoSwitch.is (rw c.state_word-state.ensures at c.
 pub returns-in-Switch : goal.returns-in-Switch
 returns-in-Switch c =
     let h = rw c.state_word-state.ensures at c.writeln-in-Switch.ensures.bytes in
-    rw c.in-Switch.is (rw c.short_field-interval.ensures at h)
+    rw c.in-Switch.is (rw c.short-interval.ensures at h)
