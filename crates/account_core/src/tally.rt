@@ -111,7 +111,7 @@ fn renew_state(
     let Some(after) = after_legal(entry, &state, funds, available, last_moment) else {
         return Ok(false);
     };
-    calls.renew(call, &state, after)?;
+    calls.renew(call, after)?;
     Ok(true)
 }
 
