@@ -1,9 +1,9 @@
 -- Lists by rising number: what is found there, what is changed, and what is added at the end.
 use Rattle.std.proofs.Common.{◌≡◌, ◌≢◌, ◌+◌, ◌<◌, ◌≤◌, ◌-◌, ℕ, zero, suc, Bool, true, false, cond, List, [], ◌∷◌, ◌++◌, length, get_or, set, Option, Some, None, Result, Ok, Err, refl, sym, ap, ◌∙◌, inl, inr, append_assoc, subst, arith}
 use Rattle.std.specs.BTreeMap.{insert_entry, is_at}
-use Rattle.std.specs.List.{All}
-use Rattle.std.specs.List.Sorted.{IsBinarySearchResult, IsNonDecreasingBy, IsSearchInRange}
-use Rattle.std.specs.Map.{lookup}
+use Rattle.std.specs.List.{All, AllByRecursion}
+use Rattle.std.specs.List.Sorted.{IsBinarySearchResult, IsNonDecreasingBy, IsSearchInRange, IsStrictlySortedBy}
+use Rattle.std.specs.Map.{keys_of, lookup}
 use Rattle.std.specs.Prelude.{◌==◌, IfNone, IfSome, drop, if◌then◌else◌, take, unwrap_or}
 use Rattle.std.specs.Result.{result_ok}
 use Rattle.std.specs.Ordering.{match_ordering, nat_cmp, ordering_index}
@@ -235,3 +235,20 @@ module _ {V : Type 0} (number : ℕ) (value : V) (other : ℕ) where
   pub or_else : (now : Bool) (found : Option V) (none : V) → unwrap_or (if now then Some value else found) none ≡ (if now then value else unwrap_or found none)
   or_else true found none = refl
   or_else false found none = refl
+
+-- ---- in std's words
+
+less_by : (number other : ℕ) → number < other → nat_cmp number other ≡ order.Less
+less_by number other less = grind (arith, nat_tests)
+
+module _ {V : Type 0} where
+  below_each : (number : ℕ) (list : List (ℕ × V)) → ((place : ℕ) (d : ℕ × V) → place < length list → number < (get_or list place d).0)
+      → AllByRecursion (λ other. nat_cmp number other ≡ order.Less) (keys_of list)
+  below_each number [] above = tt
+  below_each number (first ∷ list) above =
+      (less_by number first.0 (above 0 first (omega arith)), below_each number list (λ place d within. above (suc place) d (omega (arith, within))))
+
+  pub sorted : (list : List (ℕ × V)) → AreRising list → IsStrictlySortedBy nat_cmp (keys_of list)
+  unfolding IsStrictlySortedBy
+  sorted [] rising = tt
+  sorted (first ∷ list) rising = (below_each first.0 list (λ place d within. first_below first list place d rising within), sorted list (rising_tail first list rising))

@@ -3,9 +3,6 @@ use Rattle.std.specs.Prelude.{◌≡◌, ◌==◌, ℕ, List, unwrap_or, if◌th
 use Rattle.std.specs.BTreeMap.{is_at}
 use Rattle.std.specs.Map.{lookup}
 use Rattle.std.specs.Ordering.{nat_cmp}
-use Rattle.account_core.specs.Events.{EntryData}
-use Rattle.account_core.specs.Kept.{known_of}
-use Rattle.account_core.specs.Known.{known}
 use Rattle.account_core.specs.declared.call_states.CallStates.{CallStates}
 use Rattle.account_core.specs.declared.call_states.CallStates.TheVariants.{Rising, Mixed}
 use Rattle.account_core.specs.declared.call_state.CallState.{CallState}
@@ -27,7 +24,3 @@ Renews old new call state = (other : ℕ) → state_of new other ≡ (if call ==
 -- each call has the state that it had
 abbrev pub AreSame : CallStates → CallStates → Type 0
 AreSame old new = (call : ℕ) → state_of new call ≡ state_of old call
-
--- each call has the state that the history says
-abbrev pub TellsCalls : CallStates → List EntryData → Type 0
-TellsCalls calls h = (call : ℕ) → known_of (state_of calls call) ≡ known call h
