@@ -1,8 +1,7 @@
 -- An account keeps what its type says when an answered operation is entered.
-use Rattle.std.proofs.Common.{◌≡◌, ℕ, ◌+◌, ◌-◌, ◌≤◌, Bool, true, false, Option, Some, None, List, [], ◌∷◌, ◌++◌, length, refl, sym, ap, ◌∙◌, arith, subst, BuildHasherDefault, FoldHasher}
-use Rattle.std.specs.Prelude.{◌==◌, ◌&&◌, if◌then◌else◌, not, is_some, map, nat_eq, nat_lt, reverse, unwrap_or}
+use Rattle.std.proofs.Common.{◌≡◌, ℕ, ◌+◌, ◌-◌, ◌≤◌, Bool, true, false, Option, Some, None, List, [], ◌∷◌, ◌++◌, length, refl, sym, ap, ◌∙◌, arith, subst}
+use Rattle.std.specs.Prelude.{◌==◌, ◌&&◌, if◌then◌else◌, not, is_some, map, nat_lt, reverse}
 use Rattle.std.specs.Vec.{vec_capacity}
-use Rattle.std.specs.HashMap.{HashMap, IsEmpty, Updates, get}
 use Rattle.std.specs.declared.vec.Vec.{Vec}
 use Rattle.std.specs.declared.alloc.Global.{Global}
 use Rattle.std.proofs.lemmas.Bool.{eqb-true}
@@ -14,6 +13,7 @@ use Rattle.tariff_core.specs.declared.time_info.TimeInfo.{TimeInfo}
 use Rattle.account_core.specs.Answers.{IsAnswered, answer, inadmissible, misplaced, settle_verdict, shown_by, accepted_times, units_offered, verdict}
 use Rattle.account_core.specs.Asked.{Asked, Credits, IsCredit, IsOfCall, Reserves, Returns, Settles, call_of, is_in_range}
 use Rattle.account_core.specs.Available.{available, credited, credits, taken_by_all}
+use Rattle.account_core.specs.CallStates.{Renews, state_of}
 use Rattle.account_core.specs.Events.{EntryData, asked_of, entry_data}
 use Rattle.account_core.specs.Expiry.{last_moment_after}
 use Rattle.account_core.specs.Kept.{IsKept, TellsEach, known_of}
@@ -28,6 +28,7 @@ use Rattle.account_core.specs.declared.entry.Reply.TheVariants as reply
 use Rattle.account_core.specs.declared.fault.AccountFault.{AccountFault}
 use Rattle.account_core.specs.declared.fault.AccountFault.TheVariants as fault
 use Rattle.account_core.specs.declared.call_state.CallState.{CallState}
+use Rattle.account_core.specs.declared.call_states.CallStates.{CallStates}
 use Rattle.account_core.specs.declared.call_state.CallState.TheVariants.{Fresh}
 use Rattle.account_core.proofs.Fitting.{answer_shows}
 use Rattle.account_core.proofs.Moves.{at_most_all, its_call, its_deed, known_apart, known_here, sum_moves}
@@ -163,25 +164,24 @@ owed_after opening until h event answered =
     let call_owes = subst P (sym (answered_deed opening until h event answered)) (owes opening until h event.asked) in
     omega (arith, owed_moves h event, call_owes)
 
--- ---- the map
+-- ---- the states
 
-apart_at : (call other : ℕ) → (call == other) ≡ false → nat_eq call other ≡ false
-apart_at call other apart = grind (arith, nat_tests)
+tells_by : (here : Bool) (old new : CallStates) (h : List EntryData) (event : EntryData) (state : CallState) (call : ℕ) → (its_call event == call) ≡ here
+    → Renews old new (its_call event) state → TellsEach old h → known_of state ≡ known_after (known (its_call event) h) (its_deed event)
+    → known_of (state_of new call) ≡ known call (event ∷ h)
+tells_by true old new h event state call is renews tells known_is =
+    let P : ℕ → Type 0 = λ c. known_of state ≡ known c (event ∷ h) in
+    let now : state_of new call ≡ state = renews call ∙ ap (λ b. if b then state else state_of old call) is in
+    ap known_of now ∙ subst P (eqb-true (its_call event) call is) (known_is ∙ sym (known_here h event))
+tells_by false old new h event state call is renews tells known_is =
+    let now : state_of new call ≡ state_of old call = renews call ∙ ap (λ b. if b then state else state_of old call) is in
+    ap known_of now ∙ (tells call ∙ sym (known_apart h event call is))
 
-tells_by : {S : Type 0} (here : Bool) (old new : HashMap ℕ CallState S) (h : List EntryData) (event : EntryData) (state : CallState) (call : ℕ) → (its_call event == call) ≡ here
-    → Updates nat_eq old new (its_call event) (Some state) → TellsEach old h → known_of state ≡ known_after (known (its_call event) h) (its_deed event)
-    → known_of (unwrap_or (get nat_eq new call) Fresh) ≡ known call (event ∷ h)
-tells_by true old new h event state call is updates tells known_is =
-    let P : ℕ → Type 0 = λ c. known_of (unwrap_or (get nat_eq new c) Fresh) ≡ known c (event ∷ h) in
-    subst P (eqb-true (its_call event) call is) (rw updates.1 (known_is ∙ sym (known_here h event)))
-tells_by false old new h event state call is updates tells known_is =
-    rw (updates.2 call (apart_at (its_call event) call is)) (tells call ∙ sym (known_apart h event call is))
-
--- the map after the state of an entry's call is renewed
-pub tells_renewed : {S : Type 0} (old new : HashMap ℕ CallState S) (h : List EntryData) (event : EntryData) (state : CallState)
-    → Updates nat_eq old new (its_call event) (Some state) → TellsEach old h → known_of state ≡ known_after (known (its_call event) h) (its_deed event)
+-- the states after that of an entry's call is renewed
+pub tells_renewed : (old new : CallStates) (h : List EntryData) (event : EntryData) (state : CallState)
+    → Renews old new (its_call event) state → TellsEach old h → known_of state ≡ known_after (known (its_call event) h) (its_deed event)
     → TellsEach new (event ∷ h)
-tells_renewed old new h event state updates tells known_is call = tells_by _ old new h event state call refl updates tells known_is
+tells_renewed old new h event state renews tells known_is call = tells_by _ old new h event state call refl renews tells known_is
 
 rests_by : (here : Bool) (h : List EntryData) (event : EntryData) (call : ℕ) → (its_call event == call) ≡ here → its_deed event ≡ Rests → known call (event ∷ h) ≡ known call h
 rests_by true h event call is rests =
@@ -189,7 +189,7 @@ rests_by true h event call is rests =
     subst P (eqb-true (its_call event) call is) (known_here h event ∙ ap (known_after (known (its_call event) h)) rests)
 rests_by false h event call is rests = known_apart h event call is
 
-pub tells_resting : {S : Type 0} (m : HashMap ℕ CallState S) (h : List EntryData) (event : EntryData) → its_deed event ≡ Rests → TellsEach m h → TellsEach m (event ∷ h)
+pub tells_resting : (m : CallStates) (h : List EntryData) (event : EntryData) → its_deed event ≡ Rests → TellsEach m h → TellsEach m (event ∷ h)
 tells_resting m h event rests tells call = tells call ∙ sym (rests_by _ h event call refl rests)
 
 -- ---- the whole
@@ -202,15 +202,15 @@ of_call call (Reserves other plan wanted least at) is = (is, (λ told. refl, λ 
 of_call call (Settles other number info) is = (is, (λ told. refl, λ last told. refl))
 of_call call (Returns other) is = (is, (λ told. refl, λ last told. refl))
 
--- the map, the totals and the last moment are those of the longer history, and there is room
-pub record IsEntered {S : Type 0} (h : List EntryData) (event : EntryData) (m : HashMap ℕ CallState S) (funds funds' : ℕ) (last last' : Option ℕ) (places places' capacity : ℕ) : Type 0 where
+-- the states, the totals and the last moment are those of the longer history, and there is room
+pub record IsEntered (h : List EntryData) (event : EntryData) (m : CallStates) (funds funds' : ℕ) (last last' : Option ℕ) (places places' capacity : ℕ) : Type 0 where
   pub tells : TellsEach m (event ∷ h)
   pub funds_are : funds' ≡ funds + credited event.asked event.reply
   pub last_is : last' ≡ last_moment_after last event.asked event.reply
   pub places_are : places' ≡ owed (event ∷ h)
   pub room : length h + (places + needed h event.asked) ≤ capacity
 
-pub entered : {S : Type 0} (opening : ℕ) (until : Option ℕ) (limit : ℕ) (h : List EntryData) (m m' : HashMap ℕ CallState S) (funds funds' credit : ℕ) (last last' : Option ℕ) (places places' capacity capacity' : ℕ) (event : EntryData)
+pub entered : (opening : ℕ) (until : Option ℕ) (limit : ℕ) (h : List EntryData) (m m' : CallStates) (funds funds' credit : ℕ) (last last' : Option ℕ) (places places' capacity capacity' : ℕ) (event : EntryData)
     → IsKept opening until limit h m funds credit last places capacity → refusal limit h event.asked ≡ None → event.reply ≡ answer opening until h event.asked
     → IsEntered h event m' funds funds' last last' places places' capacity' → IsKept opening until limit (event ∷ h) m' funds' (shown_by event.reply) last' places' capacity'
 entered opening until limit h m m' funds funds' credit last last' places places' capacity capacity' event kept open_yet is entry =
@@ -237,7 +237,7 @@ module _ (a : Inside) (ledger : Ledger) (view_is : record { opening = a.opening;
   length_past =
       ap (λ l. length (reverse l.history)) (sym view_is) ∙ (length-reverse (map entry_data a.entries.items) ∙ length-map a.entries.items entry_data)
 
-  pub entered_inside : (entry : Entry) (items : List Entry) (m : HashMap ℕ CallState (BuildHasherDefault FoldHasher)) (funds credit : ℕ) (last : Option ℕ) (places capacity : ℕ)
+  pub entered_inside : (entry : Entry) (items : List Entry) (m : CallStates) (funds credit : ℕ) (last : Option ℕ) (places capacity : ℕ)
       → refusal_of ledger (asked_of entry.op) ≡ None → entry.reply ≡ answer_of ledger (asked_of entry.op) → items ≡ a.entries.items ++ entry ∷ []
       → credit ≡ shown_by entry.reply → IsEntered (reverse ledger.history) (entry_data entry) m a.funds funds a.last_moment last a.owed places capacity
       → IsKept a.opening a.until a.limit (reverse (map entry_data items)) m funds credit last places capacity
@@ -272,7 +272,7 @@ owed_resting h event rests =
     let same : owed_to (known_after (known (its_call event) h) (its_deed event)) ≡ owed_to (known (its_call event) h) = ap (λ d. owed_to (known_after (known (its_call event) h) d)) rests in
     omega (arith, owed_moves h event, same)
 
-pub credit_entered : {S : Type 0} (h : List EntryData) (event : EntryData) (m : HashMap ℕ CallState S) (funds funds' : ℕ) (last last' : Option ℕ) (places capacity : ℕ) → IsCredit event.asked → TellsEach m h
+pub credit_entered : (h : List EntryData) (event : EntryData) (m : CallStates) (funds funds' : ℕ) (last last' : Option ℕ) (places capacity : ℕ) → IsCredit event.asked → TellsEach m h
     → funds' ≡ funds + credited event.asked event.reply → last' ≡ last_moment_after last event.asked event.reply → places ≡ owed h
     → length h + (places + 1) ≤ capacity → IsEntered h event m funds funds' last last' places places capacity
 credit_entered h event m funds funds' last last' places capacity is tells funds_are last_is places_are room =
@@ -320,16 +320,16 @@ module _ (opening : ℕ) (until : Option ℕ) (limit : ℕ) (h : List EntryData)
   pub owed_enough : (places : ℕ) → places ≡ owed h → owed_to before ≤ places
   owed_enough places places_are = omega (arith, places_are, ap owed_to before_its, owed_at_most h (its_call event))
 
-  pub call_entered : {S : Type 0} (old new : HashMap ℕ CallState S) (state : CallState) (funds : ℕ) (last : Option ℕ) (places places' capacity owed_before owed_now : ℕ)
-      → TellsEach old h → Updates nat_eq old new call (Some state) → known_of state ≡ known_after before (its_deed event) → places ≡ owed h
+  pub call_entered : (old new : CallStates) (state : CallState) (funds : ℕ) (last : Option ℕ) (places places' capacity owed_before owed_now : ℕ)
+      → TellsEach old h → Renews old new call state → known_of state ≡ known_after before (its_deed event) → places ≡ owed h
       → owed_before ≡ owed_to before → owed_now ≡ owed_to (known_of state) → places' ≡ places + owed_now - owed_before
       → length h + (places + needed_by before event.asked) ≤ capacity → IsEntered h event new funds funds last last places places' capacity
-  call_entered old new state funds last places places' capacity owed_before owed_now tells updates state_is places_are before_owed now_owed places'_are room =
+  call_entered old new state funds last places places' capacity owed_before owed_now tells renews state_is places_are before_owed now_owed places'_are room =
       let (same, (rests, stays)) = of_call call event.asked here in
-      let U : ℕ → Type 0 = λ c. Updates nat_eq old new c (Some state) in
+      let U : ℕ → Type 0 = λ c. Renews old new c state in
       let renewed : known_of state ≡ known_after (known (its_call event) h) (its_deed event) = state_is ∙ ap (λ k. known_after k (its_deed event)) before_its in
       record {
-        tells = tells_renewed old new h event state (subst U (sym same) updates) tells renewed;
+        tells = tells_renewed old new h event state (subst U (sym same) renews) tells renewed;
         funds_are = omega (arith, rests event.reply);
         last_is = sym (stays last event.reply);
         places_are = omega (arith, places'_are, places_are, before_owed, now_owed, ap owed_to before_its, ap owed_to renewed, owed_moves h event, owed_at_most h (its_call event));
@@ -346,16 +346,16 @@ pub nothing_taken_yet : (opening : ℕ) → available opening [] ≡ opening
 unfolding available taken_by_all
 nothing_taken_yet opening = omega arith
 
-pub kept_new : {S : Type 0} (opening : ℕ) (until : Option ℕ) (limit : ℕ) (entries : Vec Entry Global) (m : HashMap ℕ CallState S) → opening ≤ 1000000000000000 → entries.items ≡ [] → IsEmpty m
+pub kept_new : (opening : ℕ) (until : Option ℕ) (limit : ℕ) (entries : Vec Entry Global) (m : CallStates) → opening ≤ 1000000000000000 → entries.items ≡ [] → ((call : ℕ) → state_of m call ≡ Fresh)
     → IsKept opening until limit (reverse (map entry_data entries.items)) m opening opening until 0 (vec_capacity entries)
-kept_new opening until limit entries m small none empty =
+kept_new opening until limit entries m small none fresh =
     let K : List Entry → Type 0 = λ es. IsKept opening until limit (reverse (map entry_data es)) m opening opening until 0 (vec_capacity entries) in
     subst K (sym none) (record {
       small = small;
       legal = tt;
       within_limit = omega arith;
       room = omega arith;
-      tells = λ call. rw empty refl;
+      tells = λ call. ap known_of (fresh call);
       funds_are = omega arith;
       credit_is = sym (nothing_taken_yet opening);
       last_is = refl;

@@ -1,23 +1,21 @@
--- The sums that an account's map tells are those of its history.
+-- The sums that an account's states tell are those of its history.
 use Rattle.std.proofs.Common.{◌≡◌, ℕ, Bool, true, false, Option, Some, None, List, [], ◌∷◌, ◌++◌, refl, sym, ap, ◌∙◌, arith, subst}
-use Rattle.std.specs.Prelude.{◌==◌, if◌then◌else◌, map, nat_eq, option_to_list, reverse, unwrap_or}
-use Rattle.std.specs.BTreeMap.{BTreeMap, IsFromIterResult, IsOrdered, get, is_at}
-use Rattle.std.specs.Cmp.{nat_eq_equiv}
-use Rattle.std.specs.HashMap.{HashMap, IsUnique}
+use Rattle.std.specs.Prelude.{◌==◌, if◌then◌else◌, map, option_to_list, reverse, unwrap_or}
+use Rattle.std.specs.BTreeMap.{is_at}
 use Rattle.std.specs.List.{AllByRecursion}
 use Rattle.std.specs.List.Sorted.{IsStrictlySortedBy}
-use Rattle.std.specs.Map.{lookup, update_all}
-use Rattle.std.specs.Ordering.{eq_by_cmp, nat_cmp}
+use Rattle.std.specs.Map.{lookup}
+use Rattle.std.specs.Ordering.{nat_cmp}
 use Rattle.std.specs.Vec.{vec_capacity}
 use Rattle.std.specs.declared.cmp.Ordering.TheVariants.{Less}
 use Rattle.std.proofs.lemmas.Bool.Decides.{nat_tests}
-use Rattle.std.proofs.lemmas.Map.Made.{update_all_none}
 use Rattle.tariff_core.specs.Rates.{Rates}
+use Rattle.account_core.specs.CallStates.{entries_of}
 use Rattle.account_core.specs.Events.{entry_data}
 use Rattle.account_core.specs.Kept.{IsKept, known_of}
 use Rattle.account_core.specs.Known.{CallFacts, known}
 use Rattle.account_core.specs.Ledger.{Ledger}
-use Rattle.account_core.specs.Sums.{AreSums, HasStates, sum_in, sum_of, sum_under, sums_told}
+use Rattle.account_core.specs.Sums.{AreSums, sum_in, sum_of, sum_under, sums_told}
 use Rattle.account_core.specs.declared.account.Account.TheInside.{Inside}
 use Rattle.account_core.specs.declared.call_state.CallState.{CallState}
 use Rattle.account_core.specs.declared.call_state.CallState.TheVariants.{Fresh}
@@ -108,27 +106,16 @@ found_told : (q : ℕ) (found : Option CallState) (call : CallFacts) → known_o
 found_told q None call is = ap (sum_of q) is
 found_told q (Some state) call is = ap (sum_of q) is
 
--- ---- the states in order
-
-tied : (q call : ℕ) → eq_by_cmp nat_cmp q call ≡ nat_eq q call
-tied q call = grind (arith, nat_tests)
-
--- an ordered map of an unordered one's entries has the state that it has of each call
-pub states_ordered : {S : Type 0} (states : HashMap ℕ CallState S) (entries : List (ℕ × CallState)) → entries ≡ states.entries → IsUnique nat_eq states
-    → (ordered : BTreeMap ℕ CallState) → IsFromIterResult nat_cmp entries ordered → HasStates states ordered
-states_ordered states entries same unique ordered from call =
-    from.0 call ∙ ap (λ es. update_all (eq_by_cmp nat_cmp) (λ _. None) es call) same ∙ update_all_none nat_eq_equiv (eq_by_cmp nat_cmp) tied states.entries call unique
-
 -- ---- an account's
 
 pub listed_sums : (a : Inside) (ledger : Ledger) → record { opening = a.opening; until = a.until; limit = a.limit; history = map entry_data a.entries.items } ≡ ledger
     → IsKept a.opening a.until a.limit (reverse (map entry_data a.entries.items)) a.calls a.funds a.available a.last_moment a.owed (vec_capacity a.entries)
-    → (states : BTreeMap ℕ CallState) → HasStates a.calls states → IsOrdered nat_cmp states → (sums : List CallSum) → sums ≡ sums_told states.entries
+    → (entries : List (ℕ × CallState)) → entries_of a.calls ≡ entries → IsStrictlySortedBy nat_cmp (map (λ e. e.0) entries) → (sums : List CallSum) → sums ≡ sums_told entries
     → AreSums (reverse ledger.history) sums
-listed_sums a ledger view_is kept states has ordered sums is =
+listed_sums a ledger view_is kept entries are ordered sums is =
     let P : List CallSum → Type 0 = AreSums (reverse ledger.history) in
     subst P (sym is) (record {
-      rising = rising_all states.entries ordered;
-      each = λ q. found_all q states.entries ordered ∙ found_told q (get nat_cmp states q) (known q (reverse ledger.history))
-          (ap (λ found. known_of (unwrap_or found Fresh)) (has q) ∙ (kept_of a ledger view_is kept).tells q);
+      rising = rising_all entries ordered;
+      each = λ q. found_all q entries ordered ∙ found_told q (lookup (is_at (nat_cmp q)) entries) (known q (reverse ledger.history))
+          (ap (λ es. known_of (unwrap_or (lookup (is_at (nat_cmp q)) es) Fresh)) (sym are) ∙ (kept_of a ledger view_is kept).tells q);
     })

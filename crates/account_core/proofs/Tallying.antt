@@ -5,9 +5,9 @@ use Rattle.std.proofs.lemmas.Bool.{eqb-true}
 use Rattle.account_core.specs.Answers.{IsAnswered, answer, inadmissible, inadmissible_for, shown_by}
 use Rattle.account_core.specs.Available.{credited}
 use Rattle.account_core.specs.Events.{EntryData}
-use Rattle.account_core.specs.CallStates.{Renews, TellsCalls, state_of}
+use Rattle.account_core.specs.CallStates.{Renews, state_of}
 use Rattle.account_core.specs.Expiry.{last_moment_after}
-use Rattle.account_core.specs.Kept.{known_of}
+use Rattle.account_core.specs.Kept.{TellsEach, known_of}
 use Rattle.account_core.specs.Known.{CallFacts, known, known_after, taken_of}
 use Rattle.account_core.specs.Replies.{reply_for}
 use Rattle.account_core.specs.Sound.{HasRoom, LegalPastsAreSound, SoundPastsAnswer}
@@ -19,7 +19,7 @@ use Rattle.account_core.specs.declared.call_state.CallState.{CallState}
 use Rattle.account_core.specs.declared.call_state.CallState.TheVariants.{Fresh}
 use Rattle.account_core.specs.declared.tally.Tally.{Tally}
 use Rattle.account_core.proofs.Answering.{money_kept, reply_is_answer}
-use Rattle.account_core.proofs.Entering.{nothing_taken_yet}
+use Rattle.account_core.proofs.Entering.{nothing_taken_yet, tells_renewed}
 use Rattle.account_core.proofs.Fitting.{answer_shows}
 use Rattle.account_core.proofs.Moves.{its_call, its_deed, known_apart, known_here}
 use Rattle.account_core.proofs.Walking.{room_walk}
@@ -94,19 +94,9 @@ module _ (opening : ℕ) (until : Option ℕ) (h : List EntryData) (calls : Call
     last_is = tallied.last_is;
   }
 
-  tells_at : (here : Bool) (new : CallStates) (after : CallState) (call : ℕ) → (its_call event == call) ≡ here → Renews calls new (its_call event) after
-      → known_of after ≡ known (its_call event) (event ∷ h) → known_of (state_of new call) ≡ known call (event ∷ h)
-  tells_at true new after call is renews after_is =
-      let P : ℕ → Type 0 = λ c. known_of after ≡ known c (event ∷ h) in
-      let now : state_of new call ≡ after = renews call ∙ ap (λ b. if b then after else state_of calls call) is in
-      ap known_of now ∙ subst P (eqb-true (its_call event) call is) after_is
-  tells_at false new after call is renews after_is =
-      let now : state_of new call ≡ state_of calls call = renews call ∙ ap (λ b. if b then after else state_of calls call) is in
-      ap known_of now ∙ (tallied.tells call ∙ sym (known_apart h event call is))
-
   pub tells_after : (new : CallStates) (after : CallState) → Renews calls new (its_call event) after
-      → known_of after ≡ known (its_call event) (event ∷ h) → TellsCalls new (event ∷ h)
-  tells_after new after renews after_is call = tells_at (its_call event == call) new after call refl renews after_is
+      → known_of after ≡ known (its_call event) (event ∷ h) → TellsEach new (event ∷ h)
+  tells_after new after renews after_is = tells_renewed calls new h event after renews tallied.tells (after_is ∙ known_here h event)
 
 -- ---- an entry that was answered
 
@@ -114,7 +104,7 @@ module _ (h : List EntryData) (tally : Tally) (event : EntryData) (tallied : IsT
   pub funds_more : LegalPastsAreSound → tally.funds + credited event.asked event.reply ≤ 1000000000000000
   funds_more sounds = omega (arith, tallied.funds_are, (sounds tally.opening tally.until (event ∷ h) tallied.small (tallied.legal, answered)).capped)
 
-  pub tallied_more : (calls : CallStates) (added credit : ℕ) (last : Option ℕ) → TellsCalls calls (event ∷ h) → added ≡ credited event.asked event.reply
+  pub tallied_more : (calls : CallStates) (added credit : ℕ) (last : Option ℕ) → TellsEach calls (event ∷ h) → added ≡ credited event.asked event.reply
       → credit ≡ shown_by event.reply → last ≡ last_moment_after tally.last_moment event.asked event.reply
       → IsTallied (event ∷ h) (tally_of tally.opening tally.until calls (tally.funds + added) credit last)
   tallied_more calls added credit last tells added_is shows last_is = record {

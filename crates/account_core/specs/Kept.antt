@@ -1,14 +1,15 @@
 -- What an account keeps beside its entries.
-use Rattle.std.specs.Prelude.{◌≡◌, ◌+◌, ◌≤◌, ℕ, Option, List, Bool, Some, false, true, length, nat_eq, unwrap_or}
-use Rattle.std.specs.HashMap.{HashMap, get}
+use Rattle.std.specs.Prelude.{◌≡◌, ◌+◌, ◌≤◌, ℕ, Option, List, Bool, Some, false, true, length}
 use Rattle.account_core.specs.Answers.{IsLegalPast}
 use Rattle.account_core.specs.Available.{available, credits}
+use Rattle.account_core.specs.CallStates.{state_of}
 use Rattle.account_core.specs.Events.{EntryData}
 use Rattle.account_core.specs.Expiry.{last_moment}
 use Rattle.account_core.specs.KeptPlans.{rates_kept}
 use Rattle.account_core.specs.Known.{CallFacts, known, nothing_known}
 use Rattle.account_core.specs.Places.{owed}
 use Rattle.account_core.specs.declared.call_state.CallState.{CallState}
+use Rattle.account_core.specs.declared.call_states.CallStates.{CallStates}
 use Rattle.account_core.specs.declared.call_state.CallState.TheVariants.{Fresh, Granted, Over, Reported}
 use Rattle.account_core.specs.declared.held_call.HeldCall.{HeldCall}
 use Rattle.tariff_core.specs.declared.money.TheConstants.{MAX_MONEY}
@@ -32,17 +33,17 @@ known_of (Granted held) = held_of held false true
 known_of (Reported held) = held_of held false false
 known_of (Over held) = held_of held true false
 
--- the map has for each call what the history says of it
-abbrev pub TellsEach : {S : Type 0} → HashMap ℕ CallState S → List EntryData → Type 0
-TellsEach states h = (call : ℕ) → known_of (unwrap_or (get nat_eq states call) Fresh) ≡ known call h
+-- each call has the state that the history says
+abbrev pub TellsEach : CallStates → List EntryData → Type 0
+TellsEach calls h = (call : ℕ) → known_of (state_of calls call) ≡ known call h
 
--- the history is legal and within its limit, with a place for each that is owed, in memory too, and the map, the totals and the last moment are those of the history
-pub record IsKept {S : Type 0} (opening : ℕ) (until : Option ℕ) (limit : ℕ) (h : List EntryData) (states : HashMap ℕ CallState S) (funds credit : ℕ) (last : Option ℕ) (places capacity : ℕ) : Type 0 where
+-- the history is legal and within its limit, with a place for each that is owed, in memory too, and the states, the totals and the last moment are those of the history
+pub record IsKept (opening : ℕ) (until : Option ℕ) (limit : ℕ) (h : List EntryData) (calls : CallStates) (funds credit : ℕ) (last : Option ℕ) (places capacity : ℕ) : Type 0 where
   pub small : opening ≤ MAX_MONEY
   pub legal : IsLegalPast opening until h
   pub within_limit : length h + places ≤ limit
   pub room : length h + places ≤ capacity
-  pub tells : TellsEach states h
+  pub tells : TellsEach calls h
   pub funds_are : funds ≡ opening + credits h
   pub credit_is : credit ≡ available opening h
   pub last_is : last ≡ last_moment until h

@@ -1,9 +1,5 @@
 -- What each call of a history comes to.
-use Rattle.std.specs.Prelude.{◌≡◌, ◌==◌, ℕ, Option, Some, None, List, [], ◌∷◌, ◌++◌, if◌then◌else◌, map, nat_eq, option_to_list}
-use Rattle.std.specs.BTreeMap as tree
-use Rattle.std.specs.BTreeMap.{BTreeMap}
-use Rattle.std.specs.HashMap as hash
-use Rattle.std.specs.HashMap.{HashMap}
+use Rattle.std.specs.Prelude.{◌≡◌, ◌==◌, ℕ, Option, Some, None, List, [], ◌∷◌, ◌++◌, if◌then◌else◌, map, option_to_list}
 use Rattle.std.specs.List.Sorted.{IsStrictlySortedBy}
 use Rattle.std.specs.Ordering.{nat_cmp}
 use Rattle.tariff_core.specs.Rates.{Rates}
@@ -37,10 +33,6 @@ sum_in call (sum ∷ sums) = if call == sum.call then Some sum else sum_in call 
 pub record AreSums (h : List EntryData) (sums : List CallSum) : Type 0 where
   pub rising : IsStrictlySortedBy nat_cmp (map (λ sum. sum.call) sums)
   pub each : (call : ℕ) → sum_in call sums ≡ sum_of call (known call h)
-
--- an ordered map has the state that an unordered one has of each call
-abbrev pub HasStates : {S : Type 0} → HashMap ℕ CallState S → BTreeMap ℕ CallState → Type 0
-HasStates states ordered = (call : ℕ) → tree.get nat_cmp ordered call ≡ hash.get nat_eq states call
 
 -- the sums that states tell
 abbrev pub sums_told : List (ℕ × CallState) → List CallSum

@@ -3,9 +3,9 @@ use Rattle.std.specs.Prelude.{◌≡◌, ◌+◌, ◌≤◌, ℕ, Option, List}
 use Rattle.account_core.specs.Answers.{IsLegalPast}
 use Rattle.account_core.specs.Asked.{call_of}
 use Rattle.account_core.specs.Available.{available, credits}
-use Rattle.account_core.specs.CallStates.{TellsCalls}
 use Rattle.account_core.specs.Events.{EntryData}
 use Rattle.account_core.specs.Expiry.{last_moment}
+use Rattle.account_core.specs.Kept.{TellsEach}
 use Rattle.account_core.specs.Known.{CallFacts, known}
 use Rattle.account_core.specs.declared.call_states.CallStates.{CallStates}
 use Rattle.account_core.specs.declared.tally.Tally.{Tally}
@@ -20,7 +20,7 @@ tally_of opening until calls funds available last =
 pub record IsTallied (h : List EntryData) (tally : Tally) : Type 0 where
   pub small : tally.opening ≤ MAX_MONEY
   pub legal : IsLegalPast tally.opening tally.until h
-  pub tells : TellsCalls tally.calls h
+  pub tells : TellsEach tally.calls h
   pub funds_are : tally.funds ≡ tally.opening + credits h
   pub credit_is : tally.available ≡ available tally.opening h
   pub last_is : tally.last_moment ≡ last_moment tally.until h

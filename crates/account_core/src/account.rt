@@ -15,10 +15,10 @@ mod parts;
 mod sums;
 
 use crate::call_state::CallState;
+use crate::call_states::CallStates;
 use crate::judging::{judge, reply};
 use crate::{AccountFault, Admitted, Entry, Op, Reply, laws};
 use std::alloc::{AllocError, Global};
-use std::collections::HashMap;
 use std::marker::Model;
 use tariff_core::MAX_MONEY;
 
@@ -31,7 +31,7 @@ use tariff_core::MAX_MONEY;
 #[derive(Drop)]
 pub struct Account {
     entries: Vec<Entry>,
-    calls: HashMap<u64, CallState>,
+    calls: CallStates,
     opening: u64,
     until: Option<u64>,
     limit: u32,
@@ -71,7 +71,7 @@ impl Account {
     {
         Account {
             entries: Vec::new(alloc),
-            calls: HashMap::new(alloc),
+            calls: CallStates::new(alloc),
             opening,
             until,
             limit,
@@ -102,8 +102,10 @@ impl Account {
         ensures ungated { result ≢ Err AccountFault.GateClosed }
         ensures closing { IsClosing (reverse self.old.history) (asked_of op) → IsOk result }
     {
-        let admitted = self.admit(op)?;
-        Ok(self.enter(seat, admitted)?)
+        match self.admit(op) {
+            Ok(admitted) => Ok(self.enter(seat, admitted)?),
+            Err(fault) => Err(fault),
+        }
     }
 
     /// Judges an operation: the first half of `apply`, for a caller that has its own room to make
@@ -181,10 +183,7 @@ impl Account {
     fn state(&self, call: u64) -> CallState
         ensures { known_of result ≡ known call (reverse self.now.history) }
     {
-        match self.calls.get(&call) {
-            Some(state) => *state,
-            None => CallState::Fresh,
-        }
+        self.calls.state(call)
     }
 
     /// What the account knows of the call that is asked for. A Credit is of none, so that nothing is

@@ -3,22 +3,17 @@
 ghost use Rattle.std.specs.Prelude.{◌≡◌, ℕ, OnErr, OnOk};
 
 use crate::call_state::CallState;
+use crate::rising_calls::RisingCalls;
 use std::alloc::{AllocError, Global};
 use std::collections::BTreeMap;
 
-/// A call, and what is known of it.
-#[derive(Clone, Copy)]
-pub(crate) struct KnownCall {
-    pub call: u64,
-    pub state: CallState,
-}
-
-/// What is known of each call. Most entries are of the call that came last, so that it stands apart
-/// from the map of the others.
+/// What is known of each call.
 #[derive(Drop)]
-pub(crate) struct CallStates {
-    pub last: Option<KnownCall>,
-    pub others: BTreeMap<u64, CallState>,
+pub(crate) enum CallStates {
+    /// The calls came by rising number: a list in this order.
+    Rising(RisingCalls),
+    /// They did not: a map, so that no order of calls takes long.
+    Mixed(BTreeMap<u64, CallState>),
 }
 
 impl CallStates {
@@ -28,51 +23,43 @@ impl CallStates {
     pub fn new(alloc: Global) -> CallStates
         ensures { (call : ℕ) → state_of result call ≡ CallState.Fresh }
     {
-        CallStates {
-            last: None,
-            others: BTreeMap::new(alloc),
-        }
+        CallStates::Rising(RisingCalls::new(alloc))
     }
 
     /// What is known of a call.
+    #[inline(always)]
     pub fn state(&self, call: u64) -> CallState
         ensures { result ≡ state_of self.now call }
     {
-        if let Some(last) = self.last {
-            if last.call == call {
-                return last.state;
-            }
-        }
-        match self.others.get(&call) {
+        let known = match self {
+            CallStates::Rising(calls) => calls.get(call),
+            CallStates::Mixed(calls) => calls.get(&call),
+        };
+        match known {
             Some(state) => *state,
             None => CallState::Fresh,
         }
     }
 
-    /// Keeps what is known of a call now, by what was known of it. Memory is taken where that was
-    /// nothing.
-    pub fn renew(
-        &mut self,
-        call: u64,
-        before: &CallState,
-        state: CallState,
-    ) -> Result<(), AllocError>
-        requires { before.now ≡ state_of self.old call }
+    /// Keeps what is known of a call now. Memory is taken where that was nothing.
+    #[inline(always)]
+    pub fn renew(&mut self, call: u64, state: CallState) -> Result<(), AllocError>
         ensures renewed { OnOk result (Renews self.old self.new call state) }
         ensures kept { OnErr result (AreSame self.old self.new) }
         ensures fresh { OnErr result (state_of self.old call ≡ CallState.Fresh) }
     {
-        if let Some(last) = self.last {
-            if last.call != call {
-                if let CallState::Fresh = before {
-                    self.others.insert(last.call, last.state)?;
-                } else if let Some(other) = self.others.get_mut(&call) {
-                    *other = state;
-                    return Ok(());
+        match self {
+            CallStates::Rising(calls) => {
+                if !calls.renew(call, state)? {
+                    let mut map = calls.to_map()?;
+                    map.insert(call, state)?;
+                    *self = CallStates::Mixed(map);
                 }
             }
+            CallStates::Mixed(calls) => {
+                calls.insert(call, state)?;
+            }
         }
-        self.last = Some(KnownCall { call, state });
         Ok(())
     }
 }

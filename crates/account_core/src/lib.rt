@@ -20,6 +20,7 @@ mod laws;
 mod limits;
 mod list_account;
 mod port;
+mod rising_calls;
 mod sharing_laws;
 mod tally;
 mod walks;

@@ -3,9 +3,9 @@
 ghost use Rattle.std.specs.Prelude.{◌≡◌, ◌≤◌, ◌∷◌, [], ℕ, List, Option, true, false, IfNone, IfOk, IfSome, OnErr};
 ghost use Rattle.account_core.specs.Answers.{IsAnswered};
 ghost use Rattle.account_core.specs.Asked.{call_of};
-ghost use Rattle.account_core.specs.CallStates.{AreSame, TellsCalls, state_of};
+ghost use Rattle.account_core.specs.CallStates.{AreSame, state_of};
 ghost use Rattle.account_core.specs.Events.{EntryData, asked_of, entry_data};
-ghost use Rattle.account_core.specs.Kept.{known_of};
+ghost use Rattle.account_core.specs.Kept.{TellsEach, known_of};
 ghost use Rattle.account_core.specs.Known.{known, nothing_known};
 ghost use Rattle.account_core.specs.Tallied.{IsTallied, IsToldOf, tally_of};
 
@@ -97,7 +97,7 @@ fn renew_state(
         → (opening : ℕ) (until : Option ℕ) (h : List EntryData)
         → IsTallied h (tally_of opening until calls.old funds available last_moment)
         → IsAnswered opening until h (entry_data entry)
-        × TellsCalls calls.new (entry_data entry ∷ h)) }
+        × TellsEach calls.new (entry_data entry ∷ h)) }
     ensures illegal { IfOk result (λ legal. legal ≡ false
         → (opening : ℕ) (until : Option ℕ) (h : List EntryData)
         → IsTallied h (tally_of opening until calls.old funds available last_moment)
@@ -111,7 +111,7 @@ fn renew_state(
     let Some(after) = after_legal(entry, &state, funds, available, last_moment) else {
         return Ok(false);
     };
-    calls.renew(call, &state, after)?;
+    calls.renew(call, after)?;
     Ok(true)
 }
 

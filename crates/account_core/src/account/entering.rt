@@ -1,7 +1,6 @@
 //! Entries, and what is kept beside them.
 
-ghost use Rattle.std.specs.Prelude.{◌≡◌, ◌+◌, ◌≤◌, ◌++◌, ◌∷◌, [], None, Some, nat_eq, reverse, vec_capacity, vec_len, IsOk, OnErr, OnOk};
-ghost use Rattle.std.specs.HashMap.{IsUnchanged, Updates, get};
+ghost use Rattle.std.specs.Prelude.{◌≡◌, ◌+◌, ◌≤◌, ◌++◌, ◌∷◌, [], None, reverse, vec_capacity, vec_len, IsOk, OnErr, OnOk};
 ghost use Rattle.account_core.specs.Asked.{IsCredit, IsOfCall};
 ghost use Rattle.account_core.specs.Events.{asked_of, entry_data};
 ghost use Rattle.account_core.specs.Kept.{known_of};
@@ -12,7 +11,6 @@ ghost use Rattle.account_core.specs.Places.{IsClosing};
 use crate::call_state::CallState;
 use crate::{Account, Entry, Op, laws};
 use std::alloc::AllocError;
-use std::collections::HashMap;
 
 impl Account {
     /// Keeps an answered operation, with what was known of its call before. Room for it, and for
@@ -70,7 +68,7 @@ impl Account {
         laws::account_is_sound(self);
         make_room(&mut self.entries, self.owed + before.needed(&entry.op))?;
         let after = before.after(entry.op, entry.reply);
-        keep_state(&mut self.calls, call, after)?;
+        self.calls.renew(call, after)?;
         self.entries.push_reserved(entry);
         self.available = entry.reply.available();
         self.owed = self.owed + after.owed() - before.owed();
@@ -87,19 +85,4 @@ fn make_room(entries: &mut Vec<Entry>, places: usize) -> Result<(), AllocError>
     ensures enough { vec_len entries.old + places ≤ vec_capacity entries.old → IsOk result }
 {
     entries.try_reserve(places)
-}
-
-/// Keeps what is known of a call. Only a call that is new takes memory.
-#[inline(always)]
-fn keep_state(
-    calls: &mut HashMap<u64, CallState>,
-    call: u64,
-    state: CallState,
-) -> Result<(), AllocError>
-    ensures ok { OnOk result (Updates nat_eq calls.old calls.new call (Some state)) }
-    ensures kept { OnErr result (IsUnchanged calls.old calls.new) }
-    ensures new { OnErr result (get nat_eq calls.old call ≡ None) }
-{
-    calls.insert(call, state)?;
-    Ok(())
 }

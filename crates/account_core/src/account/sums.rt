@@ -4,39 +4,40 @@ ghost use Rattle.std.specs.Prelude.{◌≡◌, ◌++◌, OnOk, IfOk, option_to_l
 ghost use Rattle.std.specs.BTreeMap.{IsOrdered};
 ghost use Rattle.std.specs.Ordering.{nat_cmp};
 ghost use Rattle.account_core.specs.Kept.{known_of};
-ghost use Rattle.account_core.specs.Sums.{AreSums, HasStates, sum_of, sums_told};
+ghost use Rattle.account_core.specs.Sums.{AreSums, sum_of, sums_told};
 
 use crate::call_state::CallState;
+use crate::call_states::CallStates;
 use crate::{Account, CallSum, Fate};
 use std::alloc::{AllocError, Global};
-use std::collections::{BTreeMap, HashMap};
+use std::collections::BTreeMap;
 
 impl Account {
     /// The calls that were granted anything, by rising number, with what each has paid so far and
-    /// how it stands. The calls are sorted first.
+    /// how it stands.
     pub fn sums(&self, alloc: Global) -> Result<Vec<CallSum>, AllocError>
         ensures { IfOk result (λ sums. AreSums (reverse self.now.history) sums.items) }
     {
-        let calls = in_order(alloc, &self.calls)?;
-        list_sums(alloc, &calls)
+        match &self.calls {
+            CallStates::Rising(calls) => list_sums(alloc, calls.as_slice()),
+            CallStates::Mixed(calls) => map_sums(alloc, calls),
+        }
     }
 }
 
-/// The states by rising number of their calls.
-fn in_order(
-    alloc: Global,
-    calls: &HashMap<u64, CallState>,
-) -> Result<BTreeMap<u64, CallState>, AllocError>
-    ensures { IfOk result (HasStates calls.now) }
+/// What each state of a list comes to, in its order.
+fn list_sums(alloc: Global, calls: &[(u64, CallState)]) -> Result<Vec<CallSum>, AllocError>
+    ensures { IfOk result (λ sums. sums.items ≡ sums_told calls.now) }
 {
-    calls
-        .iter()
-        .map(|(call, state)| (*call, *state))
-        .collect(alloc)
+    let mut sums = Vec::new(alloc);
+    for (call, state) in calls {
+        add_sum(&mut sums, *call, state)?;
+    }
+    Ok(sums)
 }
 
-/// What each state comes to, by rising number.
-fn list_sums(alloc: Global, calls: &BTreeMap<u64, CallState>) -> Result<Vec<CallSum>, AllocError>
+/// What each state of a map comes to, by rising number.
+fn map_sums(alloc: Global, calls: &BTreeMap<u64, CallState>) -> Result<Vec<CallSum>, AllocError>
     ensures sums { IfOk result (λ sums. sums.items ≡ sums_told calls.now.entries) }
     ensures ordered { IsOrdered nat_cmp calls.now }
 {

@@ -51,11 +51,11 @@ invariant_of-self-2 c =
       length_past c.self.inside c.args.self.now c.self.view_is c.self.invariant,
       c.push_reserved.ensures.capacity,
     ) in
-    entered_inside c.self.inside c.args.self.now c.self.view_is c.self.invariant c.args.entry c.push_reserved.new.self.items c.keep_state.new.calls
+    entered_inside c.self.inside c.args.self.now c.self.view_is c.self.invariant c.args.entry c.push_reserved.new.self.items c.renew.new.self
     c.self.inside.funds c.available-self-inside.result c.self.inside.last_moment places capacity c.requires.admitted c.requires.answered
     (c.push_reserved.ensures.items ∙ ap (λ items. items ++ c.args.entry ∷ []) c.make_room.ensures.items) c.available-self-inside.ensures
     (call_entered c.args.self.now.opening c.args.self.now.until c.args.self.now.limit past c.args.call (entry_data c.args.entry) c.requires.of_call
     (known_of c.args.before) c.requires.known c.requires.admitted c.requires.answered
-    c.self.inside.calls c.keep_state.new.calls c.after-after.result c.self.inside.funds c.self.inside.last_moment c.self.inside.owed places capacity c.owed-2.result c.owed.result
-    kept.tells c.in_ok-keep_state.ensures.ok c.after-after.ensures kept.places_are c.owed-2.ensures.value c.owed.ensures.value refl
+    c.self.inside.calls c.renew.new.self c.after-after.result c.self.inside.funds c.self.inside.last_moment c.self.inside.owed places capacity c.owed-2.result c.owed.result
+    kept.tells c.in_ok-renew.ensures.renewed c.after-after.ensures kept.places_are c.owed-2.ensures.value c.owed.ensures.value refl
     (omega (arith, room, c.needed.ensures)))

@@ -1,9 +1,20 @@
+use Rattle.std.proofs.Common.{ap}
 use Rattle.std.proofs.lemmas.Result.{IfOk-weaker}
+use Rattle.account_core.specs.CallStates.{entries_of}
+use Rattle.account_core.proofs.RisingLemmas.{sorted}
 use Rattle.account_core.proofs.SumLemmas.{listed_sums}
 use Rattle.account_core.proofs.account.Account.sums.Goals as goal
 
-pub returns : goal.returns
-returns c =
+pub returns-in-Rising : goal.returns-in-Rising
+returns-in-Rising c =
     IfOk-weaker c.list_sums.result _ _
-    (λ sums is. listed_sums c.self.inside c.args.self.now c.self.view_is c.self.invariant c.in_ok-calls.calls c.in_ok-calls.ensures c.list_sums.ensures.ordered sums.items is)
-    c.list_sums.ensures.sums
+    (λ sums is. listed_sums c.self.inside c.args.self.now c.self.view_is c.self.invariant c.in-Rising.calls (ap entries_of c.in-Rising.is)
+    (sorted c.in-Rising.calls c.as_slice.ensures.rising) sums.items (rw c.as_slice.ensures.value at is))
+    c.list_sums.ensures
+
+pub returns-in-Mixed : goal.returns-in-Mixed
+returns-in-Mixed c =
+    IfOk-weaker c.map_sums.result _ _
+    (λ sums is. listed_sums c.self.inside c.args.self.now c.self.view_is c.self.invariant c.in-Mixed.calls.entries (ap entries_of c.in-Mixed.is)
+    c.map_sums.ensures.ordered sums.items is)
+    c.map_sums.ensures.sums
