@@ -48,7 +48,6 @@ impl Seat {
     }
 
     /// Asks for an operation of a call.
-    #[inline(never)]
     pub(super) fn apply_of_call(
         &mut self,
         account: &mut Account,
