@@ -118,7 +118,9 @@ impl Seat {
             ≡ of_call (call_of (asked_of op)) self.old.mine
             → IsOk result }
     {
-        let admitted = account.admit(op)?;
-        Ok(self.enter(account, admitted)?)
+        match account.admit(op) {
+            Ok(admitted) => Ok(self.enter(account, admitted)?),
+            Err(fault) => Err(fault),
+        }
     }
 }
