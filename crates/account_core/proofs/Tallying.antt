@@ -1,7 +1,6 @@
 -- What is kept of a legal history is kept as legal entries are added to it.
-use Rattle.std.proofs.Common.{◌≡◌, ℕ, ◌+◌, ◌≤◌, Option, Some, None, List, [], ◌∷◌, sym, ap, ◌∙◌, refl, arith, subst}
-use Rattle.std.specs.Prelude.{◌==◌, Bool, false, true, is_some, if◌then◌else◌}
-use Rattle.std.proofs.lemmas.Bool.{eqb-true}
+use Rattle.std.proofs.Common.{◌≡◌, ℕ, ◌+◌, ◌≤◌, Option, Some, None, List, [], ◌∷◌, sym, ap, ◌∙◌, refl, arith}
+use Rattle.std.specs.Prelude.{false, true, is_some}
 use Rattle.account_core.specs.Answers.{IsAnswered, answer, inadmissible, inadmissible_for, shown_by}
 use Rattle.account_core.specs.Available.{credited}
 use Rattle.account_core.specs.Events.{EntryData}
@@ -21,7 +20,7 @@ use Rattle.account_core.specs.declared.tally.Tally.{Tally}
 use Rattle.account_core.proofs.Answering.{money_kept, reply_is_answer}
 use Rattle.account_core.proofs.Entering.{nothing_taken_yet, tells_renewed}
 use Rattle.account_core.proofs.Fitting.{answer_shows}
-use Rattle.account_core.proofs.Moves.{its_call, its_deed, known_apart, known_here}
+use Rattle.account_core.proofs.Moves.{its_call, its_deed, known_here}
 use Rattle.account_core.proofs.Walking.{room_walk}
 
 pub tallied_new : (opening : ℕ) (until : Option ℕ) (calls : CallStates) → opening ≤ 1000000000000000

@@ -41,7 +41,8 @@ impl CallStates {
         }
     }
 
-    /// Keeps what is known of a call now. Memory is taken where that was nothing.
+    /// Keeps what is known of a call now. Memory is taken where that was nothing. Where it is nothing
+    /// still, as after a Credit, a call that is out of order isn't kept.
     #[inline(always)]
     pub fn renew(&mut self, call: u64, state: CallState) -> Result<(), AllocError>
         ensures renewed { OnOk result (Renews self.old self.new call state) }
@@ -50,11 +51,15 @@ impl CallStates {
     {
         match self {
             CallStates::Rising(calls) => {
-                if !calls.renew(call, state)? {
-                    let mut map = calls.to_map()?;
-                    map.insert(call, state)?;
-                    *self = CallStates::Mixed(map);
+                if calls.renew(call, state)? {
+                    return Ok(());
                 }
+                if let CallState::Fresh = &state {
+                    return Ok(());
+                }
+                let mut map = calls.to_map()?;
+                map.insert(call, state)?;
+                *self = CallStates::Mixed(map);
             }
             CallStates::Mixed(calls) => {
                 calls.insert(call, state)?;

@@ -1,7 +1,4 @@
-use Rattle.std.proofs.Common.{rules, sym, ap, ◌∙◌}
-use Rattle.std.specs.BTreeMap.{is_at}
-use Rattle.std.specs.Map.{lookup}
-use Rattle.std.specs.Ordering.{nat_cmp}
+use Rattle.std.proofs.Common.{rules, sym}
 use Rattle.account_core.proofs.RisingLemmas.{absent, present}
 use Rattle.account_core.proofs.rising_calls.RisingCalls.get.Goals as goal
 

@@ -1,4 +1,4 @@
-use Rattle.std.proofs.Common.{rules, sym, ap, ◌∙◌}
+use Rattle.std.proofs.Common.{rules, sym, ◌∙◌}
 use Rattle.account_core.proofs.RisingLemmas.{absent, inserted_last, inserted_there}
 use Rattle.account_core.proofs.rising_calls.RisingCalls.renew.Goals as goal
 
