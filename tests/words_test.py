@@ -2,8 +2,8 @@
 """Holds the words together: the man page, the completions and the help against docs/FORMATS.md.
 
 tests/words_test.py [--program FILE] compares commands, options, ranges, what is left out, and the lines and kinds of
-faults, and runs the examples of the man page. It tries each number at the ends of its range and one past them, and each
-option that may be left out beside what it is then. The version that is printed is the day of the changelog's newest
+faults, and runs the examples of the man page. It tries each number at the ends of its range, one past them and far above
+them, and each option that may be left out beside what it is then. The version that is printed is the day of the changelog's newest
 section, with the kit that `rt version` names where that is at hand.
 """
 import argparse
@@ -197,6 +197,50 @@ def said_in_help(program):
     return commands, left, {re.sub(PARTS, "PART row", it) for it in lines}, kinds
 
 
+def ranges_in_help(program):
+    """Of each command the ranges that its help tells: of the options, of the kinds, and between the times of a run."""
+    found = {}
+    for name in NEEDS | {"audit": None}:
+        text = subprocess.run([program, "help", name], capture_output=True, text=True, check=True).stdout
+        above, _, kinds = text.partition("\nKinds:\n")
+        told = {option: said for option, said in re.findall(r"^ +(--[a-z]+) <\w+> +(.*)$", above, re.M)}
+        told |= {kind: said for kind, said in re.findall(r"^  ([A-Z]\w+)  +(.*(?:\n {5,}.*)*)", kinds, re.M)}
+        found |= {(name, it): numbers_of(said) for it, said in told.items() if numbers_of(said)}
+        found |= {(name, "TooLong"): re.findall(r"More than (\d+) bytes", above)}
+        if related := re.search(r"1 <= .*?\.", above, re.S):
+            found |= {(name, "times"): " ".join(related[0].split())}
+    return found
+
+
+def numbers_of(said):
+    """The ranges and the limits that a text tells, without its unit and what is left out."""
+    return re.findall(r"[\d:]+ to \d+(?::\d+)?|\d{3,}", re.sub(r"\[.*|\d+ ms", "", said))
+
+
+def ranges_in_formats(text, values):
+    """The same, as the formats say it."""
+    tables = tables_of(text)
+    rows = {it[0]: it[2] for it in tables["Table"]}
+    few, many = re.search(r"a table at most (\d+) rows besides its header, a script and a book (\d+)", text).groups()
+    accounts = re.search(r"also the (\d+)st account", text)[1]
+    wanted = {(name, "TooManyRows"): [few] for name in ("price", "replay", "quote")}
+    wanted |= {("audit", "TooManyRows"): [many], ("run", "TooManyRows"): [few, many, accounts]}
+    wanted |= {(it, "TooLong"): re.findall(r"input has at most (\d+) bytes", text) for it in (*NEEDS, "audit")}
+    for name in ("run", "quote"):
+        wanted |= {(name, kind): [it] for kind, it in zip(("Digits", "From", "Money", "Free"), numbers_of(rows["tariff"]))}
+    wanted["run", "Number"] = re.findall(r"a party that isn't (\d+ to \d+) digits", text)
+    wanted["price", "Number"] = numbers_of(rows["reports"])
+    wanted["price", "Order"] = [numbers_of(rows["reports"])[0].split()[-1]]
+    wanted["run", "--workers"] = re.findall(r"takes (\d+ to \d+)", values["run", "--workers"][0])
+    times, above = [], "--delay"
+    while ("run", above) in values:
+        least, most = values["run", above][0].split(" to ")
+        times, above = times + ([least] if not times else []) + [above[2:]], "--" + most
+    tssf = values["run", "--tssf"][0]
+    wanted["run", "times"] = f"{' <= '.join(times)} <= {most}, and tssf is {tssf}."
+    return wanted
+
+
 def continued(line):
     """A line of a fault, and those whose last words stand behind it."""
     first, *more = line.split(", ")
@@ -234,17 +278,34 @@ def ends_of(allowed, defaults):
     return number(least), number(most)
 
 
+def refusal(name, option, value, allowed, defaults):
+    """The line of the fault that a number of an option has by the formats, or nothing where it is in range."""
+    least, most = ends_of(allowed, defaults)
+    if least <= value <= most:
+        return ""
+    # a decimal has at most 20 digits; how many workers may be asked for stands first in their range
+    asked = re.match(r"\d+ to (\d+);", allowed)
+    if name != "run" or value >= 10**20 or asked and value > int(asked[1]):
+        return "prepaid: arguments\n"
+    return "prepaid: run: Workers\n" if asked else "prepaid: input: Config\n"
+
+
 def range_faults(program, values):
     """Where the program takes other numbers than the formats say, or takes an option that is left out for another."""
     faults, defaults = [], {it: left for it, (_, left) in values.items() if left}
     for (name, option), (allowed, _) in values.items():
-        if option in ("--called", "--default"):
+        if option == "--default":
             continue
         least, most = ends_of(allowed, defaults)
-        for value in [least - 1, least, most, most + 1][least == 0 :]:
-            status, _, fault = answer(program, name, [], NEEDS[name][1], option, str(value))
-            if (status != 0) != (value < least or value > most):
-                faults.append(f"{name} {option} {value}: status {status} {fault!r}")
+        tried = [most, most + 1] + [least, least - 1][: 1 + (least > 0)]
+        if option != "--called":
+            tried += [99, 100, 2**32, 2**32 + most, 2**64 - 1, 2**64 + least, 10**20 - 1, 10**20]
+        for value in tried:
+            word = "4" * value if option == "--called" else str(value)
+            status, _, fault = answer(program, name, [], NEEDS[name][1], option, word)
+            wanted = refusal(name, option, value, allowed, defaults)
+            if (status != 0, fault) != (wanted != "", wanted):
+                faults.append(f"{name} {option} {word}: status {status} {fault!r} in place of {wanted!r}")
     # how many workers there are, and what becomes of a call without orders, change no answer
     tried = {(name, option) for name, option, *_ in LEFT_OUT} | {("run", "--workers"), ("run", "--default")}
     faults += [f"{it}: not tried" for it in defaults if it not in tried]
@@ -298,7 +359,8 @@ def main():
     same("help", "options", {**of_help[0], "help": set()}, commands)
     same("help", "lines of faults", of_help[2], lines)
     same("help", "kinds of faults", of_help[3], kinds - OF_RUN)
-    same("help", "left out", of_help[1], {it: defaults[it] for it in defaults if it in of_help[1]})
+    same("help", "left out", of_help[1], {it: defaults[it] for it in defaults if it[0] == "run" or it in of_help[1]})
+    same("help", "ranges", ranges_in_help(program), ranges_in_formats(formats, values))
     for name, (found, told) in (("bash", of_bash), ("zsh", of_zsh)):
         same(name, "options", found, commands)
         same(name, "words", told, words)
