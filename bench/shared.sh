@@ -3,7 +3,7 @@
 # the account under its lock and the one that is handed on by turns, beside a plain std::sync::Mutex
 # and a plain ticket whose waiters sleep, all in one run, in turn, the median of 3 runs of each. All
 # four judge and keep the same. The operations are credits, or calls that each are granted time,
-# settled and returned, and that all stay in the maps.
+# settled and returned, and that are all kept.
 set -eu
 cd "$(dirname "$0")/.."
 work=$(mktemp -d)

@@ -3,7 +3,7 @@ use Rattle.std.proofs.Common.{◌≡◌, ◌≢◌, ◌+◌, ◌<◌, ◌≤◌,
 use Rattle.std.specs.BTreeMap.{insert_entry, is_at}
 use Rattle.std.specs.List.{All, AllByRecursion}
 use Rattle.std.specs.List.Sorted.{IsBinarySearchResult, IsNonDecreasingBy, IsSearchInRange, IsStrictlySortedBy}
-use Rattle.std.specs.Map.{keys_of, lookup}
+use Rattle.std.specs.Map.{keys_of, lookup, set_value}
 use Rattle.std.specs.Prelude.{◌==◌, IfNone, IfSome, drop, if◌then◌else◌, take, unwrap_or}
 use Rattle.std.specs.Result.{result_ok}
 use Rattle.std.specs.Ordering.{match_ordering, nat_cmp, ordering_index}
@@ -171,6 +171,15 @@ module _ {V : Type 0} where
   inserted_there number (first ∷ list) (suc place) item value rising (within, at) is =
       rw (above number first.0 (other_first number first list place rising (omega (arith, within)) at))
       (ap (λ more. first ∷ more) (inserted_there number list place item value (rising_tail first list rising) (omega (arith, within), at) is))
+
+  pub set_there : (number : ℕ) (list : List (ℕ × V)) (place : ℕ) (item : ℕ × V) (value : V) → AreRising list → StandsAt list number place
+      → item ≡ get_or list place item → set_value (is_at (nat_cmp number)) list value ≡ set list place (item.0, value)
+  set_there number [] place item value rising (within, at) is = absurd (omega (arith, within))
+  set_there number (first ∷ list) zero item value rising (within, at) is =
+      rw (at_same number first.0 (at item)) (ap (λ (x : ℕ × V). (x.0, value) ∷ list) (sym is))
+  set_there number (first ∷ list) (suc place) item value rising (within, at) is =
+      rw (at_other number first.0 (differs_below number first.0 (other_first number first list place rising (omega (arith, within)) at)))
+      (ap (λ more. first ∷ more) (set_there number list place item value (rising_tail first list rising) (omega (arith, within), at) is))
 
   -- ---- what is added at the end
 

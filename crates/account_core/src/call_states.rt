@@ -41,8 +41,8 @@ impl CallStates {
         }
     }
 
-    /// Keeps what is known of a call now. Memory is taken where that was nothing. Where it is nothing
-    /// still, as after a Credit, a call that is out of order isn't kept.
+    /// Keeps what is known of a call now. Memory is taken where that was nothing. Where it is
+    /// nothing still, as after a Credit, a call that is out of order isn't kept.
     #[inline(always)]
     pub fn renew(&mut self, call: u64, state: CallState) -> Result<(), AllocError>
         ensures renewed { OnOk result (Renews self.old self.new call state) }

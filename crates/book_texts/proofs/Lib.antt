@@ -3,5 +3,4 @@ pub mod CheckLemmas
 pub mod OneText
 pub mod PrintedRows
 pub mod ReadBooks
-pub mod RisingLemmas
 pub mod TextLemmas

@@ -1,11 +1,12 @@
 -- What the checks of histories are while a table of books is read, and what they say.
-use Rattle.std.specs.Prelude.{◌≡◌, ◌≢◌, ◌<◌, ℕ, Bool, List, Option, Some, None, Result, Ok, Err, ⊤, length, reverse, slice_index_or}
+use Rattle.std.specs.Prelude.{◌≡◌, ℕ, Bool, List, Option, Some, None, Result, Ok, Err, ⊤, reverse}
 use Rattle.std.specs.Bool.{Decides}
-use Rattle.std.specs.List.{AllZip, HoldsAt}
+use Rattle.std.specs.List.{AllZip}
 use Rattle.std.specs.Global.{Vec}
 use Rattle.account_core.specs.Answers.{IsLegalPast}
 use Rattle.account_core.specs.Checked.{IsCheckOf}
 use Rattle.account_core.specs.Events.{EntryData}
+use Rattle.account_core.specs.Rising.{AreRising}
 use Rattle.account_core.specs.declared.history_check.HistoryCheck.{HistoryCheck}
 use Rattle.table_core.specs.Faults.{Refuses}
 use Rattle.table_core.specs.declared.fault.RowFault.{RowFault}
@@ -30,22 +31,6 @@ AreChecks books checks = AllZip IsCheck books checks
 abbrev pub entries_of : AccountChecks → List (ℕ × HistoryCheck)
 entries_of (Rising list) = list.items
 entries_of (Mixed map) = map.entries
-
--- each account's number is above those before it
-abbrev pub AreRising : List (ℕ × HistoryCheck) → Type 0
-AreRising checks = (i j : ℕ) (d : ℕ × HistoryCheck) → i < j → j < length checks → (slice_index_or checks i d).0 < (slice_index_or checks j d).0
-
--- a check is that of an account with a lower number, and of another account
-abbrev pub IsBelow : ℕ → ℕ × HistoryCheck → Type 0
-IsBelow account check = check.0 < account
-
--- of another account
-abbrev pub IsOther : ℕ → ℕ × HistoryCheck → Type 0
-IsOther account check = check.0 ≢ account
-
--- the check at a place is that of the account
-abbrev pub StandsAt : List (ℕ × HistoryCheck) → ℕ → ℕ → Type 0
-StandsAt checks account place = (place < length checks) × HoldsAt (λ check. check.0 ≡ account) checks place
 
 -- the accounts of a list rise; a map keeps its order itself
 abbrev pub IsOrdered : AccountChecks → Type 0

@@ -3,8 +3,9 @@
 ghost use Rattle.std.specs.Prelude.{◌≡◌, ◌≤◌, ℕ, Option, [], true, All, IfNone, IfOk, IfSome, OnOk};
 ghost use Rattle.account_core.specs.Checked.{IsCheckOf};
 ghost use Rattle.account_core.specs.Events.{entry_data};
+ghost use Rattle.account_core.specs.Rising.{AreRising, IsBelow, IsOther, StandsAt};
 ghost use Rattle.book_texts.specs.Books.{Books, entered, opened, told_of};
-ghost use Rattle.book_texts.specs.Checks.{AreChecks, AreRising, Comes, HaveChecks, IsBelow, IsOther, ListComes, StandsAt, entries_of};
+ghost use Rattle.book_texts.specs.Checks.{AreChecks, Comes, HaveChecks, ListComes, entries_of};
 
 use account_core::{Entry, HistoryCheck};
 use std::alloc::{AllocError, Global};

@@ -1,7 +1,7 @@
 use Rattle.std.proofs.Common.{◌-◌, length, sym, arith}
 use Rattle.std.proofs.lemmas.Bool.Decides.{nat_tests}
 use Rattle.std.proofs.lemmas.Option.{get_or_from_slice_get}
-use Rattle.book_texts.proofs.RisingLemmas.{above_last}
+use Rattle.account_core.proofs.RisingLemmas.{above_last}
 use Rattle.book_texts.proofs.account_checks.is_above.Goals as goal
 
 pub returns-in-Some : goal.returns-in-Some

@@ -1,6 +1,6 @@
 use Rattle.std.proofs.Common.{rules}
 use Rattle.std.proofs.lemmas.List.Sorted.{answers_always}
-use Rattle.book_texts.proofs.RisingLemmas.{searched}
+use Rattle.account_core.proofs.RisingLemmas.{searched}
 use Rattle.book_texts.proofs.account_checks.place_of.Goals as goal
 
 pub returns : goal.returns
