@@ -1,0 +1,3 @@
+pub mod Forms
+pub mod Listings
+pub mod Rising

@@ -1,0 +1,10 @@
+-- All of a map by number.
+use Rattle.std.specs.Prelude.{ℕ, List}
+use Rattle.rising_map.specs.declared.rising_map.Listing.{Listing}
+use Rattle.rising_map.specs.declared.rising_map.Listing.TheVariants.{Rising, Mixed}
+
+module _ {V : Type 0} where
+  -- each number with its value, by rising number
+  abbrev pub listed : Listing V → List (ℕ × V)
+  listed (Rising list) = list.now
+  listed (Mixed map) = map.now.entries
