@@ -3,13 +3,12 @@
 
 tests/words_test.py [--program FILE] compares commands, options, ranges, what is left out, and the lines and kinds of
 faults, and runs the examples of the man page. It tries each number at the ends of its range, one past them and far above
-them, and each option that may be left out beside what it is then. The version that is printed is the day of the changelog's newest
-section, with the kit that `rt version` names where that is at hand.
+them, and each option that may be left out beside what it is then. The version that is printed is the day of the
+changelog's newest section, with the kit that the README names.
 """
 import argparse
 import os
 import re
-import shutil
 import subprocess
 import sys
 
@@ -248,13 +247,12 @@ def continued(line):
 
 
 def version_faults(program):
-    """How the version that is printed differs from the changelog's newest day and from the kit."""
+    """How the version that is printed differs from the changelog's newest day and from the kit that the README names."""
     told = subprocess.run([program, "--version"], capture_output=True, text=True, check=True).stdout
     with open("CHANGELOG.md") as file:
         day = re.search(r"^## (\S+)$", file.read(), re.M)[1]
-    kit = re.search(r"\((.*)\)", told)[1]
-    if shutil.which("rt"):
-        kit = subprocess.run(["rt", "version"], capture_output=True, text=True, check=True).stdout.split()[0]
+    with open("README.md") as file:
+        kit = re.search(r"`(rattle-kit-\S+) logic", file.read())[1]
     wanted = f"prepaid {day} ({kit})\n"
     return [] if told == wanted else [f"version: {told!r} in place of {wanted!r}"]
 
