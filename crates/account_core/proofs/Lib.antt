@@ -8,7 +8,7 @@ pub mod LawLemmas
 pub mod Listing
 pub mod Moves
 pub mod Ranging
-pub mod RisingLemmas
+pub mod Renewing
 pub mod SoundPasts
 pub mod Soundness
 pub mod CallStateLemmas

@@ -10,7 +10,6 @@ use Rattle.std.specs.Vec.{vec_capacity}
 use Rattle.std.specs.declared.cmp.Ordering.TheVariants.{Less}
 use Rattle.std.proofs.lemmas.Bool.Decides.{nat_tests}
 use Rattle.tariff_core.specs.Rates.{Rates}
-use Rattle.account_core.specs.CallStates.{entries_of}
 use Rattle.account_core.specs.Events.{entry_data}
 use Rattle.account_core.specs.Kept.{IsKept, known_of}
 use Rattle.account_core.specs.Known.{CallFacts, known}
@@ -110,7 +109,7 @@ found_told q (Some state) call is = ap (sum_of q) is
 
 pub listed_sums : (a : Inside) (ledger : Ledger) → record { opening = a.opening; until = a.until; limit = a.limit; history = map entry_data a.entries.items } ≡ ledger
     → IsKept a.opening a.until a.limit (reverse (map entry_data a.entries.items)) a.calls a.funds a.available a.last_moment a.owed (vec_capacity a.entries)
-    → (entries : List (ℕ × CallState)) → entries_of a.calls ≡ entries → IsStrictlySortedBy nat_cmp (map (λ e. e.0) entries) → (sums : List CallSum) → sums ≡ sums_told entries
+    → (entries : List (ℕ × CallState)) → a.calls.calls ≡ entries → IsStrictlySortedBy nat_cmp (map (λ e. e.0) entries) → (sums : List CallSum) → sums ≡ sums_told entries
     → AreSums (reverse ledger.history) sums
 listed_sums a ledger view_is kept entries are ordered sums is =
     let P : List CallSum → Type 0 = AreSums (reverse ledger.history) in

@@ -1,21 +1,15 @@
 -- What is known of the calls of a history.
-use Rattle.std.specs.Prelude.{◌≡◌, ◌==◌, ℕ, List, unwrap_or, if◌then◌else◌}
+use Rattle.std.specs.Prelude.{◌≡◌, ◌==◌, ℕ, unwrap_or, if◌then◌else◌}
 use Rattle.std.specs.BTreeMap.{is_at}
 use Rattle.std.specs.Map.{lookup}
 use Rattle.std.specs.Ordering.{nat_cmp}
 use Rattle.account_core.specs.declared.call_states.CallStates.{CallStates}
-use Rattle.account_core.specs.declared.call_states.CallStates.TheVariants.{Rising, Mixed}
 use Rattle.account_core.specs.declared.call_state.CallState.{CallState}
 use Rattle.account_core.specs.declared.call_state.CallState.TheVariants.{Fresh}
 
--- each call with its state, by rising number
-abbrev pub entries_of : CallStates → List (ℕ × CallState)
-entries_of (Rising list) = list
-entries_of (Mixed map) = map.entries
-
 -- the state of a call, which is fresh where none is kept
 abbrev pub state_of : CallStates → ℕ → CallState
-state_of calls call = unwrap_or (lookup (is_at (nat_cmp call)) (entries_of calls)) Fresh
+state_of calls call = unwrap_or (lookup (is_at (nat_cmp call)) calls.calls) Fresh
 
 -- a call has this state now, and each other call the one that it had
 abbrev pub Renews : CallStates → CallStates → ℕ → CallState → Type 0

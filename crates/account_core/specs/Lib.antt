@@ -16,7 +16,6 @@ pub mod Ledger
 pub mod Listed
 pub mod Places
 pub mod Replies
-pub mod Rising
 pub mod SharingLaws
 pub mod Sound
 pub mod Standing

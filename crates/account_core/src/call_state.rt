@@ -33,6 +33,14 @@ pub(crate) enum CallState {
 }
 
 impl CallState {
+    /// Whether nothing is known of the call.
+    #[inline(always)]
+    pub fn is_fresh(&self) -> bool
+        ensures { result ≡ true → self.now ≡ CallState.Fresh }
+    {
+        matches!(self, CallState::Fresh)
+    }
+
     /// At what stage the call is.
     pub fn stage(&self) -> CallStage
         ensures { result ≡ stage_of (known_of self.now) }

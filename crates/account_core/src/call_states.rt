@@ -1,19 +1,16 @@
 //! What is known of the calls of a history.
 
 ghost use Rattle.std.specs.Prelude.{◌≡◌, ℕ, OnErr, OnOk};
+ghost use Rattle.rising_map.specs.Listings.{IsInOrder, listed};
 
 use crate::call_state::CallState;
-use crate::rising_calls::RisingCalls;
+use rising_map::{Listing, RisingMap};
 use std::alloc::{AllocError, Global};
-use std::collections::BTreeMap;
 
 /// What is known of each call.
 #[derive(Drop)]
-pub(crate) enum CallStates {
-    /// The calls came by rising number: a list in this order.
-    Rising(RisingCalls),
-    /// They did not: a map, so that no order of calls takes long.
-    Mixed(BTreeMap<u64, CallState>),
+pub(crate) struct CallStates {
+    calls: RisingMap<CallState>,
 }
 
 impl CallStates {
@@ -23,7 +20,9 @@ impl CallStates {
     pub fn new(alloc: Global) -> CallStates
         ensures { (call : ℕ) → state_of result call ≡ CallState.Fresh }
     {
-        CallStates::Rising(RisingCalls::new(alloc))
+        CallStates {
+            calls: RisingMap::new(alloc),
+        }
     }
 
     /// What is known of a call.
@@ -31,40 +30,28 @@ impl CallStates {
     pub fn state(&self, call: u64) -> CallState
         ensures { result ≡ state_of self.now call }
     {
-        let known = match self {
-            CallStates::Rising(calls) => calls.get(call),
-            CallStates::Mixed(calls) => calls.get(&call),
-        };
-        match known {
-            Some(state) => *state,
-            None => CallState::Fresh,
-        }
+        self.calls.get(call).unwrap_or(CallState::Fresh)
     }
 
-    /// Keeps what is known of a call now. Memory is taken where that was nothing. Where it is
-    /// nothing still, as after a Credit, a call that is out of order isn't kept.
+    /// Keeps what is known of a call now. Memory is taken where that was nothing; where it is
+    /// nothing still, as after a Credit, nothing is kept.
     #[inline(always)]
     pub fn renew(&mut self, call: u64, state: CallState) -> Result<(), AllocError>
         ensures renewed { OnOk result (Renews self.old self.new call state) }
         ensures kept { OnErr result (AreSame self.old self.new) }
         ensures fresh { OnErr result (state_of self.old call ≡ CallState.Fresh) }
     {
-        match self {
-            CallStates::Rising(calls) => {
-                if calls.renew(call, state)? {
-                    return Ok(());
-                }
-                if let CallState::Fresh = &state {
-                    return Ok(());
-                }
-                let mut map = calls.to_map()?;
-                map.insert(call, state)?;
-                *self = CallStates::Mixed(map);
-            }
-            CallStates::Mixed(calls) => {
-                calls.insert(call, state)?;
-            }
+        if state.is_fresh() && self.state(call).is_fresh() {
+            return Ok(());
         }
-        Ok(())
+        self.calls.insert(call, state)
+    }
+
+    /// Each call with what is known of it, by rising number.
+    pub fn listing(&self) -> Listing<'_, CallState>
+        ensures all { listed result ≡ self.now.calls }
+        ensures rising { IsInOrder result }
+    {
+        self.calls.listing()
     }
 }

@@ -20,7 +20,6 @@ mod laws;
 mod limits;
 mod list_account;
 mod port;
-mod rising_calls;
 mod sharing_laws;
 mod tally;
 mod walks;

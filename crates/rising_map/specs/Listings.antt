@@ -1,5 +1,6 @@
 -- All of a map by number.
-use Rattle.std.specs.Prelude.{ℕ, List}
+use Rattle.std.specs.Prelude.{ℕ, List, ⊤}
+use Rattle.rising_map.specs.Rising.{AreRising}
 use Rattle.rising_map.specs.declared.rising_map.Listing.{Listing}
 use Rattle.rising_map.specs.declared.rising_map.Listing.TheVariants.{Rising, Mixed}
 
@@ -8,3 +9,8 @@ module _ {V : Type 0} where
   abbrev pub listed : Listing V → List (ℕ × V)
   listed (Rising list) = list.now
   listed (Mixed map) = map.now.entries
+
+  -- the numbers of a list rise; a map keeps its order itself
+  abbrev pub IsInOrder : Listing V → Type 0
+  IsInOrder (Rising list) = AreRising list.now
+  IsInOrder (Mixed map) = ⊤

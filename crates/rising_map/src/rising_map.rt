@@ -4,7 +4,7 @@ ghost use Rattle.std.specs.Prelude.{◌≡◌, [], IfOk, IsSome, OnErr, OnOk, No
 ghost use Rattle.std.specs.BTreeMap.{insert_entry, is_at};
 ghost use Rattle.std.specs.Map.{lookup};
 ghost use Rattle.std.specs.Ordering.{nat_cmp};
-ghost use Rattle.rising_map.specs.Listings.{listed};
+ghost use Rattle.rising_map.specs.Listings.{IsInOrder, listed};
 ghost use Rattle.rising_map.specs.Rising.{AreRising};
 
 use crate::searching::{is_above, place_of};
@@ -115,7 +115,8 @@ impl<V: Copy> RisingMap<V> {
 
     /// All of it, by rising number.
     pub fn listing(&self) -> Listing<'_, V>
-        ensures { listed result ≡ self.now }
+        ensures all { listed result ≡ self.now }
+        ensures rising { IsInOrder result }
     {
         match &self.form {
             Form::Rising(list) => Listing::Rising(list.as_slice()),

@@ -7,8 +7,8 @@ ghost use Rattle.account_core.specs.Kept.{known_of};
 ghost use Rattle.account_core.specs.Sums.{AreSums, sum_of, sums_told};
 
 use crate::call_state::CallState;
-use crate::call_states::CallStates;
 use crate::{Account, CallSum, Fate};
+use rising_map::Listing;
 use std::alloc::{AllocError, Global};
 use std::collections::BTreeMap;
 
@@ -18,9 +18,9 @@ impl Account {
     pub fn sums(&self, alloc: Global) -> Result<Vec<CallSum>, AllocError>
         ensures { IfOk result (λ sums. AreSums (reverse self.now.history) sums.items) }
     {
-        match &self.calls {
-            CallStates::Rising(calls) => list_sums(alloc, calls.as_slice()),
-            CallStates::Mixed(calls) => map_sums(alloc, calls),
+        match self.calls.listing() {
+            Listing::Rising(calls) => list_sums(alloc, calls),
+            Listing::Mixed(calls) => map_sums(alloc, calls),
         }
     }
 }
