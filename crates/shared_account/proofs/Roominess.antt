@@ -1,8 +1,9 @@
 -- A seat keeps the room for what its own entries owe.
 use Rattle.std.proofs.Common.{◌≡◌, ℕ, ◌+◌, ◌-◌, ◌≤◌, Bool, true, false, None, Some, List, [], ◌∷◌, ◌++◌, length, refl, sym, ap, ◌∙◌, arith, subst, Option}
-use Rattle.std.specs.Prelude.{◌==◌, ◌&&◌, if◌then◌else◌, is_some, not, map, reverse, unwrap_or}
+use Rattle.std.specs.Prelude.{◌==◌, ◌&&◌, if◌then◌else◌, IsSome, is_some, not, map, reverse}
 use Rattle.std.specs.Vec.{vec_capacity}
-use Rattle.std.specs.BTreeMap.{BTreeMap, IsEmpty, Updates, get, is_at}
+use Rattle.std.specs.BTreeMap.{insert_entry, is_at}
+use Rattle.std.specs.Map.{lookup}
 use Rattle.std.specs.Ordering.{nat_cmp}
 use Rattle.std.specs.declared.vec.Vec.{Vec}
 use Rattle.std.specs.declared.alloc.Global.{Global}
@@ -22,8 +23,9 @@ use Rattle.account_core.specs.declared.call_stage.CallStage.TheVariants.{Fresh}
 use Rattle.account_core.specs.declared.entry.Entry.{Entry}
 use Rattle.account_core.specs.declared.entry.Reply.{Reply}
 use Rattle.account_core.specs.declared.entry.Reply.TheVariants as reply
+use Rattle.rising_map.proofs.RisingLemmas.{looked_up, or_else}
 use Rattle.shared_account.specs.Kinds.{IsReplyTo}
-use Rattle.shared_account.specs.Room.{IsRoomy, TellsStages}
+use Rattle.shared_account.specs.Room.{IsRoomy, TellsStages, stage_in}
 use Rattle.shared_account.specs.Seats.{SeatView}
 use Rattle.shared_account.specs.declared.seat.Seat.TheInside.{Inside}
 use Rattle.shared_account.proofs.Answering.{answer_fits}
@@ -84,17 +86,42 @@ credit_rests (Returns call) told is = absurd is
 
 -- ---- the map
 
-apart_at : (call other : ℕ) → (call == other) ≡ false → is_at (nat_cmp call) other ≡ false
-apart_at call other apart = grind (arith, nat_tests)
+-- what a map has for a call after another stage of one is put there
+stage_put : (stages : List (ℕ × CallStage)) (put : ℕ) (after : CallStage) (call : ℕ)
+    → stage_in (insert_entry nat_cmp stages put after) call ≡ (if put == call then after else stage_in stages call)
+stage_put stages put after call = rw (looked_up put after call stages) (or_else put after call (put == call) _ Fresh)
 
-tells_by : (here : Bool) (old new : BTreeMap ℕ CallStage) (h : List EntryData) (event : EntryData) (after : CallStage) (call : ℕ) → (its_call event == call) ≡ here
-    → Updates nat_cmp old new (its_call event) (Some after) → TellsStages old h → after ≡ stage_of (known (its_call event) (event ∷ h))
-    → unwrap_or (get nat_cmp new call) Fresh ≡ stage_of (known call (event ∷ h))
-tells_by true old new h event after call is updates tells after_is =
-    let P : ℕ → Type 0 = λ c. unwrap_or (get nat_cmp new c) Fresh ≡ stage_of (known c (event ∷ h)) in
-    subst P (eqb-true (its_call event) call is) (rw updates.1 after_is)
-tells_by false old new h event after call is updates tells after_is =
-    rw (updates.2 call (apart_at (its_call event) call is)) (tells call ∙ ap stage_of (sym (known_apart h event call is)))
+same_as : (call : ℕ) → (call == call) ≡ true
+same_as call = grind (arith, nat_tests)
+
+pub is_put : (stages : List (ℕ × CallStage)) (put : ℕ) (after : CallStage) → IsSome (lookup (is_at (nat_cmp put)) (insert_entry nat_cmp stages put after))
+is_put stages put after = rw (looked_up put after put stages, same_as put) refl
+
+fresh_by : (here : Bool) (stages : List (ℕ × CallStage)) (put call : ℕ) → (put == call) ≡ here → lookup (is_at (nat_cmp put)) stages ≡ None
+    → (if here then Fresh else stage_in stages call) ≡ stage_in stages call
+fresh_by true stages put call is none =
+    let P : ℕ → Type 0 = λ c. Fresh ≡ stage_in stages c in
+    subst P (eqb-true put call is) (rw none refl)
+fresh_by false stages put call is none = refl
+
+-- a call that has no stage is given the one that it is at
+pub fresh_put : (stages : List (ℕ × CallStage)) (put : ℕ) → lookup (is_at (nat_cmp put)) stages ≡ None
+    → (call : ℕ) → stage_in (insert_entry nat_cmp stages put Fresh) call ≡ stage_in stages call
+fresh_put stages put none call = stage_put stages put Fresh call ∙ fresh_by _ stages put call refl none
+
+tells_by : (here : Bool) (stages : List (ℕ × CallStage)) (h : List EntryData) (event : EntryData) (after : CallStage) (call : ℕ) → (its_call event == call) ≡ here
+    → TellsStages stages h → after ≡ stage_of (known (its_call event) (event ∷ h))
+    → (if here then after else stage_in stages call) ≡ stage_of (known call (event ∷ h))
+tells_by true stages h event after call is tells after_is =
+    let P : ℕ → Type 0 = λ c. after ≡ stage_of (known c (event ∷ h)) in
+    subst P (eqb-true (its_call event) call is) after_is
+tells_by false stages h event after call is tells after_is = tells call ∙ ap stage_of (sym (known_apart h event call is))
+
+-- a map that has the same stages
+pub roomy_same : (h : List EntryData) (old new : List (ℕ × CallStage)) (places capacity : ℕ) → ((call : ℕ) → stage_in new call ≡ stage_in old call)
+    → IsRoomy h old places capacity → IsRoomy h new places capacity
+roomy_same h old new places capacity same roomy =
+    record { room = roomy.room; tells = λ call. same call ∙ roomy.tells call; places_are = roomy.places_are }
 
 -- ---- the whole
 
@@ -120,19 +147,19 @@ module _ (moves : EntriesOweToTheirCalls) (h : List EntryData) (event : EntryDat
       let now : owed_now ≡ owed_to (known_after (known (its_call event) h) (its_deed event)) = entry.now_owed (sym after_known) ∙ ap owed_to (known_here h event) in
       omega (arith, owed_moves, takes, now, entry.before_owed, entry.needs_are)
 
-  pub roomy_after : (call : ℕ) (old new : BTreeMap ℕ CallStage) (places places' capacity capacity' : ℕ) → its_call event ≡ call → IsRoomy h old places capacity
-      → Updates nat_cmp old new call (Some after) → places' ≡ places + owed_now - owed_before → length h + (places + needs) ≤ capacity'
+  pub roomy_after : (call : ℕ) (old new : List (ℕ × CallStage)) (places places' capacity capacity' : ℕ) → its_call event ≡ call → IsRoomy h old places capacity
+      → new ≡ insert_entry nat_cmp old call after → places' ≡ places + owed_now - owed_before → length h + (places + needs) ≤ capacity'
       → IsRoomy (event ∷ h) new places' capacity'
-  roomy_after call old new places places' capacity capacity' its roomy updates places'_are room =
-      let U : ℕ → Type 0 = λ q. Updates nat_cmp old new q (Some after) in
+  roomy_after call old new places places' capacity capacity' its roomy new_is places'_are room =
+      let put : new ≡ insert_entry nat_cmp old (its_call event) after = rw its new_is in
       let now_owed : places' ≡ owed (event ∷ h) = omega (arith, owed_moves, places'_are, roomy.places_are) in
       record {
         room = omega (arith, room, owed_after, roomy.places_are, now_owed);
-        tells = λ other. tells_by _ old new h event after other refl (subst U (sym its) updates) roomy.tells after_known;
+        tells = λ other. ap (λ stages. stage_in stages other) put ∙ (stage_put old (its_call event) after other ∙ tells_by _ old h event after other refl roomy.tells after_known);
         places_are = now_owed;
       }
 
-pub roomy_resting : EntriesOweToTheirCalls → (h : List EntryData) (event : EntryData) (kept : BTreeMap ℕ CallStage) (places capacity capacity' : ℕ) → IsRoomy h kept places capacity
+pub roomy_resting : EntriesOweToTheirCalls → (h : List EntryData) (event : EntryData) (kept : List (ℕ × CallStage)) (places capacity capacity' : ℕ) → IsRoomy h kept places capacity
     → its_deed event ≡ Rests → length h + (places + 1) ≤ capacity' → IsRoomy (event ∷ h) kept places capacity'
 roomy_resting moves h event kept places capacity capacity' roomy rests room =
     let same : owed_to (known (its_call event) (event ∷ h)) ≡ owed_to (known (its_call event) h) = ap owed_to (known_resting h event (its_call event) rests) in
@@ -146,7 +173,7 @@ nothing_owed : owed [] ≡ 0
 unfolding owed
 nothing_owed = refl
 
-pub roomy_new : (mine : Vec Entry Global) (kept : BTreeMap ℕ CallStage) → mine.items ≡ [] → IsEmpty kept
+pub roomy_new : (mine : Vec Entry Global) (kept : List (ℕ × CallStage)) → mine.items ≡ [] → kept ≡ []
     → IsRoomy (reverse (map entry_data mine.items)) kept 0 (vec_capacity mine)
 roomy_new mine kept none empty =
     let R : List Entry → Type 0 = λ es. IsRoomy (reverse (map entry_data es)) kept 0 (vec_capacity mine) in
@@ -158,7 +185,7 @@ past_pushed : (items : List Entry) (entry : Entry) → reverse (map entry_data (
 past_pushed items entry = rw (map-append entry_data items (entry ∷ []), reverse-append) refl
 
 -- a seat's list with an entry at its end
-pub roomy_pushed : (old items : List Entry) (entry : Entry) (kept : BTreeMap ℕ CallStage) (places capacity : ℕ) → items ≡ old ++ entry ∷ []
+pub roomy_pushed : (old items : List Entry) (entry : Entry) (kept : List (ℕ × CallStage)) (places capacity : ℕ) → items ≡ old ++ entry ∷ []
     → IsRoomy (entry_data entry ∷ reverse (map entry_data old)) kept places capacity → IsRoomy (reverse (map entry_data items)) kept places capacity
 roomy_pushed old items entry kept places capacity is roomy =
     let R : List EntryData → Type 0 = λ h. IsRoomy h kept places capacity in
@@ -172,7 +199,7 @@ pub past_seen : (s : Inside) (place : SeatView) → record { account = s.account
     → reverse place.mine ≡ reverse (map entry_data s.mine.items)
 past_seen s place view_is = ap (λ p. reverse p.mine) (sym view_is)
 
-pub credit_roomy : EntriesOweToTheirCalls → (old : List Entry) (entry : Entry) (kept : BTreeMap ℕ CallStage) (places capacity capacity' : ℕ)
+pub credit_roomy : EntriesOweToTheirCalls → (old : List Entry) (entry : Entry) (kept : List (ℕ × CallStage)) (places capacity capacity' : ℕ)
     → IsRoomy (reverse (map entry_data old)) kept places capacity → IsCredit (entry_data entry).asked → length old + (places + 1) ≤ capacity'
     → IsRoomy (entry_data entry ∷ reverse (map entry_data old)) kept places capacity'
 credit_roomy moves old entry kept places capacity capacity' roomy credit room =
@@ -182,7 +209,7 @@ credit_roomy moves old entry kept places capacity capacity' roomy credit room =
 -- what an account answered to an operation of a call, by the stages of the call
 pub is_entry : (s : Inside) → IsRoomy (reverse (map entry_data s.mine.items)) s.stages s.owed (vec_capacity s.mine)
     → (opening : ℕ) (until : Option ℕ) (past : List EntryData) (seat call : ℕ) (asked : Asked) (told : Reply) (before after : CallStage) (owed_before owed_now needs : ℕ)
-    → IsOfCall call asked → told ≡ answer opening until past asked → before ≡ unwrap_or (get nat_cmp s.stages call) Fresh
+    → IsOfCall call asked → told ≡ answer opening until past asked → before ≡ stage_in s.stages call
     → ((known : CallFacts) → stage_of known ≡ before → after ≡ stage_of (known_after known (deed_of asked told)))
     → ((known : CallFacts) → stage_of known ≡ before → owed_before ≡ owed_to known)
     → ((known : CallFacts) → stage_of known ≡ after → owed_now ≡ owed_to known)

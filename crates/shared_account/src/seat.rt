@@ -11,8 +11,8 @@ ghost use Rattle.shared_account.specs.Own.{of_call};
 mod entering;
 
 use account_core::{Account, AccountFault, CallStage, Entry, Op, Reply};
+use rising_map::RisingMap;
 use std::alloc::Global;
-use std::collections::BTreeMap;
 use std::marker::Model;
 
 /// A seat of an account: it asks under its number, and keeps the list of its own entries.
@@ -25,7 +25,7 @@ pub struct Seat {
     account: u32,
     number: u32,
     mine: Vec<Entry>,
-    stages: BTreeMap<u64, CallStage>,
+    stages: RisingMap<CallStage>,
     owed: usize,
 }
 
@@ -53,7 +53,7 @@ impl Seat {
             account,
             number,
             mine: Vec::new(alloc),
-            stages: BTreeMap::new(alloc),
+            stages: RisingMap::new(alloc),
             owed: 0,
         }
     }

@@ -1,20 +1,22 @@
 //! An account's entries, kept in a seat's list too.
 
-ghost use Rattle.std.specs.Prelude.{◌≡◌, ◌≢◌, ◌+◌, ◌≤◌, ◌++◌, ◌∷◌, [], None, Some, reverse, vec_capacity, vec_len, unwrap_or, IsOk, IsSome, OnOk, OnErr, IfOk, IfErr};
-ghost use Rattle.std.specs.BTreeMap.{IsUnchanged, Updates, get};
+ghost use Rattle.std.specs.Prelude.{ℕ, ◌≡◌, ◌≢◌, ◌+◌, ◌≤◌, ◌++◌, ◌∷◌, [], None, reverse, vec_capacity, vec_len, IsOk, IsSome, OnOk, OnErr, IfOk, IfErr};
+ghost use Rattle.std.specs.BTreeMap.{is_at};
+ghost use Rattle.std.specs.Map.{lookup};
 ghost use Rattle.std.specs.Ordering.{nat_cmp};
 ghost use Rattle.account_core.specs.Admitting.{IsAdmitted};
 ghost use Rattle.account_core.specs.Asked.{Credits, IsCredit, IsOfCall};
 ghost use Rattle.account_core.specs.Events.{asked_of};
 ghost use Rattle.account_core.specs.Ledger.{IsRefusal, answer_of, event_by, refusal_of};
 ghost use Rattle.account_core.specs.Places.{IsClosing};
+ghost use Rattle.shared_account.specs.Room.{stage_in};
 
 use crate::Seat;
 use account_core::{
     Account, AccountFault, Admitted, CallStage, Entry, Op, Reply, places_go_with_entries,
 };
+use rising_map::RisingMap;
 use std::alloc::AllocError;
-use std::collections::BTreeMap;
 
 impl Seat {
     /// Asks for a Credit, of which nothing but the totals is looked at.
@@ -134,16 +136,32 @@ impl Seat {
         places_go_with_entries();
         let seat = self.number;
         let op = admitted.op();
-        let stage = self.stages.entry(call)?.or_insert(CallStage::Fresh);
-        let before = *stage;
+        let before = kept_stage(&mut self.stages, call)?;
         make_room(&mut self.mine, self.owed + before.needed(&op))?;
         let reply = account.enter(seat, admitted)?;
         let after = before.after(op, reply);
-        *stage = after;
+        self.stages.set(call, after);
         let places = self.owed + after.owed() - before.owed();
         self.mine.push_reserved(Entry { seat, op, reply });
         self.owed = places;
         Ok(reply)
+    }
+}
+
+/// The stage of a call. One that had none is kept as fresh, so that its later stages need no memory.
+#[inline(always)]
+fn kept_stage(stages: &mut RisingMap<CallStage>, call: u64) -> Result<CallStage, AllocError>
+    ensures stage { IfOk result (λ stage. stage ≡ stage_in stages.old call) }
+    ensures kept { OnOk result (IsSome (lookup (is_at (nat_cmp call)) stages.new)) }
+    ensures same { (other : ℕ) → stage_in stages.new other ≡ stage_in stages.old other }
+    ensures fresh { OnErr result (stage_in stages.old call ≡ CallStage.Fresh) }
+{
+    match stages.get(call) {
+        Some(stage) => Ok(stage),
+        None => {
+            stages.insert(call, CallStage::Fresh)?;
+            Ok(CallStage::Fresh)
+        }
     }
 }
 
