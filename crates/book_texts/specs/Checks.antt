@@ -6,8 +6,8 @@ use Rattle.std.specs.Global.{Vec}
 use Rattle.account_core.specs.Answers.{IsLegalPast}
 use Rattle.account_core.specs.Checked.{IsCheckOf}
 use Rattle.account_core.specs.Events.{EntryData}
-use Rattle.account_core.specs.Rising.{AreRising}
 use Rattle.account_core.specs.declared.history_check.HistoryCheck.{HistoryCheck}
+use Rattle.rising_map.specs.Rising.{AreRising}
 use Rattle.table_core.specs.Faults.{Refuses}
 use Rattle.table_core.specs.declared.fault.RowFault.{RowFault}
 use Rattle.table_core.specs.declared.fault.RowKind.{RowKind}

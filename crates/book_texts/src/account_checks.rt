@@ -1,13 +1,14 @@
 //! The checks of the accounts of a table of books, by the accounts' numbers.
 
-ghost use Rattle.std.specs.Prelude.{◌≡◌, ◌≤◌, ℕ, Option, [], true, All, IfNone, IfOk, IfSome, OnOk};
+ghost use Rattle.std.specs.Prelude.{◌≡◌, ◌≤◌, ℕ, Option, [], IfOk, OnOk};
 ghost use Rattle.account_core.specs.Checked.{IsCheckOf};
 ghost use Rattle.account_core.specs.Events.{entry_data};
-ghost use Rattle.account_core.specs.Rising.{AreRising, IsBelow, IsOther, StandsAt};
 ghost use Rattle.book_texts.specs.Books.{Books, entered, opened, told_of};
 ghost use Rattle.book_texts.specs.Checks.{AreChecks, Comes, HaveChecks, ListComes, entries_of};
+ghost use Rattle.rising_map.specs.Rising.{AreRising};
 
 use account_core::{Entry, HistoryCheck};
+use rising_map::{is_above, place_of};
 use std::alloc::{AllocError, Global};
 use std::collections::BTreeMap;
 use std::mem;
@@ -18,9 +19,9 @@ use tariff_core::MAX_MONEY;
 #[derive(Drop)]
 pub(crate) enum AccountChecks {
     /// The accounts opened by rising number: a list in this order, in which a search is quickest.
-    Rising(Vec<(u32, HistoryCheck)>),
+    Rising(Vec<(u64, HistoryCheck)>),
     /// They did not: a map, so that no order of openings takes long.
-    Mixed(BTreeMap<u32, HistoryCheck>),
+    Mixed(BTreeMap<u64, HistoryCheck>),
 }
 
 impl AccountChecks {
@@ -44,6 +45,7 @@ impl AccountChecks {
         ensures { IfOk result (λ refused. (books : Books) → HaveChecks books self.old
             → Comes refused (opened account opening until books (told_of account books)) self.new) }
     {
+        let account = u64::from(account);
         let check = HistoryCheck::new(alloc, opening, until);
         match self {
             AccountChecks::Rising(list) => {
@@ -68,6 +70,7 @@ impl AccountChecks {
             → Comes refused (entered account (entry_data entry) books (told_of account books))
             self.new) }
     {
+        let account = u64::from(account);
         match self {
             AccountChecks::Rising(list) => enter_list(list, account, entry),
             AccountChecks::Mixed(map) => enter_map(map, account, entry),
@@ -75,7 +78,7 @@ impl AccountChecks {
     }
 
     /// Each account with its check, by rising number.
-    pub fn into_list(self, alloc: Global) -> Result<Vec<(u32, HistoryCheck)>, AllocError>
+    pub fn into_list(self, alloc: Global) -> Result<Vec<(u64, HistoryCheck)>, AllocError>
         ensures { IfOk result (λ list. list.items ≡ entries_of self) }
     {
         match self {
@@ -85,33 +88,11 @@ impl AccountChecks {
     }
 }
 
-/// Whether an account's number is above all of a list.
-#[inline(always)]
-fn is_above(list: &[(u32, HistoryCheck)], account: u32) -> bool
-    requires { AreRising list.now }
-    ensures { result ≡ true → All (IsBelow account) list.now }
-{
-    match list.last() {
-        Some(last) => last.0 < account,
-        None => true,
-    }
-}
-
-/// Where an account stands in a list, if it does.
-#[inline(always)]
-fn place_of(list: &[(u32, HistoryCheck)], account: u32) -> Option<usize>
-    requires { AreRising list.now }
-    ensures found { IfSome result (StandsAt list.now account) }
-    ensures absent { IfNone result (All (IsOther account) list.now) }
-{
-    list.binary_search_by_key(&account, |check| check.0).ok()
-}
-
 /// Tells an entry to the check of its account in a list.
 #[inline(always)]
 fn enter_list(
-    list: &mut Vec<(u32, HistoryCheck)>,
-    account: u32,
+    list: &mut Vec<(u64, HistoryCheck)>,
+    account: u64,
     entry: Entry,
 ) -> Result<Option<RowKind>, AllocError>
     requires rising { AreRising list.old.items }
@@ -130,8 +111,8 @@ fn enter_list(
 
 /// Tells an entry to the check of its account in a map.
 fn enter_map(
-    map: &mut BTreeMap<u32, HistoryCheck>,
-    account: u32,
+    map: &mut BTreeMap<u64, HistoryCheck>,
+    account: u64,
     entry: Entry,
 ) -> Result<Option<RowKind>, AllocError>
     requires { (books : Books) × AreChecks books map.old.entries }
@@ -148,8 +129,8 @@ fn enter_map(
 
 /// Adds the check of an account that opens to a map, where it has none.
 fn open_in(
-    map: &mut BTreeMap<u32, HistoryCheck>,
-    account: u32,
+    map: &mut BTreeMap<u64, HistoryCheck>,
+    account: u64,
     check: HistoryCheck,
 ) -> Result<Option<RowKind>, AllocError>
     ensures { IfOk result (λ refused. (books : Books) (opening : ℕ) (until : Option ℕ)
@@ -169,8 +150,8 @@ fn open_in(
 #[inline(never)]
 fn mapped(
     alloc: Global,
-    list: Vec<(u32, HistoryCheck)>,
-) -> Result<BTreeMap<u32, HistoryCheck>, AllocError>
+    list: Vec<(u64, HistoryCheck)>,
+) -> Result<BTreeMap<u64, HistoryCheck>, AllocError>
     requires { AreRising list.items }
     ensures { IfOk result (λ map. map.entries ≡ list.items) }
 {
@@ -184,8 +165,8 @@ fn mapped(
 /// A list of what a map has.
 fn listed(
     alloc: Global,
-    map: BTreeMap<u32, HistoryCheck>,
-) -> Result<Vec<(u32, HistoryCheck)>, AllocError>
+    map: BTreeMap<u64, HistoryCheck>,
+) -> Result<Vec<(u64, HistoryCheck)>, AllocError>
     ensures { IfOk result (λ list. list.items ≡ map.entries) }
 {
     let mut list = Vec::new(alloc);

@@ -40,7 +40,7 @@ pub fn audit_books<I: Read + Drop>(alloc: Global, reader: I) -> Result<Audit, Ta
 }
 
 /// What these checks say.
-fn tell(alloc: Global, checks: &[(u32, HistoryCheck)]) -> Result<Audit, AllocError>
+fn tell(alloc: Global, checks: &[(u64, HistoryCheck)]) -> Result<Audit, AllocError>
     ensures { IfOk result (TellsChecks checks.now) }
 {
     let mut lines = String::new(alloc);
@@ -54,7 +54,7 @@ fn tell(alloc: Global, checks: &[(u32, HistoryCheck)]) -> Result<Audit, AllocErr
 }
 
 /// Adds the line of an account.
-fn write_verdict(lines: &mut String, account: u32, legal: bool) -> Result<(), AllocError>
+fn write_verdict(lines: &mut String, account: u64, legal: bool) -> Result<(), AllocError>
     ensures { OnOk result (string_bytes lines.new
         ≡ string_bytes lines.old ++ verdict_line (account, legal)) }
 {

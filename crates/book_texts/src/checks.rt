@@ -23,7 +23,7 @@ const MAX_ROWS: u32 = 1_000_000;
 pub(crate) fn check_books<I: Read + Drop>(
     alloc: Global,
     reader: I,
-) -> Result<Vec<(u32, HistoryCheck)>, TableFault>
+) -> Result<Vec<(u64, HistoryCheck)>, TableFault>
     ensures { IfSome (I.remaining reader)
         (λ text. GivesChecks result (books_of (rows_of text))) }
 {
