@@ -89,7 +89,7 @@ IsDone setup numbers at (Recharges place amount until) old new told = IsRecharge
 IsDone setup numbers at (Begins call place called) old new told = IsBegun setup numbers at call place called old new told
 IsDone setup numbers at (GoesOn call place said phase) old new told = IsTalked numbers call place (said, phase) old new told
 
--- a post is handled, where the seats have these numbers; a refusal that the answer tells is of a kind that an ask for the post has
+-- a post is handled, where the seats have these numbers; a refusal that the answer tells is of a kind that an ask for the post has, and no closed gate
 pub record IsHandled (setup : Setup) (numbers : List ℕ) (post : Post) (old new : Holding) (told : AnswerView) : Type 0 where
   pub number : told.number ≡ post.number
   pub done : IsDone setup numbers post.at (verdict setup old.talks post) old new told

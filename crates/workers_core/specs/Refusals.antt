@@ -1,7 +1,8 @@
 -- The refusals that a worker tells of: each is one that an account has given it.
-use Rattle.std.specs.Prelude.{◌≡◌, ◌<◌, ℕ, Option, List, length, slice_index_or}
+use Rattle.std.specs.Prelude.{◌≡◌, ◌≢◌, ◌<◌, ℕ, Option, List, length, slice_index_or}
 use Rattle.account_core.specs.Asked.{Asked, Credits}
 use Rattle.account_core.specs.declared.fault.AccountFault.{AccountFault}
+use Rattle.account_core.specs.declared.fault.AccountFault.TheVariants as fault
 use Rattle.cap_values.specs.NumberDigits.{digits_of}
 use Rattle.cap_values.specs.declared.number.Number.{Number}
 use Rattle.dialogue_core.specs.Phases.{Phase, Says, Asks}
@@ -17,9 +18,13 @@ use Rattle.workers_core.specs.Verdicts.{DialogueAt, IsRouted, Verdict, Strays, R
 abbrev pub Refusing : Type 1
 Refusing = Asked → AccountFault → Type 0
 
--- an ask was refused with a fault, which is of a kind that the ask has
+-- a fault that an ask gets from the account itself: it is of a kind that the ask has, and it is no closed gate
+abbrev pub IsAccountsFault : Asked → AccountFault → Type 0
+IsAccountsFault asked why = IsFaultOf asked why × (why ≢ fault.GateClosed)
+
+-- an ask was refused with a fault, which is one that the account itself gives
 abbrev pub IsRefusedAsk : Refusing → Asked → AccountFault → Type 0
-IsRefusedAsk Refuses asked fault = Refuses asked fault × IsFaultOf asked fault
+IsRefusedAsk Refuses asked why = Refuses asked why × IsAccountsFault asked why
 
 -- the account at a place has refused an ask with a fault
 pub record HasRefusedAt {S : Type 0} (Refuses : S → Refusing) (accounts : List S) (place : ℕ) (asked : Asked) (fault : AccountFault) : Type 0 where
@@ -53,6 +58,6 @@ IsRefusedPost Refuses setup at (GoesOn call place said phase) fault = IsRefusedT
 abbrev pub MayHaveRefused : Refusing
 MayHaveRefused asked fault = Unit {0}
 
--- a fault that an ask for a post may have got, by the verdict on the post: it is of a kind that the ask has
+-- a fault that an ask for a post may have got from an account, by the verdict on the post: it is of a kind that the ask has, and no closed gate
 abbrev pub IsRefusalOf : Setup → (ℕ → Option DialogueAt) → Post → AccountFault → Type 0
 IsRefusalOf setup talks post = IsRefusedPost (λ place. MayHaveRefused) setup post.at (verdict setup talks post)

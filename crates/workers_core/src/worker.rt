@@ -73,7 +73,8 @@ impl<'s, S: Shared> Worker<'s, S> {
     /// no operation and asks no account. An InitialDp from a number that is no subscriber's is
     /// answered by ReleaseCall(21), and no account is asked. Else the dialogue of the call talks with
     /// its account until it sends operations or is done, or the account is recharged. A refusal that
-    /// the answer tells is one that this account gave to what it was asked for the post.
+    /// the answer tells is one that this account gave to what it was asked for the post, so never
+    /// `GateClosed`.
     ///
     /// `OutOfMemory` comes before any account is asked; `GateClosed` where a gate is closed. After
     /// either the worker isn't used again.
