@@ -30,7 +30,7 @@ impl CallStates {
     pub fn state(&self, call: u64) -> CallState
         ensures { result ≡ state_of self.now call }
     {
-        self.calls.get(call).unwrap_or(CallState::Fresh)
+        self.calls.get(call).copied().unwrap_or(CallState::Fresh)
     }
 
     /// Keeps what is known of a call now. Memory is taken where that was nothing; where it is

@@ -217,6 +217,9 @@ at_is number other = grind (arith, nat_tests)
 at_key : (number key : ℕ) → nat_cmp number key ≡ order.Equal → key ≡ number
 at_key number key equal = grind (arith, nat_tests)
 
+turned : (number other : ℕ) → (number == other) ≡ (other == number)
+turned number other = grind (arith, nat_tests)
+
 beyond : (number key other : ℕ) → nat_cmp number key ≡ order.Greater → (number == other) ≡ true → is_at (nat_cmp other) key ≡ false
 beyond number key other greater same = grind (arith, nat_tests)
 
@@ -247,9 +250,21 @@ module _ {V : Type 0} (number : ℕ) (value : V) (other : ℕ) where
   looked_up [] = rw (at_is number other) refl
   looked_up (first ∷ list) = inserted_by (nat_cmp number first.0) first list refl (looked_up list)
 
+  -- the same, where the number that is looked up stands first
+  pub looked_up_at : (list : List (ℕ × V))
+      → lookup (is_at (nat_cmp other)) (insert_entry nat_cmp list number value) ≡ (if other == number then Some value else lookup (is_at (nat_cmp other)) list)
+  looked_up_at list = rw (turned other number) (looked_up list)
+
   pub or_else : (now : Bool) (found : Option V) (none : V) → unwrap_or (if now then Some value else found) none ≡ (if now then value else unwrap_or found none)
   or_else true found none = refl
   or_else false found none = refl
+
+itself : (number : ℕ) → (number == number) ≡ true
+itself number = grind (arith, nat_tests)
+
+-- a number that is given a value has one
+pub kept_there : {V : Type 0} (number : ℕ) (value : V) (list : List (ℕ × V)) → IsSome (lookup (is_at (nat_cmp number)) (insert_entry nat_cmp list number value))
+kept_there number value list = rw (looked_up number value number list, itself number) refl
 
 -- ---- in std's words
 

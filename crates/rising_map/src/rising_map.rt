@@ -3,6 +3,7 @@
 ghost use Rattle.std.specs.Prelude.{◌≡◌, [], IfOk, IsSome, OnErr, OnOk, None};
 ghost use Rattle.std.specs.BTreeMap.{insert_entry, is_at};
 ghost use Rattle.std.specs.Map.{lookup};
+ghost use Rattle.std.specs.Option.{option_copied};
 ghost use Rattle.std.specs.Ordering.{nat_cmp};
 ghost use Rattle.rising_map.specs.Listings.{IsInOrder, listed};
 ghost use Rattle.rising_map.specs.Rising.{AreRising};
@@ -60,15 +61,15 @@ impl<V: Copy> RisingMap<V> {
 
     /// The value of a number, if it has one.
     #[inline(always)]
-    pub fn get(&self, number: u64) -> Option<V>
-        ensures { result ≡ lookup (is_at (nat_cmp number)) self.now }
+    pub fn get(&self, number: u64) -> Option<&V>
+        ensures { option_copied result ≡ lookup (is_at (nat_cmp number)) self.now }
     {
         match &self.form {
             Form::Rising(list) => {
                 let place = place_of(list.as_slice(), number)?;
-                Some(list[place].1)
+                Some(&list[place].1)
             }
-            Form::Mixed(map) => map.get(&number).copied(),
+            Form::Mixed(map) => map.get(&number),
         }
     }
 

@@ -157,7 +157,7 @@ fn kept_stage(stages: &mut RisingMap<CallStage>, call: u64) -> Result<CallStage,
     ensures fresh { OnErr result (stage_in stages.old call ≡ CallStage.Fresh) }
 {
     match stages.get(call) {
-        Some(stage) => Ok(stage),
+        Some(stage) => Ok(*stage),
         None => {
             stages.insert(call, CallStage::Fresh)?;
             Ok(CallStage::Fresh)

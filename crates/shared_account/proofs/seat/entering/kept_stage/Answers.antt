@@ -3,11 +3,12 @@ use Rattle.std.specs.BTreeMap.{is_at}
 use Rattle.std.specs.Map.{lookup}
 use Rattle.std.specs.Ordering.{nat_cmp}
 use Rattle.account_core.specs.declared.call_stage.CallStage.TheVariants.{Fresh}
-use Rattle.shared_account.proofs.Roominess.{fresh_put, is_put}
+use Rattle.rising_map.proofs.RisingLemmas.{kept_there}
+use Rattle.shared_account.proofs.Roominess.{fresh_put}
 use Rattle.shared_account.proofs.seat.entering.kept_stage.Goals as goal
 
 pub returns-in_ok-insert-in-None-clause-kept : goal.returns-in_ok-insert-in-None-clause-kept
-returns-in_ok-insert-in-None-clause-kept c = rw c.in_ok-insert-in-None.ensures.inserted (is_put c.args.stages.now c.args.call Fresh)
+returns-in_ok-insert-in-None-clause-kept c = rw c.in_ok-insert-in-None.ensures.inserted (kept_there c.args.call Fresh c.args.stages.now)
 
 pub returns-in_ok-insert-in-None-clause-same : goal.returns-in_ok-insert-in-None-clause-same
 returns-in_ok-insert-in-None-clause-same c call =
