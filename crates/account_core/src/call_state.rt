@@ -1,6 +1,6 @@
 //! What an account knows of a call, and what it answers by that.
 
-ghost use Rattle.std.specs.Prelude.{◌≡◌, ◌+◌, ◌≤◌, ℕ, None, false, true};
+ghost use Rattle.std.specs.Prelude.{◌≡◌, ◌≢◌, ◌+◌, ◌≤◌, ℕ, None, false, true};
 ghost use Rattle.account_core.specs.Answers.{accepted_times, misplaced, units_offered};
 ghost use Rattle.account_core.specs.CallStages.{stage_of};
 ghost use Rattle.account_core.specs.Events.{asked_of};
@@ -36,7 +36,8 @@ impl CallState {
     /// Whether nothing is known of the call.
     #[inline(always)]
     pub fn is_fresh(&self) -> bool
-        ensures { result ≡ true → self.now ≡ CallState.Fresh }
+        ensures fresh { result ≡ true → self.now ≡ CallState.Fresh }
+        ensures known { result ≡ false → self.now ≢ CallState.Fresh }
     {
         matches!(self, CallState::Fresh)
     }
