@@ -1,6 +1,6 @@
 -- An account keeps what its type says when an answered operation is entered.
 use Rattle.std.proofs.Common.{◌≡◌, ℕ, ◌+◌, ◌-◌, ◌≤◌, Bool, true, false, Option, Some, None, List, [], ◌∷◌, ◌++◌, length, refl, sym, ap, ◌∙◌, arith, subst}
-use Rattle.std.specs.Prelude.{◌==◌, ◌&&◌, if◌then◌else◌, not, is_some, map, nat_lt, reverse}
+use Rattle.std.specs.Prelude.{◌==◌, if◌then◌else◌, map, nat_lt, reverse}
 use Rattle.std.specs.Vec.{vec_capacity}
 use Rattle.std.specs.declared.vec.Vec.{Vec}
 use Rattle.std.specs.declared.alloc.Global.{Global}
@@ -19,7 +19,7 @@ use Rattle.account_core.specs.Expiry.{last_moment_after}
 use Rattle.account_core.specs.Kept.{IsKept, TellsEach, known_of}
 use Rattle.account_core.specs.Known.{Deed, Ends, CallFacts, Rests, deed_of, is_open, known, known_after, paid_of}
 use Rattle.account_core.specs.Ledger.{Ledger, answer_of, refusal_of}
-use Rattle.account_core.specs.Places.{needed, needed_by, or_else, over_limit, owed, owed_to, places_needed, places_owed, refusal}
+use Rattle.account_core.specs.Places.{needed, needed_by, or_else, over_limit, owed, owed_to, refusal}
 use Rattle.account_core.specs.Sound.{AnswersFit, HasRoom, IsSoundPast}
 use Rattle.account_core.specs.declared.account.Account.TheInside.{Inside}
 use Rattle.account_core.specs.declared.entry.Entry.{Entry}
@@ -32,6 +32,7 @@ use Rattle.account_core.specs.declared.call_states.CallStates.{CallStates}
 use Rattle.account_core.specs.declared.call_state.CallState.TheVariants.{Fresh}
 use Rattle.account_core.proofs.Fitting.{answer_shows}
 use Rattle.account_core.proofs.Moves.{at_most_all, its_call, its_deed, known_apart, known_here, sum_moves}
+use Rattle.account_core.proofs.Owing.{owes_denied, owes_end, owes_grant, owes_report}
 use Rattle.account_core.proofs.SoundPasts.{answered_credit, answered_deed}
 use Rattle.account_core.proofs.Verdicts.{credited_capped, in_place}
 
@@ -92,31 +93,6 @@ never_gated limit h asked is =
     (gate_by (nat_lt limit (length h + owed h + needed h asked)) (Some fault.HistoryFull) None (λ e. cc) (λ e. cc)) is
 
 -- ---- places
-
-owes_grant : (plan : Option Rates) (returned awaits : Bool) (call : ℕ) (rates : Rates) (wanted least at : ℕ)
-    → 1 + places_owed (not returned) true ≤ places_owed (is_some plan && not returned) awaits + places_needed (is_some plan && not returned) awaits (Reserves call rates wanted least at)
-owes_grant None true awaits call rates wanted least at = omega arith
-owes_grant None false awaits call rates wanted least at = omega arith
-owes_grant (Some plan) true awaits call rates wanted least at = omega arith
-owes_grant (Some plan) false true call rates wanted least at = omega arith
-owes_grant (Some plan) false false call rates wanted least at = omega arith
-
-owes_denied : (open_yet awaits : Bool) (call : ℕ) (rates : Rates) (wanted least at : ℕ) → 1 ≤ places_needed open_yet awaits (Reserves call rates wanted least at)
-owes_denied true true call rates wanted least at = omega arith
-owes_denied true false call rates wanted least at = omega arith
-owes_denied false awaits call rates wanted least at = omega arith
-
-owes_report : (open_yet awaits : Bool) → 1 + places_owed open_yet false ≤ places_owed open_yet awaits + (if open_yet && awaits then 0 else 1)
-owes_report true true = omega arith
-owes_report true false = omega arith
-owes_report false awaits = omega arith
-
-owes_end : (plan : Option Rates) (returned awaits : Bool)
-    → 1 + places_owed (is_some plan && false) false ≤ places_owed (is_some plan && not returned) awaits + (if is_some plan && not returned then 0 else 1)
-owes_end None returned awaits = omega arith
-owes_end (Some plan) true awaits = omega arith
-owes_end (Some plan) false true = omega arith
-owes_end (Some plan) false false = omega arith
 
 owes_reserve : (denied : Bool) (known : CallFacts) (units : ℕ) (last : Bool) (call : ℕ) (plan : Rates) (wanted least at : ℕ)
     → 1 + owed_to (known_after known (deed_of (Reserves call plan wanted least at) (if denied then reply.Denied 0 else reply.Granted units last 0)))

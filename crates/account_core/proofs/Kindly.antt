@@ -15,7 +15,7 @@ use Rattle.account_core.specs.Known.{CallFacts, deed, known, known_after, plan_i
 use Rattle.account_core.specs.Laws.{AnswersAreKindly}
 use Rattle.account_core.specs.Ledger.{Ledger, answer_of, event_by, refusal_of}
 use Rattle.account_core.specs.Sound.{IsSound}
-use Rattle.account_core.specs.Standing.{IsKindly, IsReplyTo, Moves}
+use Rattle.account_core.specs.Standing.{IsKindly, FitsCall, Moves}
 use Rattle.account_core.specs.TariffLaws.{TariffLaws}
 use Rattle.account_core.specs.declared.entry.Reply.{Reply}
 use Rattle.account_core.specs.declared.entry.Reply.TheVariants as reply
@@ -40,14 +40,14 @@ not_less n m is = grind (arith, nat_tests)
 
 reserve_kindly : (denied : Bool) (call : CallFacts) (c : ℕ) (plan : Rates) (wanted least at units credit : ℕ) (last late : Bool)
     → (nat_lt units least || (units == 0) || call.forfeited || late) ≡ denied → units ≤ wanted → call.times.before + call.times.after + units ≤ 864000
-    → IsReplyTo call (Reserves c plan wanted least at) (showing credit (if denied then reply.Denied 0 else reply.Granted units last 0))
+    → FitsCall call (Reserves c plan wanted least at) (showing credit (if denied then reply.Denied 0 else reply.Granted units last 0))
 reserve_kindly true call c plan wanted least at units credit last late is within day = tt
 reserve_kindly false call c plan wanted least at units credit last late is within day =
     let (enough, some) = undenied (nat_lt units least) (units == 0) call.forfeited late is in
     record { some = some_units units some; enough = not_less units least enough; within = within; day = day }
 
 settle_kindly : (times : Option Elapsed) (call : CallFacts) (c number : ℕ) (info : TimeInfo) (credit : ℕ) → accepted_times call info ≡ times
-    → IsReplyTo call (Settles c number info) (showing credit (settle_verdict call times))
+    → FitsCall call (Settles c number info) (showing credit (settle_verdict call times))
 settle_kindly None call c number info credit is = is
 settle_kindly (Some times) call c number info credit is = rw is refl
 
@@ -58,15 +58,15 @@ offered_within laws call plan credit wanted sound =
     let (state, day) = stands laws call plan sound in laws.within (plan_in_force call plan) call.times wanted (credit + taken_of call) day
 
 kindly_here : TariffLaws → (opening : ℕ) (until : Option ℕ) (h : List EntryData) (c : ℕ) (asked : Asked) → IsSound (known c h) → IsOfCall c asked
-    → IsReplyTo (known c h) asked (answer opening until h asked)
+    → FitsCall (known c h) asked (answer opening until h asked)
 unfolding answer
 kindly_here laws opening until h c (Credits amount moment) sound here = absurd here
 kindly_here laws opening until h c (Reserves other plan wanted least at) sound here =
-    let P : ℕ → Type 0 = λ n. IsSound (known n h) → IsReplyTo (known n h) (Reserves other plan wanted least at) (answer opening until h (Reserves other plan wanted least at)) in
+    let P : ℕ → Type 0 = λ n. IsSound (known n h) → FitsCall (known n h) (Reserves other plan wanted least at) (answer opening until h (Reserves other plan wanted least at)) in
     subst P here (λ s. let (within, day) = offered_within laws (known other h) plan (available opening h) wanted s in
     reserve_kindly _ (known other h) other plan wanted least at (units_offered (available opening h) (known other h) plan wanted) _ _ (is_past (last_moment until h) at) refl within day) sound
 kindly_here laws opening until h c (Settles other number info) sound here =
-    let P : ℕ → Type 0 = λ n. IsReplyTo (known n h) (Settles other number info) (answer opening until h (Settles other number info)) in
+    let P : ℕ → Type 0 = λ n. FitsCall (known n h) (Settles other number info) (answer opening until h (Settles other number info)) in
     subst P here (settle_kindly (accepted_times (known other h) info) (known other h) other number info _ refl)
 kindly_here laws opening until h c (Returns other) sound here = tt
 

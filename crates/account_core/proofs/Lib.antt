@@ -7,6 +7,7 @@ pub mod Kindly
 pub mod LawLemmas
 pub mod Listing
 pub mod Moves
+pub mod Owing
 pub mod Ranging
 pub mod Renewing
 pub mod SoundPasts

@@ -16,18 +16,18 @@ pub record IsGrant (known : CallFacts) (wanted least units : ℕ) : Type 0 where
   pub within : units ≤ wanted
   pub day : known.times.before + known.times.after + units ≤ DAY
 
--- a reply is of its operation's kind. A grant is made, or not, at will; a report is settled exactly where it is lawful
-abbrev pub IsReplyTo : CallFacts → Asked → Reply → Type 0
-IsReplyTo known (Reserves call plan wanted least at) (reply.Granted units last available) = IsGrant known wanted least units
-IsReplyTo known (Reserves call plan wanted least at) (reply.Denied available) = Unit {0}
-IsReplyTo known (Settles call number info) (reply.Settled paid available) = IsSome (accepted_times known info)
-IsReplyTo known (Settles call number info) (reply.Forfeit paid available) = accepted_times known info ≡ None
-IsReplyTo known (Returns call) (reply.Returned paid available) = Unit {0}
-IsReplyTo known asked other = ⊥
+-- a reply that an account may give by what is known of the call. A grant is made, or not, at will; a report is settled exactly where it is lawful
+abbrev pub FitsCall : CallFacts → Asked → Reply → Type 0
+FitsCall known (Reserves call plan wanted least at) (reply.Granted units last available) = IsGrant known wanted least units
+FitsCall known (Reserves call plan wanted least at) (reply.Denied available) = Unit {0}
+FitsCall known (Settles call number info) (reply.Settled paid available) = IsSome (accepted_times known info)
+FitsCall known (Settles call number info) (reply.Forfeit paid available) = accepted_times known info ≡ None
+FitsCall known (Returns call) (reply.Returned paid available) = Unit {0}
+FitsCall known asked other = ⊥
 
 -- an operation of this call was in its place and got such a reply
 abbrev pub IsKindly : ℕ → CallFacts → Asked → Reply → Type 0
-IsKindly call known asked answer = IsOfCall call asked → (misplaced known asked ≡ None) × IsReplyTo known asked answer
+IsKindly call known asked answer = IsOfCall call asked → (misplaced known asked ≡ None) × FitsCall known asked answer
 
 -- what is known of a call before an operation and after it: a refusal changes nothing, a reply what its entry would
 abbrev pub Moves : ℕ → CallFacts → Asked → Result Reply AccountFault → Option CallFacts → Type 0

@@ -7,7 +7,7 @@ use Rattle.account_core.specs.Asked.{Asked, Credits, Reserves, Settles, Returns,
 use Rattle.account_core.specs.Known.{CallFacts, Deed, deed, deed_of, known_after, nothing_known, plan_in_force}
 use Rattle.account_core.specs.Known as known
 use Rattle.account_core.specs.Ledger.{event_by}
-use Rattle.account_core.specs.Standing.{IsGrant, IsReplyTo}
+use Rattle.account_core.specs.Standing.{IsGrant, FitsCall}
 use Rattle.account_core.specs.declared.entry.Reply.{Reply}
 use Rattle.account_core.specs.declared.entry.Reply.TheVariants.{Credited, CreditOver, Granted, Denied, Settled, Forfeit, Returned}
 use Rattle.cap_values.specs.Orders.{Paid, Pay}
@@ -122,7 +122,7 @@ unsettled kept info accepted none = let some = rw none at accepted in absurd (cc
 
 -- a reply of the port's kind, to what was asked
 pub answered_fits : (call : ℕ) (meter : Meter) (queued : List Paid) (kept : CallFacts) (phase : Phase) (asked : Asked) (reply : Reply)
-    → IsAsking call meter queued kept phase asked → IsReplyTo kept asked reply
+    → IsAsking call meter queued kept phase asked → FitsCall kept asked reply
     → FitsThen call meter queued (known_after kept (deed_of asked reply)) phase (on_reply phase reply)
 answered_fits call meter queued kept (FirstAsk t) (Credits amount until) reply asks kind = absurd asks
 answered_fits call meter queued kept (FirstAsk t) (Reserves of plan wanted least moment) (Credited a) asks kind = absurd kind
@@ -221,7 +221,7 @@ accepted_in call meter queued kept Closed of number info asks = absurd asks
 
 -- no reply of the port's kind is a forfeit
 pub no_forfeit : (call : ℕ) (meter : Meter) (queued : List Paid) (kept : CallFacts) (phase : Phase) (asked : Asked) (reply : Reply) (tally : Tally)
-    → IsAsking call meter queued kept phase asked → IsReplyTo kept asked reply → (with_answer tally (Ok reply)).forfeits ≡ tally.forfeits
+    → IsAsking call meter queued kept phase asked → FitsCall kept asked reply → (with_answer tally (Ok reply)).forfeits ≡ tally.forfeits
 no_forfeit call meter queued kept phase asked (Credited a) tally asks kind = refl
 no_forfeit call meter queued kept phase asked (CreditOver a) tally asks kind = refl
 no_forfeit call meter queued kept phase asked (Granted units last a) tally asks kind = refl

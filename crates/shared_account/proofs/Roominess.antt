@@ -1,6 +1,6 @@
 -- A seat keeps the room for what its own entries owe.
-use Rattle.std.proofs.Common.{◌≡◌, ℕ, ◌+◌, ◌-◌, ◌≤◌, Bool, true, false, None, Some, List, [], ◌∷◌, ◌++◌, length, refl, sym, ap, ◌∙◌, arith, subst, Option}
-use Rattle.std.specs.Prelude.{◌==◌, ◌&&◌, if◌then◌else◌, IsSome, is_some, not, map, reverse}
+use Rattle.std.proofs.Common.{◌≡◌, ℕ, ◌+◌, ◌-◌, ◌≤◌, Bool, true, false, Option, None, List, [], ◌∷◌, ◌++◌, length, refl, sym, ap, ◌∙◌, arith, subst}
+use Rattle.std.specs.Prelude.{◌==◌, if◌then◌else◌, map, reverse}
 use Rattle.std.specs.Vec.{vec_capacity}
 use Rattle.std.specs.BTreeMap.{insert_entry, is_at}
 use Rattle.std.specs.Map.{lookup}
@@ -8,21 +8,20 @@ use Rattle.std.specs.Ordering.{nat_cmp}
 use Rattle.std.specs.declared.vec.Vec.{Vec}
 use Rattle.std.specs.declared.alloc.Global.{Global}
 use Rattle.std.proofs.lemmas.Bool.{eqb-true}
-use Rattle.std.proofs.lemmas.Bool.Decides.{nat_tests}
 use Rattle.std.proofs.lemmas.List.{length-map, length-reverse, map-append, reverse-append}
-use Rattle.tariff_core.specs.Rates.{Rates}
 use Rattle.account_core.specs.Answers.{answer}
 use Rattle.account_core.specs.Asked.{Asked, Credits, IsCredit, IsOfCall, Reserves, Returns, Settles, call_of}
 use Rattle.account_core.specs.CallStages.{stage_of}
 use Rattle.account_core.specs.Events.{EntryData, entry_data}
 use Rattle.account_core.specs.Known.{CallFacts, Rests, deed_of, is_open, known, known_after}
-use Rattle.account_core.specs.Places.{needed_by, owed, owed_to, places_needed, places_owed}
+use Rattle.account_core.specs.Places.{needed_by, owed, owed_to}
 use Rattle.account_core.specs.SharingLaws.{EntriesOweToTheirCalls}
 use Rattle.account_core.specs.declared.call_stage.CallStage.{CallStage}
 use Rattle.account_core.specs.declared.call_stage.CallStage.TheVariants.{Fresh}
 use Rattle.account_core.specs.declared.entry.Entry.{Entry}
 use Rattle.account_core.specs.declared.entry.Reply.{Reply}
 use Rattle.account_core.specs.declared.entry.Reply.TheVariants as reply
+use Rattle.account_core.proofs.Owing.{owes_denied, owes_end, owes_grant, owes_report}
 use Rattle.rising_map.proofs.RisingLemmas.{looked_up, or_else}
 use Rattle.shared_account.specs.Kinds.{IsReplyTo}
 use Rattle.shared_account.specs.Room.{IsRoomy, TellsStages, stage_in}
@@ -32,31 +31,6 @@ use Rattle.shared_account.proofs.Answering.{answer_fits}
 use Rattle.shared_account.proofs.Knowing.{its_call, its_deed, known_apart, known_here, known_resting}
 
 -- ---- the places of one call
-
-owes_grant : (plan : Option Rates) (returned awaits : Bool) (call : ℕ) (rates : Rates) (wanted least at : ℕ)
-    → 1 + places_owed (not returned) true ≤ places_owed (is_some plan && not returned) awaits + places_needed (is_some plan && not returned) awaits (Reserves call rates wanted least at)
-owes_grant None true awaits call rates wanted least at = omega arith
-owes_grant None false awaits call rates wanted least at = omega arith
-owes_grant (Some plan) true awaits call rates wanted least at = omega arith
-owes_grant (Some plan) false true call rates wanted least at = omega arith
-owes_grant (Some plan) false false call rates wanted least at = omega arith
-
-owes_denied : (open_yet awaits : Bool) (call : ℕ) (rates : Rates) (wanted least at : ℕ) → 1 ≤ places_needed open_yet awaits (Reserves call rates wanted least at)
-owes_denied true true call rates wanted least at = omega arith
-owes_denied true false call rates wanted least at = omega arith
-owes_denied false awaits call rates wanted least at = omega arith
-
-owes_report : (open_yet awaits : Bool) → 1 + places_owed open_yet false ≤ places_owed open_yet awaits + (if open_yet && awaits then 0 else 1)
-owes_report true true = omega arith
-owes_report true false = omega arith
-owes_report false awaits = omega arith
-
-owes_end : (plan : Option Rates) (returned awaits : Bool)
-    → 1 + places_owed (is_some plan && false) false ≤ places_owed (is_some plan && not returned) awaits + (if is_some plan && not returned then 0 else 1)
-owes_end None returned awaits = omega arith
-owes_end (Some plan) true awaits = omega arith
-owes_end (Some plan) false true = omega arith
-owes_end (Some plan) false false = omega arith
 
 -- an entry and what is owed after it take the places that were owed and needed
 owes : (known : CallFacts) (asked : Asked) (told : Reply) → IsReplyTo asked told
@@ -90,12 +64,6 @@ credit_rests (Returns call) told is = absurd is
 stage_put : (stages : List (ℕ × CallStage)) (put : ℕ) (after : CallStage) (call : ℕ)
     → stage_in (insert_entry nat_cmp stages put after) call ≡ (if put == call then after else stage_in stages call)
 stage_put stages put after call = rw (looked_up put after call stages) (or_else put after call (put == call) _ Fresh)
-
-same_as : (call : ℕ) → (call == call) ≡ true
-same_as call = grind (arith, nat_tests)
-
-pub is_put : (stages : List (ℕ × CallStage)) (put : ℕ) (after : CallStage) → IsSome (lookup (is_at (nat_cmp put)) (insert_entry nat_cmp stages put after))
-is_put stages put after = rw (looked_up put after put stages, same_as put) refl
 
 fresh_by : (here : Bool) (stages : List (ℕ × CallStage)) (put call : ℕ) → (put == call) ≡ here → lookup (is_at (nat_cmp put)) stages ≡ None
     → (if here then Fresh else stage_in stages call) ≡ stage_in stages call
