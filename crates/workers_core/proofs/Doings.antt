@@ -1,7 +1,8 @@
 -- What acting on a case does to the seats and the dialogues.
 use Rattle.std.proofs.Common.{◌≡◌, ◌<◌, ◌++◌, ◌∙◌, ℕ, Bool, true, false, Option, Some, Result, Ok, Err, List, [], length, map, refl, sym, ap, OnOk, get_or}
 use Rattle.std.specs.Prelude.{◌==◌, if◌then◌else◌, option_map, slice_set, slice_index_or}
-use Rattle.std.specs.BTreeMap.{BTreeMap, get}
+use Rattle.std.specs.BTreeMap.{is_at}
+use Rattle.std.specs.Map.{lookup}
 use Rattle.std.specs.Ordering.{nat_cmp}
 use Rattle.std.proofs.Math.Seq.{map-set_same}
 use Rattle.std.proofs.lemmas.List.{get_or-map, length-map, map-set}
@@ -54,9 +55,9 @@ mapped : (b : Bool) (talk : Talk) (other : Option Talk) → option_map standing_
 mapped true talk other = refl
 mapped false talk other = refl
 
-pub stands_now : (old new : BTreeMap ℕ Talk) (call : ℕ) (talk : Talk) → ((other : ℕ) → get nat_cmp new other ≡ (if other == call then Some talk else get nat_cmp old other))
+pub stands_now : (old new : List (ℕ × Talk)) (call : ℕ) (talk : Talk) → ((other : ℕ) → lookup (is_at (nat_cmp other)) new ≡ (if other == call then Some talk else lookup (is_at (nat_cmp other)) old))
     → StandsNow call (standing_of talk) (standings_in old) (standings_in new)
-stands_now old new call talk kept other = ap (option_map standing_of) (kept other) ∙ mapped (other == call) talk (get nat_cmp old other)
+stands_now old new call talk kept other = ap (option_map standing_of) (kept other) ∙ mapped (other == call) talk (lookup (is_at (nat_cmp other)) old)
 
 -- ---- what is done
 

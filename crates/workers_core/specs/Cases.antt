@@ -1,6 +1,7 @@
 -- The case of a post, as the code has it, and what acting on it does.
 use Rattle.std.specs.Prelude.{◌≡◌, ◌==◌, ◌<◌, ◌++◌, ◌⊎◌, ℕ, true, false, Option, Some, None, Ok, Err, List, [], ◌∷◌, IfSome, IsSome, if◌then◌else◌}
-use Rattle.std.specs.BTreeMap.{BTreeMap, get}
+use Rattle.std.specs.BTreeMap.{is_at}
+use Rattle.std.specs.Map.{lookup}
 use Rattle.std.specs.Ordering.{nat_cmp}
 use Rattle.account_core.specs.Asked.{Asked, Credits}
 use Rattle.account_core.specs.Events.{EntryData}
@@ -46,11 +47,11 @@ IsWithin count (case.Recharge place amount until) = place < count
 IsWithin count (case.Talk call talk turn) = talk.place < count
 
 -- the dialogue of a case has its place among the dialogues
-abbrev pub HasRoom : Case → BTreeMap ℕ Talk → Type 0
+abbrev pub HasRoom : Case → List (ℕ × Talk) → Type 0
 HasRoom case.Stray talks = Unit {0}
 HasRoom case.Rejected talks = Unit {0}
 HasRoom (case.Recharge place amount until) talks = Unit {0}
-HasRoom (case.Talk call talk turn) talks = IsSome (get nat_cmp talks call)
+HasRoom (case.Talk call talk turn) talks = IsSome (lookup (is_at (nat_cmp call)) talks)
 
 -- where dialogues stand with that of a case among them
 abbrev pub with_room : Case → (ℕ → Option DialogueAt) → ℕ → Option DialogueAt

@@ -1,7 +1,7 @@
 -- Workers, as their callers see them.
 use Rattle.std.specs.Prelude.{◌≡◌, ◌<◌, ℕ, Option, List, All, Contains, IfSome, length, map, option_map}
-use Rattle.std.specs.BTreeMap.{BTreeMap, get}
-use Rattle.std.specs.Map.{keys_of}
+use Rattle.std.specs.BTreeMap.{is_at}
+use Rattle.std.specs.Map.{keys_of, lookup}
 use Rattle.std.specs.Ordering.{nat_cmp}
 use Rattle.account_core.specs.Events.{EntryData}
 use Rattle.dialogue_core.specs.Phases.{Phase, FirstAsk, Running, Settling, MoreAsk, Returning, Ending, Closed}
@@ -19,8 +19,8 @@ abbrev pub standing_of : Talk → DialogueAt
 standing_of talk = record { phase = phase_of talk.dialogue; place = talk.place }
 
 -- where the dialogues of a map stand
-abbrev pub standings_in : BTreeMap ℕ Talk → ℕ → Option DialogueAt
-standings_in talks call = option_map standing_of (get nat_cmp talks call)
+abbrev pub standings_in : List (ℕ × Talk) → ℕ → Option DialogueAt
+standings_in talks call = option_map standing_of (lookup (is_at (nat_cmp call)) talks)
 
 -- the number of a worker, the setup of its run, the accounts, its seats and the posts that it has handled
 abbrev pub number_of : {S T : Type 0} → Worker S T → ℕ

@@ -1,7 +1,8 @@
 //! What a worker does in the case of a post.
 
 ghost use Rattle.std.specs.Prelude.{◌≡◌, ◌≢◌, ◌==◌, ◌∷◌, ◌<◌, [], ℕ, None, Some, true, false, length, map, if◌then◌else◌, IfErr, IfOk, IfSome, IsSome, OnOk};
-ghost use Rattle.std.specs.BTreeMap.{get};
+ghost use Rattle.std.specs.BTreeMap.{is_at};
+ghost use Rattle.std.specs.Map.{lookup};
 ghost use Rattle.std.specs.Ordering.{nat_cmp};
 ghost use Rattle.account_core.specs.Events.{asked_of};
 ghost use Rattle.cap_values.specs.Orders.{Release, orders_of};
@@ -19,13 +20,13 @@ use account_core::{AccountFault, Op};
 use arrayvec::ArrayVec;
 use cap_values::{Cause, ScfOp};
 use dialogue_core::Turn;
+use rising_map::RisingMap;
 use run_values::{Answer, Body};
 use shared_account::{Gate, Shared};
-use std::collections::BTreeMap;
 use std::sync::Wait;
 
 /// Makes room for the dialogue of a case, where it has one: it is kept as it stands before its talk.
-pub(crate) fn make_room(talks: &mut BTreeMap<u64, Talk>, case: &Case) -> Result<(), WorkerFault>
+pub(crate) fn make_room(talks: &mut RisingMap<Talk>, case: &Case) -> Result<(), WorkerFault>
     ensures room { OnOk result (HasRoom case.now talks.new) }
     ensures others { OnOk result ((call : ℕ) → standings_in talks.new call
         ≡ with_room case.now (standings_in talks.old) call) }
@@ -67,7 +68,7 @@ pub(crate) fn act<S: Shared, R: Wait, G: Gate>(
     gate: &G,
     accounts: &[S],
     seats: &mut Vec<S::Seat>,
-    talks: &mut BTreeMap<u64, Talk>,
+    talks: &mut RisingMap<Talk>,
     number: u64,
     case: Case,
 ) -> Result<Answer, WorkerFault>
@@ -183,12 +184,10 @@ fn recharge<S: Shared, R: Wait, G: Gate>(
 }
 
 /// Keeps a dialogue as it stands, in the place that it has.
-fn keep(talks: &mut BTreeMap<u64, Talk>, call: u64, talk: Talk)
-    requires { IsSome (get nat_cmp talks.old call) }
-    ensures { (other : ℕ) → get nat_cmp talks.new other
-        ≡ (if other == call then Some talk else get nat_cmp talks.old other) }
+fn keep(talks: &mut RisingMap<Talk>, call: u64, talk: Talk)
+    requires { IsSome (lookup (is_at (nat_cmp call)) talks.old) }
+    ensures { (other : ℕ) → lookup (is_at (nat_cmp other)) talks.new
+        ≡ (if other == call then Some talk else lookup (is_at (nat_cmp other)) talks.old) }
 {
-    if let Some(kept) = talks.get_mut(&call) {
-        *kept = talk;
-    }
+    talks.set(call, talk)
 }

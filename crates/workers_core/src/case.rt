@@ -11,8 +11,8 @@ ghost use Rattle.workers_core.specs.Workers.{standings_in};
 use crate::talk::Talk;
 use cap_values::{Number, SsfMsg};
 use dialogue_core::{Dialogue, Turn};
+use rising_map::RisingMap;
 use run_values::{Body, Post, RunSetup};
-use std::collections::BTreeMap;
 use tariff_core::HORIZON;
 
 /// What a post comes to.
@@ -37,7 +37,7 @@ pub(crate) enum Case {
 }
 
 /// Judges a post by the setup and the dialogues. Nothing is changed yet.
-pub(crate) fn judge(setup: &RunSetup, talks: &BTreeMap<u64, Talk>, post: &Post) -> Case
+pub(crate) fn judge(setup: &RunSetup, talks: &RisingMap<Talk>, post: &Post) -> Case
     requires { post.now.at ≤ HORIZON }
     ensures { IsCase setup.now post.now.at
         (verdict setup.now (standings_in talks.now) post.now) result }
@@ -48,7 +48,7 @@ pub(crate) fn judge(setup: &RunSetup, talks: &BTreeMap<u64, Talk>, post: &Post) 
             amount,
             until,
         } => recharge(setup, account, amount, until),
-        Body::Ssf { call, msg } => match talks.get(&call) {
+        Body::Ssf { call, msg } => match talks.get(call) {
             Some(talk) => go_on(*talk, post.number, post.at, call, msg),
             None => begin(setup, post.at, call, msg),
         },

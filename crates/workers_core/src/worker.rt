@@ -13,10 +13,10 @@ use crate::WorkerFault;
 use crate::acting::{act, make_room, pass, tell};
 use crate::case::judge;
 use crate::talk::Talk;
+use rising_map::RisingMap;
 use run_values::{Answer, Post, RunSetup};
 use shared_account::{Gate, Shared};
 use std::alloc::Global;
-use std::collections::BTreeMap;
 use std::sync::Wait;
 
 /// A worker. It has a seat at each account of the run, keeps the dialogue of each of its calls to
@@ -27,7 +27,7 @@ pub struct Worker<'s, S: Shared> {
     setup: &'s RunSetup,
     accounts: &'s [S],
     seats: Vec<S::Seat>,
-    talks: BTreeMap<u64, Talk>,
+    talks: RisingMap<Talk>,
     posts: Vec<Post>,
 }
 
@@ -61,7 +61,7 @@ impl<'s, S: Shared> Worker<'s, S> {
             setup,
             accounts,
             seats,
-            talks: BTreeMap::new(alloc),
+            talks: RisingMap::new(alloc),
             posts: Vec::new(alloc),
         })
     }

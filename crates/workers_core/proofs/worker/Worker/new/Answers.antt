@@ -17,6 +17,6 @@ returns-clause-ready g c =
       numbers = All-map (λ (n : ℕ). n ≡ c.args.number) g.S.Shared.number_of c.args.seats.items c.requires.numbers;
       sound = record {
         served = rw c.new-2.ensures.items (none_served g.S.Shared.mine_of (keys_of c.args.setup.now.accounts) c.args.seats.items many c.requires.empty);
-        talks = λ call. rw c.new.ensures.empty tt;
+        talks = λ call. rw c.new.ensures tt;
       };
     }
