@@ -1,9 +1,8 @@
 -- What is gathered of calls, one post and one entry after another.
-use Rattle.std.specs.Prelude.{◌≡◌, ℕ, false, Option, Some, None, List, [], is_some, unwrap_or, nat_eq, ⊤, reverse}
+use Rattle.std.specs.Prelude.{◌≡◌, ℕ, false, Option, Some, None, List, [], is_some, unwrap_or, ⊤, reverse}
 use Rattle.std.specs.BTreeMap as tree
-use Rattle.std.specs.BTreeMap.{BTreeMap}
-use Rattle.std.specs.HashMap as hash
-use Rattle.std.specs.HashMap.{HashMap}
+use Rattle.std.specs.BTreeMap.{BTreeMap, is_at}
+use Rattle.std.specs.Map.{lookup}
 use Rattle.std.specs.Ordering.{nat_cmp}
 use Rattle.account_core.specs.Events.{EntryData}
 use Rattle.account_core.specs.Known.{known, paid_if_granted}
@@ -21,11 +20,11 @@ abbrev pub HaveStarts : BTreeMap ℕ Start → List (ℕ × Body) → Type 0
 HaveStarts starts given = (call : ℕ) → tree.get nat_cmp starts call ≡ start_of call given
 
 -- of a call that isn't in the map nothing was reported
-abbrev pub reports_in : {S : Type 0} → HashMap ℕ CallReports S → ℕ → CallReports
-reports_in reports call = unwrap_or (hash.get nat_eq reports call) (reports_of call [])
+abbrev pub reports_in : List (ℕ × CallReports) → ℕ → CallReports
+reports_in reports call = unwrap_or (lookup (is_at (nat_cmp call)) reports) (reports_of call [])
 
 -- the map has what was reported of each call
-abbrev pub HaveReports : {S : Type 0} → HashMap ℕ CallReports S → List (ℕ × Body) → Type 0
+abbrev pub HaveReports : List (ℕ × CallReports) → List (ℕ × Body) → Type 0
 HaveReports reports given = (call : ℕ) → reports_in reports call ≡ reports_of call given
 
 -- what a history says of a call, but for what it has paid
@@ -41,16 +40,16 @@ marks_of call h = record {
 }
 
 -- the marks of a call in a map
-abbrev pub marks_in : {S : Type 0} → HashMap ℕ CallMarks S → ℕ → CallMarks
-marks_in marks call = unwrap_or (hash.get nat_eq marks call) (marks_of call [])
+abbrev pub marks_in : List (ℕ × CallMarks) → ℕ → CallMarks
+marks_in marks call = unwrap_or (lookup (is_at (nat_cmp call)) marks) (marks_of call [])
 
 -- the map has the marks of each call
-abbrev pub HaveMarks : {S : Type 0} → HashMap ℕ CallMarks S → List EntryData → Type 0
+abbrev pub HaveMarks : List (ℕ × CallMarks) → List EntryData → Type 0
 HaveMarks marks h = (call : ℕ) → marks_in marks call ≡ marks_of call h
 
 -- the map has what each call has paid that was granted anything
-abbrev pub HavePaid : {S : Type 0} → HashMap ℕ ℕ S → List EntryData → Type 0
-HavePaid paid h = (call : ℕ) → hash.get nat_eq paid call ≡ paid_if_granted (known call h)
+abbrev pub HavePaid : List (ℕ × ℕ) → List EntryData → Type 0
+HavePaid paid h = (call : ℕ) → lookup (is_at (nat_cmp call)) paid ≡ paid_if_granted (known call h)
 
 -- what is kept of an account's calls is what its history says
 pub record TellCalls (calls : AccountCalls) (h : List EntryData) : Type 0 where
@@ -65,5 +64,5 @@ AreCallsOf (Some calls) None = ⊥
 AreCallsOf (Some calls) (Some book) = TellCalls calls (reverse book.history)
 
 -- the map has the calls of the first book of each account
-abbrev pub HaveAccounts : {S : Type 0} → HashMap ℕ AccountCalls S → List Closed → Type 0
-HaveAccounts accounts books = (account : ℕ) → AreCallsOf (hash.get nat_eq accounts account) (book_of account books)
+abbrev pub HaveAccounts : BTreeMap ℕ AccountCalls → List Closed → Type 0
+HaveAccounts accounts books = (account : ℕ) → AreCallsOf (tree.get nat_cmp accounts account) (book_of account books)

@@ -1,8 +1,10 @@
 //! What the accounts of a run know of its calls.
 
-ghost use Rattle.std.specs.Prelude.{◌≡◌, ◌==◌, if◌then◌else◌, ◌∷◌, ◌++◌, [], ℕ, List, Some, None, nat_eq, reverse, IfOk, OnOk};
-ghost use Rattle.std.specs.HashMap.{get};
+ghost use Rattle.std.specs.Prelude.{◌≡◌, ◌==◌, if◌then◌else◌, ◌∷◌, ◌++◌, [], ℕ, List, Some, None, reverse, IfOk, OnOk};
+ghost use Rattle.std.specs.BTreeMap.{is_at};
+ghost use Rattle.std.specs.Map.{lookup};
 ghost use Rattle.std.specs.Option.{option_or};
+ghost use Rattle.std.specs.Ordering.{nat_cmp};
 ghost use Rattle.account_core.specs.Events.{EntryData};
 ghost use Rattle.account_core.specs.Sums.{AreSums};
 ghost use Rattle.call_records.specs.Kept.{HaveAccounts, HavePaid, TellCalls};
@@ -12,17 +14,18 @@ ghost use Rattle.shared_account.specs.Closed.{Closed};
 use crate::marks::{CallMarks, marks_in, marks_of};
 use crate::standing::Standing;
 use account_core::CallSum;
+use rising_map::RisingMap;
 use shared_account::Book;
 use std::alloc::{AllocError, Global};
-use std::collections::HashMap;
+use std::collections::BTreeMap;
 
 /// What an account knows of its calls.
 #[derive(Drop)]
 pub(crate) struct AccountCalls {
     /// What its history says of each.
-    pub marks: HashMap<u64, CallMarks>,
+    pub marks: RisingMap<CallMarks>,
     /// What each has paid that was granted anything.
-    pub paid: HashMap<u64, u64>,
+    pub paid: RisingMap<u64>,
 }
 
 impl AccountCalls {
@@ -45,7 +48,7 @@ impl AccountCalls {
         let used_up = u64::from(marks.times.total()) == marks.total;
         Standing {
             times: marks.times,
-            paid: self.paid.get(&call).copied().unwrap_or(0),
+            paid: self.paid.get(call).copied().unwrap_or(0),
             granted: marks.granted,
             forfeited: marks.forfeited,
             denied: marks.denied,
@@ -58,10 +61,10 @@ impl AccountCalls {
 pub(crate) fn accounts_in(
     alloc: Global,
     books: &[Book],
-) -> Result<HashMap<u32, AccountCalls>, AllocError>
+) -> Result<BTreeMap<u32, AccountCalls>, AllocError>
     ensures { IfOk result (λ accounts. HaveAccounts accounts books.now) }
 {
-    let mut accounts = HashMap::new(alloc);
+    let mut accounts = BTreeMap::new(alloc);
     for book in books {
         open(alloc, &mut accounts, book)?;
     }
@@ -70,7 +73,7 @@ pub(crate) fn accounts_in(
 
 /// What the account of a call knows of it, and nothing where it has no account.
 pub(crate) fn standing_in(
-    accounts: &HashMap<u32, AccountCalls>,
+    accounts: &BTreeMap<u32, AccountCalls>,
     account: Option<u32>,
     call: u64,
 ) -> Standing
@@ -89,7 +92,7 @@ pub(crate) fn standing_in(
 /// Keeps the calls of a book, where its account has none yet.
 fn open(
     alloc: Global,
-    accounts: &mut HashMap<u32, AccountCalls>,
+    accounts: &mut BTreeMap<u32, AccountCalls>,
     book: &Book,
 ) -> Result<(), AllocError>
     ensures { OnOk result ((books : List Closed) → HaveAccounts accounts.old books
@@ -104,10 +107,10 @@ fn open(
 }
 
 /// What each call has paid, by the sums of an account's calls.
-fn paid_in(alloc: Global, sums: &[CallSum]) -> Result<HashMap<u64, u64>, AllocError>
+fn paid_in(alloc: Global, sums: &[CallSum]) -> Result<RisingMap<u64>, AllocError>
     ensures { IfOk result (λ paid. (h : List EntryData) → AreSums h sums.now → HavePaid paid h) }
 {
-    let mut paid = HashMap::new(alloc);
+    let mut paid = RisingMap::new(alloc);
     for sum in sums {
         keep_paid(&mut paid, sum)?;
     }
@@ -115,12 +118,13 @@ fn paid_in(alloc: Global, sums: &[CallSum]) -> Result<HashMap<u64, u64>, AllocEr
 }
 
 /// Keeps what a call has paid, where nothing is kept of it yet.
-fn keep_paid(paid: &mut HashMap<u64, u64>, sum: &CallSum) -> Result<(), AllocError>
-    ensures { OnOk result ((call : ℕ) → get nat_eq paid.new call ≡ option_or
-        (get nat_eq paid.old call) (if call == sum.now.call then Some sum.now.paid else None)) }
+fn keep_paid(paid: &mut RisingMap<u64>, sum: &CallSum) -> Result<(), AllocError>
+    ensures { OnOk result ((call : ℕ) → lookup (is_at (nat_cmp call)) paid.new ≡ option_or
+        (lookup (is_at (nat_cmp call)) paid.old)
+        (if call == sum.now.call then Some sum.now.paid else None)) }
 {
-    if !paid.contains_key(&sum.call) {
-        paid.insert(sum.call, sum.paid)?;
+    match paid.get(sum.call) {
+        Some(_) => Ok(()),
+        None => paid.insert(sum.call, sum.paid),
     }
-    Ok(())
 }

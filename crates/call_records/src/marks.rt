@@ -6,8 +6,8 @@ ghost use Rattle.account_core.specs.Events.{EntryData, asked_of, entry_data};
 ghost use Rattle.call_records.specs.Kept.{HaveMarks, marks_in, marks_of};
 
 use account_core::{Entry, Op, Reply};
+use rising_map::RisingMap;
 use std::alloc::{AllocError, Global};
-use std::collections::HashMap;
 use tariff_core::{Times, read_times};
 
 /// What entries say of a call.
@@ -73,13 +73,10 @@ impl CallMarks {
 }
 
 /// What a history says of each of its calls.
-pub(crate) fn marks_in(
-    alloc: Global,
-    history: &[Entry],
-) -> Result<HashMap<u64, CallMarks>, AllocError>
+pub(crate) fn marks_in(alloc: Global, history: &[Entry]) -> Result<RisingMap<CallMarks>, AllocError>
     ensures { IfOk result (λ marks. HaveMarks marks (reverse (map entry_data history.now))) }
 {
-    let mut marks = HashMap::new(alloc);
+    let mut marks = RisingMap::new(alloc);
     for entry in history {
         hear(&mut marks, *entry)?;
     }
@@ -87,17 +84,17 @@ pub(crate) fn marks_in(
 }
 
 /// What entries say of a call.
-pub(crate) fn marks_of(marks: &HashMap<u64, CallMarks>, call: u64) -> CallMarks
+pub(crate) fn marks_of(marks: &RisingMap<CallMarks>, call: u64) -> CallMarks
     ensures { result ≡ marks_in marks.now call }
 {
-    match marks.get(&call) {
+    match marks.get(call) {
         Some(marks) => *marks,
         None => CallMarks::NONE,
     }
 }
 
 /// Keeps what an entry says of its call.
-fn hear(marks: &mut HashMap<u64, CallMarks>, entry: Entry) -> Result<(), AllocError>
+fn hear(marks: &mut RisingMap<CallMarks>, entry: Entry) -> Result<(), AllocError>
     ensures { OnOk result ((h : List EntryData) → HaveMarks marks.old h
         → HaveMarks marks.new (entry_data entry ∷ h)) }
 {
@@ -107,10 +104,9 @@ fn hear(marks: &mut HashMap<u64, CallMarks>, entry: Entry) -> Result<(), AllocEr
 }
 
 /// Keeps what entries say of a call now.
-fn keep(marks: &mut HashMap<u64, CallMarks>, call: u64, after: CallMarks) -> Result<(), AllocError>
+fn keep(marks: &mut RisingMap<CallMarks>, call: u64, after: CallMarks) -> Result<(), AllocError>
     ensures { OnOk result ((other : ℕ) → marks_in marks.new other
         ≡ (if call == other then after else marks_in marks.old other)) }
 {
-    marks.insert(call, after)?;
-    Ok(())
+    marks.insert(call, after)
 }

@@ -15,10 +15,11 @@ use crate::standing::Standing;
 use crate::starts::{Start, starts_in};
 use crate::{CallRecord, Outcome};
 use cap_values::Number;
+use rising_map::RisingMap;
 use run_values::{Body, RunSetup};
 use shared_account::Book;
 use std::alloc::{AllocError, Global};
-use std::collections::{BTreeMap, HashMap};
+use std::collections::BTreeMap;
 use tariff_core::Tariff;
 
 /// A record of each call that starts among what a run's workers were given, by rising number: as
@@ -46,8 +47,8 @@ fn list(
     alloc: Global,
     setup: &RunSetup,
     starts: &BTreeMap<u64, Start>,
-    reports: &HashMap<u64, CallReports>,
-    accounts: &HashMap<u32, AccountCalls>,
+    reports: &RisingMap<CallReports>,
+    accounts: &BTreeMap<u32, AccountCalls>,
 ) -> Result<Vec<CallRecord>, AllocError>
     ensures { IfOk result (λ calls. (run : Run) → run.setup ≡ setup.now
         → HaveStarts starts.now run.given → HaveReports reports.now run.given

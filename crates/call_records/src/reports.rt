@@ -10,9 +10,9 @@ ghost use Rattle.run_values.specs.declared.post.Body.{Body};
 ghost use Rattle.run_values.specs.declared.post.Body.TheVariants as body;
 
 use cap_values::{Event, SsfMsg};
+use rising_map::RisingMap;
 use run_values::Body;
 use std::alloc::{AllocError, Global};
-use std::collections::HashMap;
 
 /// What was reported of a call. Moments are in units of 100 ms.
 #[derive(Clone, Copy)]
@@ -97,10 +97,10 @@ impl CallReports {
 pub(crate) fn reports_in(
     alloc: Global,
     given: &[(u64, Body)],
-) -> Result<HashMap<u64, CallReports>, AllocError>
+) -> Result<RisingMap<CallReports>, AllocError>
     ensures { IfOk result (λ reports. HaveReports reports given.now) }
 {
-    let mut reports = HashMap::new(alloc);
+    let mut reports = RisingMap::new(alloc);
     for (at, body) in given {
         hear(&mut reports, *at, *body)?;
     }
@@ -108,17 +108,17 @@ pub(crate) fn reports_in(
 }
 
 /// What was reported of a call.
-pub(crate) fn reports_of(reports: &HashMap<u64, CallReports>, call: u64) -> CallReports
+pub(crate) fn reports_of(reports: &RisingMap<CallReports>, call: u64) -> CallReports
     ensures { result ≡ reports_in reports.now call }
 {
-    match reports.get(&call) {
+    match reports.get(call) {
         Some(reports) => *reports,
         None => CallReports::NONE,
     }
 }
 
 /// Keeps what a post reports of its call.
-fn hear(reports: &mut HashMap<u64, CallReports>, at: u64, body: Body) -> Result<(), AllocError>
+fn hear(reports: &mut RisingMap<CallReports>, at: u64, body: Body) -> Result<(), AllocError>
     ensures { OnOk result ((given : List (ℕ × Body)) → HaveReports reports.old given
         → HaveReports reports.new (given ++ (at, body) ∷ [])) }
 {
@@ -133,13 +133,12 @@ fn hear(reports: &mut HashMap<u64, CallReports>, at: u64, body: Body) -> Result<
 
 /// Keeps what is reported of a call now.
 fn keep(
-    reports: &mut HashMap<u64, CallReports>,
+    reports: &mut RisingMap<CallReports>,
     call: u64,
     after: CallReports,
 ) -> Result<(), AllocError>
     ensures { OnOk result ((other : ℕ) → reports_in reports.new other
         ≡ (if call == other then after else reports_in reports.old other)) }
 {
-    reports.insert(call, after)?;
-    Ok(())
+    reports.insert(call, after)
 }
