@@ -4,15 +4,9 @@ use Rattle.std.specs.BTreeMap.{insert_entry, is_at}
 use Rattle.std.specs.Map.{lookup}
 use Rattle.std.specs.Option.{option_or}
 use Rattle.std.specs.Ordering.{nat_cmp}
-use Rattle.std.specs.Prelude.{if◌then◌else◌, unwrap_or}
-use Rattle.rising_map.proofs.RisingLemmas.{looked_up, looked_up_at, or_else}
+use Rattle.std.specs.Prelude.{if◌then◌else◌}
+use Rattle.rising_map.proofs.RisingLemmas.{looked_up_at}
 use Rattle.call_records.proofs.CallLemmas.{or_none, same_call}
-
--- what is kept of each number, after one of them has another value
-pub kept_of : {V : Type 0} (old new : List (ℕ × V)) (number : ℕ) (value : V) (other : ℕ) (none : V) → new ≡ insert_entry nat_cmp old number value
-    → unwrap_or (lookup (is_at (nat_cmp other)) new) none ≡ (if number == other then value else unwrap_or (lookup (is_at (nat_cmp other)) old) none)
-kept_of old new number value other none is =
-    rw (is, looked_up number value other old) (or_else number value other (number == other) (lookup (is_at (nat_cmp other)) old) none)
 
 first_of : {V : Type 0} (now : Bool) (was : Option V) (value : V) → (now ≡ true → was ≡ None)
     → (if now then Some value else was) ≡ option_or was (if now then Some value else None)

@@ -255,9 +255,15 @@ module _ {V : Type 0} (number : ℕ) (value : V) (other : ℕ) where
       → lookup (is_at (nat_cmp other)) (insert_entry nat_cmp list number value) ≡ (if other == number then Some value else lookup (is_at (nat_cmp other)) list)
   looked_up_at list = rw (turned other number) (looked_up list)
 
-  pub or_else : (now : Bool) (found : Option V) (none : V) → unwrap_or (if now then Some value else found) none ≡ (if now then value else unwrap_or found none)
+  or_else : (now : Bool) (found : Option V) (none : V) → unwrap_or (if now then Some value else found) none ≡ (if now then value else unwrap_or found none)
   or_else true found none = refl
   or_else false found none = refl
+
+-- what is kept of each number, after one of them has another value
+pub kept_of : {V : Type 0} (old new : List (ℕ × V)) (number : ℕ) (value : V) (other : ℕ) (none : V) → new ≡ insert_entry nat_cmp old number value
+    → unwrap_or (lookup (is_at (nat_cmp other)) new) none ≡ (if number == other then value else unwrap_or (lookup (is_at (nat_cmp other)) old) none)
+kept_of old new number value other none is =
+    rw (is, looked_up number value other old) (or_else number value other (number == other) (lookup (is_at (nat_cmp other)) old) none)
 
 itself : (number : ℕ) → (number == number) ≡ true
 itself number = grind (arith, nat_tests)

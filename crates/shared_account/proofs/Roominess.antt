@@ -22,7 +22,7 @@ use Rattle.account_core.specs.declared.entry.Entry.{Entry}
 use Rattle.account_core.specs.declared.entry.Reply.{Reply}
 use Rattle.account_core.specs.declared.entry.Reply.TheVariants as reply
 use Rattle.account_core.proofs.Owing.{owes_denied, owes_end, owes_grant, owes_report}
-use Rattle.rising_map.proofs.RisingLemmas.{looked_up, or_else}
+use Rattle.rising_map.proofs.RisingLemmas.{kept_of}
 use Rattle.shared_account.specs.Kinds.{IsReplyTo}
 use Rattle.shared_account.specs.Room.{IsRoomy, TellsStages, stage_in}
 use Rattle.shared_account.specs.Seats.{SeatView}
@@ -63,7 +63,7 @@ credit_rests (Returns call) told is = absurd is
 -- what a map has for a call after another stage of one is put there
 stage_put : (stages : List (ℕ × CallStage)) (put : ℕ) (after : CallStage) (call : ℕ)
     → stage_in (insert_entry nat_cmp stages put after) call ≡ (if put == call then after else stage_in stages call)
-stage_put stages put after call = rw (looked_up put after call stages) (or_else put after call (put == call) _ Fresh)
+stage_put stages put after call = kept_of stages (insert_entry nat_cmp stages put after) put after call Fresh refl
 
 fresh_by : (here : Bool) (stages : List (ℕ × CallStage)) (put call : ℕ) → (put == call) ≡ here → lookup (is_at (nat_cmp put)) stages ≡ None
     → (if here then Fresh else stage_in stages call) ≡ stage_in stages call

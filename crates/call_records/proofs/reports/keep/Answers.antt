@@ -1,6 +1,6 @@
 use Rattle.std.proofs.Common.{[]}
 use Rattle.std.proofs.lemmas.Result.{on_ok_weaker}
-use Rattle.call_records.proofs.KeptLemmas.{kept_of}
+use Rattle.rising_map.proofs.RisingLemmas.{kept_of}
 use Rattle.call_records.specs.Calls.{reports_of}
 use Rattle.call_records.proofs.reports.keep.Goals as goal
 
