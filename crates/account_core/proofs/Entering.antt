@@ -9,7 +9,7 @@ use Rattle.std.proofs.lemmas.Bool.Decides.{nat_tests}
 use Rattle.std.proofs.lemmas.List.{length-map, length-reverse, map-append, reverse-append}
 use Rattle.tariff_core.specs.Rates.{Rates}
 use Rattle.tariff_core.specs.Times.{Elapsed}
-use Rattle.tariff_core.specs.declared.time_info.TimeInfo.{TimeInfo}
+use Rattle.tariff_core.specs.declared.times.TimeInfo.{TimeInfo}
 use Rattle.account_core.specs.Answers.{IsAnswered, answer, inadmissible, misplaced, settle_verdict, shown_by, accepted_times, units_offered, verdict}
 use Rattle.account_core.specs.Asked.{Asked, Credits, IsCredit, IsOfCall, Reserves, Returns, Settles, call_of, is_in_range}
 use Rattle.account_core.specs.Available.{available, credited, credits, taken_by_all}
@@ -28,7 +28,7 @@ use Rattle.account_core.specs.declared.entry.Reply.TheVariants as reply
 use Rattle.account_core.specs.declared.fault.AccountFault.{AccountFault}
 use Rattle.account_core.specs.declared.fault.AccountFault.TheVariants as fault
 use Rattle.account_core.specs.declared.call_state.CallState.{CallState}
-use Rattle.account_core.specs.declared.call_states.CallStates.{CallStates}
+use Rattle.account_core.specs.declared.account.CallStates.{CallStates}
 use Rattle.account_core.specs.declared.call_state.CallState.TheVariants.{Fresh}
 use Rattle.account_core.proofs.Fitting.{answer_shows}
 use Rattle.account_core.proofs.Moves.{at_most_all, its_call, its_deed, known_apart, known_here, sum_moves}

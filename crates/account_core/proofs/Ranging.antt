@@ -5,7 +5,7 @@ use Rattle.std.proofs.lemmas.List.{reverse-append, reverse-reverse}
 use Rattle.std.proofs.lemmas.List.Elements.{All-append, All-cons, All-nil, All-same}
 use Rattle.tariff_core.specs.Rates.{Rates}
 use Rattle.tariff_core.specs.Times.{Elapsed}
-use Rattle.tariff_core.specs.declared.time_info.TimeInfo.{TimeInfo}
+use Rattle.tariff_core.specs.declared.times.TimeInfo.{TimeInfo}
 use Rattle.account_core.specs.Answers.{IsLegalPast, accepted_times, answer, inadmissible, settle_verdict, showing, shown_by, units_offered, verdict}
 use Rattle.account_core.specs.Asked.{Asked, Credits, Reserves, Returns, Settles}
 use Rattle.account_core.specs.Available.{available, credits, taken_by_all}

@@ -13,10 +13,10 @@ use Rattle.account_core.specs.Sound.{HasRoom, LegalPastsAreSound, SoundPastsAnsw
 use Rattle.account_core.specs.Tallied.{IsTallied, IsToldOf, tally_of}
 use Rattle.account_core.specs.declared.entry.Reply.{Reply}
 use Rattle.account_core.specs.declared.fault.AccountFault.{AccountFault}
-use Rattle.account_core.specs.declared.call_states.CallStates.{CallStates}
+use Rattle.account_core.specs.declared.account.CallStates.{CallStates}
 use Rattle.account_core.specs.declared.call_state.CallState.{CallState}
 use Rattle.account_core.specs.declared.call_state.CallState.TheVariants.{Fresh}
-use Rattle.account_core.specs.declared.tally.Tally.{Tally}
+use Rattle.account_core.specs.declared.history_check.Tally.{Tally}
 use Rattle.account_core.proofs.Answering.{money_kept, reply_is_answer}
 use Rattle.account_core.proofs.Entering.{nothing_taken_yet, tells_renewed}
 use Rattle.account_core.proofs.Fitting.{answer_shows}

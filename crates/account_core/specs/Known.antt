@@ -5,7 +5,7 @@ use Rattle.tariff_core.specs.Price.{price_at}
 use Rattle.tariff_core.specs.Rates.{Rates}
 use Rattle.tariff_core.specs.Reading.{times_read}
 use Rattle.tariff_core.specs.Times.{Elapsed, no_times}
-use Rattle.tariff_core.specs.declared.time_info.TimeInfo.{TimeInfo}
+use Rattle.tariff_core.specs.declared.times.TimeInfo.{TimeInfo}
 use Rattle.account_core.specs.Asked.{Asked, Credits, Reserves, Settles, Returns, call_of}
 use Rattle.account_core.specs.Events.{EntryData}
 use Rattle.account_core.specs.declared.entry.Reply.{Reply}

@@ -3,7 +3,7 @@ use Rattle.std.specs.Prelude.{◌+◌, ◌≤◌, ℕ, Option, List, length}
 use Rattle.account_core.specs.Answers.{IsLegal, IsLegalPast}
 use Rattle.account_core.specs.Events.{EntryData}
 use Rattle.account_core.specs.Places.{owed}
-use Rattle.tariff_core.specs.declared.money.TheConstants.{MAX_MONEY}
+use Rattle.tariff_core.specs.declared.plan.TheConstants.{MAX_MONEY}
 
 -- the history is legal, and within its limit with the places that are owed
 pub record IsListed (opening : ℕ) (until : Option ℕ) (limit : ℕ) (h : List EntryData) : Type 0 where

@@ -9,7 +9,7 @@ use Rattle.account_core.specs.Expiry.{is_past}
 use Rattle.account_core.specs.Known.{CallFacts, paid_of, plan_in_force, price_under, taken_of}
 use Rattle.account_core.specs.declared.entry.Reply.{Reply}
 use Rattle.account_core.specs.declared.entry.Reply.TheVariants as reply
-use Rattle.tariff_core.specs.declared.money.TheConstants.{MAX_MONEY}
+use Rattle.tariff_core.specs.declared.plan.TheConstants.{MAX_MONEY}
 
 -- an amount is added where the funds stay within the largest money
 abbrev pub credit_reply : ℕ → ℕ → ℕ → Reply

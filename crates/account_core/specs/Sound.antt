@@ -8,7 +8,7 @@ use Rattle.account_core.specs.Asked.{Asked, call_of}
 use Rattle.account_core.specs.Available.{available, credits, taken_by_all}
 use Rattle.account_core.specs.Events.{EntryData}
 use Rattle.account_core.specs.Known.{Deed, Grants, CallFacts, deed_of, known, known_after, nothing_known, taken_of}
-use Rattle.tariff_core.specs.declared.money.TheConstants.{MAX_MONEY}
+use Rattle.tariff_core.specs.declared.plan.TheConstants.{MAX_MONEY}
 use Rattle.tariff_core.specs.declared.times.TheConstants.{DAY}
 
 -- a call that was granted something: its times may have come from those at its last grant, within a day, and its top is the ceiling of that grant

@@ -7,9 +7,9 @@ use Rattle.account_core.specs.Events.{EntryData}
 use Rattle.account_core.specs.Expiry.{last_moment}
 use Rattle.account_core.specs.Kept.{TellsEach}
 use Rattle.account_core.specs.Known.{CallFacts, known}
-use Rattle.account_core.specs.declared.call_states.CallStates.{CallStates}
-use Rattle.account_core.specs.declared.tally.Tally.{Tally}
-use Rattle.tariff_core.specs.declared.money.TheConstants.{MAX_MONEY}
+use Rattle.account_core.specs.declared.account.CallStates.{CallStates}
+use Rattle.account_core.specs.declared.history_check.Tally.{Tally}
+use Rattle.tariff_core.specs.declared.plan.TheConstants.{MAX_MONEY}
 
 -- a tally with these parts
 abbrev pub tally_of : ℕ → Option ℕ → CallStates → ℕ → ℕ → Option ℕ → Tally

@@ -1,6 +1,6 @@
 //! The sequential account.
 
-ghost use Rattle.std.specs.Prelude.{◌≡◌, ◌≢◌, ◌≤◌, ◌++◌, ◌∷◌, [], None, Some, map, reverse, IsOk, OnOk, OnErr, IfOk, IfErr};
+ghost use Rattle.std.specs.Prelude.{◌≡◌, ◌≢◌, ◌≤◌, ◌++◌, ◌∷◌, ◌+◌, [], None, Some, map, reverse, IsOk, OnOk, OnErr, IfOk, IfErr, vec_capacity, vec_len, ℕ};
 ghost use Rattle.account_core.specs.Admitting.{IsAdmitted};
 ghost use Rattle.account_core.specs.Answers.{IsLegal, inadmissible};
 ghost use Rattle.account_core.specs.Available.{available};
@@ -9,15 +9,14 @@ ghost use Rattle.account_core.specs.Kept.{known_of};
 ghost use Rattle.account_core.specs.Known.{known, known_asked, paid_if_granted};
 ghost use Rattle.account_core.specs.Ledger.{IsRefusal, answer_of, event_by, refusal_of};
 ghost use Rattle.account_core.specs.Places.{IsClosing};
+ghost use Rattle.account_core.specs.Asked.{IsCredit, IsOfCall};
+ghost use Rattle.rising_map.specs.Listings.{IsInOrder, listed};
 
-mod entering;
-mod parts;
 mod sums;
 
-use crate::call_state::CallState;
-use crate::call_states::CallStates;
-use crate::judging::{judge, reply};
+use crate::call_state::{CallState, judge, reply};
 use crate::{AccountFault, Admitted, Entry, Op, Reply, laws};
+use rising_map::{Listing, RisingMap};
 use std::alloc::{AllocError, Global};
 use std::marker::Model;
 use tariff_core::MAX_MONEY;
@@ -221,5 +220,152 @@ impl Account {
     {
         laws::account_is_sound(self);
         reply(op, call, self.funds, self.available, self.last_moment)
+    }
+}
+
+impl Account {
+    /// Keeps an answered operation, with what was known of its call before. Room for it, and for
+    /// all that is owed after it, is made before anything changes.
+    #[inline(always)]
+    pub(super) fn keep(&mut self, entry: Entry, before: CallState) -> Result<(), AllocError>
+        requires known { known_of before
+            ≡ known_asked (asked_of entry.op) (reverse self.old.history) }
+        requires admitted { refusal_of self.old (asked_of entry.op) ≡ None }
+        requires answered { entry.reply ≡ answer_of self.old (asked_of entry.op) }
+        ensures ok { OnOk result (self.new ≡
+            record self.old { history = self.old.history ++ entry_data entry ∷ [] }) }
+        ensures kept { OnErr result (self.new ≡ self.old) }
+        ensures closing { IsClosing (reverse self.old.history) (asked_of entry.op) → IsOk result }
+    {
+        match entry.op {
+            Op::Credit { .. } => self.keep_credit(entry),
+            Op::Reserve { call, .. } | Op::Settle { call, .. } | Op::Return { call } => {
+                self.keep_call(call, entry, before)
+            }
+        }
+    }
+
+    /// Keeps a Credit.
+    #[inline(always)]
+    fn keep_credit(&mut self, entry: Entry) -> Result<(), AllocError>
+        requires credit { IsCredit (asked_of entry.op) }
+        requires admitted { refusal_of self.old (asked_of entry.op) ≡ None }
+        requires answered { entry.reply ≡ answer_of self.old (asked_of entry.op) }
+        ensures ok { OnOk result (self.new ≡
+            record self.old { history = self.old.history ++ entry_data entry ∷ [] }) }
+        ensures kept { OnErr result (self.new ≡ self.old) }
+    {
+        laws::account_is_sound(self);
+        make_room(&mut self.entries, self.owed + 1)?;
+        self.entries.push_reserved(entry);
+        self.funds += entry.credited();
+        self.available = entry.reply.available();
+        self.last_moment = entry.last_moment(self.last_moment);
+        Ok(())
+    }
+
+    /// Keeps an operation of a call.
+    #[inline(always)]
+    fn keep_call(&mut self, call: u64, entry: Entry, before: CallState) -> Result<(), AllocError>
+        requires known { known_of before ≡ known call (reverse self.old.history) }
+        requires of_call { IsOfCall call (asked_of entry.op) }
+        requires admitted { refusal_of self.old (asked_of entry.op) ≡ None }
+        requires answered { entry.reply ≡ answer_of self.old (asked_of entry.op) }
+        ensures ok { OnOk result (self.new ≡
+            record self.old { history = self.old.history ++ entry_data entry ∷ [] }) }
+        ensures kept { OnErr result (self.new ≡ self.old) }
+        ensures closing { IsClosing (reverse self.old.history) (asked_of entry.op) → IsOk result }
+    {
+        laws::account_is_sound(self);
+        make_room(&mut self.entries, self.owed + before.needed(&entry.op))?;
+        let after = before.after(entry.op, entry.reply);
+        self.calls.renew(call, after)?;
+        self.entries.push_reserved(entry);
+        self.available = entry.reply.available();
+        self.owed = self.owed + after.owed() - before.owed();
+        Ok(())
+    }
+}
+
+/// Makes room for so many more entries.
+#[inline(always)]
+fn make_room(entries: &mut Vec<Entry>, places: usize) -> Result<(), AllocError>
+    ensures items { entries.new.items ≡ entries.old.items }
+    ensures ok { OnOk result (vec_len entries.new + places ≤ vec_capacity entries.new) }
+    ensures grows { vec_capacity entries.old ≤ vec_capacity entries.new }
+    ensures enough { vec_len entries.old + places ≤ vec_capacity entries.old → IsOk result }
+{
+    entries.try_reserve(places)
+}
+
+impl Account {
+    /// The credit that it was opened with.
+    pub fn opening(&self) -> u64
+        ensures { result ≡ self.now.opening }
+    {
+        self.opening
+    }
+
+    /// The last moment that it was opened with, if it has one.
+    pub fn until(&self) -> Option<u64>
+        ensures { result ≡ self.now.until }
+    {
+        self.until
+    }
+
+    /// How many entries its history may grow to.
+    pub fn limit(&self) -> u32
+        ensures { result ≡ self.now.limit }
+    {
+        self.limit
+    }
+}
+
+/// What is known of each call.
+#[derive(Drop)]
+pub(crate) struct CallStates {
+    calls: RisingMap<CallState>,
+}
+
+impl CallStates {
+    ghost use Rattle.account_core.specs.CallStates.{AreSame, Renews, state_of};
+
+    /// Those of no calls.
+    pub fn new(alloc: Global) -> CallStates
+        ensures { (call : ℕ) → state_of result call ≡ CallState.Fresh }
+    {
+        CallStates {
+            calls: RisingMap::new(alloc),
+        }
+    }
+
+    /// What is known of a call.
+    #[inline(always)]
+    pub fn state(&self, call: u64) -> CallState
+        ensures { result ≡ state_of self.now call }
+    {
+        self.calls.get(call).copied().unwrap_or(CallState::Fresh)
+    }
+
+    /// Keeps what is known of a call now. Memory is taken where that was nothing; where it is
+    /// nothing still, as after a Credit, nothing is kept.
+    #[inline(always)]
+    pub fn renew(&mut self, call: u64, state: CallState) -> Result<(), AllocError>
+        ensures renewed { OnOk result (Renews self.old self.new call state) }
+        ensures kept { OnErr result (AreSame self.old self.new) }
+        ensures fresh { OnErr result (state_of self.old call ≡ CallState.Fresh) }
+    {
+        if state.is_fresh() && self.state(call).is_fresh() {
+            return Ok(());
+        }
+        self.calls.insert(call, state)
+    }
+
+    /// Each call with what is known of it, by rising number.
+    pub fn listing(&self) -> Listing<'_, CallState>
+        ensures all { listed result ≡ self.now.calls }
+        ensures rising { IsInOrder result }
+    {
+        self.calls.listing()
     }
 }

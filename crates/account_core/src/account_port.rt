@@ -1,14 +1,29 @@
 //! A port to an account.
 
-ghost use Rattle.std.specs.Prelude.{◌≡◌, ◌≢◌, ◌++◌, ◌∷◌, ℕ, [], None, Some, reverse, IfOk, IfErr, IsOk, OnErr, OnOk};
+ghost use Rattle.std.specs.Prelude.{◌≡◌, ◌≢◌, ◌++◌, ◌∷◌, [], IfSome, ℕ, None, Option, Some, reverse, IfOk, IfErr, IsOk, OnErr, OnOk};
 ghost use Rattle.account_core.specs.Events.{asked_of};
-ghost use Rattle.account_core.specs.Known.{known};
+ghost use Rattle.account_core.specs.Known.{CallFacts, known};
+ghost use Rattle.account_core.specs.Standing.{Moves};
 ghost use Rattle.account_core.specs.Ledger.{IsRefusal, answer_of, event_by, refusal_of};
 ghost use Rattle.account_core.specs.Places.{IsClosing};
-ghost use Rattle.account_core.specs.Standing.{Moves};
 
 use crate::laws::answers_are_kindly;
-use crate::{Account, AccountFault, Op, Port, Reply};
+use crate::{Account, AccountFault, Op, Reply};
+
+/// Takes the operations of calls, for an account that stands behind it.
+///
+/// A port may state what it keeps of a call, and then moves it as an account's history would. That
+/// is all that an account knows of it: beside its plan, its times, the total granted and whether it
+/// forfeited, also what is held for it, whether it was returned, and whether a report is awaited. A
+/// port that others move too, as they share its account, can't state it.
+pub trait Port {
+    ghost state: { Self → ℕ → Option CallFacts } = { λ _ _. None };
+
+    /// Asks the account, and gives its reply or its refusal.
+    fn ask(&mut self, op: Op) -> Result<Reply, AccountFault>
+        ensures moves { (call : ℕ) → IfSome (state self.old call)
+            (λ before. Moves call before (asked_of op) result (state self.new call)) };
+}
 
 /// An account with the number of the seat that asks it. Nobody else asks it, so that it states
 /// what it keeps of each call.

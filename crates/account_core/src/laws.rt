@@ -2,10 +2,10 @@
 //! account comes to, in words that know nothing of how it answers.
 
 ghost use Rattle.std.specs.Prelude.{reverse};
-ghost use Rattle.account_core.specs.Laws.{AnswersAreKindly, ClosedCallsPayTheTariff, EntriesAreInRange, NoBalanceIsNegative};
-ghost use Rattle.account_core.specs.Laws.{NothingIsGrantedLate, SettlesKeepTheCredit, TimesAreReported};
+ghost use Rattle.account_core.specs.Laws.{AnswersAreKindly, ClosedCallsPayTheTariff, EntriesAreInRange, NoBalanceIsNegative, NothingIsGrantedLate, SettlesKeepTheCredit, TimesAreReported};
 ghost use Rattle.account_core.specs.Sound.{AnswersFit, IsSoundPast, LegalPastsAreSound, SoundPastsAnswer};
 ghost use Rattle.account_core.specs.TariffLaws.{TariffLaws};
+ghost use Rattle.account_core.specs.SharingLaws.{AccountsHaveNoGate, EachIsOwedItsShare, EntriesOweToTheirCalls};
 
 use crate::{Account, ListAccount};
 use tariff_core::{afforded_is_greatest, ceiling_is_greatest, lawful_times_follow};
@@ -92,3 +92,15 @@ fn tariff_laws()
     afforded_is_greatest();
     lawful_times_follow();
 }
+
+/// An entry changes the places that are owed to its own call alone, and no call is owed more than
+/// all are.
+pub fn places_go_with_entries()
+    ensures moves { EntriesOweToTheirCalls }
+    ensures share { EachIsOwedItsShare }
+{}
+
+/// An account by itself never answers `GateClosed`.
+pub fn accounts_have_no_gate()
+    ensures { AccountsHaveNoGate }
+{}

@@ -7,25 +7,18 @@ mod account_port;
 mod admitted;
 mod call_stage;
 mod call_state;
-mod call_states;
 mod call_sum;
-mod check;
 mod entry;
 mod fault;
 mod held_call;
 mod history_check;
-mod judging;
 mod kept_plan;
 mod laws;
 mod limits;
 mod list_account;
-mod port;
-mod sharing_laws;
-mod tally;
-mod walks;
 
 pub use account::Account;
-pub use account_port::AccountPort;
+pub use account_port::{AccountPort, Port};
 pub use admitted::Admitted;
 pub use call_stage::CallStage;
 pub use call_sum::{CallSum, Fate};
@@ -33,10 +26,9 @@ pub use entry::{Entry, Op, Reply};
 pub use fault::AccountFault;
 pub use history_check::HistoryCheck;
 pub use laws::{
-    answers_are_kindly, closed_calls_pay_the_tariff, entries_are_in_range, no_balance_is_negative,
-    nothing_is_granted_late, settles_keep_the_credit,
+    accounts_have_no_gate, answers_are_kindly, closed_calls_pay_the_tariff, entries_are_in_range,
+    no_balance_is_negative, nothing_is_granted_late, places_go_with_entries,
+    settles_keep_the_credit,
 };
 pub use limits::{MAX_LIMIT, MIN_LIMIT};
 pub use list_account::ListAccount;
-pub use port::Port;
-pub use sharing_laws::{accounts_have_no_gate, places_go_with_entries};

@@ -13,7 +13,7 @@ use Rattle.account_core.specs.declared.call_sum.Fate.TheVariants as fate
 use Rattle.shared_account.specs.Closed.{Closed}
 use Rattle.book_texts.proofs.TextLemmas.{next_item}
 use Rattle.book_texts.specs.RunTexts.{line_in, line_of, lines_of}
-use Rattle.book_texts.specs.declared.calls.CallLine.{CallLine}
+use Rattle.book_texts.specs.declared.lines.CallLine.{CallLine}
 
 -- no call follows itself
 later_is_other : (first later call : ℕ) → nat_cmp first later ≡ Less → first == call ≡ true → later == call ≡ false

@@ -5,7 +5,7 @@ use Rattle.std.specs.List.{flat_map}
 use Rattle.std.specs.List.Sorted.{IsNonDecreasingBy}
 use Rattle.book_texts.specs.Laws.{BooksHaveOneText}
 use Rattle.book_texts.specs.RunTexts.{account_line, call_line, lines_of}
-use Rattle.book_texts.specs.declared.calls.CallLine.{CallLine}
+use Rattle.book_texts.specs.declared.lines.CallLine.{CallLine}
 
 abbrev AreFrom : ℕ → List CallLine → Type 0
 AreFrom call [] = Unit {0}

@@ -25,7 +25,7 @@ use Rattle.table_core.specs.Printed.{DecimalsArePlain, DecimalsAreRead, TablesAr
 use Rattle.table_core.specs.Rows.{Fields}
 use Rattle.table_core.specs.Tables.{rows_from, table_of}
 use Rattle.table_core.proofs.TableLemmas.{no_fault}
-use Rattle.tariff_core.specs.declared.time_info.TimeInfo.TheVariants as info
+use Rattle.tariff_core.specs.declared.times.TimeInfo.TheVariants as info
 use Rattle.book_texts.specs.Audits.{AreVerdicts, IsAuditOf, audited}
 use Rattle.book_texts.specs.BookRows.{Enters, Opens, account_of, columns_in, entry_in, opening_in, said_in}
 use Rattle.book_texts.specs.Books.{Books, Told, books_form, row_at}

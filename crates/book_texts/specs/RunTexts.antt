@@ -11,7 +11,7 @@ use Rattle.account_core.specs.declared.call_sum.CallSum.{CallSum}
 use Rattle.account_core.specs.declared.call_sum.Fate.{Fate}
 use Rattle.account_core.specs.declared.call_sum.Fate.TheVariants as fate
 use Rattle.shared_account.specs.Closed.{Closed}
-use Rattle.book_texts.specs.declared.calls.CallLine.{CallLine}
+use Rattle.book_texts.specs.declared.lines.CallLine.{CallLine}
 
 -- `account A opening O available N entries E`
 abbrev pub account_text : ℕ → ℕ → ℕ → ℕ → List ℕ

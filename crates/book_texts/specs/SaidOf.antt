@@ -4,7 +4,7 @@ use Rattle.account_core.specs.Events.{entry_data}
 use Rattle.book_texts.specs.BookRows.{Enters, Opens, Said}
 use Rattle.book_texts.specs.declared.book_row.BookRow.{BookRow}
 use Rattle.book_texts.specs.declared.book_row.BookRow.TheVariants as row
-use Rattle.tariff_core.specs.declared.money.TheConstants.{MAX_MONEY}
+use Rattle.tariff_core.specs.declared.plan.TheConstants.{MAX_MONEY}
 
 -- what a row of the code says
 abbrev pub said_of : BookRow → Said

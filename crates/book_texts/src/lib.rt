@@ -5,8 +5,6 @@
 mod account_checks;
 mod audit;
 mod book_row;
-mod calls;
-mod checks;
 mod laws;
 mod lines;
 mod table;

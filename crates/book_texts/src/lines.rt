@@ -1,11 +1,10 @@
 //! The lines that a run prints of its books.
 
-ghost use Rattle.std.specs.Prelude.{◌≡◌, ◌++◌, OnOk, IfOk, string_bytes};
+ghost use Rattle.std.specs.Prelude.{◌≡◌, ◌++◌, OnOk, IfOk, string_bytes, map};
 ghost use Rattle.std.specs.List.{flat_map};
-ghost use Rattle.book_texts.specs.RunTexts.{IsRunText, account_text, call_line, word_of};
+ghost use Rattle.book_texts.specs.RunTexts.{IsRunText, account_text, call_line, word_of, line_of};
 
-use crate::calls::{CallLine, add_calls};
-use account_core::Fate;
+use account_core::{CallSum, Fate};
 use shared_account::{Book, Summary};
 use std::alloc::{AllocError, Global};
 
@@ -75,4 +74,27 @@ fn word(fate: Fate) -> &'static str
         Fate::Returned => "returned",
         Fate::Forfeit => "forfeit",
     }
+}
+
+/// What a call came to, and the account that granted it something.
+#[derive(Clone, Copy)]
+pub struct CallLine {
+    /// The number of the account.
+    pub account: u32,
+    /// What the call has paid to it, and how it stands there.
+    pub sum: CallSum,
+}
+
+/// Puts the calls of an account behind those of others.
+pub fn add_calls(
+    lines: &mut Vec<CallLine>,
+    account: u32,
+    sums: &[CallSum],
+) -> Result<(), AllocError>
+    ensures { OnOk result (lines.new.items ≡ lines.old.items ++ map (line_of account) sums.now) }
+{
+    for sum in sums {
+        lines.push(CallLine { account, sum: *sum })?;
+    }
+    Ok(())
 }

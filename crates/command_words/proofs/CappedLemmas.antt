@@ -5,7 +5,7 @@ use Rattle.std.proofs.lemmas.Bool.Decides.{nat_tests}
 use Rattle.std.specs.Str.Parse.{digits_value}
 use Rattle.std.proofs.lemmas.Bool.{and_parts}
 use Rattle.run_options.specs.Configs.{is_config}
-use Rattle.run_options.specs.declared.run_ask.RunAsk.{RunAsk}
+use Rattle.run_options.specs.declared.options.RunAsk.{RunAsk}
 use Rattle.table_core.specs.Decimals.{decimal_of, is_decimal}
 use Rattle.command_words.specs.Capped.{capped, capped_ask}
 use Rattle.command_words.specs.RunWords.{number_of}

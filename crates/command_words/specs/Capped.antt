@@ -1,6 +1,6 @@
 -- Numbers as the code keeps them: 32 bits, of which the greatest stands for all above it.
 use Rattle.std.specs.Prelude.{ℕ, min}
-use Rattle.run_options.specs.declared.run_ask.RunAsk.{RunAsk}
+use Rattle.run_options.specs.declared.options.RunAsk.{RunAsk}
 
 -- a number in 32 bits, of which the greatest stands for all above it
 abbrev pub capped : ℕ → ℕ

@@ -4,7 +4,7 @@ use Rattle.clap.specs.Words.{Row, Text, first_of}
 use Rattle.table_core.specs.Decimals.{decimal_of}
 use Rattle.tariff_core.specs.Rates.{Rates}
 use Rattle.command_words.specs.Wishes.{Wish, Replays}
-use Rattle.tariff_core.specs.declared.money.TheConstants.{MAX_MONEY}
+use Rattle.tariff_core.specs.declared.plan.TheConstants.{MAX_MONEY}
 use Rattle.account_core.specs.declared.limits.TheConstants.{MAX_LIMIT, MIN_LIMIT}
 use Rattle.tariff_core.specs.declared.plan.TheConstants.{MAX_RATE}
 use Rattle.tariff_core.specs.declared.times.TheConstants.{DAY}

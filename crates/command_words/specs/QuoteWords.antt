@@ -4,7 +4,7 @@ use Rattle.clap.specs.Words.{Row, Text, first_of}
 use Rattle.cap_values.specs.Numbers.{is_number}
 use Rattle.table_core.specs.Decimals.{decimal_of}
 use Rattle.tariff_core.specs.TariffTable.{time_of}
-use Rattle.tariff_core.specs.declared.money.TheConstants.{MAX_MONEY}
+use Rattle.tariff_core.specs.declared.plan.TheConstants.{MAX_MONEY}
 use Rattle.tariff_core.specs.declared.times.TheConstants.{DAY, LAST_MOMENT}
 use Rattle.command_words.specs.Options.{optional_number_in}
 use Rattle.command_words.specs.QuoteWishes.{QuoteWish}

@@ -4,9 +4,9 @@ use Rattle.std.specs.Str.{bytes_eq}
 use Rattle.std.specs.Str.Parse.{digits_value}
 use Rattle.clap.specs.Words.{Row, Text, first_of}
 use Rattle.run_options.specs.Configs.{is_config}
-use Rattle.run_options.specs.declared.run_ask.RunAsk.{RunAsk}
-use Rattle.run_options.specs.declared.run_output.RunOutput.{RunOutput}
-use Rattle.run_options.specs.declared.run_output.RunOutput.TheVariants as output
+use Rattle.run_options.specs.declared.options.RunAsk.{RunAsk}
+use Rattle.run_options.specs.declared.options.RunOutput.{RunOutput}
+use Rattle.run_options.specs.declared.options.RunOutput.TheVariants as output
 use Rattle.ssf_core.specs.declared.config.DefaultHandling.{DefaultHandling}
 use Rattle.ssf_core.specs.declared.config.DefaultHandling.TheVariants as handling
 use Rattle.table_core.specs.Decimals.{is_decimal}

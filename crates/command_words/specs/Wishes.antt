@@ -1,6 +1,6 @@
 -- What a command is asked for, as plain data.
 use Rattle.std.specs.Prelude.{ℕ}
-use Rattle.run_options.specs.declared.run_ask.RunAsk.{RunAsk}
+use Rattle.run_options.specs.declared.options.RunAsk.{RunAsk}
 use Rattle.tariff_core.specs.Rates.{Rates}
 use Rattle.command_words.specs.QuoteWishes.{QuoteWish}
 

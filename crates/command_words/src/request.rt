@@ -1,7 +1,7 @@
 //! What a command line asks for.
 
 ghost use Rattle.std.specs.Prelude.{◌≤◌, unwrap_or};
-ghost use Rattle.tariff_core.specs.declared.money.TheConstants.{MAX_MONEY};
+ghost use Rattle.tariff_core.specs.declared.plan.TheConstants.{MAX_MONEY};
 ghost use Rattle.tariff_core.specs.declared.times.TheConstants.{DAY, LAST_MOMENT};
 
 use cap_values::Number;

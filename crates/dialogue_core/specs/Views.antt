@@ -12,9 +12,9 @@ use Rattle.dialogue_core.specs.declared.state.State.{State}
 use Rattle.dialogue_core.specs.declared.state.State.TheVariants as state
 use Rattle.dialogue_core.specs.declared.state.Then.{Then}
 use Rattle.dialogue_core.specs.declared.state.Then.TheVariants as next
-use Rattle.dialogue_core.specs.declared.terms.Terms.{Terms}
-use Rattle.dialogue_core.specs.declared.turn.Turn.{Turn}
-use Rattle.dialogue_core.specs.declared.turn.Turn.TheVariants as turn
+use Rattle.dialogue_core.specs.declared.state.Terms.{Terms}
+use Rattle.dialogue_core.specs.declared.dialogue.Turn.{Turn}
+use Rattle.dialogue_core.specs.declared.dialogue.Turn.TheVariants as turn
 
 -- the terms of a call, as plain data
 abbrev pub conditions_of : Terms → Conditions

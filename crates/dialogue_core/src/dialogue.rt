@@ -2,18 +2,16 @@
 
 ghost use Rattle.std.specs.Prelude.{◌≡◌, ◌+◌, ◌<◌, ◌≤◌, Ok, Err, IfOk, IfErr};
 ghost use Rattle.std.specs.Option.{ForSome};
-ghost use Rattle.dialogue_core.specs.Table.{on_begin, on_reply, seconds_to, on_message, on_refusal};
-ghost use Rattle.dialogue_core.specs.Views.{Follows, phase_at, phase_of, says_of};
+ghost use Rattle.dialogue_core.specs.Table.{on_begin, on_reply, seconds_to, on_message, on_refusal, ending, give_back, going_on, reported, running, active_reply, are_units, first_reply, last_reply, more_reply, reserve, return_reply, sequel};
+ghost use Rattle.dialogue_core.specs.Views.{Follows, phase_at, phase_of, says_of, conditions_of, sequel_of};
+ghost use Rattle.dialogue_core.specs.Phases.{Asks};
 
-use crate::messages::{ending, running};
-use crate::operations::release;
-use crate::replies::{active_reply, first_reply, last_reply, more_reply, reserve, return_reply};
-use crate::returns::{give_back, sequel};
-use crate::state::{State, Then};
-use crate::terms::Terms;
-use crate::{DialogueFault, ServiceConfig, Turn};
-use account_core::{AccountFault, Reply};
-use cap_values::{Cause, SsfMsg};
+use crate::operations::{first_period, further_period, go_on, nothing, release};
+use crate::state::{State, Terms, Then};
+use crate::{DialogueFault, ServiceConfig};
+use account_core::{AccountFault, Op, Reply};
+use arrayvec::ArrayVec;
+use cap_values::{Cause, Event, Mode, ScfOp, SsfMsg};
 use tariff_core::{DAY, Route};
 
 /// The service's dialogue about one call.
@@ -164,5 +162,175 @@ fn seconds_to(now: u64, switch_at: Option<u64>) -> Option<u32>
     match switch_at {
         None => None,
         Some(at) => Some((at - now).div_ceil(10) as u32),
+    }
+}
+
+/// A turn of a dialogue.
+#[derive(Debug, PartialEq, Eq, Drop)]
+pub enum Turn {
+    /// The account is asked, and its reply goes to `Dialogue::answer` or `Dialogue::refused`.
+    Ask(Op),
+    /// The gsmSSF is sent these operations, in order.
+    Send(ArrayVec<ScfOp, 4>),
+    /// The dialogue is over.
+    Done,
+}
+
+/// A message of a call that was granted time, and its moment.
+fn running(
+    terms: Terms,
+    number: u64,
+    at: u64,
+    message: SsfMsg,
+) -> Result<(Turn, State), DialogueFault>
+    ensures { Follows result (running (conditions_of terms) number at message) }
+{
+    match message {
+        SsfMsg::InitialDp { .. } => Err(DialogueFault::Unexpected),
+        SsfMsg::EventReport { event, mode, .. } => reported(terms, event, mode),
+        SsfMsg::ChargingReport { active, info } => {
+            let call = terms.call;
+            let ask = Turn::Ask(Op::Settle { call, number, info });
+            Ok((ask, State::Settling { terms, active, at }))
+        }
+        SsfMsg::Ended => Ok(give_back(terms, Then::Close)),
+    }
+}
+
+/// An event of a call that was granted time: any but the answer ends it.
+fn reported(terms: Terms, event: Event, mode: Mode) -> Result<(Turn, State), DialogueFault>
+    ensures { Follows result (reported (conditions_of terms) event mode) }
+{
+    match event {
+        Event::Answer => Ok((nothing(), State::Running(terms))),
+        _ => Ok(give_back(terms, going_on(mode))),
+    }
+}
+
+/// A message after the account is done with.
+fn ending(message: SsfMsg) -> Result<(Turn, State), DialogueFault>
+    ensures { Follows result (ending message) }
+{
+    match message {
+        SsfMsg::EventReport { mode, .. } => Ok(sequel(going_on(mode))),
+        SsfMsg::Ended => Ok((Turn::Done, State::Closed)),
+        SsfMsg::InitialDp { .. } | SsfMsg::ChargingReport { .. } => Err(DialogueFault::Unexpected),
+    }
+}
+
+/// A call that waits at an event goes on.
+fn going_on(mode: Mode) -> Then
+    ensures { sequel_of result ≡ going_on mode }
+{
+    match mode {
+        Mode::Interrupted => Then::GoOn,
+        Mode::NotifyAndContinue | Mode::Transparent => Then::Nothing,
+    }
+}
+
+/// The reply to the first reserve.
+fn first_reply(terms: Terms, reply: Reply) -> Result<(Turn, State), DialogueFault>
+    ensures { Follows result (first_reply (conditions_of terms) reply) }
+{
+    match reply {
+        Reply::Granted { units, last, .. } => {
+            if !are_units(units) {
+                return Err(DialogueFault::Unexpected);
+            }
+            let period = first_period(units, terms.switch, last);
+            Ok((period, State::Running(terms)))
+        }
+        Reply::Denied { .. } => Ok((release(Cause::call_rejected()), State::Ending)),
+        _ => Err(DialogueFault::Unexpected),
+    }
+}
+
+/// The reply to a report of a call that goes on, taken at a moment.
+fn active_reply(terms: Terms, at: u64, reply: Reply) -> Result<(Turn, State), DialogueFault>
+    ensures { Follows result (active_reply (conditions_of terms) at reply) }
+{
+    match reply {
+        Reply::Settled { .. } => Ok((reserve(terms, at), State::MoreAsk(terms))),
+        Reply::Forfeit { .. } => Ok(give_back(terms, Then::Fail)),
+        _ => Err(DialogueFault::Unexpected),
+    }
+}
+
+/// The reply to the last report of a call.
+fn last_reply(terms: Terms, reply: Reply) -> Result<(Turn, State), DialogueFault>
+    ensures { Follows result (last_reply (conditions_of terms) reply) }
+{
+    match reply {
+        Reply::Settled { .. } => Ok(give_back(terms, Then::Nothing)),
+        Reply::Forfeit { .. } => Ok(give_back(terms, Then::Nothing)),
+        _ => Err(DialogueFault::Unexpected),
+    }
+}
+
+/// The reply to a further reserve.
+fn more_reply(terms: Terms, reply: Reply) -> Result<(Turn, State), DialogueFault>
+    ensures { Follows result (more_reply (conditions_of terms) reply) }
+{
+    match reply {
+        Reply::Granted { units, last, .. } => {
+            if !are_units(units) {
+                return Err(DialogueFault::Unexpected);
+            }
+            Ok((further_period(units, last), State::Running(terms)))
+        }
+        Reply::Denied { .. } => Ok(give_back(terms, Then::Clear)),
+        _ => Err(DialogueFault::Unexpected),
+    }
+}
+
+/// The reply to a return.
+fn return_reply(next: Then, reply: Reply) -> Result<(Turn, State), DialogueFault>
+    ensures { Follows result (return_reply (sequel_of next) reply) }
+{
+    match reply {
+        Reply::Returned { .. } => Ok(sequel(next)),
+        _ => Err(DialogueFault::Unexpected),
+    }
+}
+
+/// More time is asked for at a moment.
+pub(crate) fn reserve(terms: Terms, at: u64) -> Turn
+    ensures { says_of result ≡ Asks (reserve (conditions_of terms) at) }
+{
+    Turn::Ask(Op::Reserve {
+        call: terms.call,
+        plan: terms.plan,
+        wanted: terms.wanted,
+        least: terms.least,
+        at,
+    })
+}
+
+/// Whether a grant can be given on as a call period.
+fn are_units(units: u32) -> bool
+    ensures { result ≡ are_units units }
+{
+    1 <= units && units <= DAY
+}
+
+/// What the call holds is returned.
+fn give_back(terms: Terms, next: Then) -> (Turn, State)
+    ensures { give_back (conditions_of terms) (sequel_of next)
+        ≡ Ok (says_of result.0, phase_at result.1) }
+{
+    let ask = Turn::Ask(Op::Return { call: terms.call });
+    (ask, State::Returning(next))
+}
+
+/// What follows a return.
+fn sequel(next: Then) -> (Turn, State)
+    ensures { sequel (sequel_of next) ≡ (says_of result.0, phase_at result.1) }
+{
+    match next {
+        Then::Nothing => (nothing(), State::Ending),
+        Then::GoOn => (go_on(), State::Ending),
+        Then::Clear => (release(Cause::normal_call_clearing()), State::Ending),
+        Then::Fail => (release(Cause::temporary_failure()), State::Ending),
+        Then::Close => (Turn::Done, State::Closed),
     }
 }

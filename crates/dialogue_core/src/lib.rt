@@ -10,16 +10,10 @@ mod config;
 mod dialogue;
 mod fault;
 mod laws;
-mod messages;
 mod operations;
-mod replies;
-mod returns;
 mod state;
-mod terms;
-mod turn;
 
 pub use config::ServiceConfig;
-pub use dialogue::Dialogue;
+pub use dialogue::{Dialogue, Turn};
 pub use fault::DialogueFault;
 pub use laws::{honest_replies_are_expected, one_return_if_granted, one_settle_a_grant};
-pub use turn::Turn;

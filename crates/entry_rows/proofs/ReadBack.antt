@@ -7,8 +7,8 @@ use Rattle.std.proofs.lemmas.Fmt.{decimal_nonempty}
 use Rattle.account_core.specs.Asked.{Credits, Reserves, Returns, Settles}
 use Rattle.account_core.specs.declared.entry.Reply.TheVariants as reply
 use Rattle.table_core.specs.Printed.{DecimalsAreRead}
-use Rattle.tariff_core.specs.declared.time_info.TimeInfo.{TimeInfo}
-use Rattle.tariff_core.specs.declared.time_info.TimeInfo.TheVariants as info
+use Rattle.tariff_core.specs.declared.times.TimeInfo.{TimeInfo}
+use Rattle.tariff_core.specs.declared.times.TimeInfo.TheVariants as info
 use Rattle.entry_rows.specs.Column.{any_number_of, interval_of, is_empty, moment_of, money_of, number_of, optional_moment_of, optional_rate_of, rate_of, units_of}
 use Rattle.entry_rows.specs.Columns.{number_or_empty, operation_of}
 use Rattle.entry_rows.specs.Fits.{FitsReport, IsInterval, IsMoment, IsMoney, IsRate, IsTime, IsWide}

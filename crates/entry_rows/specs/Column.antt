@@ -5,7 +5,7 @@ use Rattle.table_core.specs.Fields.{present}
 use Rattle.table_core.specs.Judging.{after}
 use Rattle.table_core.specs.declared.fault.RowKind.{RowKind}
 use Rattle.table_core.specs.declared.fault.RowKind.TheVariants as kind
-use Rattle.tariff_core.specs.declared.money.TheConstants.{MAX_MONEY}
+use Rattle.tariff_core.specs.declared.plan.TheConstants.{MAX_MONEY}
 use Rattle.tariff_core.specs.declared.plan.TheConstants.{MAX_RATE}
 use Rattle.tariff_core.specs.declared.times.TheConstants.{DAY, HORIZON}
 

@@ -4,9 +4,9 @@ use Rattle.account_core.specs.Asked.{Asked, Credits, Reserves, Settles, Returns}
 use Rattle.account_core.specs.Events.{EntryData}
 use Rattle.account_core.specs.Laws.{IsReplyInRange}
 use Rattle.tariff_core.specs.Rates.{Rates}
-use Rattle.tariff_core.specs.declared.time_info.TimeInfo.{TimeInfo}
-use Rattle.tariff_core.specs.declared.time_info.TimeInfo.TheVariants as info
-use Rattle.tariff_core.specs.declared.money.TheConstants.{MAX_MONEY}
+use Rattle.tariff_core.specs.declared.times.TimeInfo.{TimeInfo}
+use Rattle.tariff_core.specs.declared.times.TimeInfo.TheVariants as info
+use Rattle.tariff_core.specs.declared.plan.TheConstants.{MAX_MONEY}
 use Rattle.tariff_core.specs.declared.plan.TheConstants.{MAX_RATE}
 use Rattle.tariff_core.specs.declared.times.TheConstants.{DAY, HORIZON}
 

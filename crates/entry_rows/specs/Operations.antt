@@ -4,8 +4,8 @@ use Rattle.account_core.specs.Asked.{Asked, Credits, Reserves, Settles, Returns}
 use Rattle.table_core.specs.Judging.{after}
 use Rattle.table_core.specs.declared.fault.RowKind.{RowKind}
 use Rattle.tariff_core.specs.Rates.{Rates}
-use Rattle.tariff_core.specs.declared.time_info.TimeInfo.{TimeInfo}
-use Rattle.tariff_core.specs.declared.time_info.TimeInfo.TheVariants as info
+use Rattle.tariff_core.specs.declared.times.TimeInfo.{TimeInfo}
+use Rattle.tariff_core.specs.declared.times.TimeInfo.TheVariants as info
 use Rattle.entry_rows.specs.Column.{any_number_of, interval_of, is_empty, moment_of, money_of, optional_moment_of, optional_rate_of, rate_of, units_of}
 use Rattle.entry_rows.specs.Columns.{Operation}
 use Rattle.entry_rows.specs.declared.version.Version.{Version}

@@ -16,8 +16,8 @@ use Rattle.dialogue_core.specs.Table.{Step, are_units, first_period, on_reply, s
 use Rattle.dialogue_core.specs.Views.{phase_of, says_of}
 use Rattle.dialogue_core.specs.declared.dialogue.Dialogue.{Dialogue}
 use Rattle.dialogue_core.specs.declared.fault.DialogueFault.{DialogueFault}
-use Rattle.dialogue_core.specs.declared.turn.Turn.{Turn}
-use Rattle.dialogue_core.specs.declared.turn.Turn.TheVariants as turn
+use Rattle.dialogue_core.specs.declared.dialogue.Turn.{Turn}
+use Rattle.dialogue_core.specs.declared.dialogue.Turn.TheVariants as turn
 use Rattle.ssf_core.specs.Meters.{Meter}
 use Rattle.one_call.specs.Asks.{IsAsked, after_answer, asks_after, asks_left, or_done}
 use Rattle.one_call.specs.Covered.{Fits, IsReady}

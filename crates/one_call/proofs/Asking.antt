@@ -17,7 +17,7 @@ use Rattle.dialogue_core.specs.Table.{Step, are_units, first_period, on_reply, s
 use Rattle.dialogue_core.specs.declared.fault.DialogueFault.TheVariants.{Unexpected}
 use Rattle.ssf_core.specs.Meters.{Meter}
 use Rattle.tariff_core.specs.Rates.{Rates}
-use Rattle.tariff_core.specs.declared.time_info.TimeInfo.{TimeInfo}
+use Rattle.tariff_core.specs.declared.times.TimeInfo.{TimeInfo}
 use Rattle.one_call.specs.Covered.{Fits, IsAsking, IsCovered, IsFresh, IsMore, IsUsedUp}
 use Rattle.one_call.specs.Tallies.{with_answer}
 use Rattle.one_call.specs.declared.tally.Tally.{Tally}

@@ -14,8 +14,8 @@ use Rattle.tariff_core.specs.Lawful.{is_lawful}
 use Rattle.tariff_core.specs.Rates.{Rates}
 use Rattle.tariff_core.specs.Reading.{times_read}
 use Rattle.tariff_core.specs.Times.{Elapsed, no_times}
-use Rattle.tariff_core.specs.declared.time_info.TimeInfo.{TimeInfo}
-use Rattle.tariff_core.specs.declared.time_info.TimeInfo.TheVariants.{Switch}
+use Rattle.tariff_core.specs.declared.times.TimeInfo.{TimeInfo}
+use Rattle.tariff_core.specs.declared.times.TimeInfo.TheVariants.{Switch}
 use Rattle.one_call.specs.Covered.{IsCovered, IsSingle, IsTold, IsUsedUp, times_at}
 
 -- ---- tests

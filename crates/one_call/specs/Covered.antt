@@ -9,7 +9,7 @@ use Rattle.dialogue_core.specs.Phases.{Conditions, Phase, Says, FirstAsk, Runnin
 use Rattle.ssf_core.specs.Meters.{Meter}
 use Rattle.tariff_core.specs.Rates.{Rates}
 use Rattle.tariff_core.specs.Times.{Elapsed, no_times}
-use Rattle.tariff_core.specs.declared.time_info.TimeInfo.{TimeInfo}
+use Rattle.tariff_core.specs.declared.times.TimeInfo.{TimeInfo}
 use Rattle.tariff_core.specs.declared.times.TheConstants.{DAY}
 
 -- the units that queued orders pay for

@@ -1,7 +1,7 @@
 -- The events that a call is to meet.
 use Rattle.std.specs.Prelude.{◌≡◌, ◌<◌, ◌≤◌, ◌&&◌, ℕ, Bool, true, Option, Some, None, List, [], ◌∷◌, nat_le}
 use Rattle.std.specs.Option.{ForSome}
-use Rattle.ssf_core.specs.declared.bcsm_event.BcsmEvent.{BcsmEvent}
+use Rattle.ssf_core.specs.declared.item.BcsmEvent.{BcsmEvent}
 
 -- no moment lies below the one before it, nor the first one below the start
 abbrev pub are_in_order : ℕ → List (ℕ × BcsmEvent) → Bool

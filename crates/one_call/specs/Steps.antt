@@ -1,6 +1,6 @@
 -- What the gsmSSF is given next.
 use Rattle.std.specs.Prelude.{◌≡◌, ℕ, Some, None, List}
-use Rattle.ssf_core.specs.declared.bcsm_event.BcsmEvent.{BcsmEvent}
+use Rattle.ssf_core.specs.declared.item.BcsmEvent.{BcsmEvent}
 use Rattle.ssf_core.specs.Deliveries.{TakesDue}
 use Rattle.one_call.specs.Scripts.{TakesEvent}
 use Rattle.ssf_core.specs.declared.deliveries.Delivery.{Delivery}

@@ -10,7 +10,7 @@ use Rattle.command_words.specs.Wishes.{Wish, Audits, Prices, Quotes, Replays, Ru
 use Rattle.command_words.specs.declared.fault.WordsFault.TheVariants as words_fault
 use Rattle.run_command.specs.Answers.{IsRunAnswer}
 use Rattle.run_command.specs.declared.error.RunError.{RunError}
-use Rattle.run_options.specs.declared.run_ask.RunAsk.{RunAsk}
+use Rattle.run_options.specs.declared.options.RunAsk.{RunAsk}
 use Rattle.run_texts.specs.Inputs.{tariff_in}
 use Rattle.runs_core.specs.declared.run_fault.RunFault.TheVariants as run
 use Rattle.table_core.specs.Judging.{after}

@@ -1,7 +1,7 @@
 -- What an ask of the code says.
 use Rattle.account_core.specs.Events.{asked_of}
 use Rattle.prepaid_command.specs.Asks.{Asking}
-use Rattle.prepaid_command.specs.declared.asks.Ask.{Ask}
+use Rattle.prepaid_command.specs.declared.replaying.Ask.{Ask}
 
 -- the seat and what it asks
 abbrev pub asking_of : Ask → Asking

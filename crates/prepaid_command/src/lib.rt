@@ -2,15 +2,12 @@
 #![tactic(auto)]
 
 mod answer;
-mod asks;
 mod fault;
 mod input;
 mod price_lines;
 mod program;
 mod quoting;
-mod replay_lines;
 mod replaying;
-mod reports;
 mod tables;
 
 pub use fault::{Fault, Part};

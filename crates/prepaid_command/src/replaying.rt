@@ -1,20 +1,24 @@
 //! `replay`: a sequential account answers the operations of a table.
 
 ghost use Rattle.std.specs.Prelude.{◌≡◌, ◌≢◌, ◌++◌, ◌≤◌, Err, IfErr, IfSome, OnOk, string_bytes};
-ghost use Rattle.prepaid_command.specs.ReplayLines.{told_line};
+ghost use Rattle.std.specs.Result.{result_map_both};
+ghost use Rattle.prepaid_command.specs.ReplayLines.{told_line, ending, granted_line, paid_and_available, refused_line, reply_line};
 ghost use Rattle.prepaid_command.specs.Replays.{replayed};
+ghost use Rattle.prepaid_command.specs.Asks.{ask_in};
+ghost use Rattle.prepaid_command.specs.AskingOf.{asking_of};
 ghost use Rattle.table_core.specs.Faults.{Gives};
 ghost use Rattle.table_core.specs.Rows.{rows_of};
+ghost use Rattle.csv.specs.Records.{fields_of};
+ghost use Rattle.entry_rows.specs.Columns.{HasOperation};
 ghost use Rattle.table_core.specs.declared.fault.TableFault.TheVariants as out;
 
-use crate::asks::read_ask;
-use crate::replay_lines::{write_refused, write_reply};
 use crate::tables::MAX_ROWS;
-use account_core::{Account, AccountFault, Reply};
-use entry_rows::Version;
-use std::alloc::Global;
+use account_core::{Account, AccountFault, Op, Reply};
+use csv::ByteRecord;
+use entry_rows::{Version, is_op_blank, read_op, read_op_word, read_seat};
+use std::alloc::{AllocError, Global};
 use std::io::Read;
-use table_core::{Table, TableFault};
+use table_core::{RowKind, Table, TableFault};
 use tariff_core::MAX_MONEY;
 
 /// One line a row: the account's reply, or the fault that refused the operation. The account opens
@@ -60,4 +64,93 @@ fn write_answer(text: &mut String, answer: Result<Reply, AccountFault>) -> Resul
         Err(AccountFault::OutOfMemory) => Err(TableFault::OutOfMemory),
         Err(fault) => Ok(write_refused(text, fault)?),
     }
+}
+
+/// Where the seat stands, and where the columns of the operation begin.
+const SEAT: usize = 0;
+
+const OP: usize = 1;
+
+/// What a seat asks.
+#[derive(Clone, Copy)]
+pub struct Ask {
+    /// The seat, 0 to 15.
+    pub seat: u32,
+    /// What it asks.
+    pub op: Op,
+}
+
+/// What a row of a table of this version asks.
+#[tactic(auto, unfolding(crate::specs::Asks::asking_in))]
+pub fn read_ask(row: &ByteRecord, version: Version) -> Result<Ask, RowKind>
+    requires { HasOperation version (fields_of row.now) 1 }
+    ensures { result_map_both asking_of (λ kind. kind) result
+        ≡ ask_in version (fields_of row.now) }
+{
+    let word = read_op_word(row, OP)?;
+    let seat = read_seat(row, SEAT)?;
+    let op = read_op(row, OP, version, word)?;
+    if !is_op_blank(row, OP, version, word) {
+        return Err(RowKind::Empty);
+    }
+    Ok(Ask { seat, op })
+}
+
+/// Adds the line of a reply.
+pub fn write_reply(text: &mut String, reply: Reply) -> Result<(), AllocError>
+    ensures { OnOk result (string_bytes text.new ≡ string_bytes text.old ++ reply_line reply) }
+{
+    match reply {
+        Reply::Credited { available } => write_available(text, "credited available ", available),
+        Reply::CreditOver { available } => write_available(text, "over available ", available),
+        Reply::Granted {
+            units,
+            last,
+            available,
+        } => write_granted(text, units, last, available),
+        Reply::Denied { available } => write_available(text, "denied available ", available),
+        Reply::Settled { paid, available } => write_paid(text, "settled paid ", paid, available),
+        Reply::Forfeit { paid, available } => write_paid(text, "forfeit paid ", paid, available),
+        Reply::Returned { paid, available } => write_paid(text, "returned paid ", paid, available),
+    }
+}
+
+/// Adds the line of what was granted.
+fn write_granted(
+    text: &mut String,
+    units: u32,
+    last: bool,
+    available: u64,
+) -> Result<(), AllocError>
+    ensures { OnOk result (string_bytes text.new
+        ≡ string_bytes text.old ++ granted_line units last available) }
+{
+    if last {
+        writeln!(text, "granted {units} last available {available}")
+    } else {
+        writeln!(text, "granted {units} more available {available}")
+    }
+}
+
+/// Adds a line of these words and what is available.
+fn write_available(text: &mut String, words: &str, available: u64) -> Result<(), AllocError>
+    ensures { OnOk result (string_bytes text.new
+        ≡ string_bytes text.old ++ (words.now ++ ending available)) }
+{
+    writeln!(text, "{words}{available}")
+}
+
+/// Adds a line of these words, what was paid and what is available.
+fn write_paid(text: &mut String, words: &str, paid: u64, available: u64) -> Result<(), AllocError>
+    ensures { OnOk result (string_bytes text.new
+        ≡ string_bytes text.old ++ (words.now ++ paid_and_available paid available)) }
+{
+    writeln!(text, "{words}{paid} available {available}")
+}
+
+/// Adds the line of a refused operation.
+pub fn write_refused(text: &mut String, fault: AccountFault) -> Result<(), AllocError>
+    ensures { OnOk result (string_bytes text.new ≡ string_bytes text.old ++ refused_line fault) }
+{
+    writeln!(text, "refused {fault}")
 }

@@ -2,7 +2,5 @@
 #![tactic(auto)]
 
 mod rising_map;
-mod searching;
 
-pub use rising_map::{Listing, RisingMap};
-pub use searching::{is_above, place_of};
+pub use rising_map::{Listing, RisingMap, is_above, place_of};

@@ -13,7 +13,7 @@ use Rattle.run_books.proofs.Openings.{IsOpenedWithin}
 use Rattle.run_books.proofs.Posts.{IsTimelyAsked, handled_all, mine_timely, served_at}
 use Rattle.run_books.specs.Timely.{AreTimely, IsTimely}
 use Rattle.run_values.specs.Setups.{Setup}
-use Rattle.run_values.specs.declared.answer.Answer.{Answer}
+use Rattle.run_values.specs.declared.post.Answer.{Answer}
 use Rattle.run_values.specs.declared.post.Body.{Body}
 use Rattle.runs_core.specs.Entered.{IsBookOf, ReservesAreInTheBooks}
 use Rattle.runs_core.specs.Runs.{IsRun, RunShown}

@@ -13,8 +13,8 @@ use Rattle.run_books.specs.Runs.{HasAccounts}
 use Rattle.run_values.proofs.Placing.{first_at}
 use Rattle.run_values.specs.Openings.{expires_in_time, is_in_range}
 use Rattle.run_values.specs.Setups.{Setup}
-use Rattle.run_values.specs.declared.answer.Answer.{Answer}
-use Rattle.run_values.specs.declared.opening_credit.OpeningCredit.{OpeningCredit}
+use Rattle.run_values.specs.declared.post.Answer.{Answer}
+use Rattle.run_values.specs.declared.directory.OpeningCredit.{OpeningCredit}
 use Rattle.run_values.specs.declared.post.Body.{Body}
 use Rattle.runs_core.specs.Closing.{terms_shown}
 use Rattle.runs_core.specs.Entered.{IsBookOf}

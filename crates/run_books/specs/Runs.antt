@@ -9,8 +9,8 @@ use Rattle.book_texts.specs.Typed.{IsTyped}
 use Rattle.run_books.specs.Timely.{AreTimely}
 use Rattle.run_values.specs.Openings.{is_in_range}
 use Rattle.run_values.specs.Setups.{Setup}
-use Rattle.run_values.specs.declared.answer.Answer.{Answer}
-use Rattle.run_values.specs.declared.opening_credit.OpeningCredit.{OpeningCredit}
+use Rattle.run_values.specs.declared.post.Answer.{Answer}
+use Rattle.run_values.specs.declared.directory.OpeningCredit.{OpeningCredit}
 use Rattle.run_values.specs.declared.post.Body.{Body}
 use Rattle.run_values.specs.declared.post.Post.{Post}
 use Rattle.runs_core.specs.Runs.{IsRun}

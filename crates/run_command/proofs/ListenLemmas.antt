@@ -6,10 +6,10 @@ use Rattle.run_command.proofs.PlayLemmas.{Rounds}
 use Rattle.run_command.specs.Answers.{IsTextOf}
 use Rattle.run_command.specs.Listening.{Listens}
 use Rattle.run_command.specs.declared.listening.Listener.{Listener}
-use Rattle.run_options.specs.declared.run_output.RunOutput.{RunOutput}
-use Rattle.run_options.specs.declared.run_output.RunOutput.TheVariants as output
+use Rattle.run_options.specs.declared.options.RunOutput.{RunOutput}
+use Rattle.run_options.specs.declared.options.RunOutput.TheVariants as output
 use Rattle.run_trace.specs.Tables.{trace_text}
-use Rattle.run_values.specs.declared.answer.Answer.{Answer}
+use Rattle.run_values.specs.declared.post.Answer.{Answer}
 use Rattle.runs_core.specs.Hearing.{HearsRounds, all_heard}
 use Rattle.script_player.specs.Runs.{Hears}
 

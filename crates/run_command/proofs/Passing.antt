@@ -4,7 +4,7 @@ use Rattle.run_books.specs.Laws.{RunsPassTheAudit}
 use Rattle.run_books.specs.Runs.{HasAccounts}
 use Rattle.run_command.proofs.Timing.{given_timely, rows_in_time}
 use Rattle.run_command.specs.Laws.{PlayedBooksPass}
-use Rattle.run_values.specs.declared.opening_credit.OpeningCredit.{OpeningCredit}
+use Rattle.run_values.specs.declared.directory.OpeningCredit.{OpeningCredit}
 use Rattle.runs_core.specs.Hearing.{all_heard}
 use Rattle.ssf_core.specs.Laws.{ReportsAreInRange}
 

@@ -2,15 +2,15 @@
 use Rattle.std.proofs.Common.{◌≡◌, ℕ, true, false, List, [], ◌∷◌, ◌++◌, map, refl, sym, ◌∙◌, ap, subst}
 use Rattle.std.proofs.lemmas.List.{append-nil}
 use Rattle.run_command.specs.Plays.{HearsItsRounds, IsAskedFor, IsGivenBy, IsPlayOf}
-use Rattle.run_options.specs.declared.run_ask.RunAsk.{RunAsk}
+use Rattle.run_options.specs.declared.options.RunAsk.{RunAsk}
 use Rattle.run_texts.specs.Views.{script_event}
-use Rattle.run_texts.specs.declared.script_row.ScriptRow.{ScriptRow}
+use Rattle.run_texts.specs.declared.script.ScriptRow.{ScriptRow}
 use Rattle.script_player.specs.Chains.{Chain}
 use Rattle.script_player.specs.Plays.{IsPlayed, Play}
 use Rattle.script_player.specs.Posts.{Begins, items_of, opening_of, recharges_in, recharges_of}
 use Rattle.script_player.specs.Runs.{Hears, LivesByItsDeeds, fresh}
 use Rattle.ssf_core.specs.declared.config.SsfConfig.{SsfConfig}
-use Rattle.run_values.specs.declared.answer.Answer.{Answer}
+use Rattle.run_values.specs.declared.post.Answer.{Answer}
 use Rattle.run_values.specs.declared.post.Body.{Body}
 use Rattle.runs_core.specs.Hearing.{HearsRounds}
 

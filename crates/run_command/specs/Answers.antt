@@ -8,9 +8,9 @@ use Rattle.call_records.specs.Records.{Run}
 use Rattle.call_records.specs.Tables.{IsCallText}
 use Rattle.run_command.specs.Books.{AreBooksOf}
 use Rattle.run_command.specs.Plays.{IsGivenBy}
-use Rattle.run_options.specs.declared.run_ask.RunAsk.{RunAsk}
-use Rattle.run_options.specs.declared.run_output.RunOutput.{RunOutput}
-use Rattle.run_options.specs.declared.run_output.RunOutput.TheVariants as output
+use Rattle.run_options.specs.declared.options.RunAsk.{RunAsk}
+use Rattle.run_options.specs.declared.options.RunOutput.{RunOutput}
+use Rattle.run_options.specs.declared.options.RunOutput.TheVariants as output
 use Rattle.run_texts.specs.InputFaults.{Refuses}
 use Rattle.run_texts.specs.Inputs.{RunInput, input_of}
 use Rattle.run_command.specs.declared.error.RunError.{RunError}
@@ -21,7 +21,7 @@ use Rattle.runs_core.specs.Teams.{are_workers}
 use Rattle.runs_core.specs.declared.run_fault.RunFault.{RunFault}
 use Rattle.runs_core.specs.declared.run_fault.RunFault.TheVariants as run
 use Rattle.shared_account.specs.Closed.{Closed}
-use Rattle.run_values.specs.declared.answer.Answer.{Answer}
+use Rattle.run_values.specs.declared.post.Answer.{Answer}
 use Rattle.run_values.specs.declared.post.Body.{Body}
 
 -- the text of what a run has come to, where these answers were heard: the lines of its accounts and calls, the table of its books, that of its calls,

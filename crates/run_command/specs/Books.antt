@@ -3,13 +3,13 @@ use Rattle.std.specs.Prelude.{◌≡◌, ℕ, Option, List}
 use Rattle.account_core.specs.declared.fault.AccountFault.{AccountFault}
 use Rattle.account_core.specs.declared.limits.TheConstants.{MAX_LIMIT}
 use Rattle.run_texts.specs.Inputs.{RunInput}
-use Rattle.run_options.specs.declared.run_ask.RunAsk.{RunAsk}
+use Rattle.run_options.specs.declared.options.RunAsk.{RunAsk}
 use Rattle.run_texts.specs.Views.{with_digits}
 use Rattle.runs_core.specs.Hearing.{all_heard}
 use Rattle.runs_core.specs.Runs.{IsRun}
 use Rattle.shared_account.specs.Closed.{Closed}
 use Rattle.run_values.specs.Setups.{Setup}
-use Rattle.run_values.specs.declared.answer.Answer.{Answer}
+use Rattle.run_values.specs.declared.post.Answer.{Answer}
 use Rattle.run_values.specs.declared.post.Body.{Body}
 use Rattle.run_values.specs.declared.post.Post.{Post}
 

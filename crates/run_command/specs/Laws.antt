@@ -6,10 +6,10 @@ use Rattle.run_books.specs.Laws.{PassTheAudit}
 use Rattle.run_books.specs.Runs.{HasAccounts}
 use Rattle.run_command.specs.Books.{AreBooksOf}
 use Rattle.run_command.specs.Plays.{IsGivenBy}
-use Rattle.run_options.specs.declared.run_ask.RunAsk.{RunAsk}
+use Rattle.run_options.specs.declared.options.RunAsk.{RunAsk}
 use Rattle.run_texts.specs.Happenings.{is_in_time}
 use Rattle.run_texts.specs.Inputs.{RunInput}
-use Rattle.run_values.specs.declared.answer.Answer.{Answer}
+use Rattle.run_values.specs.declared.post.Answer.{Answer}
 use Rattle.run_values.specs.declared.post.Body.{Body}
 use Rattle.runs_core.specs.Teams.{are_workers}
 use Rattle.shared_account.specs.Closed.{Closed}

@@ -1,7 +1,7 @@
 -- A player that keeps the answers that it hears.
 use Rattle.std.specs.Prelude.{◌≡◌, ◌++◌, true, false, List}
 use Rattle.run_command.specs.declared.listening.Listener.{Listener}
-use Rattle.run_values.specs.declared.answer.Answer.{Answer}
+use Rattle.run_values.specs.declared.post.Answer.{Answer}
 use Rattle.script_player.specs.Runs.{Hears}
 
 -- a listener hears answers as its player does, and keeps them where it keeps any

@@ -3,11 +3,11 @@ use Rattle.std.specs.Prelude.{◌≡◌, List}
 use Rattle.call_records.specs.Records.{Run}
 use Rattle.run_command.specs.Books.{AreBooksOf}
 use Rattle.run_command.specs.Plays.{IsGivenBy}
-use Rattle.run_command.specs.declared.playing.Played.{Played}
-use Rattle.run_options.specs.declared.run_ask.RunAsk.{RunAsk}
-use Rattle.run_options.specs.declared.run_output.RunOutput.TheVariants as output
+use Rattle.run_command.specs.declared.running.Played.{Played}
+use Rattle.run_options.specs.declared.options.RunAsk.{RunAsk}
+use Rattle.run_options.specs.declared.options.RunOutput.TheVariants as output
 use Rattle.run_texts.specs.Inputs.{RunInput}
-use Rattle.run_values.specs.declared.answer.Answer.{Answer}
+use Rattle.run_values.specs.declared.post.Answer.{Answer}
 use Rattle.runs_core.specs.Hearing.{all_heard}
 
 -- what a play has come to: its setup, what its player has given, and its books

@@ -3,8 +3,8 @@
 ghost use Rattle.std.specs.Prelude.{◌≡◌, ◌++◌, true, List};
 ghost use Rattle.run_command.specs.Laws.{PlayedBooksPass};
 ghost use Rattle.run_command.specs.Plays.{HearsItsRounds, IsPlayOf};
-ghost use Rattle.run_texts.specs.declared.script_row.ScriptRow.{ScriptRow};
-ghost use Rattle.run_values.specs.declared.answer.Answer.{Answer};
+ghost use Rattle.run_texts.specs.declared.script.ScriptRow.{ScriptRow};
+ghost use Rattle.run_values.specs.declared.post.Answer.{Answer};
 
 use run_books::runs_pass_the_audit;
 use runs_core::Driver;

@@ -5,7 +5,6 @@
 mod error;
 mod laws;
 mod listening;
-mod playing;
 mod running;
 
 pub use error::RunError;

@@ -38,7 +38,7 @@ impl Listener {
 impl Driver for Listener {
     ghost use Rattle.std.specs.Prelude.{ℕ, List};
     ghost use Rattle.run_command.specs.Listening.{Listens};
-    ghost use Rattle.run_texts.specs.declared.script_row.ScriptRow.{ScriptRow};
+    ghost use Rattle.run_texts.specs.declared.script.ScriptRow.{ScriptRow};
     ghost use Rattle.ssf_core.specs.declared.config.SsfConfig.{SsfConfig};
 
     ghost given = { λ listener. listener.player.network.given };

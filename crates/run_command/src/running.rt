@@ -1,24 +1,34 @@
 //! The command `run`.
 
-ghost use Rattle.std.specs.Prelude.{◌≡◌, All, IfOk, OnOk, string_bytes};
+ghost use Rattle.std.specs.Prelude.{◌≡◌, ◌≤◌, ◌++◌, All, IfOk, OnOk, string_bytes, ℕ, true, List, map, IfErr};
 ghost use Rattle.std.specs.Result.{result_map_both};
+ghost use Rattle.run_command.specs.Answers.{IsRunAnswer, IsTextOf, MayFail};
+ghost use Rattle.run_command.specs.Played.{run_of, AreOfPlay};
 ghost use Rattle.book_texts.specs.Typed.{IsTyped};
-ghost use Rattle.run_command.specs.Answers.{IsRunAnswer, IsTextOf};
-ghost use Rattle.run_command.specs.Played.{run_of};
 ghost use Rattle.run_options.specs.Options.{ask_of};
+ghost use Rattle.run_books.specs.Runs.{HasAccounts};
+ghost use Rattle.run_texts.specs.Inputs.{input_in};
+ghost use Rattle.runs_core.specs.Teams.{are_workers};
+ghost use Rattle.run_texts.specs.Views.{are_in_order};
+ghost use Rattle.run_texts.specs.declared.script.ScriptRow.{ScriptRow};
+ghost use Rattle.run_values.specs.Setups.{IsWithin};
 
 use crate::listening::Listener;
-use crate::playing::{Played, play};
 use crate::{RunError, laws};
+use account_core::MAX_LIMIT;
 use book_texts::{book_table, run_lines};
 use call_records::{call_table, records};
 use run_options::{RunOptions, RunOutput};
-use run_texts::read_texts;
+use run_texts::{RunTexts, read_texts};
 use run_trace::trace_table;
-use runs_core::Driver;
+use run_values::RunSetup;
+use runs_core::{Books, Driver, serve};
+use script_player::ScriptPlayer;
+use shared_account::{Book, OpenGate};
 use std::alloc::{AllocError, Global};
 use std::sync::Wait;
 use std::thread::Threads;
+use tariff_core::LAST_MOMENT;
 
 /// The text of a run of the input's script: a line for each account and for each of its calls, the
 /// table of their books, the table of the calls, or the trace of what was said.
@@ -57,4 +67,49 @@ fn print(alloc: Global, output: RunOutput, played: &Played) -> Result<String, Al
         }
         RunOutput::Trace => trace_table(alloc, player.given(), heard.as_slice()),
     }
+}
+
+/// A script that was played.
+#[derive(Drop)]
+struct Played {
+    /// What the run was set up with.
+    setup: RunSetup,
+    /// The player of the script, which has all that it gave, and the answers that it kept.
+    listener: Listener,
+    /// The books of the accounts.
+    books: Vec<Book>,
+}
+
+/// Plays a script over its accounts.
+fn play<R: Wait + Threads + Sync>(
+    rt: &R,
+    alloc: Global,
+    options: &RunOptions,
+    texts: RunTexts,
+) -> Result<Played, RunError>
+    requires within { IsWithin texts.directory }
+    requires in_range { All (λ row. row.at ≤ LAST_MOMENT) texts.script.items }
+    requires in_order { are_in_order 0 texts.script.items ≡ true }
+    ensures workers { IfOk result (λ _. are_workers options.now.workers ≡ true) }
+    ensures books { IfOk result (AreOfPlay (ask_of options.now) (input_in texts)) }
+    ensures accounts { OnOk result (HasAccounts texts.directory.accounts) }
+    ensures fault { IfErr result (MayFail options.now.workers) }
+{
+    let RunTexts {
+        tariff,
+        directory,
+        script,
+    } = texts;
+    let setup = RunSetup::of(alloc, directory, tariff, options.service, MAX_LIMIT)?;
+    let player = ScriptPlayer::new(alloc, script, options.ssf, options.delay)?;
+    let mut listener = Listener::new(alloc, player, options.output);
+    let workers = options.workers;
+    let Books { books, .. } = serve(rt, alloc, &setup, &mut listener, workers, &OpenGate)?;
+    laws::is_played(&listener.player);
+    let _ = setup.accounts();
+    Ok(Played {
+        setup,
+        listener,
+        books,
+    })
 }

@@ -1,6 +1,6 @@
 -- The ranges of a run's times.
 use Rattle.std.specs.Prelude.{◌&&◌, Bool, nat_le}
-use Rattle.run_options.specs.declared.run_ask.RunAsk.{RunAsk}
+use Rattle.run_options.specs.declared.options.RunAsk.{RunAsk}
 use Rattle.tariff_core.specs.declared.times.TheConstants.{DAY}
 
 -- 1 ≤ delay ≤ tccd ≤ least ≤ wanted ≤ a day, and 1 ≤ tssf ≤ a day

@@ -1,5 +1,5 @@
 -- What the options of a run say.
-use Rattle.run_options.specs.declared.run_ask.RunAsk.{RunAsk}
+use Rattle.run_options.specs.declared.options.RunAsk.{RunAsk}
 use Rattle.run_options.specs.declared.options.RunOptions.{RunOptions}
 
 -- what was asked for

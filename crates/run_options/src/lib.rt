@@ -2,9 +2,5 @@
 #![tactic(auto)]
 
 mod options;
-mod run_ask;
-mod run_output;
 
-pub use options::RunOptions;
-pub use run_ask::RunAsk;
-pub use run_output::RunOutput;
+pub use options::{RunAsk, RunOptions, RunOutput};

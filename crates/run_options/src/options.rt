@@ -3,9 +3,8 @@
 ghost use Rattle.std.specs.Prelude.{◌≡◌, ◌≤◌, ◌↔◌, true, IsSome, IfSome};
 ghost use Rattle.run_options.specs.Configs.{is_config};
 
-use crate::{RunAsk, RunOutput};
 use dialogue_core::ServiceConfig;
-use ssf_core::SsfConfig;
+use ssf_core::{DefaultHandling, SsfConfig};
 
 /// The options of a run, each in its range.
 #[derive(Clone, Copy)]
@@ -47,4 +46,38 @@ impl RunOptions {
             output: ask.output,
         })
     }
+}
+
+/// What `run` is asked for besides its input, in any numbers. Times are in units of 100 ms.
+#[derive(Clone, Copy)]
+pub struct RunAsk {
+    /// How many workers serve the run.
+    pub workers: u32,
+    /// The time that the service asks an account for.
+    pub wanted: u32,
+    /// The least time that it takes.
+    pub least: u32,
+    /// How long a switch waits for instructions.
+    pub tssf: u32,
+    /// How long a switch waits for a further period.
+    pub tccd: u32,
+    /// How long after a message the operations of its answer reach the switch.
+    pub delay: u32,
+    /// What becomes of a call whose instructions don't come in time.
+    pub default_handling: DefaultHandling,
+    /// What is printed.
+    pub output: RunOutput,
+}
+
+/// What a run prints.
+#[derive(Clone, Copy, Debug, PartialEq, Eq)]
+pub enum RunOutput {
+    /// A line for each account and for each of its calls.
+    Lines,
+    /// The table of books.
+    Book,
+    /// The table of calls.
+    Calls,
+    /// The trace: the table of what was said.
+    Trace,
 }

@@ -8,7 +8,7 @@ use Rattle.call_records.specs.declared.call_record.CallRecord.{CallRecord}
 use Rattle.call_records.specs.declared.outcome.Outcome.TheVariants as outcome
 use Rattle.run_books.specs.Runs.{HasAccounts}
 use Rattle.run_records.specs.Starts.{HaveTheirParties}
-use Rattle.run_values.specs.declared.answer.Answer.{Answer}
+use Rattle.run_values.specs.declared.post.Answer.{Answer}
 use Rattle.run_values.specs.declared.post.Post.{Post}
 use Rattle.runs_core.specs.Runs.{IsRun}
 use Rattle.runs_core.specs.Teams.{are_workers}

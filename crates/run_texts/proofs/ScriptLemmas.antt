@@ -10,7 +10,7 @@ use Rattle.run_texts.specs.Happenings.{ScriptEvent, Happens, Meets, Recharges, S
 use Rattle.run_texts.specs.Scripts.{is_started, starts}
 use Rattle.run_texts.specs.Starts.{HasCalls, Notes}
 use Rattle.run_texts.specs.Views.{are_in_order, script_event}
-use Rattle.run_texts.specs.declared.script_row.ScriptRow.{ScriptRow}
+use Rattle.run_texts.specs.declared.script.ScriptRow.{ScriptRow}
 
 abbrev Fields : Type 0
 Fields = List (List ℕ)

@@ -1,8 +1,8 @@
 -- How a row of a setup is answered.
 use Rattle.std.specs.Prelude.{◌≡◌, Result, Ok, Err, ⊤}
 use Rattle.run_texts.specs.Setups.{Setup}
-use Rattle.run_texts.specs.declared.entry_fault.EntryFault.{EntryFault}
-use Rattle.run_texts.specs.declared.entry_fault.EntryFault.TheVariants as entry
+use Rattle.run_texts.specs.declared.setup.EntryFault.{EntryFault}
+use Rattle.run_texts.specs.declared.setup.EntryFault.TheVariants as entry
 use Rattle.table_core.specs.declared.fault.RowKind.{RowKind}
 use Rattle.table_core.specs.declared.fault.RowKind.TheVariants as kind
 use Rattle.run_values.specs.declared.setup_fault.SetupFault.{SetupFault}

@@ -1,6 +1,6 @@
 -- What happens in a run.
 use Rattle.std.specs.Prelude.{ℕ, Bool, true, List, Option}
-use Rattle.ssf_core.specs.declared.bcsm_event.BcsmEvent.{BcsmEvent}
+use Rattle.ssf_core.specs.declared.item.BcsmEvent.{BcsmEvent}
 use Rattle.run_values.specs.Openings.{expires_in_time}
 
 -- a call starts, between a calling and a called party; a call meets an event; an account is recharged by an amount, and has another last moment if

@@ -1,8 +1,8 @@
 -- The meaning of a script: what happens in a run, or the first fault.
 use Rattle.std.specs.Prelude.{◌==◌, ◌&&◌, ◌||◌, ℕ, Bool, false, List, [], ◌∷◌, reverse, Result, Ok, Err, if◌then◌else◌, nat_lt, codes}
 use Rattle.cap_values.specs.declared.leg.Leg.TheVariants as leg
-use Rattle.ssf_core.specs.declared.bcsm_event.BcsmEvent.{BcsmEvent}
-use Rattle.ssf_core.specs.declared.bcsm_event.BcsmEvent.TheVariants as bcsm
+use Rattle.ssf_core.specs.declared.item.BcsmEvent.{BcsmEvent}
+use Rattle.ssf_core.specs.declared.item.BcsmEvent.TheVariants as bcsm
 use Rattle.table_core.specs.Fields.{has_word, is_blank, number_in}
 use Rattle.table_core.specs.Judging.{after}
 use Rattle.table_core.specs.Rows.{Fields}
@@ -12,10 +12,10 @@ use Rattle.table_core.specs.declared.fault.RowKind.{RowKind}
 use Rattle.table_core.specs.declared.fault.RowKind.TheVariants as kind
 use Rattle.run_texts.specs.Happenings.{ScriptEvent, Happens, Meets, Recharges, Starts}
 use Rattle.run_texts.specs.Setups.{account_in, amount_in, party_in, until_in}
-use Rattle.run_texts.specs.declared.word.Word.{Word}
-use Rattle.run_texts.specs.declared.word.Word.TheVariants as word
+use Rattle.run_texts.specs.declared.script.Word.{Word}
+use Rattle.run_texts.specs.declared.script.Word.TheVariants as word
 use Rattle.run_values.specs.Setups.{has_account}
-use Rattle.run_values.specs.declared.opening_credit.OpeningCredit.{OpeningCredit}
+use Rattle.run_values.specs.declared.directory.OpeningCredit.{OpeningCredit}
 use Rattle.tariff_core.specs.declared.times.TheConstants.{LAST_MOMENT}
 
 -- ---- words

@@ -14,8 +14,8 @@ use Rattle.table_core.specs.declared.fault.RowFault.{RowFault}
 use Rattle.table_core.specs.declared.fault.RowKind.{RowKind}
 use Rattle.table_core.specs.declared.fault.RowKind.TheVariants as kind
 use Rattle.run_values.specs.Setups.{has_account}
-use Rattle.run_values.specs.declared.opening_credit.OpeningCredit.{OpeningCredit}
-use Rattle.tariff_core.specs.declared.money.TheConstants.{MAX_MONEY}
+use Rattle.run_values.specs.declared.directory.OpeningCredit.{OpeningCredit}
+use Rattle.tariff_core.specs.declared.plan.TheConstants.{MAX_MONEY}
 use Rattle.tariff_core.specs.declared.times.TheConstants.{LAST_MOMENT}
 
 -- accounts in ascending order, each a number and its opening credit, and subscribers in the order of their digits, each with its account

@@ -5,10 +5,10 @@ use Rattle.cap_values.specs.declared.number.Number.{Number}
 use Rattle.run_texts.specs.Happenings.{ScriptEvent, Happens, Meets, Recharges, Starts}
 use Rattle.run_texts.specs.Parts.{Texts}
 use Rattle.run_texts.specs.Setups.{Setup}
-use Rattle.run_texts.specs.declared.parts.Parts.{Parts}
-use Rattle.run_texts.specs.declared.script_row.Happening.{Happening}
-use Rattle.run_texts.specs.declared.script_row.Happening.TheVariants as happening
-use Rattle.run_texts.specs.declared.script_row.ScriptRow.{ScriptRow}
+use Rattle.run_texts.specs.declared.input.Parts.{Parts}
+use Rattle.run_texts.specs.declared.script.Happening.{Happening}
+use Rattle.run_texts.specs.declared.script.Happening.TheVariants as happening
+use Rattle.run_texts.specs.declared.script.ScriptRow.{ScriptRow}
 use Rattle.run_values.specs.Setups.{Listing}
 
 -- the texts of an input

@@ -2,20 +2,13 @@
 //! fault.
 #![tactic(auto)]
 
-mod entry_fault;
 mod fields;
-mod happenings;
 mod input;
 mod input_fault;
-mod parts;
 mod script;
-mod script_row;
 mod setup;
-mod word;
 
-pub use input::{RunTexts, read_tariff, read_texts};
+pub use input::{Parts, RunTexts, divide, read_tariff, read_texts};
 pub use input_fault::InputFault;
-pub use parts::{Parts, divide};
-pub use script::read_script;
-pub use script_row::{Happening, ScriptRow};
+pub use script::{Happening, ScriptRow, read_script};
 pub use setup::read_setup;

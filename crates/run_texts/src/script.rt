@@ -2,23 +2,23 @@
 
 ghost use Rattle.std.specs.Prelude.{◌≡◌, ◌≤◌, All, IfOk, IfSome, OnOk, length, map, true};
 ghost use Rattle.std.specs.Result.{result_map_both};
-ghost use Rattle.csv.specs.Records.{fields_of};
-ghost use Rattle.table_core.specs.Faults.{Gives};
-ghost use Rattle.table_core.specs.Rows.{rows_of};
-ghost use Rattle.run_texts.specs.Scripts.{judged_by, last_moment, row_at, script_of};
+ghost use Rattle.run_texts.specs.Scripts.{judged_by, last_moment, row_at, script_of, call_in, disconnect_in, event_in, happens_in, leg_of, read_in, recharge_in, start_in, when_blank, word_in};
 ghost use Rattle.run_texts.specs.Starts.{HasCalls, Notes};
 ghost use Rattle.run_texts.specs.Happenings.{is_in_time};
 ghost use Rattle.run_texts.specs.Views.{are_in_order, script_event, happens_of};
+ghost use Rattle.csv.specs.Records.{fields_of};
+ghost use Rattle.table_core.specs.Faults.{Gives};
+ghost use Rattle.table_core.specs.Rows.{rows_of};
 
-use crate::happenings::read_row;
-use crate::{Happening, ScriptRow};
+use crate::fields::{account, amount, is_left_out, party, until};
+use cap_values::{Leg, Number};
 use csv::ByteRecord;
 use run_values::Directory;
-use ssf_core::Moment;
+use ssf_core::{BcsmEvent, Moment};
 use std::alloc::{AllocError, Global};
 use std::collections::BTreeSet;
 use std::io::Read;
-use table_core::{RowKind, Table, TableFault};
+use table_core::{RowKind, Table, TableFault, is_blank, is_word, number};
 use tariff_core::LAST_MOMENT;
 
 /// The most rows of a script, its header not counted.
@@ -129,4 +129,194 @@ fn note(calls: &mut BTreeSet<u64>, what: Happening) -> Result<(), AllocError>
         calls.insert(call)?;
     }
     Ok(())
+}
+
+/// What happens, and when.
+#[derive(Clone, Copy, Debug, PartialEq, Eq)]
+pub struct ScriptRow {
+    /// The moment, 0 to `LAST_MOMENT`.
+    pub at: Moment,
+    /// What happens then.
+    pub what: Happening,
+}
+
+/// What happens in a run.
+#[derive(Clone, Copy, Debug, PartialEq, Eq)]
+pub enum Happening {
+    /// A call starts.
+    Start {
+        /// The call.
+        call: u64,
+        /// The number of the calling party.
+        calling: Number,
+        /// The number of the called party.
+        called: Number,
+    },
+    /// A call meets an event.
+    Meets {
+        /// The call.
+        call: u64,
+        /// What it meets.
+        event: BcsmEvent,
+    },
+    /// An account is recharged.
+    Recharge {
+        /// The account's number.
+        account: u32,
+        /// How much, 0 to `tariff_core::MAX_MONEY`.
+        amount: u64,
+        /// Its last moment from then on, 0 to `LAST_MOMENT`; none leaves it as it is.
+        until: Option<Moment>,
+    },
+}
+
+/// What a row says, wherever it stands: of five fields, or of six under the second header.
+fn read_row(row: &ByteRecord) -> Result<ScriptRow, RowKind>
+    requires { 5 ≤ length (fields_of row.now) }
+    ensures says { result_map_both script_event (λ kind. kind) result
+        ≡ read_in (fields_of row.now) }
+    ensures in_range { IfOk result (λ row. row.at ≤ LAST_MOMENT) }
+    ensures in_time { IfOk result (λ row. is_in_time (happens_of row.what) ≡ true) }
+{
+    let word = read_word(row)?;
+    let at = number(row, 0, LAST_MOMENT)?;
+    let what = read_happening(row, word)?;
+    Ok(ScriptRow { at, what })
+}
+
+fn read_happening(row: &ByteRecord, word: Word) -> Result<Happening, RowKind>
+    requires { 5 ≤ length (fields_of row.now) }
+    ensures says { result_map_both happens_of (λ kind. kind) result
+        ≡ happens_in (fields_of row.now) word }
+    ensures in_time { IfOk result (λ what. is_in_time (happens_of what) ≡ true) }
+{
+    match word {
+        Word::Start => read_start(row),
+        Word::Event(event) => read_event(row, event),
+        Word::Disconnect => read_disconnect(row),
+        Word::Recharge => read_recharge(row),
+    }
+}
+
+fn read_call(row: &ByteRecord) -> Result<u64, RowKind>
+    requires { 5 ≤ length (fields_of row.now) }
+    ensures { result ≡ call_in (fields_of row.now) }
+{
+    number(row, 1, u64::MAX)
+}
+
+fn read_start(row: &ByteRecord) -> Result<Happening, RowKind>
+    requires { 5 ≤ length (fields_of row.now) }
+    ensures says { result_map_both happens_of (λ kind. kind) result
+        ≡ start_in (fields_of row.now) }
+    ensures in_time { IfOk result (λ what. is_in_time (happens_of what) ≡ true) }
+{
+    let call = read_call(row)?;
+    let calling = party(row, 3)?;
+    let called = party(row, 4)?;
+    let start = Happening::Start {
+        call,
+        calling,
+        called,
+    };
+    when_blank(is_left_out(row, 5), start)
+}
+
+fn read_event(row: &ByteRecord, event: BcsmEvent) -> Result<Happening, RowKind>
+    requires { 5 ≤ length (fields_of row.now) }
+    ensures says { result_map_both happens_of (λ kind. kind) result
+        ≡ event_in (fields_of row.now) event }
+    ensures in_time { IfOk result (λ what. is_in_time (happens_of what) ≡ true) }
+{
+    let call = read_call(row)?;
+    let blank = is_blank(row, 3) && is_blank(row, 4) && is_left_out(row, 5);
+    when_blank(blank, Happening::Meets { call, event })
+}
+
+fn read_disconnect(row: &ByteRecord) -> Result<Happening, RowKind>
+    requires { 5 ≤ length (fields_of row.now) }
+    ensures says { result_map_both happens_of (λ kind. kind) result
+        ≡ disconnect_in (fields_of row.now) }
+    ensures in_time { IfOk result (λ what. is_in_time (happens_of what) ≡ true) }
+{
+    let call = read_call(row)?;
+    let leg = number(row, 3, 2)?;
+    let event = disconnect(leg)?;
+    let blank = is_blank(row, 4) && is_left_out(row, 5);
+    when_blank(blank, Happening::Meets { call, event })
+}
+
+/// What happens, where the fields that must be empty are.
+fn when_blank(blank: bool, what: Happening) -> Result<Happening, RowKind>
+    ensures says { result_map_both happens_of (λ kind. kind) result
+        ≡ when_blank blank (happens_of what) }
+    ensures same { IfOk result (λ made. made ≡ what) }
+{
+    if blank { Ok(what) } else { Err(RowKind::Empty) }
+}
+
+fn disconnect(leg: u64) -> Result<BcsmEvent, RowKind>
+    ensures { result ≡ leg_of leg }
+{
+    match leg {
+        1 => Ok(BcsmEvent::Disconnect(Leg::One)),
+        2 => Ok(BcsmEvent::Disconnect(Leg::Two)),
+        _ => Err(RowKind::Number),
+    }
+}
+
+fn read_recharge(row: &ByteRecord) -> Result<Happening, RowKind>
+    requires { 5 ≤ length (fields_of row.now) }
+    ensures says { result_map_both happens_of (λ kind. kind) result
+        ≡ recharge_in (fields_of row.now) }
+    ensures in_time { IfOk result (λ what. is_in_time (happens_of what) ≡ true) }
+{
+    let account = account(row, 3)?;
+    let amount = amount(row, 4)?;
+    let until = until(row, 5)?;
+    let recharge = Happening::Recharge {
+        account,
+        amount,
+        until,
+    };
+    when_blank(is_blank(row, 1), recharge)
+}
+
+/// What a row of a script is about.
+#[derive(Clone, Copy, Debug)]
+enum Word {
+    /// A call starts.
+    Start,
+    /// A call meets an event that has no more to say.
+    Event(BcsmEvent),
+    /// A party of a call hangs up.
+    Disconnect,
+    /// An account is recharged.
+    Recharge,
+}
+
+/// The word in a row, its third field.
+fn read_word(row: &ByteRecord) -> Result<Word, RowKind>
+    requires { 5 ≤ length (fields_of row.now) }
+    ensures { result ≡ word_in (fields_of row.now) }
+{
+    if is_word(row, 2, "start") {
+        Ok(Word::Start)
+    } else if is_word(row, 2, "answer") {
+        Ok(Word::Event(BcsmEvent::Answer))
+    } else if is_word(row, 2, "busy") {
+        Ok(Word::Event(BcsmEvent::Busy))
+    } else if is_word(row, 2, "noanswer") {
+        Ok(Word::Event(BcsmEvent::NoAnswer))
+    } else if is_word(row, 2, "routefail") {
+        Ok(Word::Event(BcsmEvent::RouteSelectFailure))
+    } else if is_word(row, 2, "abandon") {
+        Ok(Word::Event(BcsmEvent::Abandon))
+    } else if is_word(row, 2, "disconnect") {
+        Ok(Word::Disconnect)
+    } else if is_word(row, 2, "recharge") {
+        Ok(Word::Recharge)
+    } else {
+        Err(RowKind::What)
+    }
 }

@@ -1,18 +1,18 @@
 //! The setup table of a run: its accounts and its subscribers.
 
 ghost use Rattle.std.specs.Prelude.{◌≡◌, ◌≤◌, ◌+◌, IfOk, IfSome, OnOk, length};
-ghost use Rattle.csv.specs.Records.{fields_of};
-ghost use Rattle.run_texts.specs.Entries.{Enters};
+ghost use Rattle.run_texts.specs.Entries.{Enters, told_of};
 ghost use Rattle.run_texts.specs.Setups.{account_row, row_at, setup_of, subscriber_row};
 ghost use Rattle.run_texts.specs.Views.{setup_in};
+ghost use Rattle.csv.specs.Records.{fields_of};
 ghost use Rattle.table_core.specs.Faults.{Gives};
 ghost use Rattle.table_core.specs.Rows.{rows_of};
 ghost use Rattle.run_values.specs.Setups.{IsWithin};
+ghost use Rattle.run_texts.specs.declared.setup.EntryFault.TheVariants as out;
 
-use crate::entry_fault::EntryFault;
 use crate::fields::{account, amount, is_left_out, party, until};
 use csv::ByteRecord;
-use run_values::{Directory, MAX_ACCOUNTS, OpeningCredit};
+use run_values::{Directory, MAX_ACCOUNTS, OpeningCredit, SetupFault};
 use std::alloc::Global;
 use std::io::Read;
 use table_core::{RowKind, Table, TableFault, is_word};
@@ -109,4 +109,34 @@ fn enter_subscriber(directory: &mut Directory, row: &ByteRecord) -> Result<(), E
     }
     directory.subscriber(number, account)?;
     Ok(())
+}
+
+/// Why a row of a setup isn't entered.
+#[derive(Clone, Copy, Debug)]
+enum EntryFault {
+    /// The row has a fault.
+    Row(RowKind),
+    /// Memory ran out.
+    OutOfMemory,
+}
+
+impl From<RowKind> for EntryFault {
+    ghost from_gives = { λ kind fault. fault ≡ out.Row kind };
+
+    fn from(kind: RowKind) -> EntryFault {
+        EntryFault::Row(kind)
+    }
+}
+
+impl From<SetupFault> for EntryFault {
+    ghost from_gives = { λ why fault. fault ≡ told_of why };
+
+    fn from(fault: SetupFault) -> EntryFault {
+        match fault {
+            SetupFault::Repeated => EntryFault::Row(RowKind::Repeated),
+            SetupFault::Unknown => EntryFault::Row(RowKind::Unknown),
+            SetupFault::OutOfRange => EntryFault::Row(RowKind::Number),
+            SetupFault::OutOfMemory => EntryFault::OutOfMemory,
+        }
+    }
 }

@@ -8,7 +8,7 @@ use Rattle.std.specs.Prelude.{slice_get}
 use Rattle.std.specs.Slice.{IsItemAt}
 use Rattle.run_trace.specs.Said.{operation_said, refused_said, stray_said}
 use Rattle.run_trace.specs.Tables.{answer_rows, header, post_rows, row, rows_from, service_rows, trace_text}
-use Rattle.run_values.specs.declared.answer.Answer.{Answer}
+use Rattle.run_values.specs.declared.post.Answer.{Answer}
 use Rattle.run_values.specs.declared.post.Body.{Body}
 
 -- the rows of a post, with those of its answer

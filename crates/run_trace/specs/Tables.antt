@@ -3,7 +3,7 @@ use Rattle.std.specs.Prelude.{◌+◌, ℕ, Option, Some, None, List, [], ◌∷
 use Rattle.std.specs.Fmt.{decimal}
 use Rattle.std.specs.List.{flat_map}
 use Rattle.entry_rows.specs.Columns.{field, number_or_empty}
-use Rattle.run_values.specs.declared.answer.Answer.{Answer}
+use Rattle.run_values.specs.declared.post.Answer.{Answer}
 use Rattle.run_values.specs.declared.post.Body.{Body}
 use Rattle.run_values.specs.declared.post.Body.TheVariants as body
 use Rattle.run_trace.specs.Said.{Said, answer_said, post_said}

@@ -3,6 +3,5 @@
 
 mod rows;
 mod table;
-mod words;
 
 pub use table::trace_table;

@@ -1,12 +1,11 @@
 //! The rows of a post and of its answer.
 
 ghost use Rattle.std.specs.Prelude.{◌≡◌, ◌++◌, Some, map, OnOk, string_bytes};
-ghost use Rattle.run_trace.specs.Said.{message_said, operation_said, post_said, refused_said, report_said, stray_said};
+ghost use Rattle.run_trace.specs.Said.{message_said, operation_said, post_said, refused_said, report_said, stray_said, event_word, leg_number, mode_word, release_word, state_word};
 ghost use Rattle.run_trace.specs.Tables.{answer_rows, call_of, head_text, row, said_text, sender_of, service_rows};
 
-use crate::words::{event_word, leg_number, mode_word, release_word, state_word};
 use account_core::AccountFault;
-use cap_values::{ScfOp, SsfMsg};
+use cap_values::{Event, Leg, Mode, ScfOp, SsfMsg};
 use entry_rows::Field;
 use run_values::{Answer, Body};
 use std::alloc::AllocError;
@@ -168,4 +167,54 @@ fn write_operation(text: &mut String, op: &ScfOp) -> Result<(), AllocError>
             writeln!(text, "ReleaseCall,{value},,,")
         }
     }
+}
+
+/// The word for an event.
+fn event_word(event: Event) -> &'static str
+    ensures { result.now ≡ event_word event }
+{
+    match event {
+        Event::CollectedInfo => "collectedInfo",
+        Event::RouteSelectFailure => "routeSelectFailure",
+        Event::CalledPartyBusy => "busy",
+        Event::NoAnswer => "noAnswer",
+        Event::Answer => "answer",
+        Event::Disconnect => "disconnect",
+        Event::Abandon => "abandon",
+    }
+}
+
+/// The word for how an event was watched.
+fn mode_word(mode: Mode) -> &'static str
+    ensures { result.now ≡ mode_word mode }
+{
+    match mode {
+        Mode::Interrupted => "interrupted",
+        Mode::NotifyAndContinue => "notify",
+        Mode::Transparent => "transparent",
+    }
+}
+
+/// The number of a leg, where there is one.
+fn leg_number(leg: Option<Leg>) -> Field
+    ensures { result.0 ≡ leg_number leg }
+{
+    match leg {
+        Some(leg) => Field(Some(u64::from(leg.code()))),
+        None => Field(None),
+    }
+}
+
+/// The word for whether a call goes on.
+fn state_word(active: bool) -> &'static str
+    ensures { result.now ≡ state_word active }
+{
+    if active { "active" } else { "inactive" }
+}
+
+/// The word for whether a call is released at the end of its period, or none.
+fn release_word(release: bool) -> &'static str
+    ensures { result.now ≡ release_word release }
+{
+    if release { "release" } else { "" }
 }

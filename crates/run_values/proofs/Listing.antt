@@ -18,7 +18,7 @@ use Rattle.cap_values.specs.declared.number.Number.{Number}
 use Rattle.run_values.proofs.Judging.{ends, lookup-alike, lookup-append, one_more, passes, stops}
 use Rattle.run_values.specs.Openings.{is_in_range}
 use Rattle.run_values.specs.Setups.{account_fault, account_of, first_fault, has_account, opening_of, subscriber_fault}
-use Rattle.run_values.specs.declared.opening_credit.OpeningCredit.{OpeningCredit}
+use Rattle.run_values.specs.declared.directory.OpeningCredit.{OpeningCredit}
 use Rattle.run_values.specs.declared.setup_fault.SetupFault.{SetupFault}
 use Rattle.run_values.specs.declared.setup_fault.SetupFault.TheVariants as fault
 

@@ -16,7 +16,7 @@ use Rattle.std.proofs.lemmas.Map.Keys.{below_from_sorted, non_decreasing_from_so
 use Rattle.std.proofs.lemmas.Map.Lookups.{exact_unsigned}
 use Rattle.run_values.specs.Openings.{no_credit}
 use Rattle.run_values.specs.Setups.{opening_of}
-use Rattle.run_values.specs.declared.opening_credit.OpeningCredit.{OpeningCredit}
+use Rattle.run_values.specs.declared.directory.OpeningCredit.{OpeningCredit}
 
 pub found_at : (accounts : List (ℕ × OpeningCredit)) (account place : ℕ) → HoldsAt (λ entry. nat_cmp entry.0 account ≡ Equal) accounts place → HoldsAt (λ entry. entry.0 ≡ account) accounts place
 found_at accounts account place equal d = exact_unsigned _ account (equal d)

@@ -1,8 +1,8 @@
 -- What accounts are opened with.
 use Rattle.std.specs.Prelude.{◌&&◌, ℕ, Bool, true, Option, Some, None, nat_le}
-use Rattle.tariff_core.specs.declared.money.TheConstants.{MAX_MONEY}
+use Rattle.tariff_core.specs.declared.plan.TheConstants.{MAX_MONEY}
 use Rattle.tariff_core.specs.declared.times.TheConstants.{LAST_MOMENT}
-use Rattle.run_values.specs.declared.opening_credit.OpeningCredit.{OpeningCredit}
+use Rattle.run_values.specs.declared.directory.OpeningCredit.{OpeningCredit}
 
 -- no credit, that doesn't expire
 abbrev pub no_credit : OpeningCredit

@@ -11,7 +11,7 @@ use Rattle.cap_values.specs.declared.number.Number.{Number}
 use Rattle.dialogue_core.specs.declared.config.ServiceConfig.{ServiceConfig}
 use Rattle.tariff_core.specs.Bands.{Band}
 use Rattle.run_values.specs.Openings.{is_in_range}
-use Rattle.run_values.specs.declared.opening_credit.OpeningCredit.{OpeningCredit}
+use Rattle.run_values.specs.declared.directory.OpeningCredit.{OpeningCredit}
 use Rattle.run_values.specs.declared.setup_fault.SetupFault.{SetupFault}
 use Rattle.run_values.specs.declared.setup_fault.SetupFault.TheVariants as fault
 use Rattle.account_core.specs.declared.limits.TheConstants.{MAX_LIMIT, MIN_LIMIT}

@@ -7,11 +7,12 @@ ghost use Rattle.std.specs.Ordering.{nat_cmp};
 ghost use Rattle.run_values.specs.Openings.{is_in_range};
 ghost use Rattle.run_values.specs.Setups.{account_fault, account_of, has_account, nothing, subscriber_fault, with_account, with_subscriber};
 
-use crate::{OpeningCredit, SetupFault};
+use crate::SetupFault;
 use cap_values::Number;
 use std::alloc::{AllocError, Global};
 use std::collections::BTreeMap;
 use std::marker::Model;
+use tariff_core::{LAST_MOMENT, MAX_MONEY};
 
 /// The accounts and the subscribers of a run, each of them judged as it came: no number is there
 /// twice, each opening credit is in its range, and each subscriber has one of the accounts.
@@ -147,4 +148,26 @@ fn ascending(
         ascending.push((*number, *opening))?;
     }
     Ok(ascending)
+}
+
+/// What an account is opened with: its credit, and the last moment at which that grants anything.
+#[derive(Clone, Copy, Debug, PartialEq, Eq)]
+pub struct OpeningCredit {
+    /// How much, in units of money.
+    pub amount: u64,
+    /// The last moment, in units of 100 ms; none where the credit doesn't expire.
+    pub until: Option<u64>,
+}
+
+impl OpeningCredit {
+    /// Whether the amount is at most `MAX_MONEY`, and the last moment at most `LAST_MOMENT`.
+    pub(crate) fn is_in_range(&self) -> bool
+        ensures { result ≡ is_in_range self.now }
+    {
+        let expires_in_time = match self.until {
+            Some(until) => until <= LAST_MOMENT,
+            None => true,
+        };
+        self.amount <= MAX_MONEY && expires_in_time
+    }
 }

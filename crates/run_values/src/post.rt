@@ -1,9 +1,11 @@
-//! What is sent to a worker.
+//! What a worker is sent, and what it answers.
 
 ghost use Rattle.std.specs.Prelude.{◌≤◌};
 ghost use Rattle.tariff_core.specs.declared.times.TheConstants.{HORIZON};
 
-use cap_values::SsfMsg;
+use account_core::AccountFault;
+use arrayvec::ArrayVec;
+use cap_values::{ScfOp, SsfMsg};
 
 /// What a post is about.
 #[derive(Clone, Copy, Debug, PartialEq, Eq)]
@@ -36,4 +38,17 @@ pub struct Post {
     /// What it is about.
     pub body: Body,
     pub ghost in_range: { at ≤ HORIZON },
+}
+
+/// What a worker answers to a post.
+#[derive(Debug, PartialEq, Eq, Drop)]
+pub struct Answer {
+    /// The number of the post.
+    pub number: u64,
+    /// The operations that the gsmSSF of the post's call is sent, in order.
+    pub ops: ArrayVec<ScfOp, 4>,
+    /// Whether the post has no place here. No account was asked then.
+    pub stray: bool,
+    /// The last fault that an ask of an account got.
+    pub refused: Option<AccountFault>,
 }

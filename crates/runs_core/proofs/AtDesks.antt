@@ -5,7 +5,7 @@ use Rattle.std.proofs.lemmas.List.{append-nil, append_assoc, map-append}
 use Rattle.workers_core.proofs.Chaining.{more_after}
 use Rattle.workers_core.specs.Chains.{AreAnswered, at_first, refusals_in, seat_numbers}
 use Rattle.workers_core.specs.Handled.{AnswerView, answer_view}
-use Rattle.run_values.specs.declared.answer.Answer.{Answer}
+use Rattle.run_values.specs.declared.post.Answer.{Answer}
 use Rattle.workers_core.specs.Served.{AreServed}
 use Rattle.run_values.specs.Setups.{Setup}
 use Rattle.workers_core.specs.Workers.{IsReady, accounts_of, holding, number_of, posts_of, seats_of, setup_of, talks_of}
@@ -13,7 +13,7 @@ use Rattle.run_values.specs.declared.post.Post.{Post}
 use Rattle.runs_core.proofs.Leaving.{fresh_worker, numbered_each}
 use Rattle.runs_core.specs.Desks.{GoesOn, HasAnswered}
 use Rattle.runs_core.specs.Teams.{IsFresh, IsLeft, Reads}
-use Rattle.runs_core.specs.declared.desk.Desk.{Desk}
+use Rattle.runs_core.specs.declared.crew.Desk.{Desk}
 
 pub goes_none : {K S T : Type 0} (account_number : S → ℕ) (key : S → K) (read : Reads K T) (desk : Desk S T)
     → IsReady account_number key read.key read.number read.mine desk.worker → GoesOn account_number key read desk [] [] desk

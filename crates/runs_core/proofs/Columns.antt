@@ -14,11 +14,11 @@ use Rattle.runs_core.specs.Hearing.{AreAnsweredFrom, HasLeft, IsAnsweredBy, all_
 use Rattle.runs_core.specs.Runs.{HasRun, run_shown}
 use Rattle.runs_core.specs.Shares.{HaveHandled}
 use Rattle.runs_core.specs.Teams.{Reads, terms_of}
-use Rattle.runs_core.specs.declared.books.Books.{Books}
-use Rattle.runs_core.specs.declared.desk.WorkerEnd.{WorkerEnd}
+use Rattle.runs_core.specs.declared.serving.Books.{Books}
+use Rattle.runs_core.specs.declared.crew.WorkerEnd.{WorkerEnd}
 use Rattle.runs_core.specs.declared.run_fault.RunFault.{RunFault}
 use Rattle.run_values.specs.Setups.{Setup}
-use Rattle.run_values.specs.declared.answer.Answer.{Answer}
+use Rattle.run_values.specs.declared.post.Answer.{Answer}
 use Rattle.run_values.specs.declared.post.Body.{Body}
 
 -- piles onto which several lists are laid out, one after the other

@@ -5,20 +5,20 @@ use Rattle.std.specs.Result.{result_err}
 use Rattle.std.specs.Prelude.{All, Err, IfSome, Ok, Result}
 use mathlib.Core.Logic.{inl, inr}
 use Rattle.std.proofs.lemmas.List.{append-nil, append_assoc, length-map, map-append}
-use Rattle.run_values.specs.declared.opening_credit.OpeningCredit.{OpeningCredit}
+use Rattle.run_values.specs.declared.directory.OpeningCredit.{OpeningCredit}
 use Rattle.workers_core.proofs.Chaining.{worked_so}
 use Rattle.workers_core.specs.Chains.{IsWorked}
 use Rattle.workers_core.specs.Handled.{AnswerView, answer_view}
-use Rattle.run_values.specs.declared.answer.Answer.{Answer}
+use Rattle.run_values.specs.declared.post.Answer.{Answer}
 use Rattle.run_values.specs.Setups.{Setup}
 use Rattle.runs_core.specs.Sending.{AreLeftBy, ArePromised, IsFirstFault, IsLeftBy, IsPromised, MayBeShut, heard_by, promises_of, sent_by}
 use Rattle.std.specs.Map.{keys_of}
 use Rattle.shared_account.specs.Terms.{Terms}
 use Rattle.runs_core.specs.Closing.{AreLeftFrom, AreWorkedFrom, IsLeftFrom}
 use Rattle.runs_core.specs.Teams.{IsLeft, Reads, terms_of, terms_with}
-use Rattle.runs_core.specs.declared.desk.WorkerEnd.{WorkerEnd}
+use Rattle.runs_core.specs.declared.crew.WorkerEnd.{WorkerEnd}
 use Rattle.runs_core.specs.declared.worker_link.WorkerLink.{WorkerLink}
-use Rattle.runs_core.specs.declared.worker_promise.WorkerPromise.{WorkerPromise}
+use Rattle.runs_core.specs.declared.worker_link.WorkerPromise.{WorkerPromise}
 use Rattle.runs_core.specs.declared.run_fault.RunFault.{RunFault}
 use Rattle.runs_core.specs.declared.run_fault.RunFault.TheVariants as out
 

@@ -7,7 +7,7 @@ use Rattle.std.proofs.Math.ListN.{get_or, get_or-map, set}
 use Rattle.std.proofs.lemmas.Bool.{eq-eqb}
 use Rattle.std.proofs.lemmas.List.{append-nil, append_assoc, flat_map_more, get_or_default, get_or-set_other, get_or-set_same, length-map, length-set, length-take-le, map-append, map-set, take_all, take_more}
 use Rattle.std.proofs.lemmas.List.Elements.{All-head, All-tail}
-use Rattle.run_values.specs.declared.answer.Answer.{Answer}
+use Rattle.run_values.specs.declared.post.Answer.{Answer}
 use Rattle.run_values.specs.declared.post.Body.{Body}
 use Rattle.runs_core.proofs.Joins.{joined_at, joined_length, joined_next, joined_none}
 use Rattle.runs_core.proofs.Sendings.{agrees, differs, numbered-append}

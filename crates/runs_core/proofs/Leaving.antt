@@ -8,7 +8,7 @@ use Rattle.account_core.specs.Events.{EntryData}
 use Rattle.workers_core.specs.Chains.{at_first, seat_numbers}
 use Rattle.run_values.specs.Setups.{Setup}
 use Rattle.workers_core.specs.Verdicts.{DialogueAt}
-use Rattle.run_values.specs.declared.opening_credit.OpeningCredit.{OpeningCredit}
+use Rattle.run_values.specs.declared.directory.OpeningCredit.{OpeningCredit}
 use Rattle.runs_core.specs.Teams.{IsFresh, Reads}
 
 pub numbered_each : {T : Type 0} (number_of : T → ℕ) (n number : ℕ) (team : List T) → n ≡ number → All (λ m. m ≡ n) (map number_of team) → All (λ seat. number_of seat ≡ number) team

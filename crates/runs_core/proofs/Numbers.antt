@@ -9,11 +9,11 @@ use Rattle.runs_core.proofs.Columns.{map_dealt}
 use Rattle.runs_core.specs.Closing.{AreAllThere, AreNumberedFrom, AreWorkedFrom}
 use Rattle.runs_core.specs.Dealing.{dealt}
 use Rattle.runs_core.specs.Teams.{Reads, terms_of, terms_with}
-use Rattle.runs_core.specs.declared.desk.WorkerEnd.{WorkerEnd}
+use Rattle.runs_core.specs.declared.crew.WorkerEnd.{WorkerEnd}
 use Rattle.shared_account.specs.Seats.{are_numbered}
 use Rattle.shared_account.specs.Terms.{Terms}
 use Rattle.run_values.specs.Setups.{Setup}
-use Rattle.run_values.specs.declared.opening_credit.OpeningCredit.{OpeningCredit}
+use Rattle.run_values.specs.declared.directory.OpeningCredit.{OpeningCredit}
 
 -- each row has the numbers from 0 up to this one
 abbrev pub AreRising : ℕ → List (List ℕ) → Type 0

@@ -8,7 +8,7 @@ use Rattle.run_values.specs.Setups.{Setup}
 use Rattle.workers_core.specs.Chains.{IsAnswered}
 use Rattle.workers_core.specs.Handled.{answer_view}
 use Rattle.workers_core.specs.Workers.{accounts_of, posts_of, seats_of, setup_of}
-use Rattle.run_values.specs.declared.answer.Answer.{Answer}
+use Rattle.run_values.specs.declared.post.Answer.{Answer}
 use Rattle.run_values.specs.declared.post.Body.{Body}
 use Rattle.run_values.specs.declared.post.Post.{Post}
 use Rattle.runs_core.proofs.AtDesks.{answered_more, left_by}
@@ -23,11 +23,11 @@ use Rattle.runs_core.specs.Sending.{AreLeftBy, ArePromised, heard_by, promises_o
 use Rattle.runs_core.specs.Shares.{HaveHandled}
 use Rattle.runs_core.specs.Teams.{IsLeft, Reads}
 use Rattle.runs_core.specs.declared.crew.Crew.{Crew}
-use Rattle.runs_core.specs.declared.desk.Desk.{Desk}
-use Rattle.runs_core.specs.declared.desk.WorkerEnd.{WorkerEnd}
+use Rattle.runs_core.specs.declared.crew.Desk.{Desk}
+use Rattle.runs_core.specs.declared.crew.WorkerEnd.{WorkerEnd}
 use Rattle.runs_core.specs.declared.worker_link.WorkerLink.{WorkerLink}
 use Rattle.runs_core.specs.declared.run_fault.RunFault.{RunFault}
-use Rattle.runs_core.specs.declared.worker_promise.WorkerPromise.{WorkerPromise}
+use Rattle.runs_core.specs.declared.worker_link.WorkerPromise.{WorkerPromise}
 
 -- a round more
 pub served_more : {K S G T : Type 0} (account_number : S → ℕ) (key : S → K) (read : Reads K T) (setup : Setup) (accounts : List S) (given added now : List (ℕ × Body)) (answers more : List Answer) (old new : Crew S G T)

@@ -10,7 +10,7 @@ use Rattle.workers_core.specs.Served.{AreServed, IsServed}
 use Rattle.run_values.specs.Setups.{Setup}
 use Rattle.run_values.specs.declared.post.Post.{Post}
 use Rattle.runs_core.specs.Teams.{Reads}
-use Rattle.runs_core.specs.declared.desk.WorkerEnd.{WorkerEnd}
+use Rattle.runs_core.specs.declared.crew.WorkerEnd.{WorkerEnd}
 
 -- what a book shows of its account: its number, the credit that it was opened with and its last moment, how many entries it may have, and how many seats it has
 abbrev pub terms_shown : Closed → Terms

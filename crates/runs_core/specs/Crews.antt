@@ -3,7 +3,7 @@ use Rattle.std.specs.Prelude.{◌≡◌, ◌+◌, ◌++◌, ℕ, Bool, List, [],
 use Rattle.workers_core.specs.Handled.{answer_view}
 use Rattle.run_values.specs.Setups.{Setup}
 use Rattle.workers_core.specs.Workers.{posts_of}
-use Rattle.run_values.specs.declared.answer.Answer.{Answer}
+use Rattle.run_values.specs.declared.post.Answer.{Answer}
 use Rattle.run_values.specs.declared.post.Body.{Body}
 use Rattle.run_values.specs.declared.post.Post.{Post}
 use Rattle.runs_core.specs.Desks.{GoesOn, HasAnswered}

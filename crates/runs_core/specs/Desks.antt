@@ -6,7 +6,7 @@ use Rattle.run_values.specs.Setups.{Setup}
 use Rattle.workers_core.specs.Workers.{IsReady, accounts_of, holding, number_of, posts_of, seats_of, setup_of}
 use Rattle.run_values.specs.declared.post.Post.{Post}
 use Rattle.runs_core.specs.Teams.{Reads}
-use Rattle.runs_core.specs.declared.desk.Desk.{Desk}
+use Rattle.runs_core.specs.declared.crew.Desk.{Desk}
 
 -- posts were handled one after another, these are the answers to them, and the refusal of each was put down
 pub record GoesOn {K S T : Type 0} (account_number : S → ℕ) (key : S → K) (read : Reads K T) (old : Desk S T) (posts : List Post) (answers : List AnswerView) (new : Desk S T) : Type 0 where

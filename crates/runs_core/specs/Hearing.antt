@@ -6,13 +6,13 @@ use Rattle.shared_account.specs.Closed.{Closed}
 use Rattle.workers_core.specs.Chains.{IsAnswered, refusals_in}
 use Rattle.workers_core.specs.Handled.{answer_view}
 use Rattle.run_values.specs.Setups.{Setup}
-use Rattle.run_values.specs.declared.answer.Answer.{Answer}
+use Rattle.run_values.specs.declared.post.Answer.{Answer}
 use Rattle.run_values.specs.declared.post.Body.{Body}
 use Rattle.run_values.specs.declared.post.Post.{Post}
 use Rattle.runs_core.specs.Closing.{AreLeftFrom, AreWorkedFrom, lists_of}
 use Rattle.runs_core.specs.Shares.{HaveHandled, numbered, worker_of}
 use Rattle.runs_core.specs.Teams.{Reads}
-use Rattle.runs_core.specs.declared.desk.WorkerEnd.{WorkerEnd}
+use Rattle.runs_core.specs.declared.crew.WorkerEnd.{WorkerEnd}
 
 -- there is one answer for each item, in the order of the items, whose numbers go on from this one
 abbrev pub AnswersEach : ℕ → List (ℕ × Body) → List Answer → Type 0

@@ -3,14 +3,14 @@ use Rattle.std.specs.Prelude.{◌≡◌, ◌<◌, ℕ, Bool, Option, List, [], m
 use Rattle.account_core.specs.Answers.{IsLegal}
 use Rattle.account_core.specs.declared.fault.AccountFault.{AccountFault}
 use Rattle.run_values.specs.Setups.{Setup}
-use Rattle.run_values.specs.declared.answer.Answer.{Answer}
+use Rattle.run_values.specs.declared.post.Answer.{Answer}
 use Rattle.run_values.specs.declared.post.Body.{Body}
 use Rattle.run_values.specs.declared.post.Post.{Post}
 use Rattle.runs_core.specs.Closing.{AreServedBy, AreWorked, terms_shown}
 use Rattle.runs_core.specs.Hearing.{AnswersEach, HearsRounds, IsAnsweredBy, all_heard, answers_to}
 use Rattle.runs_core.specs.Shares.{HaveHandled}
 use Rattle.runs_core.specs.Teams.{terms_of}
-use Rattle.runs_core.specs.declared.books.Books.{Books}
+use Rattle.runs_core.specs.declared.serving.Books.{Books}
 use Rattle.shared_account.specs.Closed.{Closed}
 use Rattle.shared_account.specs.Own.{IsMerged}
 

@@ -2,15 +2,15 @@
 use Rattle.std.specs.Prelude.{◌≡◌, ◌+◌, ◌++◌, ◌⊎◌, ℕ, List, [], ◌∷◌, map}
 use Rattle.runs_core.specs.Mails.{items_in}
 use Rattle.runs_core.specs.Teams.{IsLeft, Reads}
-use Rattle.runs_core.specs.declared.desk.WorkerEnd.{WorkerEnd}
+use Rattle.runs_core.specs.declared.crew.WorkerEnd.{WorkerEnd}
 use Rattle.runs_core.specs.declared.worker_link.WorkerLink.{WorkerLink}
-use Rattle.runs_core.specs.declared.worker_promise.WorkerPromise.{WorkerPromise}
+use Rattle.runs_core.specs.declared.worker_link.WorkerPromise.{WorkerPromise}
 use Rattle.runs_core.specs.declared.run_fault.RunFault.{RunFault}
 use Rattle.runs_core.specs.declared.run_fault.RunFault.TheVariants as out
 use Rattle.workers_core.specs.Ends.{sent, taken}
 use Rattle.run_values.specs.Setups.{Setup}
 use Rattle.workers_core.specs.Handled.{answer_view}
-use Rattle.run_values.specs.declared.answer.Answer.{Answer}
+use Rattle.run_values.specs.declared.post.Answer.{Answer}
 use Rattle.run_values.specs.declared.post.Post.{Post}
 
 -- the posts that were sent by a link

@@ -9,7 +9,7 @@ use Rattle.workers_core.specs.Chains.{IsAnswered, refusals_in}
 use Rattle.workers_core.specs.Handled.{AnswerView}
 use Rattle.workers_core.specs.Served.{AreServed}
 use Rattle.run_values.specs.Setups.{Setup}
-use Rattle.run_values.specs.declared.opening_credit.OpeningCredit.{OpeningCredit}
+use Rattle.run_values.specs.declared.directory.OpeningCredit.{OpeningCredit}
 use Rattle.run_values.specs.declared.post.Post.{Post}
 
 -- there can be so many workers: 1 to 16

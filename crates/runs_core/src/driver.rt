@@ -12,7 +12,7 @@ use tariff_core::HORIZON;
 /// says of all the rounds of a run.
 pub trait Driver {
     ghost use Rattle.std.specs.Prelude.{◌≡◌, ◌≤◌, ◌++◌, ℕ, List, Bool, not, false, All, IfOk};
-    ghost use Rattle.run_values.specs.declared.answer.Answer.{Answer};
+    ghost use Rattle.run_values.specs.declared.post.Answer.{Answer};
     ghost use Rattle.run_values.specs.declared.post.Body.{Body};
 
     ghost given: { Self → List (ℕ × Body) };

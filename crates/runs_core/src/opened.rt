@@ -1,13 +1,13 @@
 //! The accounts of a run are opened.
 
-ghost use Rattle.std.specs.Prelude.{◌≡◌, ◌≤◌, [], length, map, IfOk, IfErr};
+ghost use Rattle.std.specs.Prelude.{◌≡◌, ◌≤◌, [], length, map, IfOk, IfErr, replicate, OnOk};
 ghost use Rattle.runs_core.specs.Teams.{AreFresh, IsNew, reads, terms_of};
+ghost use Rattle.runs_core.specs.Dealing.{dealt};
 
 use crate::RunFault;
-use crate::piles::{deal, empty_piles};
 use run_values::{OpeningCredit, RunSetup};
 use shared_account::Shared;
-use std::alloc::Global;
+use std::alloc::{AllocError, AllocFailed, Global};
 use tariff_core::MAX_MONEY;
 
 /// The accounts of a run, in order, and the seats of each worker, one of each account.
@@ -79,4 +79,29 @@ fn open_account<S: Shared, R>(
         Ok(made) => Ok(made),
         Err(_) => Err(RunFault::OutOfMemory),
     }
+}
+
+/// So many piles without items.
+pub(crate) fn empty_piles<T: Drop>(alloc: Global, count: usize) -> Result<Vec<Vec<T>>, AllocError>
+    ensures { IfOk result (λ piles. map (λ pile. pile.items) piles.items ≡ replicate count []) }
+{
+    let mut piles = Vec::with_capacity(alloc, count)?;
+    for _ in 0..count {
+        piles.push(Vec::new(alloc))?;
+    }
+    Ok(piles)
+}
+
+/// Lays the first item onto the first pile, the second onto the second, and so on.
+pub(crate) fn deal<T: Drop>(piles: &mut Vec<Vec<T>>, items: Vec<T>) -> Result<(), AllocFailed<T>>
+    requires { length items.items ≡ length piles.old.items }
+    ensures { OnOk result (map (λ pile. pile.items) piles.new.items
+        ≡ dealt (map (λ pile. pile.items) piles.old.items) items.items) }
+{
+    let mut at = 0;
+    for item in items {
+        piles[at].push(item)?;
+        at += 1;
+    }
+    Ok(())
 }

@@ -1,7 +1,7 @@
 //! The rounds of a run: what the driver gives is handed out to the workers, and their answers go
 //! back to it.
 
-ghost use Rattle.std.specs.Prelude.{◌≡◌, ◌≤◌, ◌<◌, ◌^◌, ◌+◌, ◌++◌, ◌∷◌, ℕ, [], List, length, map, not, true, false, All, IfOk, OnOk};
+ghost use Rattle.std.specs.Prelude.{◌≡◌, ◌≤◌, ◌<◌, ◌^◌, ◌+◌, ◌++◌, ◌∷◌, [], ℕ, List, length, map, not, true, false, All, IfOk, OnOk};
 ghost use Rattle.std.specs.List.{HoldsAt};
 ghost use Rattle.runs_core.specs.Crews.{HasPlayed, HasServed, IsServedRound, count_of};
 ghost use Rattle.runs_core.specs.Hearing.{AreAnswers};
@@ -13,7 +13,7 @@ ghost use Rattle.workers_core.specs.Workers.{IsReady, accounts_of, setup_of};
 ghost use Rattle.run_values.specs.declared.post.Body.{Body};
 
 use crate::crew::{Crew, Replies};
-use crate::piles::empty_piles;
+use crate::opened::empty_piles;
 use crate::{Driver, RunFault};
 use run_values::{Answer, Body, Post};
 use shared_account::{Gate, Shared};

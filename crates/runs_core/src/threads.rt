@@ -6,10 +6,10 @@ ghost use Rattle.std.specs.Vec.Iter.{into_iter_items};
 ghost use Rattle.runs_core.specs.RunFaults.{AsksNoGate, MayAskGate};
 ghost use Rattle.runs_core.specs.Sending.{AreLeftBy, ArePromised, IsFirstFault, IsLeftBy, MayBeShut, heard_by, promises_of, sent_by};
 ghost use Rattle.runs_core.specs.Teams.{AreFresh, IsFresh, reads};
-ghost use Rattle.runs_core.specs.declared.desk.WorkerEnd.{WorkerEnd};
+ghost use Rattle.runs_core.specs.declared.crew.WorkerEnd.{WorkerEnd};
 
 use crate::RunFault;
-use crate::desk::WorkerEnd;
+use crate::crew::WorkerEnd;
 use crate::worker_link::{WorkerLink, start};
 use run_values::RunSetup;
 use shared_account::{Gate, Shared};

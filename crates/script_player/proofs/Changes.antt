@@ -15,9 +15,9 @@ use Rattle.script_player.specs.Inputs.{IsGiven, IsNext}
 use Rattle.script_player.specs.Networks.{AreTold, Feeds, IsTold, Shown}
 use Rattle.script_player.specs.Posts.{posts_of}
 use Rattle.script_player.specs.Steps.{GetsSsf, GivesTo, StartsCall}
-use Rattle.script_player.specs.declared.feeding.Sent.{Sent}
-use Rattle.script_player.specs.declared.input.Input.{Input}
-use Rattle.script_player.specs.declared.input.Input.TheVariants as what
+use Rattle.script_player.specs.declared.network.Sent.{Sent}
+use Rattle.script_player.specs.declared.network.Input.{Input}
+use Rattle.script_player.specs.declared.network.Input.TheVariants as what
 use Rattle.script_player.proofs.Givings.{same_next, waited_next}
 use Rattle.script_player.proofs.Keepings.{dues_on, sets_by, timer_of}
 

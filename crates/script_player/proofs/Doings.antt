@@ -1,10 +1,10 @@
 -- The deeds of a run.
 use Rattle.std.proofs.Common.{◌≡◌, ◌++◌, ℕ, Bool, true, false, List, [], ◌∷◌, map, refl, sym, subst}
-use Rattle.run_texts.specs.declared.script_row.Happening.{Happening}
-use Rattle.run_texts.specs.declared.script_row.Happening.TheVariants as happening
-use Rattle.run_texts.specs.declared.script_row.ScriptRow.{ScriptRow}
+use Rattle.run_texts.specs.declared.script.Happening.{Happening}
+use Rattle.run_texts.specs.declared.script.Happening.TheVariants as happening
+use Rattle.run_texts.specs.declared.script.ScriptRow.{ScriptRow}
 use Rattle.ssf_core.specs.declared.config.SsfConfig.{SsfConfig}
-use Rattle.run_values.specs.declared.answer.Answer.{Answer}
+use Rattle.run_values.specs.declared.post.Answer.{Answer}
 use Rattle.script_player.specs.Chains.{Chain}
 use Rattle.script_player.specs.Lives.{Does, DoesDeed, HasLived, delivery_deed, happening_deed, row_deed, wait_deed}
 use Rattle.script_player.specs.Networks.{Shown}

@@ -7,8 +7,8 @@ use Rattle.ssf_core.specs.declared.config.SsfConfig.{SsfConfig}
 use Rattle.ssf_core.specs.declared.fault.SsfFault.{SsfFault}
 use Rattle.ssf_core.specs.declared.item.Out.{Out}
 use Rattle.script_player.specs.Inputs.{GoesOnBy, IsGiven, IsNext}
-use Rattle.script_player.specs.declared.input.Input.{Input}
-use Rattle.script_player.specs.declared.input.Input.TheVariants as input
+use Rattle.script_player.specs.declared.network.Input.{Input}
+use Rattle.script_player.specs.declared.network.Input.TheVariants as input
 use Rattle.script_player.proofs.Goings.{Backwards}
 
 config_stays : (before after : View) (now : ℕ) (sent : List Out) (why : Option SsfFault) → Backwards before after now why sent

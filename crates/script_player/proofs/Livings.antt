@@ -16,8 +16,8 @@ use Rattle.script_player.specs.Lives.{Befalls, BefallsDeed, Deed, Does, DoesDeed
 use Rattle.script_player.specs.Networks.{Shown}
 use Rattle.script_player.specs.Posts.{items_of, posts_of}
 use Rattle.script_player.specs.Steps.{GetsSsf, Gives, Sends}
-use Rattle.script_player.specs.declared.input.Input.{Input}
-use Rattle.script_player.specs.declared.input.Input.TheVariants as what
+use Rattle.script_player.specs.declared.network.Input.{Input}
+use Rattle.script_player.specs.declared.network.Input.TheVariants as what
 use Rattle.script_player.proofs.Items.{items_of-other, items_of-own, posts_of-append, same_true}
 use Rattle.script_player.proofs.Takings.{items_of-recharged}
 

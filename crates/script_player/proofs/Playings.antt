@@ -3,7 +3,7 @@ use Rattle.std.proofs.Common.{◌≡◌, ◌+◌, ◌<◌, ◌≤◌, ℕ, zero,
 use Rattle.std.proofs.lemmas.List.Elements.{All-append, All-cons, All-nil}
 use Rattle.std.specs.Option.{ForSome}
 use Rattle.std.specs.Prelude.{All}
-use Rattle.run_texts.specs.declared.script_row.ScriptRow.{ScriptRow}
+use Rattle.run_texts.specs.declared.script.ScriptRow.{ScriptRow}
 use Rattle.script_player.specs.Chains.{Chain}
 use Rattle.script_player.specs.Networks.{Shown}
 use Rattle.script_player.specs.Rows.{next_row}

@@ -2,12 +2,12 @@
 use Rattle.std.proofs.Common.{◌≡◌, ◌++◌, ℕ, Bool, true, false, Option, Some, None, List, [], ◌∷◌, drop, refl, sym, ◌∙◌, subst}
 use Rattle.std.specs.Prelude.{◌≤◌, All, MatchOption}
 use Rattle.cap_values.specs.declared.number.Number.{Number}
-use Rattle.run_texts.specs.declared.script_row.Happening.{Happening}
-use Rattle.run_texts.specs.declared.script_row.Happening.TheVariants as happening
-use Rattle.run_texts.specs.declared.script_row.ScriptRow.{ScriptRow}
+use Rattle.run_texts.specs.declared.script.Happening.{Happening}
+use Rattle.run_texts.specs.declared.script.Happening.TheVariants as happening
+use Rattle.run_texts.specs.declared.script.ScriptRow.{ScriptRow}
 use Rattle.ssf_core.specs.Calls.{View}
 use Rattle.ssf_core.specs.declared.config.SsfConfig.{SsfConfig}
-use Rattle.run_values.specs.declared.answer.Answer.{Answer}
+use Rattle.run_values.specs.declared.post.Answer.{Answer}
 use Rattle.script_player.specs.Chains.{Chain}
 use Rattle.ssf_core.specs.Deliveries.{next_delivery}
 use Rattle.script_player.specs.Deliveries.{deliveries_of}
@@ -20,8 +20,8 @@ use Rattle.script_player.specs.Rows.{next_row}
 use Rattle.script_player.specs.Runs.{HasHeard, Hears, IsReached, fresh}
 use Rattle.script_player.specs.Steps.{Delivers, DeliversDue, GetsSsf, Gives, Happens, PlaysDue, PlaysRow, RunsTimers, Waits}
 use Rattle.ssf_core.specs.declared.deliveries.Delivery.{Delivery}
-use Rattle.script_player.specs.declared.input.Input.{Input}
-use Rattle.script_player.specs.declared.input.Input.TheVariants as what
+use Rattle.script_player.specs.declared.network.Input.{Input}
+use Rattle.script_player.specs.declared.network.Input.TheVariants as what
 use Rattle.script_player.proofs.Chainings.{chain_more}
 use Rattle.script_player.proofs.Endings.{delivery_past, none_left, timer_past}
 

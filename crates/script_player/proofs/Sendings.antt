@@ -1,7 +1,7 @@
 -- The answers of a round, taken one after the other.
 use Rattle.std.proofs.Common.{◌≡◌, ◌+◌, ◌<◌, ◌≤◌, ℕ, zero, suc, Option, Some, None, List, [], ◌∷◌, ◌++◌, length, drop, slice_index_or, refl, arith, sym, ◌∙◌, append_assoc, add-one, drop-cons}
 use Rattle.std.specs.List.{slice_get}
-use Rattle.run_values.specs.declared.answer.Answer.{Answer}
+use Rattle.run_values.specs.declared.post.Answer.{Answer}
 use Rattle.run_values.specs.declared.post.Body.{Body}
 use Rattle.script_player.specs.Deliveries.{deliveries_for, deliveries_of}
 use Rattle.ssf_core.specs.declared.deliveries.Delivery.{Delivery}

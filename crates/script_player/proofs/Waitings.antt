@@ -11,8 +11,8 @@ use Rattle.script_player.specs.Chains.{Chain}
 use Rattle.script_player.specs.Dues.{AreDueBy, HasTimer, is_among, ssf_of}
 use Rattle.script_player.specs.Networks.{Grows, Shown}
 use Rattle.script_player.specs.Steps.{Gives, RunsTimers, Waits}
-use Rattle.script_player.specs.declared.input.Input.{Input}
-use Rattle.script_player.specs.declared.input.Input.TheVariants as what
+use Rattle.script_player.specs.declared.network.Input.{Input}
+use Rattle.script_player.specs.declared.network.Input.TheVariants as what
 use Rattle.script_player.proofs.Chainings.{chain_more}
 use Rattle.script_player.proofs.Keepings.{timer_was}
 use Rattle.script_player.proofs.Tellings.{grows_not, grows_on}

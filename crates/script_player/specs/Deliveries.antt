@@ -4,7 +4,7 @@ use Rattle.std.specs.List.{slice_get}
 use Rattle.cap_values.specs.declared.operation.ScfOp.{ScfOp}
 use Rattle.ssf_core.specs.Deliveries.{deliveries_at}
 use Rattle.ssf_core.specs.declared.deliveries.Delivery.{Delivery}
-use Rattle.run_values.specs.declared.answer.Answer.{Answer}
+use Rattle.run_values.specs.declared.post.Answer.{Answer}
 use Rattle.run_values.specs.declared.post.Body.{Body}
 use Rattle.run_values.specs.declared.post.Body.TheVariants as body
 

@@ -6,8 +6,8 @@ use Rattle.ssf_core.specs.Happenings.{Happening}
 use Rattle.ssf_core.specs.Inputs.{meets, operates}
 use Rattle.ssf_core.specs.declared.fault.SsfFault.{SsfFault}
 use Rattle.ssf_core.specs.declared.item.Out.{Out}
-use Rattle.script_player.specs.declared.input.Input.{Input}
-use Rattle.script_player.specs.declared.input.Input.TheVariants as input
+use Rattle.script_player.specs.declared.network.Input.{Input}
+use Rattle.script_player.specs.declared.network.Input.TheVariants as input
 
 -- a trace goes on by an input: the timers run, and then the operation or the event is taken or refused as the table says; where time passes the timers run
 abbrev pub GoesOnBy : View → View → ℕ → Input → List Happening → List Out → Type 0

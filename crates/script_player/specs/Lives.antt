@@ -2,9 +2,9 @@
 use Rattle.std.specs.Prelude.{◌≡◌, ◌==◌, ◌<◌, ◌≤◌, ℕ, Option, Some, None, List, []}
 use Rattle.std.specs.Bool.{MatchBool}
 use Rattle.cap_values.specs.declared.number.Number.{Number}
-use Rattle.run_texts.specs.declared.script_row.Happening.{Happening as RowHappening}
-use Rattle.run_texts.specs.declared.script_row.Happening.TheVariants as happening
-use Rattle.run_texts.specs.declared.script_row.ScriptRow.{ScriptRow}
+use Rattle.run_texts.specs.declared.script.Happening.{Happening as RowHappening}
+use Rattle.run_texts.specs.declared.script.Happening.TheVariants as happening
+use Rattle.run_texts.specs.declared.script.ScriptRow.{ScriptRow}
 use Rattle.ssf_core.specs.Calls.{RunsUntil, with_input}
 use Rattle.ssf_core.specs.Happenings.{Happening, sent_in}
 use Rattle.ssf_core.specs.Inputs.{meets, operates}
@@ -19,8 +19,8 @@ use Rattle.script_player.specs.Networks.{Shown}
 use Rattle.script_player.specs.Posts.{items_of, posts_of}
 use Rattle.script_player.specs.Steps.{GivesTo, Recharges, StartsCall}
 use Rattle.ssf_core.specs.declared.deliveries.Delivery.{Delivery}
-use Rattle.script_player.specs.declared.input.Input.{Input}
-use Rattle.script_player.specs.declared.input.Input.TheVariants as input
+use Rattle.script_player.specs.declared.network.Input.{Input}
+use Rattle.script_player.specs.declared.network.Input.TheVariants as input
 
 -- what is given: a call starts, the gsmSSF of a call gets an input, or an account is recharged
 pub data Deed : Type 0 where

@@ -9,8 +9,8 @@ use Rattle.ssf_core.specs.declared.item.Out.{Out}
 use Rattle.run_values.specs.declared.post.Body.{Body}
 use Rattle.script_player.specs.Inputs.{IsGiven, IsNext}
 use Rattle.script_player.specs.Posts.{items_of, posts_of, recharges_in}
-use Rattle.script_player.specs.declared.feeding.Sent.{Sent}
-use Rattle.script_player.specs.declared.input.Input.{Input}
+use Rattle.script_player.specs.declared.network.Sent.{Sent}
+use Rattle.script_player.specs.declared.network.Input.{Input}
 use Rattle.tariff_core.specs.declared.times.TheConstants.{HORIZON}
 
 -- what a network shows: the configuration of its gsmSSFs, the gsmSSF of each call that has started, all that was given, and whether memory never ran out while a moment was put down

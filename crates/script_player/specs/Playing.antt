@@ -1,6 +1,6 @@
 -- What a player of a script keeps.
 use Rattle.std.specs.Prelude.{◌≡◌, ◌≤◌, ℕ, Bool, true, List, [], All, length, drop, take}
-use Rattle.run_texts.specs.declared.script_row.ScriptRow.{ScriptRow}
+use Rattle.run_texts.specs.declared.script.ScriptRow.{ScriptRow}
 use Rattle.run_values.specs.declared.post.Body.{Body}
 use Rattle.script_player.specs.Rows.{FollowsRows}
 use Rattle.tariff_core.specs.declared.times.TheConstants.{DAY, LAST_MOMENT}

@@ -1,6 +1,6 @@
 -- What a player of a script shows, and what holds of what it has given.
 use Rattle.std.specs.Prelude.{◌≡◌, ℕ, Bool, List, drop, take}
-use Rattle.run_texts.specs.declared.script_row.ScriptRow.{ScriptRow}
+use Rattle.run_texts.specs.declared.script.ScriptRow.{ScriptRow}
 use Rattle.ssf_core.specs.Happenings.{Happening, sent_in}
 use Rattle.ssf_core.specs.Traces.{IsTrace}
 use Rattle.ssf_core.specs.declared.config.SsfConfig.{SsfConfig}

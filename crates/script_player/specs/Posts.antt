@@ -2,9 +2,9 @@
 use Rattle.std.specs.Prelude.{◌≡◌, ◌==◌, ◌++◌, ℕ, Bool, true, false, Option, Some, None, List, [], ◌∷◌, filter, if◌then◌else◌}
 use Rattle.cap_values.specs.declared.message.SsfMsg.TheVariants as message
 use Rattle.cap_values.specs.declared.number.Number.{Number}
-use Rattle.run_texts.specs.declared.script_row.Happening.{Happening}
-use Rattle.run_texts.specs.declared.script_row.Happening.TheVariants as happening
-use Rattle.run_texts.specs.declared.script_row.ScriptRow.{ScriptRow}
+use Rattle.run_texts.specs.declared.script.Happening.{Happening}
+use Rattle.run_texts.specs.declared.script.Happening.TheVariants as happening
+use Rattle.run_texts.specs.declared.script.ScriptRow.{ScriptRow}
 use Rattle.ssf_core.specs.declared.item.Item.{Item}
 use Rattle.ssf_core.specs.declared.item.Item.TheVariants as sent
 use Rattle.ssf_core.specs.declared.item.Out.{Out}

@@ -1,7 +1,7 @@
 -- The rounds of a run.
 use Rattle.std.specs.Prelude.{◌≡◌, ◌<◌, ◌++◌, ℕ, Bool, true, false, Option, Some, List, []}
 use Rattle.std.specs.Option.{ForSome}
-use Rattle.run_values.specs.declared.answer.Answer.{Answer}
+use Rattle.run_values.specs.declared.post.Answer.{Answer}
 use Rattle.ssf_core.specs.Deliveries.{next_delivery}
 use Rattle.script_player.specs.Deliveries.{deliveries_of}
 use Rattle.script_player.specs.Dues.{HasTimer, IsFirstDue}

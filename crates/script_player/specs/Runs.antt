@@ -1,8 +1,8 @@
 -- The run of a script, from its start.
 use Rattle.std.specs.Prelude.{◌≡◌, ◌++◌, ℕ, Bool, true, false, List, [], ◌∷◌, map}
-use Rattle.run_texts.specs.declared.script_row.ScriptRow.{ScriptRow}
+use Rattle.run_texts.specs.declared.script.ScriptRow.{ScriptRow}
 use Rattle.ssf_core.specs.declared.config.SsfConfig.{SsfConfig}
-use Rattle.run_values.specs.declared.answer.Answer.{Answer}
+use Rattle.run_values.specs.declared.post.Answer.{Answer}
 use Rattle.script_player.specs.Chains.{Chain}
 use Rattle.script_player.specs.Lives.{Deed, HasLived, delivery_deed, row_deed, wait_deed}
 use Rattle.script_player.specs.Plays.{Play}

@@ -2,13 +2,7 @@
 //! gsmSSF for each call.
 #![tactic(auto)]
 
-mod beginning;
-mod deliveries;
-mod feeding;
-mod input;
 mod network;
 mod player;
-mod posting;
-mod rows;
 
 pub use player::ScriptPlayer;

@@ -1,15 +1,19 @@
 //! The gsmSSFs of a run, and what was given of them.
 
-ghost use Rattle.std.specs.Prelude.{OnOk};
+ghost use Rattle.std.specs.Prelude.{◌≤◌, ◌≡◌, ◌+◌, ◌<◌, ◌++◌, OnOk, None, IfNone, IfSome, length};
+ghost use Rattle.std.specs.BTreeMap.{get};
+ghost use Rattle.std.specs.Ordering.{nat_cmp};
+ghost use Rattle.std.specs.Vec.{vec_capacity, vec_len};
 ghost use Rattle.script_player.specs.Dues.{Replaces};
+ghost use Rattle.script_player.specs.Beginnings.{HasBegun};
+ghost use Rattle.script_player.specs.Inputs.{IsGiven};
+ghost use Rattle.script_player.specs.Networks.{Feeds, GoesOn};
+ghost use Rattle.script_player.specs.Posts.{post_of, posts_of};
 
-use crate::beginning::{Started, begin};
-use crate::feeding::feed;
-use crate::input::Input;
-use crate::posting::post;
-use cap_values::Number;
+use arrayvec::ArrayVec;
+use cap_values::{Number, ScfOp};
 use run_values::Body;
-use ssf_core::{Moment, Ssf, SsfConfig};
+use ssf_core::{BcsmEvent, Item, Moment, Out, Ssf, SsfConfig, Step};
 use std::alloc::{AllocError, Global};
 use std::collections::{BTreeMap, BTreeSet};
 use std::marker::Model;
@@ -50,14 +54,14 @@ impl Model for Network {
 }
 
 impl Network {
-    ghost use Rattle.std.specs.Prelude.{◌≡◌, ◌≤◌, ◌<◌, ◌++◌, ◌∷◌, ℕ, [], true, All, IfOk, OnOk, OnErr};
+    ghost use Rattle.std.specs.Prelude.{◌≡◌, ◌≤◌, ◌<◌, ◌++◌, ◌∷◌, [], ℕ, true, All, IfOk, OnOk, OnErr};
     ghost use Rattle.script_player.specs.Dues.{AreDueBy, HasTimer, IsFirstDue};
     ghost use Rattle.script_player.specs.Networks.{Grows};
     ghost use Rattle.script_player.specs.Plays.{IsPlayed};
     ghost use Rattle.script_player.specs.Posts.{initial};
     ghost use Rattle.script_player.specs.Rows.{Starts};
     ghost use Rattle.script_player.specs.Steps.{GivesTo, Recharges, RunsTimers, StartsCall};
-    ghost use Rattle.script_player.specs.declared.input.Input.TheVariants as what;
+    ghost use Rattle.script_player.specs.declared.network.Input.TheVariants as what;
     ghost use Rattle.run_values.specs.declared.post.Body.TheVariants as body;
 
     /// A network without calls. There is room for so many items.
@@ -211,4 +215,94 @@ fn replace_due(
         dues.insert((at, call))?;
     }
     Ok(())
+}
+
+/// A gsmSSF that was started, and what it has sent.
+#[derive(Drop)]
+struct Started {
+    ssf: Ssf,
+    sent: ArrayVec<Out, 8>,
+}
+
+/// Invokes a fresh gsmSSF, and triggers it for a call.
+fn begin(config: SsfConfig, now: Moment, call: u64, calling: Number, called: Number) -> Started
+    requires { now ≤ HORIZON }
+    ensures { HasBegun config now call calling called result.ssf result.sent.items }
+{
+    let mut ssf = Ssf::new(config);
+    ssf.invoke(now);
+    let sent = ssf.trigger(now, call, calling, called).sent;
+    Started { ssf, sent }
+}
+
+/// What an input came to: what was sent, and when a timer was due before it and after it.
+#[derive(Drop)]
+struct Sent {
+    sent: ArrayVec<Out, 8>,
+    before: Option<Moment>,
+    after: Option<Moment>,
+}
+
+/// Gives the gsmSSF of a call an input at a moment. None where the call has no gsmSSF.
+fn feed(calls: &mut BTreeMap<u64, Ssf>, now: Moment, call: u64, input: Input) -> Option<Sent>
+    requires { now ≤ HORIZON }
+    ensures none { IfNone result (calls.new ≡ calls.old) }
+    ensures absent { IfNone result (get nat_cmp calls.old call ≡ None) }
+    ensures some { IfSome result (λ fed. Feeds calls.old calls.new now call input fed) }
+{
+    let ssf = calls.get_mut(&call)?;
+    let before = ssf.next_due();
+    let sent = step(ssf, now, input).sent;
+    let after = ssf.next_due();
+    Some(Sent {
+        sent,
+        before,
+        after,
+    })
+}
+
+/// Gives a gsmSSF an input at a moment. What it refuses is ignored.
+fn step(ssf: &mut Ssf, now: Moment, input: Input) -> Step
+    requires { now ≤ HORIZON }
+    ensures goes_on { GoesOn ssf.old ssf.new result.sent.items }
+    ensures given { IsGiven ssf.old ssf.new now input result.sent.items }
+{
+    match input {
+        Input::Operate(op) => ssf.operation(now, op),
+        Input::Meet(event) => ssf.event(now, event),
+        Input::Wait => ssf.advance(now),
+    }
+}
+
+/// Posts the messages among what the gsmSSF of a call has sent, in order, each with its moment.
+pub(crate) fn post(given: &mut Vec<(u64, Body)>, call: u64, sent: &[Out])
+    requires room { vec_len given.old + length sent.now ≤ vec_capacity given.old }
+    ensures items { given.new.items ≡ given.old.items ++ posts_of call sent.now }
+{
+    for out in sent {
+        post_one(given, call, *out);
+    }
+}
+
+/// Posts what the gsmSSF of a call has sent, if it is a message.
+fn post_one(given: &mut Vec<(u64, Body)>, call: u64, out: Out)
+    requires room { vec_len given.old < vec_capacity given.old }
+    ensures items { given.new.items ≡ given.old.items ++ post_of call out.at out.item }
+    ensures room { vec_len given.new ≤ vec_len given.old + 1 }
+    ensures capacity { vec_capacity given.old ≤ vec_capacity given.new }
+{
+    if let Item::Msg(msg) = out.item {
+        given.push((out.at, Body::Ssf { call, msg })).unwrap();
+    }
+}
+
+/// An input of a gsmSSF that was triggered.
+#[derive(Clone, Copy)]
+pub(crate) enum Input {
+    /// The service sends an operation.
+    Operate(ScfOp),
+    /// The call meets an event.
+    Meet(BcsmEvent),
+    /// Time passes.
+    Wait,
 }

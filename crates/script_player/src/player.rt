@@ -1,12 +1,17 @@
 //! The driver that plays a script.
 
-use crate::deliveries::{deliver, put_down};
-use crate::network::Network;
-use crate::rows::{next_row, take_rows};
-use run_texts::ScriptRow;
+ghost use Rattle.std.specs.Prelude.{◌≡◌, ◌≤◌, ◌++◌, All, OnErr, OnOk, drop, length, take};
+ghost use Rattle.script_player.specs.Networks.{Grows};
+ghost use Rattle.script_player.specs.Rows.{Adds, FollowsRows, TakesRow, next_row};
+ghost use Rattle.script_player.specs.Steps.{PlaysDue, PlaysRow, DeliversDue};
+ghost use Rattle.script_player.specs.Deliveries.{deliveries_of, deliveries_to};
+
+use crate::network::{Input, Network};
+use cap_values::ScfOp;
+use run_texts::{Happening, ScriptRow};
 use run_values::{Answer, Body};
 use runs_core::Driver;
-use ssf_core::{Delivery, SsfConfig, next_delivery, next_moment};
+use ssf_core::{Delivery, Moment, SsfConfig, next_delivery, next_moment, send, take_due};
 use std::alloc::{AllocError, Global};
 use std::collections::VecDeque;
 use std::marker::Model;
@@ -95,14 +100,14 @@ impl ScriptPlayer {
 }
 
 impl Driver for ScriptPlayer {
-    ghost use Rattle.std.specs.Prelude.{◌≡◌, ◌≤◌, ◌++◌, ◌∷◌, ℕ, List, [], not, true, false, All, IfOk, OnOk};
-    ghost use Rattle.run_texts.specs.declared.script_row.ScriptRow.{ScriptRow};
+    ghost use Rattle.std.specs.Prelude.{◌≡◌, ◌≤◌, ◌++◌, ◌∷◌, [], ℕ, List, not, true, false, All, IfOk, OnOk};
+    ghost use Rattle.run_texts.specs.declared.script.ScriptRow.{ScriptRow};
     ghost use Rattle.ssf_core.specs.declared.config.SsfConfig.{SsfConfig};
     ghost use Rattle.run_values.specs.declared.post.Body.{Body};
     ghost use Rattle.script_player.specs.Plays.{IsPlayed};
     ghost use Rattle.script_player.specs.Rounds.{IsTurn};
     ghost use Rattle.script_player.specs.Runs.{HasHeard, Hears, IsReached, LivesByItsDeeds};
-    ghost use Rattle.run_values.specs.declared.answer.Answer.{Answer};
+    ghost use Rattle.run_values.specs.declared.post.Answer.{Answer};
     ghost use Rattle.script_player.specs.Posts.{Begins, items_of, opening_of, recharges_in, recharges_of};
 
     ghost given = { λ player. player.network.given };
@@ -197,4 +202,116 @@ impl Driver for ScriptPlayer {
         self.sound = true;
         Ok(true)
     }
+}
+
+/// The moment of the first row that wasn't taken yet.
+fn next_row(rows: &[ScriptRow], taken: usize) -> Option<Moment>
+    ensures { result ≡ next_row (drop taken rows.now) }
+{
+    if taken < rows.len() {
+        return Some(rows[taken].at);
+    }
+    None
+}
+
+/// Takes the rows that are due by now, in order.
+fn take_rows(
+    network: &mut Network,
+    rows: &[ScriptRow],
+    taken: &mut usize,
+    now: Moment,
+) -> Result<(), AllocError>
+    requires in_range { All (λ row. row.at ≤ LAST_MOMENT) rows.now }
+    requires within { taken.old ≤ length rows.now }
+    requires follows { FollowsRows (take taken.old rows.now) network.old.given }
+    ensures within { taken.new ≤ length rows.now }
+    ensures plays { OnOk result (PlaysDue now network.old network.new
+        (drop taken.old rows.now) (drop taken.new rows.now)) }
+    ensures follows { FollowsRows (take taken.new rows.now) network.new.given }
+    ensures added { Adds network.old network.new }
+{
+    while *taken < rows.len() && rows[*taken].at <= now {
+        take_row(network, rows[*taken])?;
+        *taken += 1;
+    }
+    Ok(())
+}
+
+/// Takes a row.
+fn take_row(network: &mut Network, row: ScriptRow) -> Result<(), AllocError>
+    requires { row.at ≤ LAST_MOMENT }
+    ensures taken { OnOk result (TakesRow network.old network.new row.at row.what) }
+    ensures plays { OnOk result (PlaysRow network.old row network.new) }
+    ensures failed { OnErr result (Grows network.old network.new) }
+{
+    match row.what {
+        Happening::Start {
+            call,
+            calling,
+            called,
+        } => network.start(row.at, call, calling, called),
+        Happening::Meets { call, event } => network.give(row.at, call, Input::Meet(event)),
+        Happening::Recharge {
+            account,
+            amount,
+            until,
+        } => network.recharge(row.at, account, amount, until),
+    }
+}
+
+/// Puts down the operations of answers, one after the other, each for the call of its post and a
+/// delay after the post's moment.
+fn put_down(
+    deliveries: &mut VecDeque<Delivery>,
+    delay: u32,
+    given: &[(u64, Body)],
+    answers: &[Answer],
+) -> Result<(), AllocError>
+    requires delay { delay ≤ DAY }
+    requires in_range { All (λ item. item.0 ≤ HORIZON) given.now }
+    ensures { OnOk result (deliveries.new.items
+        ≡ deliveries.old.items ++ deliveries_of delay given.now answers.now) }
+{
+    for answer in answers {
+        if let Some(item) = given.get(answer.number as usize) {
+            send_to(deliveries, delay, *item, answer.ops.as_slice())?;
+        }
+    }
+    Ok(())
+}
+
+/// Puts down operations that answer an item. A recharge has none.
+fn send_to(
+    deliveries: &mut VecDeque<Delivery>,
+    delay: u32,
+    item: (u64, Body),
+    ops: &[ScfOp],
+) -> Result<(), AllocError>
+    requires delay { delay ≤ DAY }
+    requires in_range { item.0 ≤ HORIZON }
+    ensures { OnOk result (deliveries.new.items
+        ≡ deliveries.old.items ++ deliveries_to delay ops.now item.0 item.1) }
+{
+    let (at, body) = item;
+    match body {
+        Body::Ssf { call, .. } => send(deliveries, at + u64::from(delay), call, ops),
+        Body::Recharge { .. } => Ok(()),
+    }
+}
+
+/// Delivers the operations that are due by now, in order.
+fn deliver(
+    network: &mut Network,
+    deliveries: &mut VecDeque<Delivery>,
+    now: Moment,
+) -> Result<(), AllocError>
+    requires { now ≤ HORIZON }
+    ensures grows { Grows network.old network.new }
+    ensures delivers { OnOk result
+        (DeliversDue now network.old network.new deliveries.old.items deliveries.new.items) }
+{
+    while let Some(delivery) = take_due(deliveries, now) {
+        network.give(now, delivery.call, Input::Operate(delivery.op))?;
+    }
+    Ok(())
 }

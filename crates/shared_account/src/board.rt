@@ -1,9 +1,23 @@
 //! The board of a turn account: its words, the slot that the account lies in, and the rule that holds
 //! of them between any two steps.
 
-use account_core::Account;
-use atomic_table::TableRule;
-use std::alloc::Global;
+ghost use Rattle.std.specs.Prelude.{◌≡◌, ◌≤◌, [], None, map, IfOk, IfErr};
+ghost use Rattle.shared_account.specs.Plays.{appended, compared, drawn, handed, looked};
+ghost use Rattle.shared_account.specs.Views.{hearing, next_seat, note_of, one_more, spent_note, first_view};
+ghost use Rattle.shared_account.specs.declared.board.Stage.TheVariants.{Idles};
+ghost use Rattle.shared_account.specs.TurnViews.{fresh_turn_seats};
+ghost use Rattle.shared_account.specs.Sitting.{IsAt};
+ghost use Rattle.account_core.specs.Asked.{Credits};
+ghost use Rattle.account_core.specs.Events.{EntryData, entry_data};
+ghost use Rattle.account_core.specs.declared.entry.Reply.TheVariants as reply;
+
+use crate::Seat;
+use crate::turn::next_chair;
+use account_core::{Account, AccountFault, Entry};
+use atomic_table::{Join, Play, Refused, Split, TableRule};
+use std::alloc::{AllocError, Global};
+use std::marker::{Brand, Model, PhantomData};
+use tariff_core::MAX_MONEY;
 
 /// The word that tells the ticket that is drawn next.
 pub(crate) const TICKET: usize = 0;
@@ -68,3 +82,197 @@ pub(crate) type Board = atomic_table::Table<Option<Account>, View, Start, Turns,
 
 /// A place at the board: it makes the steps, and has no bytes.
 pub(crate) type Chair = atomic_table::Seat<Option<Account>, View>;
+
+/// A ticket is drawn.
+pub(crate) struct Draw;
+
+impl Play<Option<Account>, View> for Draw {
+    ghost then = { drawn };
+}
+
+/// The ticket that is served is looked at.
+pub(crate) struct Look;
+
+impl Play<Option<Account>, View> for Look {
+    ghost then = { looked };
+}
+
+/// The entry that is counted.
+pub(crate) trait Appended {
+    ghost entry: { EntryData };
+}
+
+impl Appended for Brand {
+    ghost entry = { record {
+      seat = 0;
+      asked = Credits 0 None;
+      reply = reply.Credited 0;
+    } };
+}
+
+/// An entry is counted.
+pub(crate) struct Append<E> {
+    entry: PhantomData<E>,
+}
+
+impl<E: Appended> Play<Option<Account>, View> for Append<E> {
+    ghost then = { appended E.entry };
+}
+
+/// The turn is passed on.
+pub(crate) struct HandOn;
+
+impl Play<Option<Account>, View> for HandOn {
+    ghost then = { handed };
+}
+
+/// What was heard is compared with what was seen.
+pub(crate) struct Compare;
+
+impl Play<Option<Account>, View> for Compare {
+    ghost then = { compared };
+}
+
+/// The first seat makes the next one.
+pub(crate) struct Number;
+
+impl Split<View> for Number {
+    ghost left = { one_more };
+
+    ghost right = { next_seat };
+}
+
+/// A seat notes what it has seen.
+pub(crate) struct TakeNote;
+
+impl Split<View> for TakeNote {
+    ghost left = { λ view. view };
+
+    ghost right = { note_of };
+}
+
+/// A seat hears a note.
+pub(crate) struct Hear;
+
+impl Join<View> for Hear {
+    ghost both = { hearing };
+
+    ghost spent = { spent_note };
+}
+
+/// A seat of an account that is handed on by turns: it asks under its number, and keeps the list of
+/// its own entries.
+///
+/// Contracts know its view: the account as the seat has last seen it. A view is a legal history, and
+/// each call, and each seat that it meets, only makes it longer.
+#[derive(Drop)]
+pub struct TurnSeat {
+    pub(crate) seat: Seat,
+    pub(crate) chair: Chair,
+    pub(crate) seen: u64,
+}
+
+impl Model for TurnSeat {
+    ghost use Rattle.shared_account.specs.TurnViews.{TurnSeatView};
+    ghost use Rattle.shared_account.specs.Sitting.{IsSitting};
+
+    ghost Value = { TurnSeatView };
+
+    ghost view = { λ s. record { table = s.chair.table_id; place = s.seat; view = s.chair.me.0.seen } };
+
+    ghost invariant = { λ s. IsSitting s.chair.me s.seat s.seen };
+}
+
+impl TurnSeat {
+    /// A seat with this number and no entries, which has seen nothing. It takes no memory yet.
+    pub(crate) fn new(alloc: Global, chair: Chair, account: u32, number: u32) -> TurnSeat
+        requires idle { chair.me.0.stage ≡ Idles }
+        requires hands { chair.me.1 ≡ [] }
+        requires number { chair.me.0.number ≡ number }
+        requires empty { chair.me.0.seen.history ≡ [] }
+        ensures { result ≡ record {
+          table = chair.table_id;
+          place = record { account = account; number = number; mine = [] };
+          view = chair.me.0.seen;
+        } }
+    {
+        TurnSeat {
+            seat: Seat::new(alloc, account, number),
+            chair,
+            seen: 0,
+        }
+    }
+
+    /// The number of its account.
+    pub fn account(&self) -> u32
+        ensures { result ≡ self.now.place.account }
+    {
+        self.seat.account()
+    }
+
+    /// Its own number.
+    pub fn number(&self) -> u32
+        ensures { result ≡ self.now.place.number }
+    {
+        self.seat.number()
+    }
+
+    /// Its own entries, oldest first.
+    pub fn mine(&self) -> &[Entry]
+        ensures { map entry_data result.now ≡ self.now.place.mine }
+    {
+        self.seat.mine()
+    }
+}
+
+/// A board with a new account in its slot, and its first chair.
+pub(crate) fn lay_board(alloc: Global, start: Start) -> Result<(Board, Chair), AccountFault>
+    requires { start.opening ≤ MAX_MONEY }
+    ensures words { IfOk result (λ made. made.0.shared.table_id.words ≡ 3) }
+    ensures slots { IfOk result (λ made. made.0.shared.table_id.slots ≡ 1) }
+    ensures table { IfOk result (λ made. made.1.table_id ≡ made.0.shared.table_id) }
+    ensures first { IfOk result (λ made. made.1.me
+        ≡ (first_view start.opening start.until start.limit, [])) }
+    ensures refused { IfErr result (λ fault. fault ≡ AccountFault.OutOfMemory) }
+{
+    let mut slots = Vec::with_capacity(alloc, 1)?;
+    let account = Account::new(alloc, start.opening, start.until, start.limit);
+    slots.push_reserved(Some(account));
+    match Board::new(alloc, &[0, 0, 0], slots, &start) {
+        Ok(made) => Ok(made),
+        Err(Refused { slots: _ }) => Err(AccountFault::OutOfMemory),
+    }
+}
+
+/// The seats at a board, numbered from 0. The first chair makes the others.
+pub(crate) fn make_seats(
+    alloc: Global,
+    board: &Board,
+    mut first: Chair,
+    account: u32,
+    count: u32,
+) -> Result<Vec<TurnSeat>, AllocError>
+    requires at { IsAt board.now.shared.table_id first.table_id }
+    requires first { first.me ≡ (
+      first_view first.me.0.seen.opening
+          first.me.0.seen.until first.me.0.seen.limit,
+      [],
+    ) }
+    requires some_seats { 1 ≤ count }
+    requires few_seats { count ≤ 16 }
+    ensures { IfOk result (λ made. made.items ≡ fresh_turn_seats board.now.shared.table_id record {
+      number = account;
+      opening = first.me.0.seen.opening;
+      until = first.me.0.seen.until;
+      limit = first.me.0.seen.limit;
+      seats = count;
+    } count) }
+{
+    let mut made = Vec::with_capacity(alloc, count as usize)?;
+    for number in 1..count {
+        let chair = next_chair(board, &mut first);
+        made.push(TurnSeat::new(alloc, chair, account, number))?;
+    }
+    made.insert(0, TurnSeat::new(alloc, first, account, 0))?;
+    Ok(made)
+}

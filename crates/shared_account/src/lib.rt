@@ -4,24 +4,17 @@
 
 mod board;
 mod book;
-mod closing;
 mod fault;
 mod gate;
-mod opening;
-mod plays;
-mod sameness;
 mod seat;
 mod shared;
 mod shared_account;
 mod shared_port;
-mod sharing;
-mod steps;
 mod turn;
 mod turn_account;
 mod turn_closing;
-mod turn_seat;
-mod turn_sharing;
 
+pub use board::TurnSeat;
 pub use book::{Book, Summary};
 pub use fault::CloseFault;
 pub use gate::{Gate, OpenGate};
@@ -30,4 +23,3 @@ pub use shared::Shared;
 pub use shared_account::SharedAccount;
 pub use shared_port::SharedPort;
 pub use turn_account::TurnAccount;
-pub use turn_seat::TurnSeat;

@@ -1,6 +1,6 @@
 //! The close of a turn account.
 
-ghost use Rattle.std.specs.Prelude.{◌≡◌, ◌≢◌, ◌↔◌, ◌≤◌, false, length, map, ◌⊎◌, All, IfOk, IfSome, IsNone, OnOk};
+ghost use Rattle.std.specs.Prelude.{◌≡◌, ◌≢◌, ◌↔◌, ◌≤◌, ◌⊎◌, false, length, map, All, IfOk, IfSome, IsNone, OnOk};
 ghost use Rattle.account_core.specs.Answers.{IsLegal};
 ghost use Rattle.shared_account.specs.Closed.{IsMismatch};
 ghost use Rattle.shared_account.specs.Own.{IsMerged};
@@ -12,8 +12,8 @@ ghost use Rattle.shared_account.specs.declared.board.Stage.TheVariants.{Idles};
 ghost use Rattle.shared_account.specs.declared.fault.CloseFault.TheVariants as close;
 
 use crate::board::{Board, Chair, SERVING, SLOT, Start, TICKET};
-use crate::closing::close_book;
-use crate::steps::{compare, hear};
+use crate::book::close_book;
+use crate::turn::{compare, hear};
 use crate::{Book, CloseFault, Seat, TurnSeat};
 use account_core::Account;
 use std::alloc::{AllocError, Global};

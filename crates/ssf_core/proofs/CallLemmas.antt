@@ -18,12 +18,12 @@ use Rattle.ssf_core.specs.Running.{HasRun}
 use Rattle.ssf_core.specs.Stages.{IsChargingTimely, IsQuiet, IsSwitchTimely, IsBounded, IsTimely, moment_of, next_of, stage_due, started}
 use Rattle.ssf_core.specs.Stands.{StageStands}
 use Rattle.ssf_core.specs.Table.{is_fitting}
-use Rattle.ssf_core.specs.declared.timer.Expiry.{Expiry}
-use Rattle.ssf_core.specs.declared.bcsm_event.BcsmEvent.{BcsmEvent}
-use Rattle.ssf_core.specs.declared.bcsm_event.BcsmEvent.TheVariants as met
+use Rattle.ssf_core.specs.declared.timers.Expiry.{Expiry}
+use Rattle.ssf_core.specs.declared.item.BcsmEvent.{BcsmEvent}
+use Rattle.ssf_core.specs.declared.item.BcsmEvent.TheVariants as met
 use Rattle.ssf_core.specs.declared.config.SsfConfig.{SsfConfig}
-use Rattle.ssf_core.specs.declared.input.Input.{Input}
-use Rattle.ssf_core.specs.declared.input.Input.TheVariants.{Invoke, Trigger, Operate, Meet}
+use Rattle.ssf_core.specs.declared.ssf.Input.{Input}
+use Rattle.ssf_core.specs.declared.ssf.Input.TheVariants.{Invoke, Trigger, Operate, Meet}
 use Rattle.ssf_core.specs.declared.item.Out.{Out}
 use Rattle.ssf_core.specs.declared.stage.Active.{Active}
 use Rattle.ssf_core.specs.declared.stage.Charging.{Charging}

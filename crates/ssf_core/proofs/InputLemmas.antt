@@ -27,12 +27,12 @@ use Rattle.ssf_core.specs.Stands.{ActiveMatches, SetupMatches, StageMatches, Sta
 use Rattle.ssf_core.specs.Table.{Effect, after, any_watched, by_mode, ends, first_period, further_period, goes, is_fitting, last_report, notified, on_input, report}
 use Rattle.ssf_core.specs.Phases.{Initial, Setup as InSetup}
 use Rattle.ssf_core.specs.Traces.{awaited_switch, due, next_in, phase_after}
-use Rattle.ssf_core.specs.declared.bcsm_event.BcsmEvent.{BcsmEvent}
-use Rattle.ssf_core.specs.declared.bcsm_event.BcsmEvent.TheVariants as met
+use Rattle.ssf_core.specs.declared.item.BcsmEvent.{BcsmEvent}
+use Rattle.ssf_core.specs.declared.item.BcsmEvent.TheVariants as met
 use Rattle.ssf_core.specs.declared.config.SsfConfig.{SsfConfig}
 use Rattle.ssf_core.specs.declared.fault.SsfFault.{SsfFault}
-use Rattle.ssf_core.specs.declared.input.Input.{Input}
-use Rattle.ssf_core.specs.declared.input.Input.TheVariants.{Invoke, Trigger, Operate, Meet}
+use Rattle.ssf_core.specs.declared.ssf.Input.{Input}
+use Rattle.ssf_core.specs.declared.ssf.Input.TheVariants.{Invoke, Trigger, Operate, Meet}
 use Rattle.ssf_core.specs.declared.item.Item.{Item}
 use Rattle.ssf_core.specs.declared.item.Item.TheVariants.{Msg, Proceed, Clear}
 use Rattle.ssf_core.specs.declared.item.Out.{Out}

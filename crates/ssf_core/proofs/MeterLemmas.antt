@@ -8,7 +8,7 @@ use Rattle.cap_values.specs.Orders.{Paid}
 use Rattle.cap_values.specs.CauseValues.{temporary_failure}
 use Rattle.cap_values.specs.declared.message.SsfMsg.TheVariants as message
 use Rattle.cap_values.specs.declared.operation.ScfOp.TheVariants.{RequestReport, ApplyCharging, Continue, ReleaseCall}
-use Rattle.tariff_core.specs.declared.time_info.TimeInfo.{TimeInfo}
+use Rattle.tariff_core.specs.declared.times.TimeInfo.{TimeInfo}
 use Rattle.ssf_core.specs.Calls.{Advances, AreExpiries, IsExpiry, RunsUntil, Stands, Takes, View, with_input}
 use Rattle.ssf_core.specs.Happenings.{Happening, What, Took, Expired, sent_at, sent_in}
 use Rattle.ssf_core.specs.Laws.{AllFit, Fits}
@@ -21,13 +21,13 @@ use Rattle.ssf_core.specs.declared.config.DefaultHandling.{DefaultHandling}
 use Rattle.ssf_core.specs.declared.config.DefaultHandling.TheVariants as handling
 use Rattle.ssf_core.specs.declared.config.SsfConfig.{SsfConfig}
 use Rattle.ssf_core.specs.declared.fault.SsfFault.{SsfFault}
-use Rattle.ssf_core.specs.declared.input.Input.{Input}
-use Rattle.ssf_core.specs.declared.input.Input.TheVariants.{Invoke, Trigger, Operate, Meet}
+use Rattle.ssf_core.specs.declared.ssf.Input.{Input}
+use Rattle.ssf_core.specs.declared.ssf.Input.TheVariants.{Invoke, Trigger, Operate, Meet}
 use Rattle.ssf_core.specs.declared.item.Item.{Item}
 use Rattle.ssf_core.specs.declared.item.Item.TheVariants.{Msg, Proceed, Clear}
 use Rattle.ssf_core.specs.declared.item.Out.{Out}
-use Rattle.ssf_core.specs.declared.timer.Timer.{Timer}
-use Rattle.ssf_core.specs.declared.timer.Timer.TheVariants.{Tsw, Tcp, Tccd, Tssf}
+use Rattle.ssf_core.specs.declared.timers.Timer.{Timer}
+use Rattle.ssf_core.specs.declared.timers.Timer.TheVariants.{Tsw, Tcp, Tccd, Tssf}
 use Rattle.ssf_core.proofs.LawLemmas.{AllLast, KnownOf, keeps_tcp, known, taken}
 use Rattle.ssf_core.proofs.StayLemmas.{answer_next, switch_next}
 

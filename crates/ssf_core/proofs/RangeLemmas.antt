@@ -24,21 +24,21 @@ use Rattle.ssf_core.specs.Quantities.{answered, granted, granted_after, last_mom
 use Rattle.ssf_core.specs.Split.{split}
 use Rattle.ssf_core.specs.Table.{Effect, after, any_watched, by_mode, ends, first_period, further_period, goes, is_fitting, last_report, on_abandon, on_answer, on_apply_charging, on_continue, on_disconnect, on_expiry, on_failure, on_input, on_invoke, on_period_end, on_release_call, on_request_report, on_trigger, on_tssf}
 use Rattle.ssf_core.specs.Traces.{HasEffect, IsTrace, next_phase, phase_after}
-use Rattle.ssf_core.specs.declared.bcsm_event.BcsmEvent.{BcsmEvent}
-use Rattle.ssf_core.specs.declared.bcsm_event.BcsmEvent.TheVariants as met
+use Rattle.ssf_core.specs.declared.item.BcsmEvent.{BcsmEvent}
+use Rattle.ssf_core.specs.declared.item.BcsmEvent.TheVariants as met
 use Rattle.ssf_core.specs.declared.config.DefaultHandling.{DefaultHandling}
 use Rattle.ssf_core.specs.declared.config.DefaultHandling.TheVariants as handling
 use Rattle.ssf_core.specs.declared.config.SsfConfig.{SsfConfig}
 use Rattle.ssf_core.specs.declared.fault.SsfFault.{SsfFault}
-use Rattle.ssf_core.specs.declared.input.Input.{Input}
-use Rattle.ssf_core.specs.declared.input.Input.TheVariants.{Invoke, Trigger, Operate, Meet}
+use Rattle.ssf_core.specs.declared.ssf.Input.{Input}
+use Rattle.ssf_core.specs.declared.ssf.Input.TheVariants.{Invoke, Trigger, Operate, Meet}
 use Rattle.ssf_core.specs.declared.item.Item.{Item}
 use Rattle.ssf_core.specs.declared.item.Out.{Out}
 use Rattle.ssf_core.specs.declared.item.Item.TheVariants.{Msg, Proceed, Clear}
-use Rattle.ssf_core.specs.declared.timer.Timer.{Timer}
-use Rattle.ssf_core.specs.declared.timer.Timer.TheVariants.{Tsw, Tcp, Tccd, Tssf}
+use Rattle.ssf_core.specs.declared.timers.Timer.{Timer}
+use Rattle.ssf_core.specs.declared.timers.Timer.TheVariants.{Tsw, Tcp, Tccd, Tssf}
 use Rattle.tariff_core.specs.Reading.{is_time_info}
-use Rattle.tariff_core.specs.declared.time_info.TimeInfo.TheVariants as info
+use Rattle.tariff_core.specs.declared.times.TimeInfo.TheVariants as info
 
 -- ---- the sum of the periods is a day at most
 

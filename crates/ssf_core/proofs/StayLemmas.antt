@@ -8,11 +8,11 @@ use Rattle.ssf_core.specs.Phases.{Phase, Unused, Requested, Initial, Setup, Acti
 use Rattle.ssf_core.specs.Quantities.{answered, answered_after, mode_at, switch_due, switched, switched_after}
 use Rattle.ssf_core.specs.Table.{Effect, on_answer}
 use Rattle.ssf_core.specs.Traces.{HasEffect, awaited_switch, phase_after, tsw_due}
-use Rattle.ssf_core.specs.declared.bcsm_event.BcsmEvent.TheVariants as met
+use Rattle.ssf_core.specs.declared.item.BcsmEvent.TheVariants as met
 use Rattle.ssf_core.specs.declared.config.SsfConfig.{SsfConfig}
-use Rattle.ssf_core.specs.declared.input.Input.TheVariants.{Invoke, Trigger, Operate, Meet}
+use Rattle.ssf_core.specs.declared.ssf.Input.TheVariants.{Invoke, Trigger, Operate, Meet}
 use Rattle.ssf_core.specs.declared.item.Item.{Item}
-use Rattle.ssf_core.specs.declared.timer.Timer.TheVariants.{Tsw, Tcp, Tccd, Tssf}
+use Rattle.ssf_core.specs.declared.timers.Timer.TheVariants.{Tsw, Tcp, Tccd, Tssf}
 use Rattle.ssf_core.proofs.LawLemmas.{KnownOf, known}
 
 -- an answer is taken before there is one

@@ -6,10 +6,10 @@ use Rattle.ssf_core.specs.Table.{Effect, on_input}
 use Rattle.ssf_core.specs.Traces.{IsTrace, due, phase_after}
 use Rattle.ssf_core.specs.declared.config.SsfConfig.{SsfConfig}
 use Rattle.ssf_core.specs.declared.fault.SsfFault.{SsfFault}
-use Rattle.ssf_core.specs.declared.input.Input.{Input}
+use Rattle.ssf_core.specs.declared.ssf.Input.{Input}
 use Rattle.ssf_core.specs.declared.item.Out.{Out}
 use Rattle.ssf_core.specs.declared.stage.Stage.{Stage}
-use Rattle.ssf_core.specs.declared.timer.Timer.{Timer}
+use Rattle.ssf_core.specs.declared.timers.Timer.{Timer}
 
 -- a gsmSSF, as contracts see it: how it is set up, the last moment that it took, and where its call stands
 pub record View : Type 0 where

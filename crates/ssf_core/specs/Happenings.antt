@@ -1,9 +1,9 @@
 -- What happens to a gsmSSF.
 use Rattle.std.specs.Prelude.{◌++◌, ℕ, List, [], ◌∷◌}
-use Rattle.ssf_core.specs.declared.input.Input.{Input}
+use Rattle.ssf_core.specs.declared.ssf.Input.{Input}
 use Rattle.ssf_core.specs.declared.item.Item.{Item}
 use Rattle.ssf_core.specs.declared.item.Out.{Out}
-use Rattle.ssf_core.specs.declared.timer.Timer.{Timer}
+use Rattle.ssf_core.specs.declared.timers.Timer.{Timer}
 
 -- an input is taken, or a timer expires
 pub data What : Type 0 where

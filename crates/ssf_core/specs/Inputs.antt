@@ -2,9 +2,9 @@
 use Rattle.std.specs.Prelude.{ℕ}
 use Rattle.cap_values.specs.declared.number.Number.{Number}
 use Rattle.cap_values.specs.declared.operation.ScfOp.{ScfOp}
-use Rattle.ssf_core.specs.declared.bcsm_event.BcsmEvent.{BcsmEvent}
-use Rattle.ssf_core.specs.declared.input.Input.{Input}
-use Rattle.ssf_core.specs.declared.input.Input.TheVariants as input
+use Rattle.ssf_core.specs.declared.item.BcsmEvent.{BcsmEvent}
+use Rattle.ssf_core.specs.declared.ssf.Input.{Input}
+use Rattle.ssf_core.specs.declared.ssf.Input.TheVariants as input
 
 -- the switch invokes it
 abbrev pub invokes : Input

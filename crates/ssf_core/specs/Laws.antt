@@ -3,13 +3,13 @@ use Rattle.std.specs.Prelude.{◌≡◌, ◌+◌, ◌++◌, ◌≤◌, ℕ, Bool
 use Rattle.cap_values.specs.declared.message.SsfMsg.TheVariants.{ChargingReport}
 use Rattle.cap_values.specs.declared.operation.ScfOp.TheVariants.{ApplyCharging}
 use Rattle.tariff_core.specs.Reading.{is_time_info}
-use Rattle.tariff_core.specs.declared.time_info.TimeInfo.{TimeInfo}
+use Rattle.tariff_core.specs.declared.times.TimeInfo.{TimeInfo}
 use Rattle.ssf_core.specs.Happenings.{Happening, What, Took, sent_in}
 use Rattle.ssf_core.specs.Quantities.{answered, granted, pending, switched}
 use Rattle.ssf_core.specs.Split.{split}
 use Rattle.ssf_core.specs.Traces.{IsTrace}
 use Rattle.ssf_core.specs.declared.config.SsfConfig.{SsfConfig}
-use Rattle.ssf_core.specs.declared.input.Input.TheVariants.{Operate}
+use Rattle.ssf_core.specs.declared.ssf.Input.TheVariants.{Operate}
 use Rattle.ssf_core.specs.declared.item.Item.{Item}
 use Rattle.ssf_core.specs.declared.item.Item.TheVariants.{Msg}
 

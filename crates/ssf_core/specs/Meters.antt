@@ -2,12 +2,12 @@
 use Rattle.std.specs.Prelude.{◌≡◌, ◌+◌, ◌≤◌, ◌⊎◌, ℕ, Bool, true, false, Option, Some, List, [], ◌∷◌, is_some}
 use Rattle.cap_values.specs.Orders.{Paid, order_of, paid_by}
 use Rattle.cap_values.specs.declared.message.SsfMsg.TheVariants.{ChargingReport}
-use Rattle.tariff_core.specs.declared.time_info.TimeInfo.{TimeInfo}
+use Rattle.tariff_core.specs.declared.times.TimeInfo.{TimeInfo}
 use Rattle.ssf_core.specs.Calls.{Stands, View}
 use Rattle.ssf_core.specs.Happenings.{Happening, What, Took}
 use Rattle.ssf_core.specs.Quantities.{answered, granted, last_moment, pending, switch_due, switched}
 use Rattle.ssf_core.specs.Split.{split}
-use Rattle.ssf_core.specs.declared.input.Input.TheVariants.{Operate}
+use Rattle.ssf_core.specs.declared.ssf.Input.TheVariants.{Operate}
 use Rattle.ssf_core.specs.declared.item.Item.{Item}
 use Rattle.ssf_core.specs.declared.item.Item.TheVariants.{Msg}
 use Rattle.ssf_core.specs.declared.item.Out.{Out}

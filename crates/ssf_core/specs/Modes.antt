@@ -6,7 +6,7 @@ use Rattle.cap_values.specs.declared.arming.Point.TheVariants.{RouteSelectFailur
 use Rattle.cap_values.specs.declared.arms.Arms.{Arms}
 use Rattle.cap_values.specs.declared.leg.Leg.TheVariants.{One, Two}
 use Rattle.cap_values.specs.declared.mode.Mode.{Mode}
-use Rattle.ssf_core.specs.declared.modes.Modes.{Modes}
+use Rattle.ssf_core.specs.declared.stage.Modes.{Modes}
 
 -- the mode of a point
 abbrev pub modes_at : Modes → Point → Mode

@@ -18,11 +18,11 @@ use Rattle.ssf_core.specs.Modes.{armed_modes, modes_at}
 use Rattle.ssf_core.specs.Split.{split}
 use Rattle.ssf_core.specs.Stages.{blank, passed, started}
 use Rattle.cap_values.specs.declared.number.Number.{Number}
-use Rattle.ssf_core.specs.declared.input.Input.{Input}
-use Rattle.ssf_core.specs.declared.input.Input.TheVariants.{Invoke, Trigger, Operate, Meet}
+use Rattle.ssf_core.specs.declared.ssf.Input.{Input}
+use Rattle.ssf_core.specs.declared.ssf.Input.TheVariants.{Invoke, Trigger, Operate, Meet}
 use Rattle.ssf_core.specs.Table.{any_watched, is_fitting, notified, event_report}
-use Rattle.ssf_core.specs.declared.bcsm_event.BcsmEvent.{BcsmEvent}
-use Rattle.ssf_core.specs.declared.bcsm_event.BcsmEvent.TheVariants as met
+use Rattle.ssf_core.specs.declared.item.BcsmEvent.{BcsmEvent}
+use Rattle.ssf_core.specs.declared.item.BcsmEvent.TheVariants as met
 use Rattle.ssf_core.specs.declared.config.DefaultHandling.{DefaultHandling}
 use Rattle.ssf_core.specs.declared.config.DefaultHandling.TheVariants as handling
 use Rattle.ssf_core.specs.declared.config.SsfConfig.{SsfConfig}
@@ -38,8 +38,8 @@ use Rattle.ssf_core.specs.declared.stage.Setup.{Setup}
 use Rattle.ssf_core.specs.declared.stage.Stage.{Stage}
 use Rattle.ssf_core.specs.declared.stage.Stage.TheVariants as stage
 use Rattle.ssf_core.specs.declared.stage.Switch.TheVariants as switch
-use Rattle.ssf_core.specs.declared.timer.Timer.{Timer}
-use Rattle.ssf_core.specs.declared.timer.Timer.TheVariants.{Tsw, Tcp, Tccd, Tssf}
+use Rattle.ssf_core.specs.declared.timers.Timer.{Timer}
+use Rattle.ssf_core.specs.declared.timers.Timer.TheVariants.{Tsw, Tcp, Tccd, Tssf}
 
 -- where a stage goes, and what it sends: first a report, if there is one, and then the rest
 pub record Move : Type 0 where

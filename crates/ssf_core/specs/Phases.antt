@@ -1,6 +1,6 @@
 -- The states of the gsmSSF, with the phases of a call.
-use Rattle.ssf_core.specs.declared.state.State.{State}
-use Rattle.ssf_core.specs.declared.state.State.TheVariants as state
+use Rattle.ssf_core.specs.declared.stage.State.{State}
+use Rattle.ssf_core.specs.declared.stage.State.TheVariants as state
 
 -- Idle and never invoked; WaitForRequest; WaitingForInstructions before the call goes on (Initial) or after it was interrupted (Down); Monitoring before the answer (Setup) or after it (Active); Idle for good
 pub data Phase : Type 0 where

@@ -6,9 +6,9 @@ use Rattle.cap_values.specs.declared.mode.Mode.{Mode}
 use Rattle.cap_values.specs.declared.mode.Mode.TheVariants.{Transparent}
 use Rattle.cap_values.specs.declared.operation.ScfOp.TheVariants.{RequestReport, ApplyCharging}
 use Rattle.ssf_core.specs.Happenings.{Happening, What, Took, Expired}
-use Rattle.ssf_core.specs.declared.input.Input.TheVariants.{Operate, Meet}
-use Rattle.ssf_core.specs.declared.bcsm_event.BcsmEvent.TheVariants.{Answer}
-use Rattle.ssf_core.specs.declared.timer.Timer.TheVariants.{Tsw, Tcp}
+use Rattle.ssf_core.specs.declared.ssf.Input.TheVariants.{Operate, Meet}
+use Rattle.ssf_core.specs.declared.item.BcsmEvent.TheVariants.{Answer}
+use Rattle.ssf_core.specs.declared.timers.Timer.TheVariants.{Tsw, Tcp}
 
 -- an accepted period adds its units
 abbrev pub granted_after : What → ℕ → ℕ

@@ -9,9 +9,9 @@ use Rattle.ssf_core.specs.declared.stage.Stage.{Stage}
 use Rattle.ssf_core.specs.declared.stage.Stage.TheVariants as stage
 use Rattle.ssf_core.specs.declared.stage.Switch.{Switch}
 use Rattle.ssf_core.specs.declared.stage.Switch.TheVariants as switch
-use Rattle.ssf_core.specs.declared.timer.Expiry.{Expiry}
-use Rattle.ssf_core.specs.declared.timer.Timer.{Timer}
-use Rattle.ssf_core.specs.declared.timer.Timer.TheVariants.{Tsw, Tcp, Tccd, Tssf}
+use Rattle.ssf_core.specs.declared.timers.Expiry.{Expiry}
+use Rattle.ssf_core.specs.declared.timers.Timer.{Timer}
+use Rattle.ssf_core.specs.declared.timers.Timer.TheVariants.{Tsw, Tcp, Tccd, Tssf}
 use Rattle.tariff_core.specs.declared.times.TheConstants.{DAY, HORIZON}
 
 -- the Tsw rule

@@ -8,8 +8,8 @@ use Rattle.ssf_core.specs.Table.{Effect, on_input, on_expiry}
 use Rattle.ssf_core.specs.declared.config.SsfConfig.{SsfConfig}
 use Rattle.ssf_core.specs.declared.fault.SsfFault.{SsfFault}
 use Rattle.ssf_core.specs.declared.item.Item.{Item}
-use Rattle.ssf_core.specs.declared.timer.Timer.{Timer}
-use Rattle.ssf_core.specs.declared.timer.Timer.TheVariants.{Tsw, Tcp, Tccd, Tssf}
+use Rattle.ssf_core.specs.declared.timers.Timer.{Timer}
+use Rattle.ssf_core.specs.declared.timers.Timer.TheVariants.{Tsw, Tcp, Tccd, Tssf}
 
 -- the phase that follows an input; a refused one leaves it
 abbrev pub next_in : Phase → Result Effect SsfFault → Phase

@@ -1,12 +1,15 @@
 //! The operations of the service on their way to gsmSSFs.
 
-ghost use Rattle.std.specs.Prelude.{◌≡◌, ◌++◌, OnOk};
+ghost use Rattle.std.specs.Prelude.{◌≡◌, ◌++◌, ◌≤◌, OnOk};
+ghost use Rattle.std.specs.Option.{ForSome};
 ghost use Rattle.ssf_core.specs.Deliveries.{TakesDue, deliveries_at, next_delivery};
+ghost use Rattle.ssf_core.specs.Moments.{in_reach, sooner};
 
 use crate::Moment;
 use cap_values::ScfOp;
 use std::alloc::AllocError;
 use std::collections::VecDeque;
+use tariff_core::HORIZON;
 
 /// An operation on its way.
 #[derive(Clone, Copy, Debug, PartialEq, Eq)]
@@ -55,4 +58,32 @@ pub fn take_due(deliveries: &mut VecDeque<Delivery>, now: Moment) -> Option<Deli
         return None;
     }
     deliveries.pop_front()
+}
+
+/// The least of three moments, where there are any, up to `HORIZON`, the last one that a gsmSSF
+/// takes: those of what a call meets next, of the next delivery, and at which a timer is due.
+pub fn next_moment(
+    event: Option<Moment>,
+    delivery: Option<Moment>,
+    due: Option<Moment>,
+) -> Option<Moment>
+    ensures least { result ≡ in_reach (sooner (sooner event delivery) due) }
+    ensures in_range { ForSome result (λ moment. moment ≤ HORIZON) }
+{
+    let next = sooner(sooner(event, delivery), due)?;
+    if HORIZON < next {
+        return None;
+    }
+    Some(next)
+}
+
+/// The lesser of two moments, where there are two.
+fn sooner(first: Option<Moment>, second: Option<Moment>) -> Option<Moment>
+    ensures { result ≡ sooner first second }
+{
+    match (first, second) {
+        (None, _) => second,
+        (_, None) => first,
+        (Some(one), Some(other)) => Some(one.min(other)),
+    }
 }

@@ -5,10 +5,8 @@ ghost use Rattle.arrayvec.specs.ArrayVec.{array_vec_len};
 ghost use Rattle.ssf_core.specs.Moves.{abandoned, answered_setup, answered_stage, charging_of, disconnected, failed, gave_up, met_event, outs_of, period_of, send_move, stage_of};
 ghost use Rattle.ssf_core.specs.Stages.{IsTimely};
 
-use crate::modes::mode_of;
-use crate::reports::send_last_report;
-use crate::sending::{by_mode, end, notify};
-use crate::stage::{Active, Charging, Setup, Stage};
+use crate::sending::{by_mode, end, notify, send_last_report};
+use crate::stage::{Active, Charging, Setup, Stage, mode_of};
 use crate::{BcsmEvent, Moment, Out, SsfConfig, SsfFault};
 use arrayvec::ArrayVec;
 use cap_values::{Charge, Event, Leg, Mode, Point};

@@ -2,7 +2,7 @@
 
 use crate::SsfFault;
 use arrayvec::ArrayVec;
-use cap_values::{Cause, SsfMsg};
+use cap_values::{Cause, Leg, SsfMsg};
 
 /// A moment, in units of 100 ms from the caller's origin: 0 to `HORIZON`.
 pub type Moment = u64;
@@ -44,4 +44,21 @@ pub struct Step {
     pub sent: ArrayVec<Out, 8>,
     /// Why the input was refused, if it was.
     pub fault: Option<SsfFault>,
+}
+
+/// An event of the call after it was triggered.
+#[derive(Clone, Copy, Debug, PartialEq, Eq)]
+pub enum BcsmEvent {
+    /// No route to the called number was found.
+    RouteSelectFailure,
+    /// The called party is busy.
+    Busy,
+    /// The called party didn't answer in time.
+    NoAnswer,
+    /// The called party answered.
+    Answer,
+    /// The party of this leg hung up.
+    Disconnect(Leg),
+    /// The calling party hung up before the answer.
+    Abandon,
 }

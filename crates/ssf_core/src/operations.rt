@@ -7,10 +7,8 @@ ghost use Rattle.ssf_core.specs.Stages.{IsTimely};
 ghost use Rattle.ssf_core.specs.Table.{any_watched, is_fitting};
 ghost use Rattle.ssf_core.specs.Modes.{modes_at};
 
-use crate::modes::{armed, watch_any};
-use crate::reports::send_last_report;
-use crate::sending::{clear, proceed, send};
-use crate::stage::{Active, Charging, Setup, Stage, started};
+use crate::sending::{clear, proceed, send, send_last_report};
+use crate::stage::{Active, Charging, Setup, Stage, armed, started, watch_any};
 use crate::{Item, Moment, Out, SsfConfig, SsfFault};
 use arrayvec::ArrayVec;
 use cap_values::{Arms, Cause, Charge, ScfOp};

@@ -1,13 +1,18 @@
 //! The gsmSSF of one call.
 
-use crate::expiries::next_moment;
-use crate::input::Input;
-use crate::inputs::take;
-use crate::stage::{Stage, state_of};
-use crate::timers::run_timers;
-use crate::{BcsmEvent, Moment, SsfConfig, SsfFault, State, Step};
+ghost use Rattle.std.specs.Prelude.{◌≡◌, ◌≤◌};
+ghost use Rattle.ssf_core.specs.Moves.{invoked, move_of, outs_of, stage_of, triggered};
+ghost use Rattle.ssf_core.specs.Stages.{IsTimely};
+ghost use Rattle.arrayvec.specs.ArrayVec.{array_vec_len};
+
+use crate::events::meet;
+use crate::operations::operate;
+use crate::sending::send;
+use crate::stage::{Setup, Stage, Switch, UNARMED, state_of};
+use crate::timers::{next_moment, run_timers};
+use crate::{BcsmEvent, Item, Moment, Out, SsfConfig, SsfFault, State, Step};
 use arrayvec::ArrayVec;
-use cap_values::{Number, ScfOp};
+use cap_values::{Number, ScfOp, SsfMsg};
 use std::marker::Model;
 use tariff_core::HORIZON;
 
@@ -38,7 +43,7 @@ impl Model for Ssf {
 }
 
 impl Ssf {
-    ghost use Rattle.std.specs.Prelude.{◌≡◌, ◌≤◌, ◌<◌, ◌∷◌, List, [], Some, None};
+    ghost use Rattle.std.specs.Prelude.{◌≡◌, ◌≤◌, ◌<◌, ◌∷◌, [], List, Some, None};
     ghost use Rattle.std.specs.Option.{ForSome};
     ghost use Rattle.ssf_core.specs.Calls.{Advances, IsNextDue, Stands, Takes};
     ghost use Rattle.cap_values.specs.Orders.{order_of, paid_by};
@@ -46,7 +51,7 @@ impl Ssf {
     ghost use Rattle.ssf_core.specs.Phases.{state_in};
     ghost use Rattle.ssf_core.specs.Traces.{phase_after};
     ghost use Rattle.ssf_core.specs.Happenings.{Happening};
-    ghost use Rattle.ssf_core.specs.declared.input.Input.TheVariants as taken;
+    ghost use Rattle.ssf_core.specs.declared.ssf.Input.TheVariants as taken;
 
     /// A gsmSSF that was never invoked.
     pub fn new(config: SsfConfig) -> Ssf
@@ -191,4 +196,96 @@ impl Ssf {
             fault: outcome.err(),
         }
     }
+}
+
+/// Takes an input.
+fn take(
+    config: &SsfConfig,
+    stage: Stage,
+    sent: &mut ArrayVec<Out, 8>,
+    now: Moment,
+    input: Input,
+) -> Result<Stage, SsfFault>
+    requires moment { now ≤ HORIZON }
+    requires room { array_vec_len sent.old ≤ 5 }
+    requires timely { IsTimely now stage }
+    ensures stage { result ≡ stage_of (move_of config.now.tssf stage now input) }
+    ensures items { sent.new.items ≡ outs_of sent.old.items now
+        (move_of config.now.tssf stage now input) }
+{
+    match input {
+        Input::Invoke => invoke(stage),
+        Input::Trigger {
+            call,
+            calling,
+            called,
+        } => trigger(config, stage, sent, now, call, calling, called),
+        Input::Operate(op) => operate(config, stage, sent, now, op),
+        Input::Meet(event) => meet(config, stage, sent, now, event),
+    }
+}
+
+/// Invoke: where it was never invoked.
+fn invoke(stage: Stage) -> Result<Stage, SsfFault>
+    ensures { result ≡ stage_of (invoked stage) }
+{
+    match stage {
+        Stage::Unused => Ok(Stage::Requested),
+        _ => Err(SsfFault::UnexpectedComponentSequence),
+    }
+}
+
+/// Trigger: in WaitForRequest; InitialDp is sent, and Tssf starts.
+fn trigger(
+    config: &SsfConfig,
+    stage: Stage,
+    sent: &mut ArrayVec<Out, 8>,
+    now: Moment,
+    call: u64,
+    calling: Number,
+    called: Number,
+) -> Result<Stage, SsfFault>
+    requires moment { now ≤ HORIZON }
+    requires room { array_vec_len sent.old ≤ 5 }
+    ensures stage { result ≡ stage_of (triggered config.now.tssf stage now call calling called) }
+    ensures items { sent.new.items ≡ outs_of sent.old.items now
+        (triggered config.now.tssf stage now call calling called) }
+{
+    let Stage::Requested = stage else {
+        return Err(SsfFault::UnexpectedComponentSequence);
+    };
+    send(
+        sent,
+        now,
+        Item::Msg(SsfMsg::InitialDp {
+            call,
+            calling,
+            called,
+        }),
+    );
+    Ok(Stage::Initial {
+        setup: Setup {
+            modes: UNARMED,
+            charge: None,
+            switch: Switch::Unset,
+        },
+        due: now + u64::from(config.tssf),
+    })
+}
+
+/// An input.
+#[derive(Clone, Copy)]
+enum Input {
+    /// The switch invokes it.
+    Invoke,
+    /// A call triggers it.
+    Trigger {
+        call: u64,
+        calling: Number,
+        called: Number,
+    },
+    /// The service sends an operation.
+    Operate(ScfOp),
+    /// The call meets an event.
+    Meet(BcsmEvent),
 }

@@ -1,16 +1,18 @@
 //! The timers, run up to a moment.
 
-ghost use Rattle.std.specs.Prelude.{◌≡◌, ◌≤◌, List, []};
-ghost use Rattle.arrayvec.specs.ArrayVec.{array_vec_len};
+ghost use Rattle.std.specs.Prelude.{◌≡◌, ◌≤◌, ◌+◌, [], List, Some};
 ghost use Rattle.ssf_core.specs.Happenings.{Happening};
 ghost use Rattle.ssf_core.specs.Running.{Runs};
-ghost use Rattle.ssf_core.specs.Stages.{IsQuiet, IsTimely};
+ghost use Rattle.ssf_core.specs.Stages.{IsQuiet, IsTimely, IsActiveTimely, IsBounded, due_by, expiry_of, moment_of, next_of, sooner_of, stage_due, switch_due_of, tccd_due_of, tcp_due_of};
+ghost use Rattle.ssf_core.specs.Moves.{defaulted, expired, period_over, period_over_in, send_all, switched_stage};
+ghost use Rattle.arrayvec.specs.ArrayVec.{array_vec_len};
 
-use crate::expiries::{expire, next_expiry_by};
-use crate::stage::Stage;
-use crate::{Moment, Out, SsfConfig};
+use crate::sending::{clear, proceed, report, send};
+use crate::stage::{Active, Charging, Stage, Switch};
+use crate::{DefaultHandling, Moment, Out, SsfConfig};
 use arrayvec::ArrayVec;
-use tariff_core::HORIZON;
+use cap_values::Cause;
+use tariff_core::{DAY, HORIZON};
 
 /// Lets all timers expire that are due by now, each as of its due moment.
 pub(crate) fn run_timers(
@@ -34,4 +36,264 @@ pub(crate) fn run_timers(
         stage = expire(config, stage, sent, expiry);
     }
     stage
+}
+
+/// When Tsw is due: at the tariff switch.
+fn tsw_due(stage: &Stage) -> Option<Moment>
+    ensures { result ≡ stage_due stage.now Timer.Tsw }
+{
+    match stage {
+        Stage::Initial { setup, .. } => switch_due(setup.switch),
+        Stage::Setup(setup) => switch_due(setup.switch),
+        Stage::Active(active) => switch_due(active.switch),
+        Stage::Unused | Stage::Requested | Stage::Down { .. } | Stage::Ended => None,
+    }
+}
+
+fn switch_due(switch: Switch) -> Option<Moment>
+    ensures { result ≡ switch_due_of switch }
+{
+    match switch {
+        Switch::Due(moment) => Some(moment),
+        Switch::Unset | Switch::Passed(_) => None,
+    }
+}
+
+/// When Tcp is due: at the end of the period.
+fn tcp_due(stage: &Stage) -> Option<Moment>
+    requires { IsBounded stage.now }
+    ensures { result ≡ stage_due stage.now Timer.Tcp }
+{
+    match stage {
+        Stage::Active(active) => period_end(active),
+        _ => None,
+    }
+}
+
+fn period_end(active: &Active) -> Option<Moment>
+    requires answered { active.now.answered ≤ HORIZON }
+    requires granted { active.now.granted ≤ DAY }
+    ensures { result ≡ tcp_due_of (active.now.answered + active.now.granted) active.now.charging }
+{
+    match active.charging {
+        Charging::Running { .. } => Some(active.answered + u64::from(active.granted)),
+        Charging::Off | Charging::Over { .. } => None,
+    }
+}
+
+/// When Tccd is due: some time after the end of the period.
+fn tccd_due(stage: &Stage) -> Option<Moment>
+    ensures { result ≡ stage_due stage.now Timer.Tccd }
+{
+    match stage {
+        Stage::Active(active) => further_period_due(active.charging),
+        _ => None,
+    }
+}
+
+fn further_period_due(charging: Charging) -> Option<Moment>
+    ensures { result ≡ tccd_due_of charging }
+{
+    match charging {
+        Charging::Over { due } => Some(due),
+        Charging::Off | Charging::Running { .. } => None,
+    }
+}
+
+/// When Tssf is due: some time after the last input.
+fn tssf_due(stage: &Stage) -> Option<Moment>
+    ensures { result ≡ stage_due stage.now Timer.Tssf }
+{
+    match stage {
+        Stage::Initial { due, .. } => Some(*due),
+        Stage::Down { due } => Some(*due),
+        _ => None,
+    }
+}
+
+fn expiry_at(timer: Timer, due: Option<Moment>) -> Option<Expiry>
+    ensures { result ≡ expiry_of timer due }
+{
+    match due {
+        Some(due) => Some(Expiry { due, timer }),
+        None => None,
+    }
+}
+
+/// The sooner of two expiries; the first where both are due at one moment.
+fn sooner(first: Option<Expiry>, second: Option<Expiry>) -> Option<Expiry>
+    ensures { result ≡ sooner_of first second }
+{
+    match (first, second) {
+        (Some(first), Some(second)) => sooner_expiry(first, second),
+        (Some(first), None) => Some(first),
+        (None, second) => second,
+    }
+}
+
+fn sooner_expiry(first: Expiry, second: Expiry) -> Option<Expiry>
+    ensures { result ≡ sooner_of (Some first) (Some second) }
+{
+    if second.due < first.due {
+        Some(second)
+    } else {
+        Some(first)
+    }
+}
+
+/// The next expiry.
+fn next_expiry(stage: &Stage) -> Option<Expiry>
+    requires { IsBounded stage.now }
+    ensures { result ≡ next_of stage.now }
+{
+    let tsw = expiry_at(Timer::Tsw, tsw_due(stage));
+    let tcp = expiry_at(Timer::Tcp, tcp_due(stage));
+    let tccd = expiry_at(Timer::Tccd, tccd_due(stage));
+    let tssf = expiry_at(Timer::Tssf, tssf_due(stage));
+    sooner(tsw, sooner(tcp, sooner(tccd, tssf)))
+}
+
+/// The moment of the next expiry.
+pub(crate) fn next_moment(stage: &Stage) -> Option<Moment>
+    requires { IsBounded stage.now }
+    ensures { result ≡ moment_of (next_of stage.now) }
+{
+    match next_expiry(stage) {
+        Some(expiry) => Some(expiry.due),
+        None => None,
+    }
+}
+
+/// The next expiry, if it is due by now.
+fn next_expiry_by(stage: &Stage, now: Moment) -> Option<Expiry>
+    requires { IsBounded stage.now }
+    ensures { result ≡ due_by now (next_of stage.now) }
+{
+    match next_expiry(stage) {
+        Some(expiry) => expiry_by(expiry, now),
+        None => None,
+    }
+}
+
+fn expiry_by(expiry: Expiry, now: Moment) -> Option<Expiry>
+    ensures { result ≡ due_by now (Some expiry) }
+{
+    if expiry.due <= now {
+        Some(expiry)
+    } else {
+        None
+    }
+}
+
+/// Lets a timer expire, as of its due moment.
+fn expire(config: &SsfConfig, stage: Stage, sent: &mut ArrayVec<Out, 8>, expiry: Expiry) -> Stage
+    requires moment { expiry.due ≤ HORIZON }
+    requires room { array_vec_len sent.old ≤ 5 }
+    requires timely { IsTimely expiry.due stage }
+    ensures stage { result ≡ (expired config.now stage expiry.due expiry.timer).stage }
+    ensures items { sent.new.items ≡ send_all sent.old.items expiry.due
+        (expired config.now stage expiry.due expiry.timer).sent }
+{
+    match expiry.timer {
+        Timer::Tsw => switch_over(stage, expiry.due),
+        Timer::Tcp => end_period(config, stage, sent, expiry.due),
+        Timer::Tccd => clear(sent, expiry.due, Cause::temporary_failure()),
+        Timer::Tssf => handle_by_default(config, sent, expiry.due),
+    }
+}
+
+/// Tsw: the switch came.
+fn switch_over(stage: Stage, now: Moment) -> Stage
+    ensures { result ≡ switched_stage stage now }
+{
+    match stage {
+        Stage::Initial { mut setup, due } => {
+            setup.switch = Switch::Passed(now);
+            Stage::Initial { setup, due }
+        }
+        Stage::Setup(mut setup) => {
+            setup.switch = Switch::Passed(now);
+            Stage::Setup(setup)
+        }
+        Stage::Active(mut active) => {
+            active.switch = Switch::Passed(now);
+            Stage::Active(active)
+        }
+        other => other,
+    }
+}
+
+/// Tcp: the period is over. With the wish to release, a last report, and the call is cleared; else
+/// a report, and Tccd starts.
+fn end_period(config: &SsfConfig, stage: Stage, sent: &mut ArrayVec<Out, 8>, now: Moment) -> Stage
+    requires moment { now ≤ HORIZON }
+    requires room { array_vec_len sent.old ≤ 5 }
+    requires timely { IsTimely now stage }
+    ensures stage { result ≡ (period_over_in config.now.tccd stage now).stage }
+    ensures items { sent.new.items ≡ send_all sent.old.items now
+        (period_over_in config.now.tccd stage now).sent }
+{
+    match stage {
+        Stage::Active(active) => end_active_period(config, active, sent, now),
+        other => other,
+    }
+}
+
+fn end_active_period(
+    config: &SsfConfig,
+    mut active: Active,
+    sent: &mut ArrayVec<Out, 8>,
+    now: Moment,
+) -> Stage
+    requires moment { now ≤ HORIZON }
+    requires room { array_vec_len sent.old ≤ 5 }
+    requires timely { IsActiveTimely now active }
+    ensures stage { result ≡ (period_over config.now.tccd active now active.charging).stage }
+    ensures items { sent.new.items ≡ send_all sent.old.items now
+        (period_over config.now.tccd active now active.charging).sent }
+{
+    let Charging::Running { release } = active.charging else {
+        return Stage::Active(active);
+    };
+    send(sent, now, report(&active, now, !release));
+    if release {
+        return clear(sent, now, Cause::normal_call_clearing());
+    }
+    active.charging = Charging::Over {
+        due: now + u64::from(config.tccd),
+    };
+    Stage::Active(active)
+}
+
+/// Tssf: the default handling.
+fn handle_by_default(config: &SsfConfig, sent: &mut ArrayVec<Out, 8>, now: Moment) -> Stage
+    requires { array_vec_len sent.old ≤ 5 }
+    ensures stage { result ≡ (defaulted config.now.default_handling).stage }
+    ensures items { sent.new.items ≡ send_all sent.old.items now
+        (defaulted config.now.default_handling).sent }
+{
+    match config.default_handling {
+        DefaultHandling::Proceed => proceed(sent, now),
+        DefaultHandling::Release => clear(sent, now, Cause::temporary_failure()),
+    }
+}
+
+/// A timer.
+#[derive(Clone, Copy)]
+enum Timer {
+    /// It runs to the tariff switch.
+    Tsw,
+    /// It measures a call period.
+    Tcp,
+    /// It waits for a further period.
+    Tccd,
+    /// It waits for instructions.
+    Tssf,
+}
+
+/// The expiry of a timer.
+#[derive(Clone, Copy)]
+struct Expiry {
+    due: Moment,
+    timer: Timer,
 }

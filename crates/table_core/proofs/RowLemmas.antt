@@ -13,7 +13,7 @@ use Rattle.csv.specs.declared.parser.Terminator.{Terminator}
 use Rattle.csv.specs.declared.parser.Terminator.TheVariants as term
 use Rattle.csv.specs.declared.reader.Trim.TheVariants as trim
 use Rattle.table_core.specs.Rows.{Fields, HasLeft, Takes, rows_of}
-use Rattle.table_core.specs.declared.rows.Rows.{Rows}
+use Rattle.table_core.specs.declared.table.Rows.{Rows}
 
 -- ---- between two records the machine is in a state in which the text may end
 

@@ -7,7 +7,7 @@ use Rattle.table_core.specs.declared.fault.RowKind.{RowKind}
 use Rattle.table_core.specs.declared.fault.RowKind.TheVariants as kind
 use Rattle.table_core.specs.declared.fault.TableFault.{TableFault}
 use Rattle.table_core.specs.declared.fault.TableFault.TheVariants as fault
-use Rattle.table_core.specs.declared.rows.Rows.{Rows}
+use Rattle.table_core.specs.declared.table.Rows.{Rows}
 use Rattle.table_core.specs.declared.table.Table.{Table}
 
 -- the row that was taken last

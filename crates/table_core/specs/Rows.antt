@@ -4,7 +4,7 @@ use Rattle.csv.specs.Machine.{ends_at_end}
 use Rattle.csv.specs.Reading.{Ready, default_config, records, records_from, source_of, strip_bom}
 use Rattle.csv.specs.Records.{fields_of}
 use Rattle.csv.specs.declared.reader.Trim.TheVariants as trim
-use Rattle.table_core.specs.declared.rows.Rows.{Rows}
+use Rattle.table_core.specs.declared.table.Rows.{Rows}
 
 -- a row: the bytes of each of its fields
 abbrev pub Fields : Type 0

@@ -5,17 +5,14 @@
 //! is read by this crate, so it is the one place that knows the library `csv`.
 #![tactic(auto)]
 
-mod decimals;
-mod digits;
 mod fault;
 mod fields;
 mod printed;
-mod rows;
 mod table;
 
-pub use decimals::{are_digits, decimal, is_decimal};
-pub use digits::write_digits;
 pub use fault::{RowFault, RowKind, TableFault};
-pub use fields::{field, is_blank, is_word, number, optional};
+pub use fields::{
+    are_digits, decimal, field, is_blank, is_decimal, is_word, number, optional, write_digits,
+};
 pub use printed::{printed_decimals_are_read, printed_tables_are_read};
 pub use table::Table;

@@ -20,7 +20,7 @@ use Rattle.tariff_core.specs.Bands.{Band, band_at, has_band, is_at}
 use Rattle.tariff_core.specs.Places.{by_place}
 use Rattle.tariff_core.specs.Prefixes.{digits_of}
 use Rattle.tariff_core.specs.Tariff.{Indexes, band_of, band_with}
-use Rattle.tariff_core.specs.declared.place.Place.{Place}
+use Rattle.tariff_core.specs.declared.prefix.Place.{Place}
 use Rattle.tariff_core.specs.declared.prefix.Prefix.{Prefix}
 use Rattle.tariff_core.specs.declared.row.Cost.{Cost}
 use Rattle.tariff_core.specs.declared.row.Row.{Row}

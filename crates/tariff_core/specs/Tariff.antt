@@ -7,7 +7,7 @@ use Rattle.tariff_core.specs.Places.{by_place}
 use Rattle.tariff_core.specs.Prefixes.{digits_of}
 use Rattle.tariff_core.specs.declared.row.Cost.{Cost}
 use Rattle.tariff_core.specs.declared.row.Row.{Row}
-use Rattle.tariff_core.specs.declared.place.Place.{Place}
+use Rattle.tariff_core.specs.declared.prefix.Place.{Place}
 
 -- what a row of the code says
 abbrev pub band_of : Row → Band

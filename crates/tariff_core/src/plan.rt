@@ -1,6 +1,6 @@
 //! What a call is charged by.
 
-ghost use Rattle.std.specs.Prelude.{◌≡◌, ◌≤◌, IsOk, IfOk, ◌↔◌, unwrap_or};
+ghost use Rattle.std.specs.Prelude.{◌≡◌, ◌≤◌, ◌↔◌, IsOk, IfOk, unwrap_or};
 ghost use Rattle.tariff_core.specs.Rates.{AreRates};
 ghost use Rattle.tariff_core.specs.declared.plan.TheConstants.{MAX_RATE};
 ghost use Rattle.tariff_core.specs.declared.times.TheConstants.{DAY};
@@ -79,3 +79,6 @@ impl Plan {
         })
     }
 }
+
+/// The largest amount of money: no account has more credit.
+pub const MAX_MONEY: u64 = 1_000_000_000_000_000;

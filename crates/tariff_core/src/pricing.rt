@@ -1,9 +1,11 @@
-//! The price of times under a plan.
+//! What times cost, the most that granted times can cost, the units that money covers, and which times may follow.
 
-ghost use Rattle.std.specs.Prelude.{◌≡◌, ◌+◌, ◌≤◌, true};
+ghost use Rattle.std.specs.Prelude.{◌≡◌, ◌+◌, ◌≤◌, true, IsSome};
 ghost use Rattle.tariff_core.specs.Lawful.{is_lawful};
 ghost use Rattle.tariff_core.specs.Price.{price_of, price_at};
 ghost use Rattle.tariff_core.specs.RatesOf.{rates_of};
+ghost use Rattle.tariff_core.specs.Ceiling.{ceiling_of};
+ghost use Rattle.tariff_core.specs.Afford.{units_afforded};
 
 use crate::{DAY, Plan, Times};
 
@@ -40,4 +42,60 @@ pub fn debit(plan: &Plan, old: Times, new: Times) -> u64
     ensures bounded { price_at (rates_of plan.now) new ≤ MAX_PRICE }
 {
     price(plan, new.before(), new.after()) - price(plan, old.before(), old.after())
+}
+
+/// The greatest price over all times that are lawful after `old`, where `more` units of 100 ms are
+/// granted beyond what was talked. A dearer second rate counts from the first of these units.
+pub fn ceiling(plan: &Plan, old: Times, more: u32) -> u64
+    requires room { old.before + old.after + more ≤ DAY }
+    requires rated { old.switched ≡ true → IsSome plan.now.after }
+    ensures exact { result ≡ ceiling_of (rates_of plan.now) old more }
+    ensures bounded { result ≤ MAX_PRICE }
+{
+    let at_first = price(plan, old.before() + more, old.after());
+    let at_second = price(plan, old.before(), old.after() + more);
+    match plan.after {
+        Some(_) if old.switched() => at_second,
+        Some(_) => at_first.max(at_second),
+        None => at_first,
+    }
+}
+
+/// The most units of 100 ms, up to `wanted` and to a day in all, that `money` covers at their
+/// dearest; 0 if there are none.
+pub fn afford(plan: &Plan, old: Times, wanted: u32, money: u64) -> u32
+    requires { old.switched ≡ true → IsSome plan.now.after }
+    ensures exact { result ≡ units_afforded (rates_of plan.now) old wanted money }
+    ensures wanted { result ≤ wanted }
+    ensures room { old.before + old.after + result ≤ DAY }
+{
+    let most = wanted.min(DAY - old.total());
+    if ceiling(plan, old, most) <= money {
+        return most;
+    }
+    let mut covered = 0;
+    let mut beyond = most + 1;
+    while covered + 1 < beyond {
+        let middle = covered + (beyond - covered) / 2;
+        if ceiling(plan, old, middle) <= money {
+            covered = middle;
+        } else {
+            beyond = middle;
+        }
+    }
+    covered
+}
+
+/// Whether a call may report `new` after it reported `old`, with `granted` units of 100 ms granted
+/// in all. Neither time falls, a switch stays and with it the time before it, only a plan with a
+/// second rate switches, and no more was talked than was granted.
+pub fn lawful(plan: &Plan, old: Times, new: Times, granted: u32) -> bool
+    ensures { result ≡ is_lawful (rates_of plan.now) old new granted }
+{
+    let keeps_switch = !old.switched() || (new.switched() && new.before() == old.before());
+    new.before() >= old.before()
+        && new.after() >= old.after()
+        && keeps_switch
+        && (!new.switched() || plan.after.is_some())
+        && new.total() <= granted
 }

@@ -4,7 +4,7 @@ ghost use Rattle.std.specs.Prelude.{◌<◌, ◌≤◌};
 ghost use Rattle.tariff_core.specs.declared.plan.TheConstants.{MAX_RATE};
 ghost use Rattle.tariff_core.specs.declared.times.TheConstants.{DAY};
 
-use crate::place::Place;
+use crate::prefix::Place;
 
 /// What the calls of a row cost: the fee, the rate a minute, and how many units are free.
 #[derive(Clone, Copy, Debug)]

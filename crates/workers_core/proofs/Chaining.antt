@@ -10,7 +10,7 @@ use Rattle.workers_core.specs.Handled.{Holding, IsHandled, AnswerView}
 use Rattle.workers_core.specs.Served.{AreServed}
 use Rattle.run_values.specs.Setups.{Setup}
 use Rattle.workers_core.specs.Workers.{IsSound}
-use Rattle.run_values.specs.declared.opening_credit.OpeningCredit.{OpeningCredit}
+use Rattle.run_values.specs.declared.directory.OpeningCredit.{OpeningCredit}
 use Rattle.run_values.specs.declared.post.Post.{Post}
 
 -- one post more

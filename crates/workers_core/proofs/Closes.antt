@@ -1,8 +1,8 @@
 -- A Close is the last mail.
 use Rattle.std.proofs.Common.{◌≡◌, true, false, List, [], ◌∷◌, ◌++◌, refl}
 use Rattle.workers_core.specs.Logs.{ends_at_close, has_close, is_empty}
-use Rattle.workers_core.specs.declared.mail.Mail.{Mail}
-use Rattle.workers_core.specs.declared.mail.Mail.TheVariants.{Work, Close}
+use Rattle.workers_core.specs.declared.mailboxes.Mail.{Mail}
+use Rattle.workers_core.specs.declared.mailboxes.Mail.TheVariants.{Work, Close}
 
 ends_with : {T : Type 0} (mail : Mail T) → ends_at_close (mail ∷ []) ≡ true
 ends_with (Work content) = refl

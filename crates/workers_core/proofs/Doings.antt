@@ -17,7 +17,7 @@ use Rattle.workers_core.specs.Handled.{IsRecharged, IsTalked, StandsNow, AnswerV
 use Rattle.workers_core.specs.Talks.{IsTalk, entries_of, entry_of}
 use Rattle.workers_core.specs.Verdicts.{DialogueAt}
 use Rattle.workers_core.specs.Workers.{standing_of, standings_in}
-use Rattle.workers_core.specs.declared.talk.Talk.{Talk}
+use Rattle.workers_core.specs.declared.worker.Talk.{Talk}
 
 pub on_ok : {X E : Type 0} (r : Result X E) (P : Type 0) → P → OnOk r P
 on_ok (Ok x) P p = p

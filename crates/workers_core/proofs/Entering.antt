@@ -23,7 +23,7 @@ use Rattle.run_values.specs.Setups.{Setup, place_of}
 use Rattle.workers_core.specs.Talks.{Got, entries_of, entry_of, last_fault}
 use Rattle.workers_core.specs.Verdicts.{Verdict, Strays, Rejects, Recharges, Begins, GoesOn, recharged, verdict_on}
 use Rattle.workers_core.specs.Workers.{IsSound}
-use Rattle.run_values.specs.declared.opening_credit.OpeningCredit.{OpeningCredit}
+use Rattle.run_values.specs.declared.directory.OpeningCredit.{OpeningCredit}
 use Rattle.run_values.specs.declared.post.Body.{Body}
 use Rattle.run_values.specs.declared.post.Body.TheVariants.{Ssf, Recharge}
 use Rattle.run_values.specs.declared.post.Post.{Post}

@@ -25,9 +25,9 @@ use Rattle.run_values.specs.Setups.{Setup, account_of, place_of}
 use Rattle.workers_core.specs.Talks.{Got, entries_of, entry_of}
 use Rattle.workers_core.specs.Verdicts.{DialogueAt, Verdict, Strays, Rejects, Recharges, Begins, GoesOn, begins, fresh, goes_on, home_of, recharged, spoken, strays, verdict, verdict_on}
 use Rattle.workers_core.specs.Workers.{IsAbout, IsOwn, IsSound, standing_of}
-use Rattle.workers_core.specs.declared.case.Case.{Case}
-use Rattle.workers_core.specs.declared.case.Case.TheVariants as case
-use Rattle.run_values.specs.declared.opening_credit.OpeningCredit.{OpeningCredit}
+use Rattle.workers_core.specs.declared.worker.Case.{Case}
+use Rattle.workers_core.specs.declared.worker.Case.TheVariants as case
+use Rattle.run_values.specs.declared.directory.OpeningCredit.{OpeningCredit}
 use Rattle.run_values.specs.declared.post.Body.{Body}
 use Rattle.run_values.specs.declared.post.Body.TheVariants.{Ssf, Recharge}
 use Rattle.run_values.specs.declared.post.Post.{Post}

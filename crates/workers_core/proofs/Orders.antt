@@ -6,8 +6,8 @@ use Rattle.atomic_table.proofs.Lists.{at_set, at_snoc}
 use Rattle.crossbeam_channel.specs.Fifo.{Forks, Learns, Merges, Pops, Pushes}
 use Rattle.workers_core.proofs.Closes.{none_before, still_ends}
 use Rattle.workers_core.specs.Logs.{Delivered, Fits, ends_at_close, has_close, log}
-use Rattle.workers_core.specs.declared.log.Log.{Log}
-use Rattle.workers_core.specs.declared.mail.Mail.{Mail}
+use Rattle.workers_core.specs.declared.mailboxes.Log.{Log}
+use Rattle.workers_core.specs.declared.mailboxes.Mail.{Mail}
 
 -- a fact of each view in the list of views
 abbrev Each : {T : Type 0} → (ℕ → Log T → Type 0) → List (Log T) → Type 0

@@ -12,8 +12,8 @@ use Rattle.run_values.specs.Setups.{Setup}
 use Rattle.run_values.specs.declared.post.Post.{Post}
 use Rattle.workers_core.specs.Talks.{Got, talked}
 use Rattle.workers_core.specs.Verdicts.{DialogueAt, Verdict, Strays, Rejects, Recharges, Begins, GoesOn, verdict}
-use Rattle.workers_core.specs.declared.case.Case.{Case}
-use Rattle.workers_core.specs.declared.case.Case.TheVariants as case
+use Rattle.workers_core.specs.declared.worker.Case.{Case}
+use Rattle.workers_core.specs.declared.worker.Case.TheVariants as case
 
 -- ---- in a talk
 

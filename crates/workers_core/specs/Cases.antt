@@ -19,9 +19,9 @@ use Rattle.run_values.specs.Setups.{Setup}
 use Rattle.workers_core.specs.Talks.{Got, after_got, entry_of}
 use Rattle.workers_core.specs.Verdicts.{DialogueAt, IsRouted, Verdict, Strays, Rejects, Recharges, Begins, GoesOn}
 use Rattle.workers_core.specs.Workers.{standing_of}
-use Rattle.workers_core.specs.declared.case.Case.{Case}
-use Rattle.workers_core.specs.declared.case.Case.TheVariants as case
-use Rattle.workers_core.specs.declared.talk.Talk.{Talk}
+use Rattle.workers_core.specs.declared.worker.Case.{Case}
+use Rattle.workers_core.specs.declared.worker.Case.TheVariants as case
+use Rattle.workers_core.specs.declared.worker.Talk.{Talk}
 
 -- the dialogue of a call begins, and this is what it says first
 pub record IsFirst (setup : Setup) (at : ℕ) (verdict : Verdict) (call place : ℕ) (first : Says × Phase) : Type 0 where

@@ -2,9 +2,9 @@
 use Rattle.std.specs.Prelude.{◌≡◌, List}
 use Rattle.crossbeam_channel.specs.Claims.{view}
 use Rattle.crossbeam_channel.specs.Ends.{receives_on, sends_on}
-use Rattle.workers_core.specs.declared.inbox.Inbox.{Inbox}
-use Rattle.workers_core.specs.declared.outbox.Outbox.{Outbox}
-use Rattle.workers_core.specs.declared.mail.Mail.{Mail}
+use Rattle.workers_core.specs.declared.ends.Inbox.{Inbox}
+use Rattle.workers_core.specs.declared.ends.Outbox.{Outbox}
+use Rattle.workers_core.specs.declared.mailboxes.Mail.{Mail}
 
 -- all that was sent, in order
 abbrev pub sent : {T : Type 0} → Outbox T → List (Mail T)

@@ -13,7 +13,7 @@ use Rattle.run_values.specs.Setups.{Setup}
 use Rattle.workers_core.specs.Refusals.{IsRefusalOf}
 use Rattle.workers_core.specs.Talks.{AllAsk, Got, entries_of, entry_of, is_ask, last_fault, sent_by, talked}
 use Rattle.workers_core.specs.Verdicts.{DialogueAt, IsRouted, Verdict, Strays, Rejects, Recharges, Begins, GoesOn, verdict}
-use Rattle.run_values.specs.declared.answer.Answer.{Answer}
+use Rattle.run_values.specs.declared.post.Answer.{Answer}
 use Rattle.run_values.specs.declared.post.Post.{Post}
 
 -- what a worker holds beside the posts that it has handled: its seats' entries, in the ascending order of the accounts, and its dialogues

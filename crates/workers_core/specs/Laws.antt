@@ -13,7 +13,7 @@ use Rattle.tariff_core.specs.Rates.{Rates}
 use Rattle.tariff_core.specs.RatesOf.{rates_of}
 use Rattle.tariff_core.specs.Routes.{HasNoRoute, IsRoute}
 use Rattle.tariff_core.specs.declared.route.Route.{Route}
-use Rattle.tariff_core.specs.declared.time_info.TimeInfo.{TimeInfo}
+use Rattle.tariff_core.specs.declared.times.TimeInfo.{TimeInfo}
 use Rattle.workers_core.specs.Chains.{AreHandled, IsHandledOnce, IsWorked, at_first, seat_numbers}
 use Rattle.workers_core.specs.Handled.{Holding, IsTalked, AnswerView}
 use Rattle.workers_core.specs.Served.{IsPart, Money, Report, credits_of, recharged_in, reports_of, returns_of, settles_of}

@@ -2,9 +2,9 @@
 use Rattle.std.specs.Prelude.{◌≡◌, ◌++◌, ◌∷◌, ℕ, Bool, true, false, List, []}
 use mathlib.Core.Option.{some}
 use lib.ListN.{get_elem?}
-use Rattle.workers_core.specs.declared.log.Log.{Log}
-use Rattle.workers_core.specs.declared.mail.Mail.{Mail}
-use Rattle.workers_core.specs.declared.mail.Mail.TheVariants.{Work, Close}
+use Rattle.workers_core.specs.declared.mailboxes.Log.{Log}
+use Rattle.workers_core.specs.declared.mailboxes.Mail.{Mail}
+use Rattle.workers_core.specs.declared.mailboxes.Mail.TheVariants.{Work, Close}
 
 -- what an end of a mailbox knows
 abbrev pub log : {T : Type 0} → Bool → Bool → List (Mail T) → List (Mail T) → Log T

@@ -11,7 +11,7 @@ use Rattle.workers_core.specs.Served.{AreServed, begun_of}
 use Rattle.run_values.specs.Setups.{Setup}
 use Rattle.workers_core.specs.Verdicts.{DialogueAt}
 use Rattle.run_values.specs.declared.post.Post.{Post}
-use Rattle.workers_core.specs.declared.talk.Talk.{Talk}
+use Rattle.workers_core.specs.declared.worker.Talk.{Talk}
 use Rattle.workers_core.specs.declared.worker.Worker.{Worker}
 
 -- where a talk stands

@@ -2,25 +2,17 @@
 #![tactic(auto)]
 
 mod acting;
-mod case;
-mod converse;
-mod inbox;
+mod ends;
 mod laws;
-mod log;
-mod mail;
 mod mailboxes;
-mod outbox;
-mod talk;
 mod worker;
 mod worker_fault;
 
-pub use inbox::{Gone, Inbox};
+pub use ends::{Gone, Inbox, Outbox};
 pub use laws::{
     calls_are_reserved, calls_are_returned, posts_are_handled, recharges_are_entered,
     reports_are_settled, reserves_are_on_terms, what_is_said_is_sent,
 };
-pub use mail::Mail;
-pub use mailboxes::{compare, mailbox};
-pub use outbox::Outbox;
+pub use mailboxes::{Mail, compare, mailbox};
 pub use worker::Worker;
 pub use worker_fault::WorkerFault;

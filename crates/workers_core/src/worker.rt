@@ -1,23 +1,28 @@
 //! A worker: it handles the posts of its calls and the recharges of its accounts.
 
-ghost use Rattle.std.specs.Prelude.{◌≡◌, ◌++◌, ◌∷◌, ◌≤◌, ℕ, [], None, Option, true, map, All, IfErr, IfOk, IfSome, OnOk};
+ghost use Rattle.std.specs.Prelude.{◌≡◌, ◌++◌, ◌∷◌, ◌≤◌, ◌<◌, [], ℕ, None, Option, true, map, All, IfErr, IfOk, IfSome, OnOk, IfNone, length};
 ghost use Rattle.std.specs.Map.{keys_of};
 ghost use Rattle.workers_core.specs.Handled.{IsHandled, IsRecharged, answer_view};
 ghost use Rattle.workers_core.specs.Refusals.{HasRefusedAt, IsRefusedPost};
 ghost use Rattle.workers_core.specs.Served.{AreServed};
+ghost use Rattle.workers_core.specs.Verdicts.{Recharges, Rejects, strays, verdict, fresh, goes_on, home_of, recharged};
+ghost use Rattle.workers_core.specs.Workers.{IsReady, accounts_of, holding, number_of, posts_of, seats_of, setup_of, talks_of, standings_in};
+ghost use Rattle.workers_core.specs.Cases.{IsCase};
 ghost use Rattle.cap_values.specs.Orders.{Release, orders_of};
-ghost use Rattle.workers_core.specs.Verdicts.{Recharges, Rejects, strays, verdict};
-ghost use Rattle.workers_core.specs.Workers.{IsReady, accounts_of, holding, number_of, posts_of, seats_of, setup_of, talks_of};
+ghost use Rattle.dialogue_core.specs.Table.{on_message};
+ghost use Rattle.dialogue_core.specs.Views.{phase_of};
+ghost use Rattle.run_values.specs.Setups.{place_of};
 
 use crate::WorkerFault;
 use crate::acting::{act, make_room, pass, tell};
-use crate::case::judge;
-use crate::talk::Talk;
+use cap_values::{Number, SsfMsg};
+use dialogue_core::{Dialogue, Turn};
 use rising_map::RisingMap;
-use run_values::{Answer, Post, RunSetup};
+use run_values::{Answer, Body, Post, RunSetup};
 use shared_account::{Gate, Shared};
 use std::alloc::Global;
 use std::sync::Wait;
+use tariff_core::HORIZON;
 
 /// A worker. It has a seat at each account of the run, keeps the dialogue of each of its calls to
 /// its end and beyond, and keeps the posts that it has handled.
@@ -158,4 +163,117 @@ impl<'s, S: Shared> Worker<'s, S> {
         let Worker { seats, posts, .. } = self;
         (seats, posts)
     }
+}
+
+/// The dialogue of a call, and the place of the call's account in the ascending order.
+#[derive(Clone, Copy, Debug, PartialEq, Eq)]
+pub(crate) struct Talk {
+    pub dialogue: Dialogue,
+    pub place: usize,
+}
+
+/// What a post comes to.
+#[derive(Drop)]
+pub(crate) enum Case {
+    /// It has no place here.
+    Stray,
+    /// A call asks for the service, and its calling number is no subscriber's.
+    Rejected,
+    /// Money for the account at a place.
+    Recharge {
+        place: usize,
+        amount: u64,
+        until: Option<u64>,
+    },
+    /// A dialogue that begins, or has taken a message, and its next turn.
+    Talk {
+        call: u64,
+        talk: Talk,
+        turn: Turn,
+    },
+}
+
+/// Judges a post by the setup and the dialogues. Nothing is changed yet.
+fn judge(setup: &RunSetup, talks: &RisingMap<Talk>, post: &Post) -> Case
+    requires { post.now.at ≤ HORIZON }
+    ensures { IsCase setup.now post.now.at
+        (verdict setup.now (standings_in talks.now) post.now) result }
+{
+    match post.body {
+        Body::Recharge {
+            account,
+            amount,
+            until,
+        } => recharge(setup, account, amount, until),
+        Body::Ssf { call, msg } => match talks.get(call) {
+            Some(talk) => go_on(*talk, post.number, post.at, call, msg),
+            None => begin(setup, post.at, call, msg),
+        },
+    }
+}
+
+/// A recharge: of an account that there is, or none.
+fn recharge(setup: &RunSetup, account: u32, amount: u64, until: Option<u64>) -> Case
+    ensures { (at : _) → IsCase setup.now at
+        (recharged amount until (place_of account setup.now)) result }
+{
+    match setup.place_of(account) {
+        Some(place) => Case::Recharge {
+            place,
+            amount,
+            until,
+        },
+        None => Case::Stray,
+    }
+}
+
+/// A message of a call that has a dialogue: the dialogue takes it, or refuses it.
+fn go_on(talk: Talk, number: u64, at: u64, call: u64, msg: SsfMsg) -> Case
+    ensures { (setup : _) → IsCase setup at (goes_on call talk.place
+        (on_message (phase_of talk.dialogue) number at msg)) result }
+{
+    let Talk {
+        mut dialogue,
+        place,
+    } = talk;
+    match dialogue.take(number, at, msg) {
+        Ok(turn) => Case::Talk {
+            call,
+            talk: Talk { dialogue, place },
+            turn,
+        },
+        Err(_) => Case::Stray,
+    }
+}
+
+/// A message of a call without dialogue: an InitialDp begins one where the caller is a subscriber.
+fn begin(setup: &RunSetup, at: u64, call: u64, msg: SsfMsg) -> Case
+    requires { at ≤ HORIZON }
+    ensures { IsCase setup.now at (fresh setup.now call msg) result }
+{
+    let SsfMsg::InitialDp {
+        calling,
+        called,
+        ..
+    } = msg
+    else {
+        return Case::Stray;
+    };
+    let Some(place) = home_of(setup, calling) else {
+        return Case::Rejected;
+    };
+    let route = setup.tariff().plan(called.as_bytes(), at);
+    let (dialogue, turn) = Dialogue::begin(call, at, route, &setup.service());
+    Case::Talk {
+        call,
+        talk: Talk { dialogue, place },
+        turn,
+    }
+}
+
+/// The place of the account of a calling number, none where it isn't a subscriber's.
+fn home_of(setup: &RunSetup, calling: Number) -> Option<usize>
+    ensures { result ≡ home_of calling setup.now }
+{
+    setup.place_of(setup.account_of(calling)?)
 }

@@ -3,10 +3,8 @@
 ghost use Rattle.std.specs.Prelude.{◌≡◌, []};
 ghost use Rattle.shared_account.specs.declared.board.Stage.TheVariants.{Idles};
 
-use super::take_turn;
-use crate::board::{Board, Chair, Start};
-use crate::opening::lay_board;
-use crate::steps::{hand_on, next_chair};
+use super::{hand_on, next_chair, take_turn};
+use crate::board::{Board, Chair, Start, lay_board};
 use std::sync::Wait;
 use std::sync::atomic::{AtomicU64, Ordering};
 use std::test::Fail;

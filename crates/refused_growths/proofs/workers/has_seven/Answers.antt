@@ -2,7 +2,7 @@ use Rattle.std.proofs.Common.{◌≡◌, ◌∷◌, ◌∙◌, [], IsTrue, List,
 use Rattle.std.specs.List.{HoldsAt}
 use Rattle.std.specs.Map.{keys_of}
 use Rattle.std.proofs.lemmas.Bool.Decides.{nat_tests}
-use Rattle.run_values.specs.declared.opening_credit.OpeningCredit.{OpeningCredit}
+use Rattle.run_values.specs.declared.directory.OpeningCredit.{OpeningCredit}
 use Rattle.refused_growths.proofs.workers.has_seven.Goals as goal
 
 only_key : (accounts : List (ℕ × OpeningCredit)) (key : ℕ) → length accounts ≡ 1 → HoldsAt (λ account. account.0 ≡ key) accounts 0 → keys_of accounts ≡ key ∷ []

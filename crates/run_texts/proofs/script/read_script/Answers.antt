@@ -7,7 +7,7 @@ use Rattle.table_core.proofs.TableLemmas.{ended, header_stays, not_opened, opene
 use Rattle.run_texts.specs.Scripts.{first_to_last, script_form, script_of}
 use Rattle.run_texts.specs.Happenings.{is_in_time}
 use Rattle.run_texts.specs.Views.{happens_of}
-use Rattle.run_texts.specs.declared.script_row.ScriptRow.{ScriptRow}
+use Rattle.run_texts.specs.declared.script.ScriptRow.{ScriptRow}
 use Rattle.run_texts.proofs.FieldLemmas.{script_columns}
 use Rattle.run_texts.proofs.ScriptLemmas.{calls_after, earlier_more, earlier_of, end_more, order_more, rows_in_turn}
 use Rattle.run_texts.proofs.script.read_script.Goals as goal

@@ -3,7 +3,7 @@ use Rattle.std.proofs.lemmas.List.{append-nil}
 use Rattle.crossbeam_channel.specs.Claims.{view}
 use Rattle.workers_core.specs.Ends.{sent, taken}
 use Rattle.workers_core.specs.Logs.{ends_at_close}
-use Rattle.workers_core.specs.declared.log.Log.{Log}
+use Rattle.workers_core.specs.declared.mailboxes.Log.{Log}
 use Rattle.workers_core.proofs.Closes.{nothing_waits}
 use Rattle.workers_core.proofs.Orders.{rejoins}
 use Rattle.workers_core.proofs.mailboxes.compare.Goals as goal

@@ -1,6 +1,6 @@
 use Rattle.std.proofs.Common.{ap}
 use Rattle.crossbeam_channel.specs.Claims.{view}
-use Rattle.workers_core.specs.declared.log.Log.{Log}
+use Rattle.workers_core.specs.declared.mailboxes.Log.{Log}
 use Rattle.workers_core.proofs.Orders.{begins, parts}
 use Rattle.workers_core.proofs.mailboxes.mailbox.Goals as goal
 

@@ -1,4 +1,4 @@
-use Rattle.ssf_core.specs.declared.input.Input.TheVariants.{Trigger}
+use Rattle.ssf_core.specs.declared.ssf.Input.TheVariants.{Trigger}
 use Rattle.ssf_core.proofs.MeterLemmas.{call_metered}
 use Rattle.ssf_core.proofs.ssf.Ssf.trigger.Goals as goal
 

@@ -5,7 +5,7 @@ use Rattle.workers_core.specs.Refusals.{HasRefusedAt}
 use Rattle.workers_core.specs.Verdicts.{verdict}
 use Rattle.workers_core.specs.Workers.{holding, standings_in}
 use Rattle.workers_core.proofs.Handling.{case_within, done_by, recharged_so, rejected_so, sound_after, stray_is, stray_lists}
-use Rattle.run_values.specs.declared.opening_credit.OpeningCredit.{OpeningCredit}
+use Rattle.run_values.specs.declared.directory.OpeningCredit.{OpeningCredit}
 use Rattle.workers_core.proofs.Refused.{kind_told, post_refused}
 use Rattle.workers_core.proofs.worker.Worker.handle.Goals as goal
 

@@ -1,5 +1,0 @@
-use Rattle.account_core.proofs.Entering.{never_gated}
-use Rattle.account_core.proofs.sharing_laws.accounts_have_no_gate.Goals as goal
-
-pub returns : goal.returns
-returns c = never_gated

@@ -1,0 +1,49 @@
+use Rattle.std.proofs.Common.{◌∙◌, ◌++◌, List, [], ap, map, refl}
+use Rattle.run_command.proofs.ListenLemmas.{keeps_heard, player_hears}
+use Rattle.run_command.proofs.PlayLemmas.{given_by, rounds_of}
+use Rattle.run_options.specs.Options.{ask_of}
+use Rattle.run_texts.specs.Views.{with_digits}
+use Rattle.run_values.specs.declared.post.Answer.{Answer}
+use Rattle.runs_core.specs.Hearing.{all_heard}
+use Rattle.script_player.specs.Plays.{Play}
+use Rattle.run_command.proofs.running.play.Goals as goal
+
+pub returns-clause-books : goal.returns-clause-books
+returns-clause-books g c =
+    let listener = c.new-listener.result in
+    let before = listener.player in
+    let after = c.serve.new.driver.player in
+    let made = c.new-listener.ensures.player in
+    let kept = c.in_ok-books.ensures.plan in
+    let ran = c.in_ok-books.ensures.run in
+    let is_fresh = made ∙ c.in_ok-player.ensures.fresh in
+    let config = ap (λ p. p.0) kept ∙ ap (λ (play : Play). play.network.config) is_fresh in
+    let delay = ap (λ p. p.1) kept ∙ ap (λ (play : Play). play.delay) is_fresh in
+    let rows = ap (λ p. p.2) kept ∙ ap (λ (play : Play). play.taken ++ play.left) is_fresh in
+    record {
+      heard = ran.heard;
+      given_by = given_by (ask_of c.args.options.now) c.args.options.now.ssf after.network.config after.delay c.args.texts.script.items after.taken after.left ran.heard after.network.given
+          (record { tssf = refl; tccd = refl; default_handling = refl })
+          config
+          delay
+          rows
+          (c.is_played.ensures c.args.texts.script.items ran.heard rows
+          (rounds_of c.args.options.now.ssf after.network.config c.args.options.now.delay after.delay c.args.texts.script.items before ran.heard after is_fresh config delay
+          (player_hears [] listener ran.heard c.serve.new.driver ran.rounds)));
+      books = record {
+        setup = c.in_ok-setup.setup;
+        of_input = record {
+          accounts = c.in_ok-setup.ensures.accounts;
+          subscribers = ap with_digits c.in_ok-setup.ensures.subscribers;
+          tariff = c.in_ok-setup.ensures.tariff;
+          wanted = rw c.in_ok-setup.ensures.service refl;
+          least = rw c.in_ok-setup.ensures.service refl;
+          limit = c.in_ok-setup.ensures.limit;
+        };
+        handled = map (λ posts. posts.items) c.in_ok-books.field-0.handled.items;
+        refusals = map (λ one. one.items) c.in_ok-books.field-0.refusals.items;
+        run = ran.run;
+      };
+      setup = refl;
+      kept = λ asked. keeps_heard [] listener ran.heard c.serve.new.driver (c.new-listener.ensures.keeps.1 asked) ran.rounds ∙ ap (λ (l : List Answer). l ++ all_heard ran.heard) c.new-listener.ensures.heard;
+    }

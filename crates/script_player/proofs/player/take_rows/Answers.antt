@@ -1,0 +1,23 @@
+use Rattle.std.proofs.Common.{◌+◌, ◌≤◌, arith, drop, length, take}
+use Rattle.script_player.proofs.Playings.{played_more, same_moment}
+use Rattle.script_player.proofs.Takings.{adds_on, adds_row, follows_grown, follows_more}
+use Rattle.script_player.proofs.player.take_rows.Goals as goal
+
+pub loop-taken-preserved : goal.loop-taken-preserved
+loop-taken-preserved c =
+    let within : c.loop-taken.taken + 1 ≤ length c.args.rows.now = omega (arith, c.loop-taken-test.true) in
+    let row = c.index-rows-taken-in-loop-taken.result in (
+      within,
+      follows_more c.args.rows.now c.loop-taken.taken row c.loop-taken.network c.take_row.new.network c.loop-taken-test.true c.index-rows-taken-in-loop-taken.is c.in_ok-take_row.ensures.taken
+          c.loop-taken.invariant.1,
+      adds_on c.args.network.now c.loop-taken.network c.take_row.new.network c.loop-taken.invariant.2
+          (adds_row c.loop-taken.network c.take_row.new.network row.at row.what c.in_ok-take_row.ensures.taken),
+      played_more c.args.now c.loop-taken.taken c.args.network.now c.loop-taken.network c.take_row.new.network (drop c.args.taken.now c.args.rows.now) c.args.rows.now row c.loop-taken-test.true
+          c.index-rows-taken-in-loop-taken.is c.loop-taken.invariant.3
+          (same_moment c.args.rows.now c.loop-taken.taken c.args.now c.index-rows-taken.result row c.loop-taken-test.true c.index-rows-taken.is c.index-rows-taken-in-loop-taken.is c.if-rows-taken.true)
+          c.in_ok-take_row.ensures.plays,
+    )
+
+pub returns-in_err-take_row-clause-follows : goal.returns-in_err-take_row-clause-follows
+returns-in_err-take_row-clause-follows c =
+    follows_grown (take c.loop-taken.taken c.args.rows.now) c.loop-taken.network c.take_row.new.network c.in_err-take_row.ensures.failed c.loop-taken.invariant.1

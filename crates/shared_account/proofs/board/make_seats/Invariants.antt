@@ -1,0 +1,18 @@
+use Rattle.std.proofs.Common.{◌≡◌, ◌∷◌, []}
+use Rattle.shared_account.specs.TurnViews.{fresh_turn_seats}
+use Rattle.shared_account.specs.Views.{first_view}
+use Rattle.shared_account.proofs.board.make_seats.Given as goal
+
+abbrev pub invariant-loop-number : goal.invariant-loop-number
+invariant-loop-number l =
+    let start = l.initial.first.me.0.seen in
+    record {
+      table : l.first.table_id ≡ l.initial.first.table_id;
+      first : l.first.me ≡ (record (first_view start.opening start.until start.limit) { made = l.number }, []);
+      made : record {
+        table = l.initial.first.table_id;
+        place = record { account = l.account; number = 0; mine = [] };
+        view = record { opening = start.opening; until = start.until; limit = start.limit; history = [] };
+      } ∷ l.made.items
+          ≡ fresh_turn_seats l.initial.first.table_id (record { number = l.account; opening = start.opening; until = start.until; limit = start.limit; seats = l.count }) l.number;
+    }

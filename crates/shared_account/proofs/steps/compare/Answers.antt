@@ -1,6 +1,0 @@
-use Rattle.std.proofs.Common.{rules}
-use Rattle.shared_account.proofs.Meetings.{compares}
-use Rattle.shared_account.proofs.steps.compare.Goals as goal
-
-pub load-requires : goal.load-requires
-load-requires c = (search rules, search rules, compares _ _ _ _ c.requires.idle)

@@ -1,0 +1,18 @@
+use Rattle.std.proofs.Common.{◌≡◌}
+use Rattle.std.specs.Prelude.{IfSome}
+use Rattle.dialogue_core.specs.Views.{phase_of, says_of}
+use Rattle.workers_core.specs.Refusals.{IsRefusedTalk}
+use Rattle.workers_core.proofs.Talking.{IsSoFar, asks_left}
+use Rattle.workers_core.proofs.acting.converse.Given as goal
+
+abbrev pub invariant-loop-turn : goal.invariant-loop-turn
+invariant-loop-turn g l = record {
+  same_key : g.S.Shared.key_of l.seat ≡ g.S.Shared.key_of l.initial.seat;
+  same_number : g.S.Shared.number_of l.seat ≡ g.S.Shared.number_of l.initial.seat;
+  so_far : IsSoFar (g.S.Shared.number_of l.initial.seat) (says_of l.initial.turn, phase_of l.initial.dialogue) (g.S.Shared.mine_of l.initial.seat) (g.S.Shared.mine_of l.seat)
+      (says_of l.turn, phase_of l.dialogue) l.refused;
+  told : IfSome l.refused (IsRefusedTalk (g.S.Shared.refuses l.account) (says_of l.initial.turn, phase_of l.initial.dialogue));
+}
+
+abbrev pub decreases-loop-turn : goal.decreases-loop-turn
+decreases-loop-turn g l = asks_left (says_of l.turn) (phase_of l.dialogue)
