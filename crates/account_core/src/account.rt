@@ -66,7 +66,8 @@ impl Account {
     /// history, and the number of entries that this may grow to. It takes no memory yet.
     pub fn new(alloc: Global, opening: u64, until: Option<u64>, limit: u32) -> Account
         requires { opening ≤ MAX_MONEY }
-        ensures { result ≡ record { opening = opening; until = until; limit = limit; history = [] } }
+        ensures { result
+            ≡ record { opening = opening; until = until; limit = limit; history = [] } }
     {
         Account {
             entries: Vec::new(alloc),

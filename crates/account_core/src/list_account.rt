@@ -51,7 +51,8 @@ impl ListAccount {
     /// history, and the number of entries that this may grow to. It takes no memory yet.
     pub fn new(alloc: Global, opening: u64, until: Option<u64>, limit: u32) -> ListAccount
         requires { opening ≤ MAX_MONEY }
-        ensures { result ≡ record { opening = opening; until = until; limit = limit; history = [] } }
+        ensures { result
+            ≡ record { opening = opening; until = until; limit = limit; history = [] } }
     {
         ListAccount {
             entries: Vec::new(alloc),

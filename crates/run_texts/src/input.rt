@@ -83,7 +83,8 @@ fn read_script(
     ensures means { Gives (λ rows. map script_event rows.items) result
         (told out.Script (script_of directory.now.accounts (rows_of text.now))) }
     ensures in_range { IfOk result (λ rows. All (λ row. row.at ≤ LAST_MOMENT) rows.items) }
-    ensures in_time { IfOk result (λ rows. All (λ row. is_in_time (happens_of row.what) ≡ true) rows.items) }
+    ensures in_time { IfOk result (λ rows.
+        All (λ row. is_in_time (happens_of row.what) ≡ true) rows.items) }
     ensures in_order { IfOk result (λ rows. are_in_order 0 rows.items ≡ true) }
 {
     match script::read_script(alloc, directory, text) {

@@ -32,8 +32,8 @@ const MAX_ROWS: u32 = 1_000_000;
 /// account, y the amount, and z its last moment from then on or empty); fields not named are empty.
 ///
 /// Rows are judged in order as they are read, a row in this order: `Csv` where it hasn't the
-/// header's fields; `TooManyRows` past 1,000,000 rows; `What` where its word is another one; `Number` where
-/// a field isn't a decimal, or digits, within its range; `Empty` where a field that must be empty
+/// header's fields; `TooManyRows` past 1,000,000 rows; `What` where its word is another one;
+/// `Number` where a field isn't a decimal, or digits, within its range; `Empty` where a field that must be empty
 /// isn't; `Order` where its moment lies below the one before; `Repeated` where a call starts again;
 /// `Unknown` where no earlier row starts its call, or the setup hasn't its account. `Header` is the
 /// fault of row 1.
@@ -46,7 +46,8 @@ pub fn read_script<I: Read + Drop>(
         Gives (λ rows. map script_event rows.items) result
         (script_of directory.now.accounts (rows_of text))) }
     ensures in_range { IfOk result (λ rows. All (λ row. row.at ≤ LAST_MOMENT) rows.items) }
-    ensures in_time { IfOk result (λ rows. All (λ row. is_in_time (happens_of row.what) ≡ true) rows.items) }
+    ensures in_time { IfOk result (λ rows.
+        All (λ row. is_in_time (happens_of row.what) ≡ true) rows.items) }
     ensures in_order { IfOk result (λ rows. are_in_order 0 rows.items ≡ true) }
 {
     let headers: &[&[&str]] = &[

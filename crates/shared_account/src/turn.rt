@@ -221,7 +221,8 @@ pub(crate) fn compare(board: &Board, chair: &mut Chair)
     requires at { IsAt board.now.shared.table_id chair.old.table_id }
     requires idle { chair.old.me.0.stage ≡ Idles }
     ensures table { chair.new.table_id ≡ chair.old.table_id }
-    ensures met { HasMet chair.old.me.0.seen.history chair.old.me.0.heard.history chair.old.me.0 chair.new.me.0 }
+    ensures met { HasMet chair.old.me.0.seen.history chair.old.me.0.heard.history
+        chair.old.me.0 chair.new.me.0 }
     ensures hands { chair.new.me.1 ≡ chair.old.me.1 }
 {
     board.shared.load::<Compare>(chair, SERVING);
