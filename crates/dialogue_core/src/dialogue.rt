@@ -294,7 +294,7 @@ fn return_reply(next: Then, reply: Reply) -> Result<(Turn, State), DialogueFault
 }
 
 /// More time is asked for at a moment.
-pub(crate) fn reserve(terms: Terms, at: u64) -> Turn
+fn reserve(terms: Terms, at: u64) -> Turn
     ensures { says_of result ≡ Asks (reserve (conditions_of terms) at) }
 {
     Turn::Ask(Op::Reserve {

@@ -13,7 +13,7 @@ use tariff_core::{LAST_MOMENT, Tariff};
 pub(crate) const BAND: &[u8] = b"prefix,from,fee,rate\n49,00:00,50,1000\n";
 
 /// An opening credit that doesn't expire.
-pub(crate) fn lasting(amount: u64) -> OpeningCredit {
+fn lasting(amount: u64) -> OpeningCredit {
     OpeningCredit {
         amount,
         until: None,

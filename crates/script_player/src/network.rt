@@ -275,7 +275,7 @@ fn step(ssf: &mut Ssf, now: Moment, input: Input) -> Step
 }
 
 /// Posts the messages among what the gsmSSF of a call has sent, in order, each with its moment.
-pub(crate) fn post(given: &mut Vec<(u64, Body)>, call: u64, sent: &[Out])
+fn post(given: &mut Vec<(u64, Body)>, call: u64, sent: &[Out])
     requires room { vec_len given.old + length sent.now ≤ vec_capacity given.old }
     ensures items { given.new.items ≡ given.old.items ++ posts_of call sent.now }
 {
