@@ -2,7 +2,7 @@
 //! fault usually means.
 
 /// The day of the program, and the kit that it is proved and built with.
-pub(crate) const VERSION: &str = "2026-11-24 (rattle-kit-13f)";
+pub(crate) const VERSION: &str = "2026-11-25 (rattle-kit-13f)";
 
 /// Behind the options of `price`.
 pub(crate) const PRICE: &str = "\

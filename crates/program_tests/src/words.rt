@@ -114,7 +114,7 @@ fn prints_help(rt: HostRuntime) -> Result<(), Fail> {
 
 #[test]
 fn prints_version(rt: HostRuntime) -> Result<(), Fail> {
-    let version = "prepaid 2026-11-24 (rattle-kit-13f)\n";
+    let version = "prepaid 2026-11-25 (rattle-kit-13f)\n";
     for words in ["--version", "-V"] {
         expect(&rt, words, "", (0, version, ""))?;
     }
