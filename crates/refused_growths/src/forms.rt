@@ -31,8 +31,8 @@ impl Form for TurnAccount {
 
 /// An account with two seats.
 pub(crate) fn two_seats<S: Form, R>(rt: &R, alloc: Global) -> Result<(S, S::Seat, S::Seat), Outcome>
-    ensures first { IfOk result (λ made. S.key_of made.1 ≡ S.key made.0) }
-    ensures second { IfOk result (λ made. S.key_of made.2 ≡ S.key made.0) }
+    ensures first { IfOk result (λ made. S.reads.key made.1 ≡ S.key made.0) }
+    ensures second { IfOk result (λ made. S.reads.key made.2 ≡ S.key made.0) }
 {
     let (account, mut seats) = S::new(rt, alloc, NUMBER, OPENING, None, LIMIT, 2)?;
     match (seats.pop(), seats.pop()) {
@@ -48,8 +48,8 @@ pub(crate) fn close<S: Form>(
     first: S::Seat,
     second: S::Seat,
 ) -> Result<Book, Outcome>
-    requires first { S.key_of first ≡ S.key account }
-    requires second { S.key_of second ≡ S.key account }
+    requires first { S.reads.key first ≡ S.key account }
+    requires second { S.reads.key second ≡ S.key account }
 {
     let mut seats = Vec::with_capacity(alloc, 2)?;
     seats.push_reserved(first);

@@ -18,10 +18,10 @@ pub(crate) struct Desk<'a, S: Form, R: Wait> {
     account: S,
     first: S::Seat,
     second: S::Seat,
-    ghost has_first: { S.key_of first ≡ S.key account } by { Coded-set S.key_code (S.key_of first)
-        (S.key account) },
-    ghost has_second: { S.key_of second ≡ S.key account } by { Coded-set S.key_code
-        (S.key_of second) (S.key account) },
+    ghost has_first: { S.reads.key first ≡ S.key account } by { Coded-set S.key_code
+        (S.reads.key first) (S.key account) },
+    ghost has_second: { S.reads.key second ≡ S.key account } by { Coded-set S.key_code
+        (S.reads.key second) (S.key account) },
 }
 
 impl<'a, S: Form, R: Wait> Desk<'a, S, R> {

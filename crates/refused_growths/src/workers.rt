@@ -2,6 +2,7 @@
 
 ghost use Rattle.std.specs.Prelude.{◌≡◌, ◌∷◌, [], IfOk, IsTrue, OnOk};
 ghost use Rattle.std.specs.Map.{keys_of};
+ghost use Rattle.shared_account.specs.Seats.{seat_reads};
 ghost use Rattle.workers_core.specs.Workers.{IsReady};
 
 use crate::asks::{LIMIT, OPENING};
@@ -145,9 +146,9 @@ fn entries_of(worker: &Worker<'_, SharedAccount>) -> usize {
 /// Handles a post. Where the worker or the account has no memory for it, nothing is entered.
 fn handle<R: Wait>(rt: &R, worker: &mut Worker<'_, SharedAccount>, number: u64, row: Row) -> Course
     requires { IsReady (λ account. account.number) (λ account. account.number)
-        (λ seat. seat.account) (λ seat. seat.number) (λ seat. seat.mine) worker.old }
+        seat_reads worker.old }
     ensures { OnOk result (IsReady (λ account. account.number) (λ account. account.number)
-        (λ seat. seat.account) (λ seat. seat.number) (λ seat. seat.mine) worker.new) }
+        seat_reads worker.new) }
 {
     let before = entries_of(worker);
     let post = Post {
@@ -185,9 +186,9 @@ fn handle_rows<R: Wait>(
     rows: &[Row],
 ) -> Result<(usize, Outcome), Outcome>
     requires { IsReady (λ account. account.number) (λ account. account.number)
-        (λ seat. seat.account) (λ seat. seat.number) (λ seat. seat.mine) worker.old }
+        seat_reads worker.old }
     ensures { OnOk result (IsReady (λ account. account.number) (λ account. account.number)
-        (λ seat. seat.account) (λ seat. seat.number) (λ seat. seat.mine) worker.new) }
+        seat_reads worker.new) }
 {
     let mut outcome = Outcome::Answered;
     let mut number = 0u64;

@@ -2,6 +2,7 @@
 
 ghost use Rattle.std.specs.Prelude.{◌≡◌, ◌∷◌, [], IfOk, IsTrue, OnOk};
 ghost use Rattle.std.specs.Map.{keys_of};
+ghost use Rattle.shared_account.specs.Seats.{seat_reads};
 ghost use Rattle.workers_core.specs.Workers.{IsReady};
 
 use crate::messages::{begun, first_period, hung_up, of_call, recharge, report};
@@ -65,9 +66,9 @@ fn handle<R: Abort + Wait>(
     row: Row<'_>,
 ) -> Result<(), Fail>
     requires { IsReady (λ account. account.number) (λ account. account.number)
-        (λ seat. seat.account) (λ seat. seat.number) (λ seat. seat.mine) worker.old }
+        seat_reads worker.old }
     ensures { OnOk result (IsReady (λ account. account.number) (λ account. account.number)
-        (λ seat. seat.account) (λ seat. seat.number) (λ seat. seat.mine) worker.new) }
+        seat_reads worker.new) }
 {
     let (number, body, ops, stray, refused, credit) = row;
     let post = Post {

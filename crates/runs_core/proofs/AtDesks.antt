@@ -12,11 +12,12 @@ use Rattle.workers_core.specs.Workers.{IsReady, accounts_of, holding, number_of,
 use Rattle.run_values.specs.declared.post.Post.{Post}
 use Rattle.runs_core.proofs.Leaving.{fresh_worker, numbered_each}
 use Rattle.runs_core.specs.Desks.{GoesOn, HasAnswered}
-use Rattle.runs_core.specs.Teams.{IsFresh, IsLeft, Reads}
+use Rattle.shared_account.specs.Seats.{Reads}
+use Rattle.runs_core.specs.Teams.{IsFresh, IsLeft}
 use Rattle.runs_core.specs.declared.crew.Desk.{Desk}
 
 pub goes_none : {K S T : Type 0} (account_number : S → ℕ) (key : S → K) (read : Reads K T) (desk : Desk S T)
-    → IsReady account_number key read.key read.number read.mine desk.worker → GoesOn account_number key read desk [] [] desk
+    → IsReady account_number key read desk.worker → GoesOn account_number key read desk [] [] desk
 goes_none account_number key read desk ready = record {
   ready = ready;
   same_setup = refl;
@@ -69,7 +70,7 @@ answered_more account_number key read setup accounts number posts later now answ
 -- a worker with fresh seats has handled nothing
 pub begins : {K S T : Type 0} (account_number : S → ℕ) (key : S → K) (read : Reads K T) (setup : Setup) (accounts : List S) (number : ℕ) (team : List T) (desk : Desk S T)
     → map account_number accounts ≡ keys_of setup.accounts → IsFresh read (map key accounts) number team
-    → IsReady account_number key read.key read.number read.mine desk.worker → setup_of desk.worker ≡ setup → accounts_of desk.worker ≡ accounts → number_of desk.worker ≡ number
+    → IsReady account_number key read desk.worker → setup_of desk.worker ≡ setup → accounts_of desk.worker ≡ accounts → number_of desk.worker ≡ number
     → seats_of desk.worker ≡ team → ((call : ℕ) → talks_of desk.worker call ≡ None) → posts_of desk.worker ≡ [] → desk.refusals.items ≡ []
     → HasAnswered account_number key read setup accounts number [] [] desk
 begins {T = T} account_number key read setup accounts number team desk numbered fresh ready its_setup its_accounts its_number its_seats none no_posts no_refusals =
@@ -111,7 +112,7 @@ pub record AreGoing {K S T : Type 0} (account_number : S → ℕ) (key : S → K
   pub goes : GoesOn account_number key read old done (map answer_view answers) now
 
 pub none_going : {K S T : Type 0} (account_number : S → ℕ) (key : S → K) (read : Reads K T) (old : Desk S T) (posts rest : List Post) (answers : List Answer) → rest ≡ posts → answers ≡ []
-    → IsReady account_number key read.key read.number read.mine old.worker → AreGoing account_number key read old posts rest answers old
+    → IsReady account_number key read old.worker → AreGoing account_number key read old posts rest answers old
 none_going account_number key read old posts rest answers whole none ready =
     record { done = []; split = whole; goes = rw (none) (goes_none account_number key read old ready) }
 

@@ -13,7 +13,8 @@ use Rattle.runs_core.specs.Dealing.{dealt}
 use Rattle.runs_core.specs.Hearing.{AreAnsweredFrom, HasLeft, IsAnsweredBy, all_heard, answers_to}
 use Rattle.runs_core.specs.Runs.{HasRun, run_shown}
 use Rattle.runs_core.specs.Shares.{HaveHandled}
-use Rattle.runs_core.specs.Teams.{Reads, terms_of}
+use Rattle.shared_account.specs.Seats.{Reads}
+use Rattle.runs_core.specs.Teams.{terms_of}
 use Rattle.runs_core.specs.declared.serving.Books.{Books}
 use Rattle.runs_core.specs.declared.crew.WorkerEnd.{WorkerEnd}
 use Rattle.runs_core.specs.declared.run_fault.RunFault.{RunFault}

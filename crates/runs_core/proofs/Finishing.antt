@@ -15,7 +15,8 @@ use Rattle.runs_core.specs.Sending.{AreLeftBy, ArePromised, IsFirstFault, IsLeft
 use Rattle.std.specs.Map.{keys_of}
 use Rattle.shared_account.specs.Terms.{Terms}
 use Rattle.runs_core.specs.Closing.{AreLeftFrom, AreWorkedFrom, IsLeftFrom}
-use Rattle.runs_core.specs.Teams.{IsLeft, Reads, terms_of, terms_with}
+use Rattle.shared_account.specs.Seats.{Reads}
+use Rattle.runs_core.specs.Teams.{IsLeft, terms_of, terms_with}
 use Rattle.runs_core.specs.declared.crew.WorkerEnd.{WorkerEnd}
 use Rattle.runs_core.specs.declared.worker_link.WorkerLink.{WorkerLink}
 use Rattle.runs_core.specs.declared.worker_link.WorkerPromise.{WorkerPromise}

@@ -8,9 +8,9 @@ use Rattle.std.proofs.lemmas.Bool.{and_parts}
 use Rattle.runs_core.proofs.Columns.{map_dealt}
 use Rattle.runs_core.specs.Closing.{AreAllThere, AreNumberedFrom, AreWorkedFrom}
 use Rattle.runs_core.specs.Dealing.{dealt}
-use Rattle.runs_core.specs.Teams.{Reads, terms_of, terms_with}
+use Rattle.runs_core.specs.Teams.{terms_of, terms_with}
 use Rattle.runs_core.specs.declared.crew.WorkerEnd.{WorkerEnd}
-use Rattle.shared_account.specs.Seats.{are_numbered}
+use Rattle.shared_account.specs.Seats.{Reads, are_numbered}
 use Rattle.shared_account.specs.Terms.{Terms}
 use Rattle.run_values.specs.Setups.{Setup}
 use Rattle.run_values.specs.declared.directory.OpeningCredit.{OpeningCredit}

@@ -21,7 +21,8 @@ use Rattle.runs_core.specs.Desks.{HasAnswered}
 use Rattle.runs_core.specs.Hearing.{AreAnswers, AreAnsweredFrom, HasHeardFrom, all_heard}
 use Rattle.runs_core.specs.Sending.{AreLeftBy, ArePromised, heard_by, promises_of, sent_by}
 use Rattle.runs_core.specs.Shares.{HaveHandled}
-use Rattle.runs_core.specs.Teams.{IsLeft, Reads}
+use Rattle.shared_account.specs.Seats.{Reads}
+use Rattle.runs_core.specs.Teams.{IsLeft}
 use Rattle.runs_core.specs.declared.crew.Crew.{Crew}
 use Rattle.runs_core.specs.declared.crew.Desk.{Desk}
 use Rattle.runs_core.specs.declared.crew.WorkerEnd.{WorkerEnd}

@@ -10,7 +10,7 @@ use Rattle.workers_core.specs.Served.{AreServed, IsServed}
 use Rattle.run_values.specs.declared.post.Post.{Post}
 use Rattle.runs_core.specs.Closing.{AreOf, AreServedBy, terms_shown}
 use Rattle.runs_core.specs.Dealing.{dealt}
-use Rattle.runs_core.specs.Teams.{Reads}
+use Rattle.shared_account.specs.Seats.{Reads}
 
 served_more : (account : ℕ) (handled : List (List Post)) (lists : List (List EntryData)) (posts : List Post) (mine : List EntryData) → AreServedBy account handled lists → IsServed account posts mine
     → AreServedBy account (handled ++ posts ∷ []) (lists ++ mine ∷ [])

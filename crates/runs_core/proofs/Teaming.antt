@@ -5,12 +5,12 @@ use Rattle.std.proofs.Math.ListN.{get_or}
 use Rattle.std.proofs.lemmas.Bool.Decides.{nat_tests}
 use Rattle.std.proofs.lemmas.List.{length-map, length-replicate, map-append, take_more}
 use Rattle.std.proofs.lemmas.List.Elements.{All-head, All-nil, All-push, All-tail}
-use Rattle.shared_account.specs.Seats.{are_numbered}
+use Rattle.shared_account.specs.Seats.{Reads, are_numbered}
 use Rattle.shared_account.specs.Terms.{Terms}
 use Rattle.run_values.specs.Openings.{no_credit}
 use Rattle.run_values.specs.declared.directory.OpeningCredit.{OpeningCredit}
 use Rattle.runs_core.specs.Dealing.{dealt}
-use Rattle.runs_core.specs.Teams.{AreFresh, IsFresh, IsNew, Reads, terms_of, terms_with}
+use Rattle.runs_core.specs.Teams.{AreFresh, IsFresh, IsNew, terms_of, terms_with}
 use Rattle.runs_core.proofs.Deals.{dealt_length}
 
 pub first_by : (here rest : Bool) → here && rest ≡ true → (here ≡ true) × (rest ≡ true)

@@ -3,13 +3,12 @@ use Rattle.std.specs.Prelude.{◌≡◌, ◌+◌, ℕ, Option, true, List, [], �
 use Rattle.account_core.specs.Events.{EntryData}
 use Rattle.account_core.specs.declared.fault.AccountFault.{AccountFault}
 use Rattle.shared_account.specs.Closed.{Closed}
-use Rattle.shared_account.specs.Seats.{are_all}
+use Rattle.shared_account.specs.Seats.{Reads, are_all}
 use Rattle.shared_account.specs.Terms.{Terms}
 use Rattle.workers_core.specs.Chains.{IsWorked}
 use Rattle.workers_core.specs.Served.{AreServed, IsServed}
 use Rattle.run_values.specs.Setups.{Setup}
 use Rattle.run_values.specs.declared.post.Post.{Post}
-use Rattle.runs_core.specs.Teams.{Reads}
 use Rattle.runs_core.specs.declared.crew.WorkerEnd.{WorkerEnd}
 
 -- what a book shows of its account: its number, the credit that it was opened with and its last moment, how many entries it may have, and how many seats it has

@@ -10,7 +10,7 @@ use Rattle.runs_core.specs.Desks.{GoesOn, HasAnswered}
 use Rattle.runs_core.specs.Hearing.{AreAnswers, HearsRounds, all_heard}
 use Rattle.runs_core.specs.Sending.{heard_by, sent_by}
 use Rattle.runs_core.specs.Shares.{AreShares, HaveHandled}
-use Rattle.runs_core.specs.Teams.{Reads}
+use Rattle.shared_account.specs.Seats.{Reads}
 use Rattle.runs_core.specs.declared.crew.Crew.{Crew}
 
 -- each list goes on with the list at its place

@@ -5,12 +5,12 @@ use Rattle.workers_core.specs.Handled.{AnswerView}
 use Rattle.run_values.specs.Setups.{Setup}
 use Rattle.workers_core.specs.Workers.{IsReady, accounts_of, holding, number_of, posts_of, seats_of, setup_of}
 use Rattle.run_values.specs.declared.post.Post.{Post}
-use Rattle.runs_core.specs.Teams.{Reads}
+use Rattle.shared_account.specs.Seats.{Reads}
 use Rattle.runs_core.specs.declared.crew.Desk.{Desk}
 
 -- posts were handled one after another, these are the answers to them, and the refusal of each was put down
 pub record GoesOn {K S T : Type 0} (account_number : S → ℕ) (key : S → K) (read : Reads K T) (old : Desk S T) (posts : List Post) (answers : List AnswerView) (new : Desk S T) : Type 0 where
-  pub ready : IsReady account_number key read.key read.number read.mine new.worker
+  pub ready : IsReady account_number key read new.worker
   pub same_setup : setup_of new.worker ≡ setup_of old.worker
   pub same_accounts : accounts_of new.worker ≡ accounts_of old.worker
   pub same_number : number_of new.worker ≡ number_of old.worker
@@ -21,7 +21,7 @@ pub record GoesOn {K S T : Type 0} (account_number : S → ℕ) (key : S → K) 
 
 -- the worker of a number has handled these posts, from the first on, and these are its answers
 pub record HasAnswered {K S T : Type 0} (account_number : S → ℕ) (key : S → K) (read : Reads K T) (setup : Setup) (accounts : List S) (number : ℕ) (posts : List Post) (answers : List AnswerView) (desk : Desk S T) : Type 0 where
-  pub ready : IsReady account_number key read.key read.number read.mine desk.worker
+  pub ready : IsReady account_number key read desk.worker
   pub setup_is : setup_of desk.worker ≡ setup
   pub accounts_are : accounts_of desk.worker ≡ accounts
   pub number_is : number_of desk.worker ≡ number

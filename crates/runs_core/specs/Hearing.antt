@@ -11,7 +11,7 @@ use Rattle.run_values.specs.declared.post.Body.{Body}
 use Rattle.run_values.specs.declared.post.Post.{Post}
 use Rattle.runs_core.specs.Closing.{AreLeftFrom, AreWorkedFrom, lists_of}
 use Rattle.runs_core.specs.Shares.{HaveHandled, numbered, worker_of}
-use Rattle.runs_core.specs.Teams.{Reads}
+use Rattle.shared_account.specs.Seats.{Reads}
 use Rattle.runs_core.specs.declared.crew.WorkerEnd.{WorkerEnd}
 
 -- there is one answer for each item, in the order of the items, whose numbers go on from this one

@@ -1,7 +1,8 @@
 -- The links of the workers of a run: what was sent by them, and what their threads promise.
 use Rattle.std.specs.Prelude.{◌≡◌, ◌+◌, ◌++◌, ◌⊎◌, ℕ, List, [], ◌∷◌, map}
 use Rattle.runs_core.specs.Mails.{items_in}
-use Rattle.runs_core.specs.Teams.{IsLeft, Reads}
+use Rattle.shared_account.specs.Seats.{Reads}
+use Rattle.runs_core.specs.Teams.{IsLeft}
 use Rattle.runs_core.specs.declared.crew.WorkerEnd.{WorkerEnd}
 use Rattle.runs_core.specs.declared.worker_link.WorkerLink.{WorkerLink}
 use Rattle.runs_core.specs.declared.worker_link.WorkerPromise.{WorkerPromise}

@@ -2,7 +2,7 @@
 use Rattle.std.specs.Prelude.{◌≡◌, ◌+◌, ◌&&◌, ℕ, Bool, Option, nat_le, true, List, [], ◌∷◌, map, All, ⊤}
 use Rattle.std.specs.Map.{keys_of}
 use Rattle.account_core.specs.Events.{EntryData}
-use Rattle.shared_account.specs.Seats.{are_all}
+use Rattle.shared_account.specs.Seats.{Reads, are_all}
 use Rattle.shared_account.specs.Terms.{Terms}
 use Rattle.account_core.specs.declared.fault.AccountFault.{AccountFault}
 use Rattle.workers_core.specs.Chains.{IsAnswered, refusals_in}
@@ -23,16 +23,6 @@ terms_with limit seats account = record { number = account.0; opening = account.
 -- the terms of each account
 abbrev pub terms_of : ℕ → ℕ → List (ℕ × OpeningCredit) → List Terms
 terms_of limit seats accounts = map (terms_with limit seats) accounts
-
--- what is known of a seat: the key of its account, its number there, and its entries
-pub record Reads (K T : Type 0) : Type 0 where
-  pub key : T → K
-  pub number : T → ℕ
-  pub mine : T → List EntryData
-
--- what the three ghost members of a seat say of it
-abbrev pub reads : {K T : Type 0} → (T → K) → (T → ℕ) → (T → List EntryData) → Reads K T
-reads key number mine = record { key = key; number = number; mine = mine }
 
 -- all seats of an account, in order and without entries
 pub record IsNew {K T : Type 0} (read : Reads K T) (key : K) (seats : ℕ) (row : List T) : Type 0 where

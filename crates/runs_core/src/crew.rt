@@ -7,7 +7,7 @@ ghost use Rattle.runs_core.specs.Crews.{count_of, joined, posts_by};
 ghost use Rattle.runs_core.specs.Desks.{GoesOn, HasAnswered};
 ghost use Rattle.runs_core.specs.RunFaults.{AsksNoGate, MayAskGate};
 ghost use Rattle.runs_core.specs.Sending.{heard_by, promises_of, sent_by};
-ghost use Rattle.runs_core.specs.Teams.{reads, IsFresh, IsLeft};
+ghost use Rattle.runs_core.specs.Teams.{IsFresh, IsLeft};
 ghost use Rattle.workers_core.specs.Handled.{answer_view};
 ghost use Rattle.workers_core.specs.Workers.{IsReady, accounts_of, holding, number_of, posts_of, seats_of, setup_of};
 ghost use Rattle.run_values.specs.declared.post.Answer.{Answer};
@@ -53,13 +53,13 @@ impl<S: Shared, G: Gate> Crew<'_, S, G> {
         gate: &G,
     ) -> Result<Replies, RunFault>
         requires ready { IsReady (λ account. (S.terms account).number)
-            S.key S.key_of S.number_of S.mine_of self.old.desk.worker }
+            S.key S.reads self.old.desk.worker }
         requires count { length shares.items ≡ count_of self.old }
         ensures posts { OnOk result (posts_by self.new
             ≡ joined (posts_by self.old) (map (λ share. share.items) shares.items)) }
         ensures goes_on { IfOk result (λ replies. (posts : List Post)
             × GoesOn (λ account. (S.terms account).number)
-            S.key (reads S.key_of S.number_of S.mine_of)
+            S.key S.reads
             self.old.desk posts (map answer_view replies.first.items) self.new.desk) }
         ensures heard { IfOk result (λ replies. map heard_by self.new.links.items
             ≡ joined (map heard_by self.old.links.items)
@@ -92,13 +92,13 @@ impl<S: Shared, G: Gate> Crew<'_, S, G> {
         gate: &G,
     ) -> Result<Vec<Answer>, RunFault>
         requires ready { IsReady (λ account. (S.terms account).number)
-            S.key S.key_of S.number_of S.mine_of self.old.desk.worker }
+            S.key S.reads self.old.desk.worker }
         requires count { length (into_iter_items shares) ≡ length self.old.links.items }
         ensures posts { OnOk result (map sent_by self.new.links.items
             ≡ joined (map sent_by self.old.links.items)
             (map (λ share. share.items) (into_iter_items shares))) }
         ensures goes_on { IfOk result (λ answers. GoesOn (λ account. (S.terms account).number)
-            S.key (reads S.key_of S.number_of S.mine_of)
+            S.key S.reads
             self.old.desk mine.items (map answer_view answers.items) self.new.desk) }
         ensures heard { map heard_by self.new.links.items ≡ map heard_by self.old.links.items }
         ensures promises { promises_of self.new.links.items ≡ promises_of self.old.links.items }
@@ -205,10 +205,10 @@ impl<'s, S: Shared> Desk<'s, S> {
     ) -> Result<Desk<'s, S>, RunFault>
         requires numbered { map (λ account. (S.terms account).number) accounts.now
             ≡ keys_of setup.now.accounts }
-        requires fresh { IsFresh (reads S.key_of S.number_of S.mine_of)
+        requires fresh { IsFresh S.reads
             (map S.key accounts.now) number seats.items }
         ensures begins { IfOk result (λ desk. HasAnswered (λ account. (S.terms account).number)
-            S.key (reads S.key_of S.number_of S.mine_of) setup.now accounts.now number [] [] desk) }
+            S.key S.reads setup.now accounts.now number [] [] desk) }
         ensures fault { AsksNoGate result }
     {
         let worker = Worker::new(alloc, number, setup, accounts, seats)?;
@@ -227,9 +227,9 @@ impl<'s, S: Shared> Desk<'s, S> {
         gate: &G,
     ) -> Result<Vec<Answer>, RunFault>
         requires ready { IsReady (λ account. (S.terms account).number)
-            S.key S.key_of S.number_of S.mine_of self.old.worker }
+            S.key S.reads self.old.worker }
         ensures goes_on { IfOk result (λ answers. GoesOn (λ account. (S.terms account).number)
-            S.key (reads S.key_of S.number_of S.mine_of)
+            S.key S.reads
             self.old posts.items (map answer_view answers.items) self.new) }
         ensures fault { MayAskGate (G.may_shut gate.now) result }
     {
@@ -244,9 +244,9 @@ impl<'s, S: Shared> Desk<'s, S> {
     /// account is asked.
     fn answer<R: Wait, G: Gate>(&mut self, rt: &R, post: Post, gate: &G) -> Result<Answer, RunFault>
         requires ready { IsReady (λ account. (S.terms account).number)
-            S.key S.key_of S.number_of S.mine_of self.old.worker }
+            S.key S.reads self.old.worker }
         ensures goes_on { IfOk result (λ answer. GoesOn (λ account. (S.terms account).number)
-            S.key (reads S.key_of S.number_of S.mine_of)
+            S.key S.reads
             self.old (post ∷ []) (answer_view answer ∷ []) self.new) }
         ensures fault { MayAskGate (G.may_shut gate.now) result }
     {
@@ -259,7 +259,7 @@ impl<'s, S: Shared> Desk<'s, S> {
     /// What the worker leaves.
     pub(crate) fn finish(self) -> WorkerEnd<S>
         requires ready { IsReady (λ account. (S.terms account).number)
-            S.key S.key_of S.number_of S.mine_of self.worker }
+            S.key S.reads self.worker }
         ensures seats { result.seats.items ≡ seats_of self.entry.worker }
         ensures posts { result.posts.items ≡ posts_of self.entry.worker }
         ensures refusals { result.refusals.items ≡ self.entry.refusals.items }

@@ -1,7 +1,7 @@
 //! The accounts of a run are opened.
 
 ghost use Rattle.std.specs.Prelude.{◌≡◌, ◌≤◌, [], length, map, IfOk, IfErr, replicate, OnOk};
-ghost use Rattle.runs_core.specs.Teams.{AreFresh, IsNew, reads, terms_of};
+ghost use Rattle.runs_core.specs.Teams.{AreFresh, IsNew, terms_of};
 ghost use Rattle.runs_core.specs.Dealing.{dealt};
 
 use crate::RunFault;
@@ -29,7 +29,7 @@ pub(crate) fn open_accounts<S: Shared, R>(
     ensures accounts { IfOk result (λ opened.
         map S.terms opened.accounts.items ≡ terms_of setup.now.limit workers setup.now.accounts) }
     ensures count { IfOk result (λ opened. length opened.teams.items ≡ workers) }
-    ensures fresh { IfOk result (λ opened. AreFresh (reads S.key_of S.number_of S.mine_of)
+    ensures fresh { IfOk result (λ opened. AreFresh S.reads
         (map S.key opened.accounts.items) 0 (map (λ team. team.items) opened.teams.items)) }
     ensures fault { IfErr result (λ fault. fault ≡ RunFault.OutOfMemory) }
 {
@@ -62,7 +62,7 @@ fn open_account<S: Shared, R>(
       limit = limit;
       seats = workers;
     }) }
-    ensures seats { IfOk result (λ made. IsNew (reads S.key_of S.number_of S.mine_of)
+    ensures seats { IfOk result (λ made. IsNew S.reads
         (S.key made.0) workers made.1.items) }
     ensures fault { IfErr result (λ fault. fault ≡ RunFault.OutOfMemory) }
 {

@@ -9,7 +9,7 @@ ghost use Rattle.runs_core.specs.Hearing.{HasLeft};
 ghost use Rattle.runs_core.specs.RunFaults.{MayAskGate, AsksNoGate};
 ghost use Rattle.runs_core.specs.Runs.{HasRun, run_shown};
 ghost use Rattle.runs_core.specs.Sending.{ArePromised, promises_of};
-ghost use Rattle.runs_core.specs.Teams.{AreFresh, are_workers, reads};
+ghost use Rattle.runs_core.specs.Teams.{AreFresh, are_workers};
 ghost use Rattle.runs_core.specs.Closing.{AreAllThere, AreLeftFrom, AreListed, AreNumberedFrom, AreOf, AreServedBy, terms_shown};
 ghost use Rattle.account_core.specs.Answers.{IsLegal};
 ghost use Rattle.shared_account.specs.Own.{IsMerged};
@@ -114,12 +114,12 @@ fn run_workers<D: Driver, S: Shared, R: Wait + Threads + Sync, G: Gate + Sync>(
     requires few { length teams.items ≤ 16 }
     requires numbered { map (λ account. (S.terms account).number) accounts.now
         ≡ keys_of setup.now.accounts }
-    requires fresh { AreFresh (reads S.key_of S.number_of S.mine_of)
+    requires fresh { AreFresh S.reads
         (map S.key accounts.now) 0 (map (λ team. team.items) teams.items) }
     ensures ended { OnOk result (D.ended driver.new ≡ true) }
     ensures plan { D.plan driver.new ≡ D.plan driver.old }
     ensures left { IfOk result (λ left. HasLeft D.given D.ended D.hears
-        (reads S.key_of S.number_of S.mine_of) (map S.key accounts.now)
+        S.reads (map S.key accounts.now)
         setup.now (length teams.items) driver.old driver.new left.items) }
     ensures fault { MayAskGate (G.may_shut gate.now) result }
 {
@@ -131,13 +131,13 @@ fn run_workers<D: Driver, S: Shared, R: Wait + Threads + Sync, G: Gate + Sync>(
                 × (length teams.items ≤ 16)
                 × (map (λ account. (S.terms account).number) accounts.now
                 ≡ keys_of setup.now.accounts)
-                × AreFresh (reads S.key_of S.number_of S.mine_of)
+                × AreFresh S.reads
                 (map S.key accounts.now) 0 (map (λ team. team.items) teams.items) }
             ensures { (result.driver.ghost_name ≡ driver.entry.ghost_name)
                 × (D.plan result.driver.now ≡ D.plan driver.entry.now)
                 × OnOk result.left (D.ended result.driver.now ≡ true)
                 × IfOk result.left (λ left. HasLeft D.given D.ended D.hears
-                (reads S.key_of S.number_of S.mine_of) (map S.key accounts.entry.now)
+                S.reads (map S.key accounts.entry.now)
                 setup.entry.now (length teams.items) driver.entry.now result.driver.now left.items)
                 × MayAskGate (G.may_shut gate.entry.now) result.left }
         {
@@ -167,12 +167,12 @@ fn run_in<'s, E, D: Driver, S: Shared, R: Wait + Threads + Sync, G: Gate + Sync>
     requires few { length teams.items ≤ 16 }
     requires numbered { map (λ account. (S.terms account).number) accounts.now
         ≡ keys_of setup.now.accounts }
-    requires fresh { AreFresh (reads S.key_of S.number_of S.mine_of)
+    requires fresh { AreFresh S.reads
         (map S.key accounts.now) 0 (map (λ team. team.items) teams.items) }
     ensures ended { OnOk result (D.ended driver.new ≡ true) }
     ensures plan { D.plan driver.new ≡ D.plan driver.old }
     ensures left { IfOk result (λ left. HasLeft D.given D.ended D.hears
-        (reads S.key_of S.number_of S.mine_of) (map S.key accounts.now)
+        S.reads (map S.key accounts.now)
         setup.now (length teams.items) driver.old driver.new left.items) }
     ensures fault { MayAskGate (G.may_shut gate.now) result }
 {
@@ -221,17 +221,17 @@ fn start_and_play<'s, E, D: Driver, S: Shared, R: Wait + Threads + Sync, G: Gate
     requires few { length (into_iter_items teams) < 16 }
     requires numbered { map (λ account. (S.terms account).number) accounts.now
         ≡ keys_of setup.now.accounts }
-    requires fresh { AreFresh (reads S.key_of S.number_of S.mine_of)
+    requires fresh { AreFresh S.reads
         (map S.key accounts.now) 1 (map (λ team. team.items) (into_iter_items teams)) }
     requires first { HasAnswered (λ account. (S.terms account).number)
-        S.key (reads S.key_of S.number_of S.mine_of) setup.now accounts.now 0 [] []
+        S.key S.reads setup.now accounts.now 0 [] []
         crew.old.desk }
     requires none { crew.old.links.items ≡ [] }
     ensures ended { OnOk result (D.ended driver.new ≡ true) }
     ensures plan { D.plan driver.new ≡ D.plan driver.old }
     ensures count { OnOk result (length crew.new.links.items ≡ length (into_iter_items teams)) }
     ensures played { OnOk result (HasPlayed D.given D.ended D.hears
-        (λ account. (S.terms account).number) S.key (reads S.key_of S.number_of S.mine_of)
+        (λ account. (S.terms account).number) S.key S.reads
         setup.now accounts.now driver.old driver.new crew.new) }
     ensures promised { ArePromised setup.now accounts.now gate.now 1
         (promises_of crew.new.links.items) }
@@ -268,9 +268,9 @@ fn close_accounts<S: Shared>(
     accounts: Vec<S>,
     left: Vec<WorkerEnd<S>>,
 ) -> Result<Books, RunFault>
-    requires left { AreLeftFrom (reads S.key_of S.number_of S.mine_of) (map S.key accounts.items)
+    requires left { AreLeftFrom S.reads (map S.key accounts.items)
         (map (λ account. (S.terms account).number) accounts.items) left.items }
-    requires numbers { AreNumberedFrom (reads S.key_of S.number_of S.mine_of) 0 left.items }
+    requires numbers { AreNumberedFrom S.reads 0 left.items }
     requires seats { All (λ account. (S.terms account).seats ≡ length left.items) accounts.items }
     ensures terms { IfOk result
         (λ all. map terms_shown all.books.items ≡ map S.terms accounts.items) }
@@ -285,7 +285,7 @@ fn close_accounts<S: Shared>(
     ensures refusals { IfOk result (λ all. map (λ one. one.items) all.refusals.items
         ≡ map (λ one. one.refusals.items) left.items) }
     ensures lists { IfOk result (λ all. AreListed all.books.items 0
-        (map (λ one. map S.mine_of one.seats.items) left.items)) }
+        (map (λ one. map S.reads.mine one.seats.items) left.items)) }
     ensures fault { AsksNoGate result }
 {
     let mut rows = empty_piles(alloc, accounts.len())?;
@@ -315,13 +315,14 @@ fn close_each<S: Shared>(
     accounts: Vec<S>,
     rows: Vec<Vec<S::Seat>>,
 ) -> Result<Vec<Book>, RunFault>
-    requires rows { AreOf S.key_of (map S.key accounts.items) (map (λ row. row.items) rows.items) }
+    requires rows { AreOf S.reads.key (map S.key accounts.items)
+        (map (λ row. row.items) rows.items) }
     requires all { AreAllThere (map (λ account. (S.terms account).seats) accounts.items)
-        (map (λ row. map S.number_of row.items) rows.items) }
+        (map (λ row. map S.reads.number row.items) rows.items) }
     ensures terms { IfOk result
         (λ books. map terms_shown books.items ≡ map S.terms accounts.items) }
     ensures own { IfOk result (λ books.
-        map (λ book. book.own) books.items ≡ map (λ row. map S.mine_of row.items) rows.items) }
+        map (λ book. book.own) books.items ≡ map (λ row. map S.reads.mine row.items) rows.items) }
     ensures legal { IfOk result
         (λ books. All (λ book. IsLegal book.opening book.until book.history) books.items) }
     ensures merged { IfOk result
@@ -341,10 +342,10 @@ fn close_each<S: Shared>(
 
 /// Closes an account with its seats.
 fn close<S: Shared>(alloc: Global, account: S, seats: Vec<S::Seat>) -> Result<Book, RunFault>
-    requires keys { All (λ seat. S.key_of seat ≡ S.key account) seats.items }
-    requires all { are_all (S.terms account).seats (map S.number_of seats.items) ≡ true }
+    requires keys { All (λ seat. S.reads.key seat ≡ S.key account) seats.items }
+    requires all { are_all (S.terms account).seats (map S.reads.number seats.items) ≡ true }
     ensures terms { IfOk result (λ book. terms_shown book ≡ S.terms account) }
-    ensures own { IfOk result (λ book. book.own ≡ map S.mine_of seats.items) }
+    ensures own { IfOk result (λ book. book.own ≡ map S.reads.mine seats.items) }
     ensures legal { IfOk result (λ book. IsLegal book.opening book.until book.history) }
     ensures merged { IfOk result (λ book. IsMerged book.history book.own) }
     ensures fault { AsksNoGate result }

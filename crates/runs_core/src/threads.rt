@@ -5,7 +5,7 @@ ghost use Rattle.std.specs.Map.{keys_of};
 ghost use Rattle.std.specs.Vec.Iter.{into_iter_items};
 ghost use Rattle.runs_core.specs.RunFaults.{AsksNoGate, MayAskGate};
 ghost use Rattle.runs_core.specs.Sending.{AreLeftBy, ArePromised, IsFirstFault, IsLeftBy, MayBeShut, heard_by, promises_of, sent_by};
-ghost use Rattle.runs_core.specs.Teams.{AreFresh, IsFresh, reads};
+ghost use Rattle.runs_core.specs.Teams.{AreFresh, IsFresh};
 ghost use Rattle.runs_core.specs.declared.crew.WorkerEnd.{WorkerEnd};
 
 use crate::RunFault;
@@ -32,7 +32,7 @@ pub(crate) fn start_all<'s, E, S: Shared, R: Wait + Threads + Sync, G: Gate + Sy
 ) -> Result<(), RunFault>
     requires numbered { map (λ account. (S.terms account).number) accounts.now
         ≡ keys_of setup.now.accounts }
-    requires fresh { AreFresh (reads S.key_of S.number_of S.mine_of)
+    requires fresh { AreFresh S.reads
         (map S.key accounts.now) 1 (map (λ team. team.items) (into_iter_items teams)) }
     requires few { length (into_iter_items teams) < 16 }
     requires none { links.old.items ≡ [] }
@@ -64,7 +64,7 @@ fn start_one<'s, E, S: Shared, R: Wait + Threads + Sync, G: Gate + Sync>(
 ) -> Result<(), RunFault>
     requires numbered { map (λ account. (S.terms account).number) accounts.now
         ≡ keys_of setup.now.accounts }
-    requires fresh { IsFresh (reads S.key_of S.number_of S.mine_of)
+    requires fresh { IsFresh S.reads
         (map S.key accounts.now) number seats.items }
     requires count { length links.old.items + 1 ≡ number }
     requires silent { All (λ link. sent_by link ≡ []) links.old.items }
@@ -92,9 +92,9 @@ pub(crate) fn finish_all<S: Shared, R: Wait + Threads, G: Gate>(
     requires none { left.old.items ≡ [] }
     ensures posts { OnOk result
         (map (λ l. l.posts.items) left.new.items ≡ map sent_by links.entry.items) }
-    ensures left { OnOk result (AreLeftBy (reads S.key_of S.number_of S.mine_of) S.key
+    ensures left { OnOk result (AreLeftBy S.reads S.key
         (promises_of links.entry.items) (map heard_by links.entry.items) left.new.items) }
-    ensures first { IfErr result (λ fault. IsFirstFault (reads S.key_of S.number_of S.mine_of) S.key
+    ensures first { IfErr result (λ fault. IsFirstFault S.reads S.key
         G.may_shut (promises_of links.entry.items) fault) }
     ensures fault { MayAskGate (MayBeShut G.may_shut (promises_of links.entry.items)) result }
 {
@@ -119,7 +119,7 @@ fn finish_one<S: Shared, R: Wait + Threads, G: Gate>(
     ensures left { OnOk result ((one : WorkerEnd S S.Seat)
         × (left.new.items ≡ left.old.items ++ one ∷ [])
         × (one.posts.items ≡ sent_by link.entry)
-        × IsLeftBy (reads S.key_of S.number_of S.mine_of) S.key link.entry.child.promise
+        × IsLeftBy S.reads S.key link.entry.child.promise
         (heard_by link.entry) one) }
     ensures fault { MayAskGate (G.may_shut link.entry.child.promise.gate.now) result }
 {

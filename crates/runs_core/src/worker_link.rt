@@ -4,7 +4,7 @@ ghost use Rattle.std.specs.Prelude.{◌≡◌, ◌++◌, ◌∷◌, [], true, ma
 ghost use Rattle.std.specs.Map.{keys_of};
 ghost use Rattle.runs_core.specs.Mails.{items_in};
 ghost use Rattle.runs_core.specs.RunFaults.{AsksNoGate, MayAskGate};
-ghost use Rattle.runs_core.specs.Teams.{IsFresh, IsLeft, reads};
+ghost use Rattle.runs_core.specs.Teams.{IsFresh, IsLeft};
 ghost use Rattle.runs_core.specs.Desks.{GoesOn};
 ghost use Rattle.workers_core.specs.Ends.{ArePaired, IsSameInbox, IsSameOutbox, sent, taken};
 ghost use Rattle.workers_core.specs.Handled.{answer_view};
@@ -52,7 +52,7 @@ pub(crate) fn start<'s, E, S: Shared, R: Wait + Threads + Sync, G: Gate + Sync>(
 ) -> Result<WorkerLink<'s, S, G>, RunFault>
     requires numbered { map (λ account. (S.terms account).number) accounts.now
         ≡ keys_of setup.now.accounts }
-    requires fresh { IsFresh (reads S.key_of S.number_of S.mine_of)
+    requires fresh { IsFresh S.reads
         (map S.key accounts.now) number seats.items }
     ensures number { IfOk result (λ link. link.child.promise.number ≡ number) }
     ensures setup { IfOk result (λ link. link.child.promise.setup.now ≡ setup.now) }
@@ -75,14 +75,14 @@ pub(crate) fn start<'s, E, S: Shared, R: Wait + Threads + Sync, G: Gate + Sync>(
     let serve = move || -> Result<Finished<S>, RunFault>
         requires { (map (λ account. (S.terms account).number) accounts.now
             ≡ keys_of setup.now.accounts)
-            × IsFresh (reads S.key_of S.number_of S.mine_of)
+            × IsFresh S.reads
             (map S.key accounts.now) number seats.items
             × (taken posts ≡ []) × (sent answers ≡ []) }
         ensures { IfOk result (λ f. IsSameInbox posts f.inbox
             × IsSameOutbox answers f.outbox
             × (has_close (taken f.inbox) ≡ true)
             × (items_in (taken f.inbox) ≡ f.left.posts.items)
-            × IsLeft (reads S.key_of S.number_of S.mine_of) (map S.key accounts.entry.now)
+            × IsLeft S.reads (map S.key accounts.entry.now)
             setup.entry.now number f.left.posts.items f.left.refusals.items
             (map answer_view (items_in (sent f.outbox))) f.left.seats.items)
             × MayAskGate (G.may_shut gate.entry.now) result }
@@ -142,7 +142,7 @@ impl<S: Shared, G: Gate> WorkerLink<'_, S, G> {
     /// Sends the last mail, and waits for what the worker leaves.
     pub(crate) fn finish<R: Wait + Threads>(self, rt: &R) -> Result<WorkerEnd<S>, RunFault>
         ensures posts { IfOk result (λ left. left.posts.items ≡ items_in (sent self.entry.outbox)) }
-        ensures left { IfOk result (λ left. IsLeft (reads S.key_of S.number_of S.mine_of)
+        ensures left { IfOk result (λ left. IsLeft S.reads
             (map S.key self.entry.child.promise.accounts.now)
             self.entry.child.promise.setup.now self.entry.child.promise.number
             left.posts.items left.refusals.items
@@ -194,7 +194,7 @@ fn work<S: Shared, R: Wait, G: Gate>(
 ) -> Result<Finished<S>, RunFault>
     requires numbered { map (λ account. (S.terms account).number) accounts.now
         ≡ keys_of setup.now.accounts }
-    requires fresh { IsFresh (reads S.key_of S.number_of S.mine_of)
+    requires fresh { IsFresh S.reads
         (map S.key accounts.now) number seats.items }
     requires taken { taken inbox ≡ [] }
     requires sent { sent outbox ≡ [] }
@@ -203,7 +203,7 @@ fn work<S: Shared, R: Wait, G: Gate>(
     ensures closed { IfOk result (λ finished. has_close (taken finished.inbox) ≡ true) }
     ensures posts { IfOk result
         (λ finished. items_in (taken finished.inbox) ≡ finished.left.posts.items) }
-    ensures left { IfOk result (λ finished. IsLeft (reads S.key_of S.number_of S.mine_of)
+    ensures left { IfOk result (λ finished. IsLeft S.reads
         (map S.key accounts.now) setup.now number finished.left.posts.items
         finished.left.refusals.items (map answer_view (items_in (sent finished.outbox)))
         finished.left.seats.items) }
@@ -230,14 +230,14 @@ fn answer_rounds<S: Shared, R: Wait, G: Gate>(
     gate: &G,
 ) -> Result<(), RunFault>
     requires ready { IsReady (λ account. (S.terms account).number)
-        S.key S.key_of S.number_of S.mine_of desk.old.worker }
+        S.key S.reads desk.old.worker }
     requires taken { taken inbox.old ≡ [] }
     requires sent { sent outbox.old ≡ [] }
     ensures inbox { IsSameInbox inbox.old inbox.new }
     ensures outbox { IsSameOutbox outbox.old outbox.new }
     ensures closed { OnOk result (has_close (taken inbox.new) ≡ true) }
     ensures goes_on { OnOk result (GoesOn (λ account. (S.terms account).number)
-        S.key (reads S.key_of S.number_of S.mine_of) desk.old
+        S.key S.reads desk.old
         (items_in (taken inbox.new)) (map answer_view (items_in (sent outbox.new))) desk.new) }
     ensures fault { MayAskGate (G.may_shut gate.now) result }
 {
@@ -261,12 +261,12 @@ fn answer_round<S: Shared, R: Wait, G: Gate>(
     gate: &G,
 ) -> Result<(), RunFault>
     requires ready { IsReady (λ account. (S.terms account).number)
-        S.key S.key_of S.number_of S.mine_of desk.old.worker }
+        S.key S.reads desk.old.worker }
     ensures outbox { IsSameOutbox outbox.old outbox.new }
     ensures goes_on { OnOk result ((answers : List Answer)
         × (items_in (sent outbox.new) ≡ items_in (sent outbox.old) ++ answers)
         × GoesOn (λ account. (S.terms account).number)
-        S.key (reads S.key_of S.number_of S.mine_of)
+        S.key S.reads
         desk.old posts.items (map answer_view answers) desk.new) }
     ensures fault { MayAskGate (G.may_shut gate.now) result }
 {
@@ -301,7 +301,7 @@ pub(crate) struct WorkerPromise<'s, S: Shared, G: Gate> {
 
 impl<'s, S: Shared, G: Gate> Promise<Result<Finished<S>, RunFault>> for WorkerPromise<'s, S, G> {
     ghost use Rattle.std.specs.Prelude.{◌≡◌, ◌≢◌, true, map, IfOk, Err};
-    ghost use Rattle.runs_core.specs.Teams.{IsLeft, reads};
+    ghost use Rattle.runs_core.specs.Teams.{IsLeft};
     ghost use Rattle.runs_core.specs.Mails.{items_in};
     ghost use Rattle.runs_core.specs.declared.run_fault.RunFault.TheVariants as out;
     ghost use Rattle.workers_core.specs.Ends.{IsSameInbox, IsSameOutbox, sent, taken};
@@ -312,7 +312,7 @@ impl<'s, S: Shared, G: Gate> Promise<Result<Finished<S>, RunFault>> for WorkerPr
         × IsSameOutbox p.outbox.value f.outbox
         × (has_close (taken f.inbox) ≡ true)
         × (items_in (taken f.inbox) ≡ f.left.posts.items)
-        × IsLeft (reads S.key_of S.number_of S.mine_of) (map S.key p.accounts.now)
+        × IsLeft S.reads (map S.key p.accounts.now)
         p.setup.now p.number f.left.posts.items f.left.refusals.items
         (map answer_view (items_in (sent f.outbox))) f.left.seats.items)
         × (r ≡ Err out.GateClosed → G.may_shut p.gate.now)

@@ -21,8 +21,9 @@ use tariff_core::MAX_MONEY;
 /// but a call shows that, so whoever is generic over the form can't tell of a refusal that no
 /// account gave.
 ///
-/// A seat is of the account whose key it has: the account's number, or whatever else a form tells
-/// its seats by.
+/// What a form tells of a seat is `reads`: the key of its account, its number and its own entries. A
+/// seat is of the account whose key it has: the account's number, or whatever else a form tells its
+/// seats by.
 pub trait Shared: Sync + Drop {
     ghost use Rattle.std.specs.Prelude.{◌≡◌, ◌≤◌, ◌↔◌, ◌⊎◌, ◌++◌, ◌∷◌, [], ℕ, List, true, false, map, reverse, All, OnErr, IfOk, IfErr};
     ghost use Rattle.std.specs.Coded.{Coded};
@@ -35,7 +36,7 @@ pub trait Shared: Sync + Drop {
     ghost use Rattle.account_core.specs.declared.fault.AccountFault.TheVariants as out;
     ghost use Rattle.shared_account.specs.Kinds.{IsFaultOf, IsReplyTo, IsReturn};
     ghost use Rattle.shared_account.specs.Own.{IsMerged};
-    ghost use Rattle.shared_account.specs.Seats.{are_all};
+    ghost use Rattle.shared_account.specs.Seats.{Reads, are_all};
     ghost use Rattle.shared_account.specs.Terms.{Terms};
     ghost use Rattle.shared_account.specs.declared.fault.CloseFault.TheVariants as close;
 
@@ -50,11 +51,7 @@ pub trait Shared: Sync + Drop {
 
     ghost terms: { Self → Terms };
 
-    ghost key_of: { Self.Seat → Key };
-
-    ghost number_of: { Self.Seat → ℕ };
-
-    ghost mine_of: { Self.Seat → List EntryData };
+    ghost reads: { Reads Key Self.Seat };
 
     ghost refuses: { Self → Asked → AccountFault → Type 0 };
 
@@ -80,9 +77,11 @@ pub trait Shared: Sync + Drop {
           limit = limit;
           seats = seats;
         }) }
-        ensures keys { IfOk result (λ made. All (λ seat. key_of seat ≡ key made.0) made.1.items) }
-        ensures numbers { IfOk result (λ made. are_all seats (map number_of made.1.items) ≡ true) }
-        ensures empty { IfOk result (λ made. All (λ seat. mine_of seat ≡ []) made.1.items) }
+        ensures keys { IfOk result (λ made.
+            All (λ seat. reads.key seat ≡ key made.0) made.1.items) }
+        ensures numbers { IfOk result (λ made.
+            are_all seats (map reads.number made.1.items) ≡ true) }
+        ensures empty { IfOk result (λ made. All (λ seat. reads.mine seat ≡ []) made.1.items) }
         ensures refused { IfErr result (λ fault. fault ≡ out.OutOfMemory) };
 
     /// Asks the account from one of its seats, once it is this call's turn. A fault makes no entry.
@@ -96,32 +95,32 @@ pub trait Shared: Sync + Drop {
         op: Op,
         gate: &G,
     ) -> Result<Reply, AccountFault>
-        requires { key_of seat.old ≡ key self.now }
-        ensures same_key { key_of seat.new ≡ key_of seat.old }
-        ensures same_number { number_of seat.new ≡ number_of seat.old }
-        ensures mine { IfOk result (λ reply. mine_of seat.new
-            ≡ mine_of seat.old ++ event_by (number_of seat.old) (asked_of op) reply ∷ []) }
+        requires { reads.key seat.old ≡ key self.now }
+        ensures same_key { reads.key seat.new ≡ reads.key seat.old }
+        ensures same_number { reads.number seat.new ≡ reads.number seat.old }
+        ensures mine { IfOk result (λ reply. reads.mine seat.new
+            ≡ reads.mine seat.old ++ event_by (reads.number seat.old) (asked_of op) reply ∷ []) }
         ensures kind { IfOk result (λ reply. IsReplyTo (asked_of op) reply) }
-        ensures kept { OnErr result (mine_of seat.new ≡ mine_of seat.old) }
+        ensures kept { OnErr result (reads.mine seat.new ≡ reads.mine seat.old) }
         ensures refused { IfErr result (λ fault. refuses self.now (asked_of op) fault) }
         ensures fault { IfErr result (λ fault. IsFaultOf (asked_of op) fault) }
         ensures range { result ≡ Err out.OutOfRange → is_in_range (asked_of op) ≡ false }
         ensures gate { result ≡ Err out.GateClosed → G.may_shut gate.now }
         ensures returning { IsReturn (asked_of op)
-            → IsClosing (reverse (mine_of seat.old)) (asked_of op)
+            → IsClosing (reverse (reads.mine seat.old)) (asked_of op)
             → IfErr result (λ fault. (fault ≡ out.NotOpen) ⊎ (fault ≡ out.GateClosed)) };
 
     /// Ends the sharing: the account's book, where all of its seats are handed in, in the order of
     /// their numbers.
     fn close(self, alloc: Global, seats: Vec<Self::Seat>) -> Result<Book, CloseFault>
-        requires { All (λ seat. key_of seat ≡ key self) seats.items }
+        requires { All (λ seat. reads.key seat ≡ key self) seats.items }
         ensures account { IfOk result (λ book. book.account ≡ (terms self).number) }
         ensures opening { IfOk result (λ book. book.opening ≡ (terms self).opening) }
         ensures until { IfOk result (λ book. book.until ≡ (terms self).until) }
         ensures limit { IfOk result (λ book. book.limit ≡ (terms self).limit) }
         ensures legal { IfOk result (λ book. IsLegal book.opening book.until book.history) }
-        ensures own { IfOk result (λ book. book.own ≡ map mine_of seats.items) }
+        ensures own { IfOk result (λ book. book.own ≡ map reads.mine seats.items) }
         ensures merged { IfOk result (λ book. IsMerged book.history book.own) }
         ensures seats { (result ≡ Err close.Seats)
-            ↔ (are_all (terms self).seats (map number_of seats.items) ≡ false) };
+            ↔ (are_all (terms self).seats (map reads.number seats.items) ≡ false) };
 }

@@ -172,6 +172,7 @@ fn make_seats(alloc: Global, account: u32, count: u32) -> Result<Vec<Seat>, Allo
 
 impl Shared for SharedAccount {
     ghost use Rattle.shared_account.specs.Kinds.{IsRefused};
+    ghost use Rattle.shared_account.specs.Seats.{seat_reads};
     ghost use Rattle.std.specs.Coded.{coded_ℕ};
     ghost use Rattle.std.specs.Prelude.{ℕ};
 
@@ -185,11 +186,7 @@ impl Shared for SharedAccount {
 
     ghost terms = { λ account. account };
 
-    ghost key_of = { λ seat. seat.account };
-
-    ghost number_of = { λ seat. seat.number };
-
-    ghost mine_of = { λ seat. seat.mine };
+    ghost reads = { seat_reads };
 
     ghost refuses = { λ _ asked fault. IsRefused asked fault };
 

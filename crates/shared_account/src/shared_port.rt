@@ -20,8 +20,8 @@ pub struct SharedPort<'a, S: Shared, R: Wait, G: Gate> {
     seat: &'a mut S::Seat,
     rt: &'a R,
     gate: &'a G,
-    ghost of_account: { S.key_of seat.now ≡ S.key account.now } by { Coded-set S.key_code
-        (S.key_of seat.now) (S.key account.now) },
+    ghost of_account: { S.reads.key seat.now ≡ S.key account.now } by { Coded-set S.key_code
+        (S.reads.key seat.now) (S.key account.now) },
 }
 
 impl<'a, S: Shared, R: Wait, G: Gate> SharedPort<'a, S, R, G> {
@@ -32,7 +32,7 @@ impl<'a, S: Shared, R: Wait, G: Gate> SharedPort<'a, S, R, G> {
         rt: &'a R,
         gate: &'a G,
     ) -> SharedPort<'a, S, R, G>
-        requires { S.key_of seat.old ≡ S.key account.now }
+        requires { S.reads.key seat.old ≡ S.key account.now }
         ensures account { result.account.now ≡ account.now }
         ensures seat { result.seat.now ≡ seat.old }
         ensures gate { result.gate.now ≡ gate.now }
@@ -48,17 +48,18 @@ impl<'a, S: Shared, R: Wait, G: Gate> SharedPort<'a, S, R, G> {
 
 impl<S: Shared, R: Wait, G: Gate> Port for SharedPort<'_, S, R, G> {
     fn ask(&mut self, op: Op) -> Result<Reply, AccountFault>
-        ensures mine { IfOk result (λ reply. S.mine_of self.new.seat.now
-            ≡ S.mine_of self.old.seat.now
-            ++ event_by (S.number_of self.old.seat.now) (asked_of op) reply ∷ []) }
+        ensures mine { IfOk result (λ reply. S.reads.mine self.new.seat.now
+            ≡ S.reads.mine self.old.seat.now
+            ++ event_by (S.reads.number self.old.seat.now) (asked_of op) reply ∷ []) }
         ensures kind { IfOk result (λ reply. IsReplyTo (asked_of op) reply) }
-        ensures kept { OnErr result (S.mine_of self.new.seat.now ≡ S.mine_of self.old.seat.now) }
+        ensures kept { OnErr result (S.reads.mine self.new.seat.now
+            ≡ S.reads.mine self.old.seat.now) }
         ensures refused { IfErr result (λ fault.
             S.refuses self.old.account.now (asked_of op) fault) }
         ensures fault { IfErr result (λ fault. IsFaultOf (asked_of op) fault) }
         ensures gate { result ≡ Err AccountFault.GateClosed → G.may_shut self.old.gate.now }
         ensures returning { IsReturn (asked_of op)
-            → IsClosing (reverse (S.mine_of self.old.seat.now)) (asked_of op)
+            → IsClosing (reverse (S.reads.mine self.old.seat.now)) (asked_of op)
             → IfErr result (λ fault.
             (fault ≡ AccountFault.NotOpen) ⊎ (fault ≡ AccountFault.GateClosed)) }
     {

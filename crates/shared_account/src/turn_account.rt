@@ -284,11 +284,11 @@ impl Shared for TurnAccount {
 
     ghost terms = { λ account. account.terms };
 
-    ghost key_of = { λ seat. seat.table };
-
-    ghost number_of = { λ seat. seat.place.number };
-
-    ghost mine_of = { λ seat. seat.place.mine };
+    ghost reads = { record {
+      key = λ seat. seat.table;
+      number = λ seat. seat.place.number;
+      mine = λ seat. seat.place.mine;
+    } };
 
     ghost refuses = { λ _ asked fault. IsRefused asked fault };
 

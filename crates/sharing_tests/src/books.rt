@@ -71,10 +71,10 @@ fn ask_one<S: Form, R: Wait>(
     op: Op,
     gate: Door,
 ) -> Answer
-    requires first { S.key_of first.old ≡ S.key account.now }
-    requires second { S.key_of second.old ≡ S.key account.now }
-    ensures first { S.key_of first.new ≡ S.key account.now }
-    ensures second { S.key_of second.new ≡ S.key account.now }
+    requires first { S.reads.key first.old ≡ S.key account.now }
+    requires second { S.reads.key second.old ≡ S.key account.now }
+    ensures first { S.reads.key first.new ≡ S.key account.now }
+    ensures second { S.reads.key second.new ≡ S.key account.now }
 {
     if seat == 0 {
         return account.call(rt, first, op, &gate);

@@ -38,8 +38,8 @@ pub(crate) fn two_seats<S: Form, R: Abort>(
     until: Option<u64>,
 ) -> Result<(S, S::Seat, S::Seat), Fail>
     requires { opening ≤ MAX_MONEY }
-    ensures first { IfOk result (λ made. S.key_of made.1 ≡ S.key made.0) }
-    ensures second { IfOk result (λ made. S.key_of made.2 ≡ S.key made.0) }
+    ensures first { IfOk result (λ made. S.reads.key made.1 ≡ S.key made.0) }
+    ensures second { IfOk result (λ made. S.reads.key made.2 ≡ S.key made.0) }
 {
     two_seats_within(rt, alloc, number, opening, until, 100)
 }
@@ -54,8 +54,8 @@ pub(crate) fn two_seats_within<S: Form, R: Abort>(
     limit: u32,
 ) -> Result<(S, S::Seat, S::Seat), Fail>
     requires { opening ≤ MAX_MONEY }
-    ensures first { IfOk result (λ made. S.key_of made.1 ≡ S.key made.0) }
-    ensures second { IfOk result (λ made. S.key_of made.2 ≡ S.key made.0) }
+    ensures first { IfOk result (λ made. S.reads.key made.1 ≡ S.key made.0) }
+    ensures second { IfOk result (λ made. S.reads.key made.2 ≡ S.key made.0) }
 {
     let (account, mut seats) = S::new(rt, alloc, number, opening, until, limit, 2)?;
     let second = seats.pop().expect(rt, "two seats");
@@ -72,8 +72,8 @@ pub(crate) fn close<S: Form>(
     first: S::Seat,
     second: S::Seat,
 ) -> Result<Result<Book, CloseFault>, AllocError>
-    requires first { S.key_of first ≡ S.key account }
-    requires second { S.key_of second ≡ S.key account }
+    requires first { S.reads.key first ≡ S.key account }
+    requires second { S.reads.key second ≡ S.key account }
 {
     let mut seats = Vec::with_capacity(alloc, 2)?;
     seats.push_reserved(first);

@@ -74,8 +74,8 @@ fn ask_more<S: Shared, R: Wait, G: Gate>(
     op: Option<Op>,
     gate: &G,
 ) -> Option<Answer>
-    requires { S.key_of seat.old ≡ S.key account.now }
-    ensures { S.key_of seat.new ≡ S.key account.now }
+    requires { S.reads.key seat.old ≡ S.key account.now }
+    ensures { S.reads.key seat.new ≡ S.key account.now }
 {
     let op = op?;
     Some(account.call(rt, seat, op, gate))
@@ -89,8 +89,8 @@ fn ask<S: Shared, R: Wait, G: Gate>(
     ops: Ops,
     gate: &G,
 ) -> (S::Seat, Answers)
-    requires { S.key_of seat ≡ S.key account.now }
-    ensures { S.key_of result.0 ≡ S.key account.now }
+    requires { S.reads.key seat ≡ S.key account.now }
+    ensures { S.reads.key result.0 ≡ S.key account.now }
 {
     let (op, later) = ops;
     if !gate.before(0, op.call()) {
@@ -110,10 +110,10 @@ fn ask_both<S: Form, R: Threads + Wait + Sync, G: Gate + Sync>(
     ops: (Ops, Ops),
     gate: &G,
 ) -> ((S::Seat, Answers), (S::Seat, Answers))
-    requires first { S.key_of seats.0 ≡ S.key accounts.0.now }
-    requires second { S.key_of seats.1 ≡ S.key accounts.1.now }
-    ensures first { S.key_of result.0.0 ≡ S.key_of seats.0 }
-    ensures second { S.key_of result.1.0 ≡ S.key_of seats.1 }
+    requires first { S.reads.key seats.0 ≡ S.key accounts.0.now }
+    requires second { S.reads.key seats.1 ≡ S.key accounts.1.now }
+    ensures first { S.reads.key result.0.0 ≡ S.reads.key seats.0 }
+    ensures second { S.reads.key result.1.0 ≡ S.reads.key seats.1 }
 {
     let (one, other) = accounts;
     let (first, second) = seats;
@@ -121,12 +121,12 @@ fn ask_both<S: Form, R: Threads + Wait + Sync, G: Gate + Sync>(
     thread::join(
         rt,
         move || -> (S::Seat, Answers)
-            requires { S.key_of first ≡ S.key one.now }
-            ensures { S.key_of result.0 ≡ S.key_of first }
+            requires { S.reads.key first ≡ S.key one.now }
+            ensures { S.reads.key result.0 ≡ S.reads.key first }
         { ask(rt, one, first, first_ops, gate) },
         move || -> (S::Seat, Answers)
-            requires { S.key_of second ≡ S.key other.now }
-            ensures { S.key_of result.0 ≡ S.key_of second }
+            requires { S.reads.key second ≡ S.key other.now }
+            ensures { S.reads.key result.0 ≡ S.reads.key second }
         { ask(rt, other, second, second_ops, gate) },
     )
 }

@@ -4,6 +4,7 @@ use Rattle.std.specs.BTreeMap.{is_at}
 use Rattle.std.specs.Map.{keys_of, lookup}
 use Rattle.std.specs.Ordering.{nat_cmp}
 use Rattle.account_core.specs.Events.{EntryData}
+use Rattle.shared_account.specs.Seats.{Reads}
 use Rattle.dialogue_core.specs.Phases.{Phase, FirstAsk, Running, Settling, MoreAsk, Returning, Ending, Closed}
 use Rattle.dialogue_core.specs.Views.{phase_of}
 use Rattle.workers_core.specs.Handled.{Holding}
@@ -73,8 +74,8 @@ pub record IsSound (accounts : List ℕ) (posts : List Post) (h : Holding) : Typ
 
 -- a worker can handle a post: the accounts are those of the setup, each seat is of its account and has the worker's number, and what it holds is in
 -- order
-pub record IsReady {S T K : Type 0} (account_number : S → ℕ) (key : S → K) (key_of : T → K) (seat_number : T → ℕ) (mine_of : T → List EntryData) (worker : Worker S T) : Type 0 where
+pub record IsReady {S T K : Type 0} (account_number : S → ℕ) (key : S → K) (read : Reads K T) (worker : Worker S T) : Type 0 where
   pub accounts : map account_number (accounts_of worker) ≡ keys_of (setup_of worker).accounts
-  pub keys : map key_of (seats_of worker) ≡ map key (accounts_of worker)
-  pub numbers : All (λ number. number ≡ number_of worker) (map seat_number (seats_of worker))
-  pub sound : IsSound (keys_of (setup_of worker).accounts) (posts_of worker) (holding mine_of worker)
+  pub keys : map read.key (seats_of worker) ≡ map key (accounts_of worker)
+  pub numbers : All (λ number. number ≡ number_of worker) (map read.number (seats_of worker))
+  pub sound : IsSound (keys_of (setup_of worker).accounts) (posts_of worker) (holding read.mine worker)

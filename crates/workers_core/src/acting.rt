@@ -71,16 +71,17 @@ pub(crate) fn act<S: Shared, R: Wait, G: Gate>(
     number: u64,
     case: Case,
 ) -> Result<Answer, WorkerFault>
-    requires keys { map S.key_of seats.old.items ≡ map S.key accounts.now }
+    requires keys { map S.reads.key seats.old.items ≡ map S.key accounts.now }
     requires within { IsWithin (length accounts.now) case }
     requires room { HasRoom case talks.old }
-    ensures same_keys { OnOk result (map S.key_of seats.new.items ≡ map S.key_of seats.old.items) }
-    ensures same_numbers { OnOk result (map S.number_of seats.new.items ≡ map
-        S.number_of seats.old.items) }
+    ensures same_keys { OnOk result (map S.reads.key seats.new.items ≡ map
+        S.reads.key seats.old.items) }
+    ensures same_numbers { OnOk result (map S.reads.number seats.new.items ≡ map
+        S.reads.number seats.old.items) }
     ensures number { IfOk result (λ answer. answer.number ≡ number) }
-    ensures acted { IfOk result (λ answer. IsActed (map S.number_of seats.old.items) case
-        (record { lists = map S.mine_of seats.old.items; talks = standings_in talks.old })
-        (record { lists = map S.mine_of seats.new.items; talks = standings_in talks.new })
+    ensures acted { IfOk result (λ answer. IsActed (map S.reads.number seats.old.items) case
+        (record { lists = map S.reads.mine seats.old.items; talks = standings_in talks.old })
+        (record { lists = map S.reads.mine seats.new.items; talks = standings_in talks.new })
         (answer_view answer)) }
     ensures refused { IfOk result (λ answer. IfSome answer.refused
         (IsRefusedCase (HasRefusedAt S.refuses accounts.now) case)) }
@@ -158,12 +159,12 @@ fn recharge<S: Shared, R: Wait, G: Gate>(
     number: u64,
     credit: Op,
 ) -> Result<Answer, WorkerFault>
-    requires { S.key_of seat.old ≡ S.key account.now }
-    ensures same_key { S.key_of seat.new ≡ S.key_of seat.old }
-    ensures same_number { S.number_of seat.new ≡ S.number_of seat.old }
+    requires { S.reads.key seat.old ≡ S.key account.now }
+    ensures same_key { S.reads.key seat.new ≡ S.reads.key seat.old }
+    ensures same_number { S.reads.number seat.new ≡ S.reads.number seat.old }
     ensures number { IfOk result (λ answer. answer.number ≡ number) }
-    ensures credited { IfOk result (λ answer. IsCredited (S.number_of seat.old)
-        (asked_of credit) (S.mine_of seat.old) (S.mine_of seat.new) (answer_view answer)) }
+    ensures credited { IfOk result (λ answer. IsCredited (S.reads.number seat.old)
+        (asked_of credit) (S.reads.mine seat.old) (S.reads.mine seat.new) (answer_view answer)) }
     ensures refused { IfOk result (λ answer. IfSome answer.refused
         (IsRefusedAsk (S.refuses account.now) (asked_of credit))) }
     ensures fault { IfErr result (λ fault. fault ≡ WorkerFault.GateClosed) }
@@ -209,12 +210,12 @@ fn converse<S: Shared, R: Wait, G: Gate>(
     dialogue: &mut Dialogue,
     turn: Turn,
 ) -> Result<TalkEnd, WorkerFault>
-    requires { S.key_of seat.old ≡ S.key account.now }
-    ensures same_key { S.key_of seat.new ≡ S.key_of seat.old }
-    ensures same_number { S.number_of seat.new ≡ S.number_of seat.old }
-    ensures talk { IfOk result (λ said. IsTalk (S.number_of seat.old)
+    requires { S.reads.key seat.old ≡ S.key account.now }
+    ensures same_key { S.reads.key seat.new ≡ S.reads.key seat.old }
+    ensures same_number { S.reads.number seat.new ≡ S.reads.number seat.old }
+    ensures talk { IfOk result (λ said. IsTalk (S.reads.number seat.old)
         (says_of turn, phase_of dialogue.old)
-        (S.mine_of seat.old) (S.mine_of seat.new)
+        (S.reads.mine seat.old) (S.reads.mine seat.new)
         (phase_of dialogue.new) (orders_of said.ops.items) said.refused) }
     ensures refused { IfOk result (λ said. IfSome said.refused
         (IsRefusedTalk (S.refuses account.now) (says_of turn, phase_of dialogue.old))) }
@@ -243,11 +244,11 @@ fn ask<S: Shared, R: Wait, G: Gate>(
     refused: &mut Option<AccountFault>,
     op: Op,
 ) -> Result<Turn, WorkerFault>
-    requires { S.key_of seat.old ≡ S.key account.now }
-    ensures same_key { S.key_of seat.new ≡ S.key_of seat.old }
-    ensures same_number { S.number_of seat.new ≡ S.number_of seat.old }
-    ensures asked { IfOk result (λ turn. IsAsked (S.number_of seat.old) (asked_of op)
-        (S.mine_of seat.old) (S.mine_of seat.new)
+    requires { S.reads.key seat.old ≡ S.key account.now }
+    ensures same_key { S.reads.key seat.new ≡ S.reads.key seat.old }
+    ensures same_number { S.reads.number seat.new ≡ S.reads.number seat.old }
+    ensures asked { IfOk result (λ turn. IsAsked (S.reads.number seat.old) (asked_of op)
+        (S.reads.mine seat.old) (S.reads.mine seat.new)
         (phase_of dialogue.old) (phase_of dialogue.new) (says_of turn) refused.old refused.new) }
     ensures told { IfOk result (λ _.
         IsToldOf (S.refuses account.now) (asked_of op) refused.old refused.new) }

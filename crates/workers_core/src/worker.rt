@@ -48,9 +48,9 @@ impl<'s, S: Shared> Worker<'s, S> {
     ) -> Result<Worker<'s, S>, WorkerFault>
         requires accounts { map (λ account. (S.terms account).number) accounts.now
             ≡ keys_of setup.now.accounts }
-        requires keys { map S.key_of seats.items ≡ map S.key accounts.now }
-        requires numbers { All (λ seat. S.number_of seat ≡ number) seats.items }
-        requires empty { All (λ seat. S.mine_of seat ≡ []) seats.items }
+        requires keys { map S.reads.key seats.items ≡ map S.key accounts.now }
+        requires numbers { All (λ seat. S.reads.number seat ≡ number) seats.items }
+        requires empty { All (λ seat. S.reads.mine seat ≡ []) seats.items }
         ensures number { IfOk result (λ worker. number_of worker ≡ number) }
         ensures setup { IfOk result (λ worker. setup_of worker ≡ setup.now) }
         ensures accounts { IfOk result (λ worker. accounts_of worker ≡ accounts.now) }
@@ -58,7 +58,7 @@ impl<'s, S: Shared> Worker<'s, S> {
         ensures talks { IfOk result (λ worker. (call : ℕ) → talks_of worker call ≡ None) }
         ensures posts { IfOk result (λ worker. posts_of worker ≡ []) }
         ensures ready { IfOk result (λ worker. IsReady (λ account. (S.terms account).number)
-            S.key S.key_of S.number_of S.mine_of worker) }
+            S.key S.reads worker) }
         ensures fault { IfErr result (λ fault. fault ≡ WorkerFault.OutOfMemory) }
     {
         Ok(Worker {
@@ -89,40 +89,39 @@ impl<'s, S: Shared> Worker<'s, S> {
         post: Post,
         gate: &G,
     ) -> Result<Answer, WorkerFault>
-        requires ready { IsReady (λ account. (S.terms account).number) S.key S.key_of S.number_of
-            S.mine_of self.old }
+        requires ready { IsReady (λ account. (S.terms account).number) S.key S.reads self.old }
         ensures number { IfOk result (λ answer. answer.number ≡ post.number) }
         ensures handled { IfOk result (λ answer. IsHandled (setup_of self.old) (map
-            S.number_of (seats_of self.old)) post
-            (holding S.mine_of self.old) (holding S.mine_of self.new) (answer_view answer)) }
+            S.reads.number (seats_of self.old)) post
+            (holding S.reads.mine self.old) (holding S.reads.mine self.new) (answer_view answer)) }
         ensures refused { IfOk result (λ answer. IfSome answer.refused
             (IsRefusedPost (HasRefusedAt S.refuses (accounts_of self.old)) (setup_of self.old)
             post.at (verdict (setup_of self.old) (talks_of self.old) post))) }
         ensures stray { IfOk result (λ answer. answer.stray ≡ strays
             (verdict (setup_of self.old) (talks_of self.old) post)) }
         ensures stray_asks_nothing { IfOk result (λ answer. answer.stray ≡ true
-            → map S.mine_of (seats_of self.new) ≡ map S.mine_of (seats_of self.old)) }
+            → map S.reads.mine (seats_of self.new) ≡ map S.reads.mine (seats_of self.old)) }
         ensures rejected { IfOk result
             (λ answer. verdict (setup_of self.old) (talks_of self.old) post ≡ Rejects
-            → (orders_of answer.ops.items ≡ Release 21 ∷ []) × (map S.mine_of (seats_of self.new)
-            ≡ map S.mine_of (seats_of self.old))) }
+            → (orders_of answer.ops.items ≡ Release 21 ∷ []) × (map S.reads.mine (seats_of self.new)
+            ≡ map S.reads.mine (seats_of self.old))) }
         ensures recharged { IfOk result (λ answer. (place amount : ℕ) (until : Option ℕ)
             → verdict (setup_of self.old) (talks_of self.old) post
             ≡ Recharges place amount until
-            → IsRecharged (map S.number_of (seats_of self.old)) place amount until
-            (holding S.mine_of self.old) (holding S.mine_of self.new) (answer_view answer)) }
+            → IsRecharged (map S.reads.number (seats_of self.old)) place amount until
+            (holding S.reads.mine self.old) (holding S.reads.mine self.new) (answer_view answer)) }
         ensures posts { OnOk result (posts_of self.new ≡ posts_of self.old ++ post ∷ []) }
         ensures setup { OnOk result (setup_of self.new ≡ setup_of self.old) }
         ensures accounts { OnOk result (accounts_of self.new ≡ accounts_of self.old) }
         ensures worker { OnOk result (number_of self.new ≡ number_of self.old) }
-        ensures keys { OnOk result (map S.key_of (seats_of self.new) ≡ map
-            S.key_of (seats_of self.old)) }
-        ensures numbers { OnOk result (map S.number_of (seats_of self.new) ≡ map
-            S.number_of (seats_of self.old)) }
-        ensures ready { OnOk result (IsReady (λ account. (S.terms account).number) S.key S.key_of
-            S.number_of S.mine_of self.new) }
-        ensures memory { result ≡ Err WorkerFault.OutOfMemory → map S.mine_of (seats_of self.new)
-            ≡ map S.mine_of (seats_of self.old) }
+        ensures keys { OnOk result (map S.reads.key (seats_of self.new) ≡ map
+            S.reads.key (seats_of self.old)) }
+        ensures numbers { OnOk result (map S.reads.number (seats_of self.new) ≡ map
+            S.reads.number (seats_of self.old)) }
+        ensures ready { OnOk result (IsReady (λ account. (S.terms account).number)
+            S.key S.reads self.new) }
+        ensures memory { result ≡ Err WorkerFault.OutOfMemory → map S.reads.mine (seats_of self.new)
+            ≡ map S.reads.mine (seats_of self.old) }
         ensures gate { result ≡ Err WorkerFault.GateClosed → G.may_shut gate.now }
     {
         let case = judge(self.setup, &self.talks, &post);
@@ -153,12 +152,11 @@ impl<'s, S: Shared> Worker<'s, S> {
     /// Hands back the seats in the order in which they were given, and the posts that were handled,
     /// in order. It takes no memory.
     pub fn finish(self) -> (Vec<S::Seat>, Vec<Post>)
-        requires ready { IsReady (λ account. (S.terms account).number) S.key S.key_of S.number_of
-            S.mine_of self }
+        requires ready { IsReady (λ account. (S.terms account).number) S.key S.reads self }
         ensures seats { result.0.items ≡ seats_of self.entry }
         ensures posts { result.1.items ≡ posts_of self.entry }
         ensures served { AreServed (keys_of (setup_of self.entry).accounts) result.1.items (map
-            S.mine_of result.0.items) }
+            S.reads.mine result.0.items) }
     {
         let Worker { seats, posts, .. } = self;
         (seats, posts)

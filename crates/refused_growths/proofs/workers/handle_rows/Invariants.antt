@@ -1,5 +1,6 @@
+use Rattle.shared_account.specs.Seats.{seat_reads}
 use Rattle.workers_core.specs.Workers.{IsReady}
 use Rattle.refused_growths.proofs.workers.handle_rows.Given as goal
 
 abbrev pub invariant-loop-row : goal.invariant-loop-row
-invariant-loop-row g l = IsReady (λ account. account.number) (λ account. account.number) (λ seat. seat.account) (λ seat. seat.number) (λ seat. seat.mine) l.worker
+invariant-loop-row g l = IsReady (λ account. account.number) (λ account. account.number) seat_reads l.worker

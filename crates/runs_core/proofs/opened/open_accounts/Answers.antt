@@ -1,16 +1,15 @@
 use Rattle.std.proofs.Common.{arith}
-use Rattle.runs_core.specs.Teams.{reads}
 use Rattle.runs_core.proofs.Teaming.{none_opened, one_opened}
 use Rattle.runs_core.proofs.opened.open_accounts.Goals as goal
 
 pub loop-place-init : goal.loop-place-init
 loop-place-init g c =
-    none_opened (reads g.S.Shared.key_of g.S.Shared.number_of g.S.Shared.mine_of) g.S.Shared.terms g.S.Shared.key (λ team. team.items)
+    none_opened g.S.Shared.reads g.S.Shared.terms g.S.Shared.key (λ team. team.items)
     c.args.setup.now.limit c.args.workers c.args.setup.now.accounts _ _ c.new-accounts.ensures.items c.in_ok-teams.ensures
 
 pub loop-place-preserved : goal.loop-place-preserved
 loop-place-preserved g c =
     rw c.in_ok-push.ensures.items
-    (one_opened (reads g.S.Shared.key_of g.S.Shared.number_of g.S.Shared.mine_of) g.S.Shared.terms g.S.Shared.key (λ team. team.items)
+    (one_opened g.S.Shared.reads g.S.Shared.terms g.S.Shared.key (λ team. team.items)
     c.args.setup.now.limit c.args.workers c.args.setup.now.accounts c.loop-place.place c.number.result c.opening.result _ c.loop-place.teams.items _ _ c.in_ok-account.seats.items
     (omega (arith, c.loop-place-test.true, c.account_count-place-end.ensures)) c.number.ensures c.opening.ensures.value c.loop-place.invariant (rw c.limit.ensures at c.in_ok-account.ensures.terms) c.in_ok-account.ensures.seats c.in_ok-deal.ensures)

@@ -1,10 +1,10 @@
 use Rattle.std.proofs.Common.{◌≡◌, map}
 use Rattle.std.specs.Prelude.{take, length}
-use Rattle.runs_core.specs.Teams.{AreFresh, reads, terms_of}
+use Rattle.runs_core.specs.Teams.{AreFresh, terms_of}
 use Rattle.runs_core.proofs.opened.open_accounts.Given as goal
 
 abbrev pub invariant-loop-place : goal.invariant-loop-place
 invariant-loop-place g l =
     (map g.S.Shared.terms l.accounts.items ≡ terms_of l.setup.limit l.workers (take l.place l.setup.accounts))
     × (length l.teams.items ≡ l.workers)
-    × AreFresh (reads g.S.Shared.key_of g.S.Shared.number_of g.S.Shared.mine_of) (map g.S.Shared.key l.accounts.items) 0 (map (λ team. team.items) l.teams.items)
+    × AreFresh g.S.Shared.reads (map g.S.Shared.key l.accounts.items) 0 (map (λ team. team.items) l.teams.items)

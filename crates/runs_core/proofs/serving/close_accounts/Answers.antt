@@ -2,7 +2,6 @@ use Rattle.std.proofs.Common.{◌≡◌, ◌+◌, ◌++◌, ◌∷◌, ℕ, [], 
 use Rattle.std.specs.Vec.{vec_len}
 use Rattle.std.specs.Vec.Iter.{into_iter_items}
 use Rattle.std.proofs.lemmas.List.{append_assoc, length-append, length-map, map-append}
-use Rattle.runs_core.specs.Teams.{reads}
 use Rattle.runs_core.proofs.Columns.{laid, listed_by, map_dealt, none_laid}
 use Rattle.runs_core.proofs.Numbers.{AreRising, all_there, more_rising, rising_none}
 use Rattle.runs_core.specs.Closing.{AreNumberedFrom}
@@ -14,44 +13,44 @@ use Rattle.runs_core.proofs.serving.close_accounts.Goals as goal
 pub loop-one-init : goal.loop-one-init
 loop-one-init g c =
     rw (c.in_ok-handled.ensures.items, c.in_ok-refusals.ensures.items, c.in_ok-rows.ensures, c.len.ensures, c.into_iter-one-iterator.ensures.into_iter_gives.0) (
-      rows_for (reads g.S.Shared.key_of g.S.Shared.number_of g.S.Shared.mine_of) g.S.Shared.key g.S.Shared.terms c.args.accounts.items _ (omega (arith, c.args.accounts.ok)),
+      rows_for g.S.Shared.reads g.S.Shared.key g.S.Shared.terms c.args.accounts.items _ (omega (arith, c.args.accounts.ok)),
       c.requires.left,
       refl,
       refl,
-      none_laid g.S.Shared.mine_of c.args.accounts.items (vec_len c.args.accounts) (map (λ one. map g.S.Shared.mine_of one.seats.items) c.args.left.items) (omega (arith, c.args.accounts.ok)),
+      none_laid g.S.Shared.reads.mine c.args.accounts.items (vec_len c.args.accounts) (map (λ one. map g.S.Shared.reads.mine one.seats.items) c.args.left.items) (omega (arith, c.args.accounts.ok)),
       c.requires.numbers,
-      rising_none g.S.Shared.number_of c.args.accounts.items (vec_len c.args.accounts) (omega (arith, c.args.accounts.ok)),
+      rising_none g.S.Shared.reads.number c.args.accounts.items (vec_len c.args.accounts) (omega (arith, c.args.accounts.ok)),
       omega arith,
     )
 
 pub deal-requires : goal.deal-requires
 deal-requires g c =
     let left = rw c.in-Some.ensures.steps.0 at c.loop-one.invariant in
-    let read = reads g.S.Shared.key_of g.S.Shared.number_of g.S.Shared.mine_of in
+    let read = g.S.Shared.reads in
     team_count read g.S.Shared.key c.in-Some.one.seats.items c.args.accounts.items left.1.0.of_accounts
     ∙ sym (rows_count read g.S.Shared.key g.S.Shared.terms c.args.accounts.items _ _ left.0) ∙ length-map c.loop-one.rows.items (λ row. row.items)
 
 pub loop-one-preserved : goal.loop-one-preserved
 loop-one-preserved g c =
     let left = rw c.in-Some.ensures.steps.0 at c.loop-one.invariant in
-    let read = reads g.S.Shared.key_of g.S.Shared.number_of g.S.Shared.mine_of in
+    let read = g.S.Shared.reads in
     let rows = map (λ row. row.items) c.loop-one.rows.items in
     let seats = c.in-Some.one.seats.items in
     let more : length (c.loop-one.handled.items ++ c.in-Some.one.posts ∷ []) ≡ length c.loop-one.handled.items + 1 = length-append c.loop-one.handled.items (c.in-Some.one.posts ∷ []) in
     let many = team_count read g.S.Shared.key seats c.args.accounts.items left.1.0.of_accounts ∙ sym (rows_count read g.S.Shared.key g.S.Shared.terms c.args.accounts.items _ _ left.0) in
     rw (c.in_ok-push.ensures.items, c.in_ok-push-2.ensures.items, c.in_ok-deal.ensures, map-append (λ posts. posts.items) c.loop-one.handled.items (c.in-Some.one.posts ∷ []), map-append (λ one. one.items) c.loop-one.refusals.items (c.in-Some.one.refusals ∷ [])) (
-      rows_dealt (reads g.S.Shared.key_of g.S.Shared.number_of g.S.Shared.mine_of) g.S.Shared.key g.S.Shared.terms c.args.accounts.items _ _ c.in-Some.one.posts.items c.in-Some.one.seats.items left.0 left.1.0.of_accounts left.1.0.served,
+      rows_dealt g.S.Shared.reads g.S.Shared.key g.S.Shared.terms c.args.accounts.items _ _ c.in-Some.one.posts.items c.in-Some.one.seats.items left.0 left.1.0.of_accounts left.1.0.served,
       left.1.1,
       append_assoc (map (λ posts. posts.items) c.loop-one.handled.items) (c.in-Some.one.posts.items ∷ []) _ ∙ left.2,
       append_assoc (map (λ one. one.items) c.loop-one.refusals.items) (c.in-Some.one.refusals.items ∷ []) _ ∙ left.3,
-      ap (λ piles. laid piles (map (λ one. map g.S.Shared.mine_of one.seats.items) (into_iter_items c.next.new.self))) (map_dealt g.S.Shared.mine_of (map (λ row. row.items) c.loop-one.rows.items) c.in-Some.one.seats.items) ∙ left.4,
+      ap (λ piles. laid piles (map (λ one. map g.S.Shared.reads.mine one.seats.items) (into_iter_items c.next.new.self))) (map_dealt g.S.Shared.reads.mine (map (λ row. row.items) c.loop-one.rows.items) c.in-Some.one.seats.items) ∙ left.4,
       subst (λ n. AreNumberedFrom read n (into_iter_items c.next.new.self)) (sym more) left.5.1,
-      subst (λ n. AreRising n (map (map g.S.Shared.number_of) (dealt rows seats))) (sym more) (more_rising g.S.Shared.number_of (length c.loop-one.handled.items) rows seats left.6 left.5.0 many),
+      subst (λ n. AreRising n (map (map g.S.Shared.reads.number) (dealt rows seats))) (sym more) (more_rising g.S.Shared.reads.number (length c.loop-one.handled.items) rows seats left.6 left.5.0 many),
       omega (arith, more, left.7),
     )
 
 pub close_each-requires-clause-rows : goal.close_each-requires-clause-rows
-close_each-requires-clause-rows g c = λ _ _. rows_of (reads g.S.Shared.key_of g.S.Shared.number_of g.S.Shared.mine_of) g.S.Shared.key g.S.Shared.terms c.args.accounts.items _ _ c.loop-one.invariant.0
+close_each-requires-clause-rows g c = λ _ _. rows_of g.S.Shared.reads g.S.Shared.key g.S.Shared.terms c.args.accounts.items _ _ c.loop-one.invariant.0
 
 pub close_each-requires-clause-all : goal.close_each-requires-clause-all
 close_each-requires-clause-all g c = λ _ _.
@@ -60,18 +59,18 @@ close_each-requires-clause-all g c = λ _ _.
     let rows = map (λ row. row.items) c.loop-one.rows.items in
     let all : length c.args.left.items ≡ length c.loop-one.handled.items = omega (arith, left.7) in
     let Each : ℕ → Type 0 = λ n. All (λ account. (g.S.Shared.terms account).seats ≡ n) c.args.accounts.items in
-    rw (map_twice (λ row. row.items) (map g.S.Shared.number_of) c.loop-one.rows.items)
-    (all_there (λ account. (g.S.Shared.terms account).seats) (length c.loop-one.handled.items) c.args.accounts.items (map (map g.S.Shared.number_of) rows) (subst Each all c.requires.seats) left.6
-    (length-map rows (map g.S.Shared.number_of) ∙ rows_count (reads g.S.Shared.key_of g.S.Shared.number_of g.S.Shared.mine_of) g.S.Shared.key g.S.Shared.terms c.args.accounts.items _ _ left.0))
+    rw (map_twice (λ row. row.items) (map g.S.Shared.reads.number) c.loop-one.rows.items)
+    (all_there (λ account. (g.S.Shared.terms account).seats) (length c.loop-one.handled.items) c.args.accounts.items (map (map g.S.Shared.reads.number) rows) (subst Each all c.requires.seats) left.6
+    (length-map rows (map g.S.Shared.reads.number) ∙ rows_count g.S.Shared.reads g.S.Shared.key g.S.Shared.terms c.args.accounts.items _ _ left.0))
 
 pub returns-clause-served : goal.returns-clause-served
 returns-clause-served g c =
-    books_served (reads g.S.Shared.key_of g.S.Shared.number_of g.S.Shared.mine_of) g.S.Shared.key g.S.Shared.terms c.args.accounts.items _ (map (λ row. row.items) c.loop-one.rows.items) c.in_ok-books.books.items
+    books_served g.S.Shared.reads g.S.Shared.key g.S.Shared.terms c.args.accounts.items _ (map (λ row. row.items) c.loop-one.rows.items) c.in_ok-books.books.items
     c.loop-one.invariant.0 c.in_ok-books.ensures.terms (c.in_ok-books.ensures.own ∙ map_twice _ _ c.loop-one.rows.items)
 
 pub returns-clause-lists : goal.returns-clause-lists
 returns-clause-lists g c =
     let none : into_iter_items c.loop-one.one-iterator ≡ [] = empty_by _ (omega (arith, c.in-None.ensures.steps.0, c.loop-one.one-iterator.rest.ok)) in
     let left = rw (none) at c.loop-one.invariant in
-    listed_by (reads g.S.Shared.key_of g.S.Shared.number_of g.S.Shared.mine_of) g.S.Shared.key c.args.accounts.items _ c.args.left.items c.in_ok-books.books.items _ c.requires.left
+    listed_by g.S.Shared.reads g.S.Shared.key c.args.accounts.items _ c.args.left.items c.in_ok-books.books.items _ c.requires.left
     (c.in_ok-books.ensures.own ∙ map_twice _ _ c.loop-one.rows.items) left.4

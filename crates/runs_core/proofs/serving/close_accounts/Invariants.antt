@@ -5,17 +5,16 @@ use Rattle.runs_core.proofs.Columns.{laid}
 use Rattle.runs_core.proofs.Numbers.{AreRising}
 use Rattle.runs_core.proofs.Rows.{AreRows}
 use Rattle.runs_core.specs.Closing.{AreLeftFrom, AreNumberedFrom}
-use Rattle.runs_core.specs.Teams.{reads}
 use Rattle.runs_core.proofs.serving.close_accounts.Given as goal
 
 abbrev pub invariant-loop-one : goal.invariant-loop-one
 invariant-loop-one g l =
-    AreRows (reads g.S.Shared.key_of g.S.Shared.number_of g.S.Shared.mine_of) g.S.Shared.key g.S.Shared.terms l.accounts.items (map (λ posts. posts.items) l.handled.items) (map (λ row. row.items) l.rows.items)
-    × AreLeftFrom (reads g.S.Shared.key_of g.S.Shared.number_of g.S.Shared.mine_of) (map g.S.Shared.key l.accounts.items) (map (λ account. (g.S.Shared.terms account).number) l.accounts.items) (into_iter_items l.one-iterator)
+    AreRows g.S.Shared.reads g.S.Shared.key g.S.Shared.terms l.accounts.items (map (λ posts. posts.items) l.handled.items) (map (λ row. row.items) l.rows.items)
+    × AreLeftFrom g.S.Shared.reads (map g.S.Shared.key l.accounts.items) (map (λ account. (g.S.Shared.terms account).number) l.accounts.items) (into_iter_items l.one-iterator)
     × (map (λ posts. posts.items) l.handled.items ++ map (λ one. one.posts.items) (into_iter_items l.one-iterator) ≡ map (λ one. one.posts.items) l.fn.left.items)
     × (map (λ one. one.items) l.refusals.items ++ map (λ one. one.refusals.items) (into_iter_items l.one-iterator) ≡ map (λ one. one.refusals.items) l.fn.left.items)
-    × (laid (map (map g.S.Shared.mine_of) (map (λ row. row.items) l.rows.items)) (map (λ one. map g.S.Shared.mine_of one.seats.items) (into_iter_items l.one-iterator))
-    ≡ laid (replicate (length l.accounts.items) []) (map (λ one. map g.S.Shared.mine_of one.seats.items) l.fn.left.items))
-    × AreNumberedFrom (reads g.S.Shared.key_of g.S.Shared.number_of g.S.Shared.mine_of) (length l.handled.items) (into_iter_items l.one-iterator)
-    × AreRising (length l.handled.items) (map (map g.S.Shared.number_of) (map (λ row. row.items) l.rows.items))
+    × (laid (map (map g.S.Shared.reads.mine) (map (λ row. row.items) l.rows.items)) (map (λ one. map g.S.Shared.reads.mine one.seats.items) (into_iter_items l.one-iterator))
+    ≡ laid (replicate (length l.accounts.items) []) (map (λ one. map g.S.Shared.reads.mine one.seats.items) l.fn.left.items))
+    × AreNumberedFrom g.S.Shared.reads (length l.handled.items) (into_iter_items l.one-iterator)
+    × AreRising (length l.handled.items) (map (map g.S.Shared.reads.number) (map (λ row. row.items) l.rows.items))
     × (length l.handled.items + length (into_iter_items l.one-iterator) ≡ length l.fn.left.items)

@@ -14,7 +14,7 @@ loop-account-preserved g c =
     rw (c.in_ok-push.ensures.items) (
       before.0.1,
       one_shifted terms_shown g.S.Shared.terms c.loop-account.books.items c.in_ok-close.field-0 c.in-Some.account (into_iter_items c.next.new.self) _ before.1 c.in_ok-close.ensures.terms,
-      one_shifted (λ book. book.own) (λ row. map g.S.Shared.mine_of row.items) c.loop-account.books.items c.in_ok-close.field-0 c.in-Some-next.seats (into_iter_items c.next-in-loop-account.new.self) _ before.2 c.in_ok-close.ensures.own,
+      one_shifted (λ book. book.own) (λ row. map g.S.Shared.reads.mine row.items) c.loop-account.books.items c.in_ok-close.field-0 c.in-Some-next.seats (into_iter_items c.next-in-loop-account.new.self) _ before.2 c.in_ok-close.ensures.own,
       All-push (λ book. IsLegal book.opening book.until book.history) c.loop-account.books.items c.in_ok-close.field-0 before.3 c.in_ok-close.ensures.legal,
       All-push (λ book. IsMerged book.history book.own) c.loop-account.books.items c.in_ok-close.field-0 before.4 c.in_ok-close.ensures.merged,
       before.5.1,
@@ -24,5 +24,5 @@ pub returns-clause-own : goal.returns-clause-own
 returns-clause-own g c =
     let none : into_iter_items c.loop-account.account-iterator ≡ [] = empty_by _ (omega (arith, c.in-None.ensures.steps.0, c.loop-account.account-iterator.rest.ok)) in
     let left = rw (none) at c.loop-account.invariant in
-    none_left (λ book. book.own) (λ row. map g.S.Shared.mine_of row.items) c.loop-account.books.items (into_iter_items c.loop-account.rows_left) _
-    (empty_rows g.S.Shared.key_of (λ row. row.items) (into_iter_items c.loop-account.rows_left) left.0) left.2
+    none_left (λ book. book.own) (λ row. map g.S.Shared.reads.mine row.items) c.loop-account.books.items (into_iter_items c.loop-account.rows_left) _
+    (empty_rows g.S.Shared.reads.key (λ row. row.items) (into_iter_items c.loop-account.rows_left) left.0) left.2

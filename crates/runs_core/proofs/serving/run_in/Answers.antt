@@ -1,7 +1,6 @@
 use Rattle.std.proofs.Common.{rules}
 use Rattle.runs_core.proofs.Finishing.{shut_by}
 use Rattle.runs_core.proofs.Roundings.{handled_with, heard_with, left_with}
-use Rattle.runs_core.specs.Teams.{reads}
 use Rattle.runs_core.proofs.serving.run_in.Goals as goal
 
 pub returns-in_err-finished-clause-fault : goal.returns-in_err-finished-clause-fault
@@ -13,7 +12,7 @@ returns-in_err-finished-clause-fault g c =
 
 pub returns-clause-left : goal.returns-clause-left
 returns-clause-left g c =
-    let read = reads g.S.Shared.key_of g.S.Shared.number_of g.S.Shared.mine_of in
+    let read = g.S.Shared.reads in
     let played = c.in_ok-ran-2.ensures.played in
     let seats = c.finish.ensures.seats in
     let posts = c.finish.ensures.posts in

@@ -3,7 +3,6 @@ use Rattle.std.specs.Vec.Iter.{into_iter_items}
 use Rattle.runs_core.proofs.Finishing.{all_finished, none_finished, one_failed, one_finished}
 use Rattle.std.specs.Prelude.{IfSome}
 use Rattle.runs_core.specs.Sending.{AreLeftBy, IsFirstFault, MayBeShut, heard_by, promises_of, sent_by}
-use Rattle.runs_core.specs.Teams.{reads}
 use Rattle.runs_core.proofs.threads.finish_all.Goals as goal
 
 pub loop-link-init : goal.loop-link-init
@@ -29,7 +28,7 @@ returns-in-None-fault-clause-posts g c =
 pub returns-in-None-fault-clause-left : goal.returns-in-None-fault-clause-left
 returns-in-None-fault-clause-left g c =
     let none : length (into_iter_items c.loop-link.link-iterator) ≡ 0 = omega (arith, c.in-None.ensures.steps.0, c.loop-link.link-iterator.rest.ok) in
-    subst (λ links. AreLeftBy (reads g.S.Shared.key_of g.S.Shared.number_of g.S.Shared.mine_of) g.S.Shared.key (promises_of links) (map heard_by links) c.loop-link.left.items)
+    subst (λ links. AreLeftBy g.S.Shared.reads g.S.Shared.key (promises_of links) (map heard_by links) c.loop-link.left.items)
     (all_finished _ _ _ _ _ _ _ none c.loop-link.invariant) (c.loop-link.invariant.left_by c.in-None-fault.is)
 
 pub returns-in-Some-fault-clause-fault : goal.returns-in-Some-fault-clause-fault
@@ -41,5 +40,5 @@ returns-in-Some-fault-clause-fault g c =
 
 pub returns-in-Some-fault-clause-first : goal.returns-in-Some-fault-clause-first
 returns-in-Some-fault-clause-first g c =
-    subst (λ found. IfSome found (λ why. IsFirstFault (reads g.S.Shared.key_of g.S.Shared.number_of g.S.Shared.mine_of) g.S.Shared.key g.G.Gate.may_shut (promises_of c.args.links.items) why))
+    subst (λ found. IfSome found (λ why. IsFirstFault g.S.Shared.reads g.S.Shared.key g.G.Gate.may_shut (promises_of c.args.links.items) why))
     c.in-Some-fault.is c.loop-link.invariant.first

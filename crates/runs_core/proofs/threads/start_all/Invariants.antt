@@ -2,14 +2,14 @@ use Rattle.std.proofs.Common.{◌≡◌, ◌+◌, [], length, map}
 use Rattle.std.specs.Prelude.{All}
 use Rattle.std.specs.Vec.Iter.{into_iter_items}
 use Rattle.runs_core.specs.Sending.{ArePromised, heard_by, promises_of, sent_by}
-use Rattle.runs_core.specs.Teams.{AreFresh, reads}
+use Rattle.runs_core.specs.Teams.{AreFresh}
 use Rattle.runs_core.proofs.threads.start_all.Given as goal
 
 abbrev pub invariant-loop-team : goal.invariant-loop-team
 invariant-loop-team g l =
     (length l.links.items + 1 ≡ l.number)
     × (l.number + length (into_iter_items l.team-iterator) ≡ length (into_iter_items l.fn.teams) + 1)
-    × AreFresh (reads g.S.Shared.key_of g.S.Shared.number_of g.S.Shared.mine_of) (map g.S.Shared.key l.accounts) l.number (map (λ team. team.items) (into_iter_items l.team-iterator))
+    × AreFresh g.S.Shared.reads (map g.S.Shared.key l.accounts) l.number (map (λ team. team.items) (into_iter_items l.team-iterator))
     × All (λ link. sent_by link ≡ []) l.links.items
     × ArePromised l.setup l.accounts l.gate 1 (promises_of l.links.items)
     × All (λ link. heard_by link ≡ []) l.links.items

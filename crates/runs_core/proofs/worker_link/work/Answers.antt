@@ -3,7 +3,6 @@ use Rattle.workers_core.specs.Ends.{sent, taken}
 use Rattle.workers_core.specs.Handled.{answer_view}
 use Rattle.workers_core.specs.Workers.{posts_of}
 use Rattle.runs_core.specs.Mails.{items_in}
-use Rattle.runs_core.specs.Teams.{reads}
 use Rattle.runs_core.proofs.AtDesks.{answered_more, left_by}
 use Rattle.runs_core.proofs.Mailing.{same_items}
 use Rattle.runs_core.proofs.worker_link.work.Goals as goal
@@ -14,7 +13,7 @@ returns-clause-posts g c =
 
 pub returns-clause-left : goal.returns-clause-left
 returns-clause-left g c =
-    let read = (reads g.S.Shared.key_of g.S.Shared.number_of g.S.Shared.mine_of) in
+    let read = g.S.Shared.reads in
     let desk = c.answer_rounds.new.desk in
     let told = map answer_view (items_in (sent c.answer_rounds.new.outbox)) in
     let has = answered_more (λ account. (g.S.Shared.terms account).number) g.S.Shared.key read c.args.setup.now c.args.accounts.now c.args.number [] _ _ [] told c.in_ok-desk.desk desk

@@ -10,56 +10,56 @@ use Rattle.workers_core.proofs.acting.act.Goals as goal
 
 pub recharge-requires-after_bounds : goal.recharge-requires-after_bounds
 recharge-requires-after_bounds g c κs within =
-    own_account g.S.Shared.key_of g.S.Shared.key c.args.seats.now.items c.args.accounts.now c.in-Recharge.place c.index_mut.result.now c.index-accounts-place.result
+    own_account g.S.Shared.reads.key g.S.Shared.key c.args.seats.now.items c.args.accounts.now c.in-Recharge.place c.index_mut.result.now c.index-accounts-place.result
     c.requires.keys (rw c.in-Recharge.is at c.requires.within) c.index_mut.ensures.value c.index-accounts-place.is
 
 pub converse-requires-after_bounds : goal.converse-requires-after_bounds
 converse-requires-after_bounds g c κs within =
-    own_account g.S.Shared.key_of g.S.Shared.key c.args.seats.now.items c.args.accounts.now c.in-Talk.talk.place c.index_mut-in-Talk.result.now c.index-accounts-place-in-Talk.result
+    own_account g.S.Shared.reads.key g.S.Shared.key c.args.seats.now.items c.args.accounts.now c.in-Talk.talk.place c.index_mut-in-Talk.result.now c.index-accounts-place-in-Talk.result
     c.requires.keys (rw c.in-Talk.is at c.requires.within) c.index_mut-in-Talk.ensures.value c.index-accounts-place-in-Talk.is
 
 pub returns-in-Recharge-clause-same_keys : goal.returns-in-Recharge-clause-same_keys
 returns-in-Recharge-clause-same_keys g c =
     on_ok c.recharge.result _
-    (same_seats g.S.Shared.key_of c.args.seats.now.items c.in-Recharge.place c.index_mut.result.now c.recharge.new.seat c.index_mut.ensures.value c.recharge.ensures.same_key)
+    (same_seats g.S.Shared.reads.key c.args.seats.now.items c.in-Recharge.place c.index_mut.result.now c.recharge.new.seat c.index_mut.ensures.value c.recharge.ensures.same_key)
 
 pub returns-in-Recharge-clause-same_numbers : goal.returns-in-Recharge-clause-same_numbers
 returns-in-Recharge-clause-same_numbers g c =
     on_ok c.recharge.result _
-    (same_seats g.S.Shared.number_of c.args.seats.now.items c.in-Recharge.place c.index_mut.result.now c.recharge.new.seat c.index_mut.ensures.value c.recharge.ensures.same_number)
+    (same_seats g.S.Shared.reads.number c.args.seats.now.items c.in-Recharge.place c.index_mut.result.now c.recharge.new.seat c.index_mut.ensures.value c.recharge.ensures.same_number)
 
 pub returns-in-Recharge-clause-acted : goal.returns-in-Recharge-clause-acted
 returns-in-Recharge-clause-acted g c =
     rw c.in-Recharge.is
     (IfOk-weaker c.recharge.result _ _ (λ answer is.
     let there : c.in-Recharge.place < length c.args.seats.now.items =
-    rw (as_many g.S.Shared.key_of g.S.Shared.key c.args.seats.now.items c.args.accounts.now c.requires.keys) (rw c.in-Recharge.is at c.requires.within) in
-    recharged_by (map g.S.Shared.number_of c.args.seats.now.items) c.in-Recharge.place c.in-Recharge.amount c.in-Recharge.until (g.S.Shared.number_of c.index_mut.result.now) _ _ (standings_in c.args.talks.now)
-    (g.S.Shared.mine_of c.index_mut.result.now) (g.S.Shared.mine_of c.recharge.new.seat) (answer_view answer) is
-    (numbered_at g.S.Shared.number_of c.args.seats.now.items c.in-Recharge.place c.index_mut.result.now there c.index_mut.ensures.value)
-    (λ entries. grown_at g.S.Shared.mine_of c.args.seats.now.items c.in-Recharge.place c.index_mut.result.now c.recharge.new.seat entries there c.index_mut.ensures.value))
+    rw (as_many g.S.Shared.reads.key g.S.Shared.key c.args.seats.now.items c.args.accounts.now c.requires.keys) (rw c.in-Recharge.is at c.requires.within) in
+    recharged_by (map g.S.Shared.reads.number c.args.seats.now.items) c.in-Recharge.place c.in-Recharge.amount c.in-Recharge.until (g.S.Shared.reads.number c.index_mut.result.now) _ _ (standings_in c.args.talks.now)
+    (g.S.Shared.reads.mine c.index_mut.result.now) (g.S.Shared.reads.mine c.recharge.new.seat) (answer_view answer) is
+    (numbered_at g.S.Shared.reads.number c.args.seats.now.items c.in-Recharge.place c.index_mut.result.now there c.index_mut.ensures.value)
+    (λ entries. grown_at g.S.Shared.reads.mine c.args.seats.now.items c.in-Recharge.place c.index_mut.result.now c.recharge.new.seat entries there c.index_mut.ensures.value))
     c.recharge.ensures.credited)
 
 pub returns-in_ok-said-in-Talk-clause-same_keys : goal.returns-in_ok-said-in-Talk-clause-same_keys
 returns-in_ok-said-in-Talk-clause-same_keys g c =
-    same_seats g.S.Shared.key_of c.args.seats.now.items c.in-Talk.talk.place c.index_mut-in-Talk.result.now c.converse.new.seat c.index_mut-in-Talk.ensures.value c.converse.ensures.same_key
+    same_seats g.S.Shared.reads.key c.args.seats.now.items c.in-Talk.talk.place c.index_mut-in-Talk.result.now c.converse.new.seat c.index_mut-in-Talk.ensures.value c.converse.ensures.same_key
 
 pub returns-in_ok-said-in-Talk-clause-same_numbers :
     goal.returns-in_ok-said-in-Talk-clause-same_numbers
 returns-in_ok-said-in-Talk-clause-same_numbers g c =
-    same_seats g.S.Shared.number_of c.args.seats.now.items c.in-Talk.talk.place c.index_mut-in-Talk.result.now c.converse.new.seat c.index_mut-in-Talk.ensures.value c.converse.ensures.same_number
+    same_seats g.S.Shared.reads.number c.args.seats.now.items c.in-Talk.talk.place c.index_mut-in-Talk.result.now c.converse.new.seat c.index_mut-in-Talk.ensures.value c.converse.ensures.same_number
 
 pub returns-in_ok-said-in-Talk-clause-acted : goal.returns-in_ok-said-in-Talk-clause-acted
 returns-in_ok-said-in-Talk-clause-acted g c =
     rw c.in-Talk.is
     (let there : c.in-Talk.talk.place < length c.args.seats.now.items =
-    rw (as_many g.S.Shared.key_of g.S.Shared.key c.args.seats.now.items c.args.accounts.now c.requires.keys) (rw c.in-Talk.is at c.requires.within) in
-    talked_by (map g.S.Shared.number_of c.args.seats.now.items) c.in-Talk.call c.in-Talk.talk.place (g.S.Shared.number_of c.index_mut-in-Talk.result.now)
+    rw (as_many g.S.Shared.reads.key g.S.Shared.key c.args.seats.now.items c.args.accounts.now c.requires.keys) (rw c.in-Talk.is at c.requires.within) in
+    talked_by (map g.S.Shared.reads.number c.args.seats.now.items) c.in-Talk.call c.in-Talk.talk.place (g.S.Shared.reads.number c.index_mut-in-Talk.result.now)
     (says_of c.in-Talk.turn, phase_of c.in-Talk.talk.dialogue) (phase_of c.converse.new.dialogue) _ _ (standings_in c.args.talks.now) (standings_in c.keep.new.talks)
-    (g.S.Shared.mine_of c.index_mut-in-Talk.result.now) (g.S.Shared.mine_of c.converse.new.seat) (orders_of c.in_ok-said-in-Talk.said.ops.items) c.in_ok-said-in-Talk.said.refused _
+    (g.S.Shared.reads.mine c.index_mut-in-Talk.result.now) (g.S.Shared.reads.mine c.converse.new.seat) (orders_of c.in_ok-said-in-Talk.said.ops.items) c.in_ok-said-in-Talk.said.refused _
     c.in_ok-said-in-Talk.ensures.talk
-    (numbered_at g.S.Shared.number_of c.args.seats.now.items c.in-Talk.talk.place c.index_mut-in-Talk.result.now there c.index_mut-in-Talk.ensures.value)
-    (λ entries. grown_at g.S.Shared.mine_of c.args.seats.now.items c.in-Talk.talk.place c.index_mut-in-Talk.result.now c.converse.new.seat entries there c.index_mut-in-Talk.ensures.value)
+    (numbered_at g.S.Shared.reads.number c.args.seats.now.items c.in-Talk.talk.place c.index_mut-in-Talk.result.now there c.index_mut-in-Talk.ensures.value)
+    (λ entries. grown_at g.S.Shared.reads.mine c.args.seats.now.items c.in-Talk.talk.place c.index_mut-in-Talk.result.now c.converse.new.seat entries there c.index_mut-in-Talk.ensures.value)
     (stands_now c.args.talks.now c.keep.new.talks c.in-Talk.call (record { dialogue = c.converse.new.dialogue; place = c.in-Talk.talk.place }) c.keep.ensures)
     refl refl refl)
 

@@ -9,7 +9,7 @@ pub loop-turn-smaller : goal.loop-turn-smaller
 loop-turn-smaller g c =
     rw c.in-Ask.is
     (let fewer =
-    fewer_asked (g.S.Shared.number_of c.loop-turn.seat) (asked_of c.in-Ask.op) (g.S.Shared.mine_of c.loop-turn.seat) (g.S.Shared.mine_of c.ask.new.seat)
+    fewer_asked (g.S.Shared.reads.number c.loop-turn.seat) (asked_of c.in-Ask.op) (g.S.Shared.reads.mine c.loop-turn.seat) (g.S.Shared.reads.mine c.ask.new.seat)
     (phase_of c.loop-turn.dialogue) (phase_of c.ask.new.dialogue) (says_of c.in_ok-turn.turn) c.loop-turn.refused c.ask.new.refused c.in_ok-turn.ensures.asked in
     omega (arith, fewer))
 
@@ -18,13 +18,13 @@ loop-turn-preserved g c = record {
   same_key = c.ask.ensures.same_key ∙ c.loop-turn.invariant.same_key;
   same_number = c.ask.ensures.same_number ∙ c.loop-turn.invariant.same_number;
   so_far =
-      so_asked (g.S.Shared.number_of c.args.seat.now) (says_of c.args.turn, phase_of c.args.dialogue.now) (g.S.Shared.mine_of c.args.seat.now)
-      (g.S.Shared.mine_of c.loop-turn.seat) (g.S.Shared.mine_of c.ask.new.seat) (asked_of c.in-Ask.op) (phase_of c.loop-turn.dialogue) (phase_of c.ask.new.dialogue)
+      so_asked (g.S.Shared.reads.number c.args.seat.now) (says_of c.args.turn, phase_of c.args.dialogue.now) (g.S.Shared.reads.mine c.args.seat.now)
+      (g.S.Shared.reads.mine c.loop-turn.seat) (g.S.Shared.reads.mine c.ask.new.seat) (asked_of c.in-Ask.op) (phase_of c.loop-turn.dialogue) (phase_of c.ask.new.dialogue)
       (says_of c.in_ok-turn.turn) c.loop-turn.refused c.ask.new.refused
       (rw c.in-Ask.is at c.loop-turn.invariant.so_far)
       (rw c.loop-turn.invariant.same_number at c.in_ok-turn.ensures.asked);
   told =
-      told_more (g.S.Shared.refuses c.args.account.now) (g.S.Shared.number_of c.args.seat.now) (says_of c.args.turn, phase_of c.args.dialogue.now) (g.S.Shared.mine_of c.args.seat.now)
-      (g.S.Shared.mine_of c.loop-turn.seat) (asked_of c.in-Ask.op) (phase_of c.loop-turn.dialogue) c.loop-turn.refused c.ask.new.refused
+      told_more (g.S.Shared.refuses c.args.account.now) (g.S.Shared.reads.number c.args.seat.now) (says_of c.args.turn, phase_of c.args.dialogue.now) (g.S.Shared.reads.mine c.args.seat.now)
+      (g.S.Shared.reads.mine c.loop-turn.seat) (asked_of c.in-Ask.op) (phase_of c.loop-turn.dialogue) c.loop-turn.refused c.ask.new.refused
       (rw c.in-Ask.is at c.loop-turn.invariant.so_far) c.in_ok-turn.ensures.told c.loop-turn.invariant.told;
 }

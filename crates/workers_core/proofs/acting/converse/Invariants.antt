@@ -7,9 +7,9 @@ use Rattle.workers_core.proofs.acting.converse.Given as goal
 
 abbrev pub invariant-loop-turn : goal.invariant-loop-turn
 invariant-loop-turn g l = record {
-  same_key : g.S.Shared.key_of l.seat ≡ g.S.Shared.key_of l.initial.seat;
-  same_number : g.S.Shared.number_of l.seat ≡ g.S.Shared.number_of l.initial.seat;
-  so_far : IsSoFar (g.S.Shared.number_of l.initial.seat) (says_of l.initial.turn, phase_of l.initial.dialogue) (g.S.Shared.mine_of l.initial.seat) (g.S.Shared.mine_of l.seat)
+  same_key : g.S.Shared.reads.key l.seat ≡ g.S.Shared.reads.key l.initial.seat;
+  same_number : g.S.Shared.reads.number l.seat ≡ g.S.Shared.reads.number l.initial.seat;
+  so_far : IsSoFar (g.S.Shared.reads.number l.initial.seat) (says_of l.initial.turn, phase_of l.initial.dialogue) (g.S.Shared.reads.mine l.initial.seat) (g.S.Shared.reads.mine l.seat)
       (says_of l.turn, phase_of l.dialogue) l.refused;
   told : IfSome l.refused (IsRefusedTalk (g.S.Shared.refuses l.account) (says_of l.initial.turn, phase_of l.initial.dialogue));
 }

@@ -12,6 +12,6 @@ returns-clause-goes_on g c =
       same_number = does.worker;
       same_numbers = does.numbers;
       handled = does.posts;
-      answered = (holding g.S.Shared.mine_of c.handle.new.self, does.handled, refl);
+      answered = (holding g.S.Shared.reads.mine c.handle.new.self, does.handled, refl);
       refused = search rules;
     }

@@ -1,7 +1,6 @@
 use Rattle.std.specs.Vec.Iter.{into_iter_items}
-use Rattle.runs_core.specs.Teams.{reads}
 use Rattle.runs_core.proofs.AtDesks.{AreGoing}
 use Rattle.runs_core.proofs.crew.Desk.answer_all.Given as goal
 
 abbrev pub invariant-loop-post : goal.invariant-loop-post
-invariant-loop-post g l = AreGoing (λ account. (g.S.Shared.terms account).number) g.S.Shared.key (reads g.S.Shared.key_of g.S.Shared.number_of g.S.Shared.mine_of) l.fn.self l.fn.posts.items (into_iter_items l.post-iterator) l.answers.items l.self
+invariant-loop-post g l = AreGoing (λ account. (g.S.Shared.terms account).number) g.S.Shared.key g.S.Shared.reads l.fn.self l.fn.posts.items (into_iter_items l.post-iterator) l.answers.items l.self

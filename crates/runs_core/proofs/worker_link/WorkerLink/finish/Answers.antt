@@ -2,7 +2,7 @@ use Rattle.std.proofs.Common.{ap, map, sym, subst, rules, ◌∙◌}
 use Rattle.workers_core.specs.Ends.{taken}
 use Rattle.workers_core.specs.Handled.{answer_view}
 use Rattle.runs_core.specs.Mails.{items_in}
-use Rattle.runs_core.specs.Teams.{IsLeft, reads}
+use Rattle.runs_core.specs.Teams.{IsLeft}
 use Rattle.runs_core.proofs.Mailing.{closes, items_closed, same_items}
 use Rattle.runs_core.proofs.worker_link.WorkerLink.finish.Goals as goal
 
@@ -18,5 +18,5 @@ returns-clause-left g c =
     let last = c.in_ok-take_last.ensures.last in
     let whole = c.compare-2.ensures.whole (rw (last) (closes (taken c.args.self.inbox))) in
     let heard = sym (ap items_in whole) ∙ items_closed (taken c.args.self.inbox) _ last in
-    subst (λ told. IsLeft (reads g.S.Shared.key_of g.S.Shared.number_of g.S.Shared.mine_of) (map g.S.Shared.key promise.accounts.now) promise.setup.now promise.number left.posts.items left.refusals.items (map answer_view told) left.seats.items)
+    subst (λ told. IsLeft g.S.Shared.reads (map g.S.Shared.key promise.accounts.now) promise.setup.now promise.number left.posts.items left.refusals.items (map answer_view told) left.seats.items)
     heard (search rules)

@@ -18,8 +18,8 @@ done : goal.returns-clause-handled
 done g c = record {
   number = c.in_ok-answer.ensures.number;
   done =
-      done_by c.args.self.now.setup.now (map g.S.Shared.number_of c.args.self.now.seats.items) c.args.post.at
-      (verdict c.args.self.now.setup.now (standings_in c.args.self.now.talks) c.args.post) c.judge-case.result (map g.S.Shared.mine_of c.args.self.now.seats.items)
+      done_by c.args.self.now.setup.now (map g.S.Shared.reads.number c.args.self.now.seats.items) c.args.post.at
+      (verdict c.args.self.now.setup.now (standings_in c.args.self.now.talks) c.args.post) c.judge-case.result (map g.S.Shared.reads.mine c.args.self.now.seats.items)
       (standings_in c.args.self.now.talks) (standings_in c.make_room.new.talks) _ (answer_view c.in_ok-answer.answer) c.judge-case.ensures c.in_ok-make_room.ensures.others
       c.in_ok-answer.ensures.acted;
   kind =
@@ -33,7 +33,7 @@ act-requires-clause-within g c κs within =
     sym (length-map c.args.self.now.accounts.now (λ account. (g.S.Shared.terms account).number)) ∙ ap length c.requires.ready.accounts
     ∙ length-map c.args.self.now.setup.now.accounts (λ (e : ℕ × OpeningCredit). e.0) in
     rw many
-    (case_within c.args.self.now.setup.now c.args.self.now.posts.items (holding g.S.Shared.mine_of c.args.self.now) c.args.post c.judge-case.result c.requires.ready.sound c.judge-case.ensures)
+    (case_within c.args.self.now.setup.now c.args.self.now.posts.items (holding g.S.Shared.reads.mine c.args.self.now) c.args.post c.judge-case.result c.requires.ready.sound c.judge-case.ensures)
 
 pub returns-clause-handled : goal.returns-clause-handled
 returns-clause-handled g c = done g c
@@ -47,8 +47,8 @@ returns-clause-ready g c = record {
       subst P (sym c.in_ok-answer.ensures.same_numbers) c.requires.ready.numbers;
   sound =
       rw c.in_ok-push.ensures.items
-      (sound_after c.args.self.now.setup.now (map g.S.Shared.number_of c.args.self.now.seats.items) c.args.self.now.posts.items c.args.post
-      (holding g.S.Shared.mine_of c.args.self.now) _ (answer_view c.in_ok-answer.answer) c.requires.ready.sound (done g c).done);
+      (sound_after c.args.self.now.setup.now (map g.S.Shared.reads.number c.args.self.now.seats.items) c.args.self.now.posts.items c.args.post
+      (holding g.S.Shared.reads.mine c.args.self.now) _ (answer_view c.in_ok-answer.answer) c.requires.ready.sound (done g c).done);
 }
 
 pub returns-clause-stray : goal.returns-clause-stray

@@ -9,14 +9,14 @@ use Rattle.workers_core.proofs.worker.Worker.new.Goals as goal
 pub returns-clause-ready : goal.returns-clause-ready
 returns-clause-ready g c =
     let many : length c.args.seats.items ≡ length (keys_of c.args.setup.now.accounts) =
-    as_many g.S.Shared.key_of g.S.Shared.key c.args.seats.items c.args.accounts.now c.requires.keys
+    as_many g.S.Shared.reads.key g.S.Shared.key c.args.seats.items c.args.accounts.now c.requires.keys
     ∙ sym (length-map c.args.accounts.now (λ account. (g.S.Shared.terms account).number)) ∙ ap length c.requires.accounts in
     record {
       accounts = c.requires.accounts;
       keys = c.requires.keys;
-      numbers = All-map (λ (n : ℕ). n ≡ c.args.number) g.S.Shared.number_of c.args.seats.items c.requires.numbers;
+      numbers = All-map (λ (n : ℕ). n ≡ c.args.number) g.S.Shared.reads.number c.args.seats.items c.requires.numbers;
       sound = record {
-        served = rw c.new-2.ensures.items (none_served g.S.Shared.mine_of (keys_of c.args.setup.now.accounts) c.args.seats.items many c.requires.empty);
+        served = rw c.new-2.ensures.items (none_served g.S.Shared.reads.mine (keys_of c.args.setup.now.accounts) c.args.seats.items many c.requires.empty);
         talks = λ call. rw c.new.ensures tt;
       };
     }
