@@ -97,15 +97,20 @@ class Edit:
 
 
 def read_edit(path, texts):
-    edit, file, old = Edit(os.path.basename(path)[: -len(".edit")], []), "", ""
+    """Reads an edit. Lines 'old:' that follow one another are one text of several lines, and so are lines 'new:'."""
+    edit, file, olds, news = Edit(os.path.basename(path)[: -len(".edit")], []), "", [], []
     with open(path, encoding="utf-8") as it:
-        for line in it.read().split("\n"):
-            if line.startswith("file: "):
-                file = line[len("file: ") :].strip()
-            elif line.startswith("old: "):
-                old = line[len("old: ") :]
-            elif line.startswith("new:"):
-                edit.changes.append((file, old, line[len("new:") :].removeprefix(" ")))
+        for line in it.read().split("\n") + ["file: "]:
+            word, _, text = line.partition(":")
+            if news and word in ("file", "old"):
+                edit.changes.append((file, "\n".join(olds), "\n".join(news)))
+                olds, news = [], []
+            if word == "file":
+                file = text.strip()
+            elif word == "old":
+                olds.append(text.removeprefix(" "))
+            elif word == "new":
+                news.append(text.removeprefix(" "))
     if not edit.changes:
         edit.fault = "it has no 'old:' and 'new:' pair"
     elif edit.apply(texts) is None:

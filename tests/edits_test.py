@@ -39,6 +39,7 @@ EDITS = [
     ("adds_nothing", "    x + 1", "    x", "refused"),
     ("adds_two", "    x + 1", "    x + 2", "refused"),
     ("adds_one", "after(after(x))", "after(x)", "refused"),
+    ("adds_three", "{\n    x + 1\n}", "{\n    x + 3\n}", "refused"),
     ("answers_another", "    MOST", "    MOST - 1", "NOT REFUSED: the crate is still proved with it"),
     ("has_another_most", "u32 = 1000", "u32 = 999", "NOT REFUSED: the crate is still proved with it"),
     ("names_what_is_not_there", "after(after(x))", "before(x)", "NOT REFUSED: BAD EDIT: the prover can't read"),
@@ -48,7 +49,7 @@ LAST = """not refused: sample/answers_another
 not refused: sample/fits_no_longer
 not refused: sample/has_another_most
 not refused: sample/names_what_is_not_there
-3 refused, 4 not refused
+4 refused, 4 not refused
 """
 
 
@@ -64,7 +65,8 @@ def main():
         write(f"{root}/HANDLES", "Handles allowed: none.\n")
         write(f"{root}/crates/sample/src/lib.rt", LIBRARY)
         for name, old, new, _ in EDITS:
-            write(f"{root}/crates/sample/edits/{name}.edit", f"file: src/lib.rt\nold: {old}\nnew: {new}\n")
+            texts = [f"{word}: {line}\n" for word, text in (("old", old), ("new", new)) for line in text.split("\n")]
+            write(f"{root}/crates/sample/edits/{name}.edit", "".join(["file: src/lib.rt\n", *texts]))
         program = f"{os.path.dirname(os.path.abspath(__file__))}/edits.py"
         ran = subprocess.run([sys.executable, program, "--root", root], stdout=subprocess.PIPE, stderr=subprocess.STDOUT, text=True)
     lost = [name for name, _, _, word in EDITS if f"sample/{name}: {word}" not in ran.stdout]
