@@ -28,7 +28,7 @@ use Rattle.account_core.specs.declared.entry.Reply.TheVariants as reply
 use Rattle.account_core.specs.declared.fault.AccountFault.{AccountFault}
 use Rattle.account_core.specs.declared.fault.AccountFault.TheVariants as fault
 use Rattle.account_core.specs.declared.call_state.CallState.{CallState}
-use Rattle.account_core.specs.declared.account.CallStates.{CallStates}
+use Rattle.account_core.specs.declared.call_states.CallStates.{CallStates}
 use Rattle.account_core.specs.declared.call_state.CallState.TheVariants.{Fresh}
 use Rattle.account_core.proofs.Fitting.{answer_shows}
 use Rattle.account_core.proofs.Moves.{at_most_all, its_call, its_deed, known_apart, known_here, sum_moves}

@@ -13,7 +13,7 @@ use Rattle.account_core.specs.Sound.{HasRoom, LegalPastsAreSound, SoundPastsAnsw
 use Rattle.account_core.specs.Tallied.{IsTallied, IsToldOf, tally_of}
 use Rattle.account_core.specs.declared.entry.Reply.{Reply}
 use Rattle.account_core.specs.declared.fault.AccountFault.{AccountFault}
-use Rattle.account_core.specs.declared.account.CallStates.{CallStates}
+use Rattle.account_core.specs.declared.call_states.CallStates.{CallStates}
 use Rattle.account_core.specs.declared.call_state.CallState.{CallState}
 use Rattle.account_core.specs.declared.call_state.CallState.TheVariants.{Fresh}
 use Rattle.account_core.specs.declared.history_check.Tally.{Tally}

@@ -9,7 +9,7 @@ use Rattle.account_core.specs.KeptPlans.{rates_kept}
 use Rattle.account_core.specs.Known.{CallFacts, known, nothing_known}
 use Rattle.account_core.specs.Places.{owed}
 use Rattle.account_core.specs.declared.call_state.CallState.{CallState}
-use Rattle.account_core.specs.declared.account.CallStates.{CallStates}
+use Rattle.account_core.specs.declared.call_states.CallStates.{CallStates}
 use Rattle.account_core.specs.declared.call_state.CallState.TheVariants.{Fresh, Granted, Over, Reported}
 use Rattle.account_core.specs.declared.held_call.HeldCall.{HeldCall}
 use Rattle.tariff_core.specs.declared.plan.TheConstants.{MAX_MONEY}

@@ -1,6 +1,8 @@
 //! The sequential account.
 
-ghost use Rattle.std.specs.Prelude.{◌≡◌, ◌≢◌, ◌≤◌, ◌++◌, ◌∷◌, ◌+◌, [], None, Some, map, reverse, IsOk, OnOk, OnErr, IfOk, IfErr, vec_capacity, vec_len, ℕ};
+ghost use Rattle.std.specs.Prelude.{◌≡◌, ◌≢◌, ◌≤◌, ◌++◌, ◌∷◌, ◌+◌, [], None, Some, map, option_to_list, reverse, IsOk, OnOk, OnErr, IfOk, IfErr, vec_capacity, vec_len};
+ghost use Rattle.std.specs.BTreeMap.{IsOrdered};
+ghost use Rattle.std.specs.Ordering.{nat_cmp};
 ghost use Rattle.account_core.specs.Admitting.{IsAdmitted};
 ghost use Rattle.account_core.specs.Answers.{IsLegal, inadmissible};
 ghost use Rattle.account_core.specs.Available.{available};
@@ -10,23 +12,24 @@ ghost use Rattle.account_core.specs.Known.{known, known_asked, paid_if_granted};
 ghost use Rattle.account_core.specs.Ledger.{IsRefusal, answer_of, event_by, refusal_of};
 ghost use Rattle.account_core.specs.Places.{IsClosing};
 ghost use Rattle.account_core.specs.Asked.{IsCredit, IsOfCall};
-ghost use Rattle.rising_map.specs.Listings.{IsInOrder, listed};
-
-mod sums;
+ghost use Rattle.account_core.specs.Sums.{AreSums, sum_of, sums_told};
 
 use crate::call_state::{CallState, judge, reply};
-use crate::{AccountFault, Admitted, Entry, Op, Reply, laws};
-use rising_map::{Listing, RisingMap};
+use crate::call_states::CallStates;
+use crate::{AccountFault, Admitted, CallSum, Entry, Fate, Op, Reply, laws};
+use rising_map::Listing;
 use std::alloc::{AllocError, Global};
+use std::collections::BTreeMap;
 use std::marker::Model;
 use tariff_core::MAX_MONEY;
 
-/// An account: a history of entries, each the one right answer of a sequential account in its place.
+/// An account: a history of entries, each the one right answer of a sequential account in its
+/// place.
 ///
 /// Beside its entries it keeps what they come to: the state of each call, the funds, the credit
 /// that is left, the last moment, and the places that are owed for closing the open calls. It keeps
-/// room in memory for those places, so that a Return of an open call, and its first Settle since its
-/// last grant, always succeed.
+/// room in memory for those places, so that a Return of an open call, and its first Settle since
+/// its last grant, always succeed.
 #[derive(Drop)]
 pub struct Account {
     entries: Vec<Entry>,
@@ -62,8 +65,8 @@ impl Model for Account {
 }
 
 impl Account {
-    /// An account with an opening credit of 0 to `MAX_MONEY`, a last moment, if it has one, an empty
-    /// history, and the number of entries that this may grow to. It takes no memory yet.
+    /// An account with an opening credit of 0 to `MAX_MONEY`, a last moment, if it has one, an
+    /// empty history, and the number of entries that this may grow to. It takes no memory yet.
     pub fn new(alloc: Global, opening: u64, until: Option<u64>, limit: u32) -> Account
         requires { opening ≤ MAX_MONEY }
         ensures { result
@@ -85,9 +88,9 @@ impl Account {
     /// Asks the account for a seat, and enters the operation with its answer.
     ///
     /// A fault changes nothing. An operation that isn't admissible is `OutOfRange`, `NotOpen` or
-    /// `CallUsed`, in that order; then `HistoryFull` where its entry, the places owed and those that
-    /// it needs pass the limit; then `OutOfMemory`. A Return of an open call, and its first Settle
-    /// since its last grant, always succeed.
+    /// `CallUsed`, in that order; then `HistoryFull` where its entry, the places owed and those
+    /// that it needs pass the limit; then `OutOfMemory`. A Return of an open call, and its first
+    /// Settle since its last grant, always succeed.
     #[inline(always)]
     pub fn apply(&mut self, seat: u32, op: Op) -> Result<Reply, AccountFault>
         ensures answered { IfOk result (λ reply. reply ≡ answer_of self.old (asked_of op)) }
@@ -164,6 +167,27 @@ impl Account {
         self.entries.as_slice()
     }
 
+    /// The credit that it was opened with.
+    pub fn opening(&self) -> u64
+        ensures { result ≡ self.now.opening }
+    {
+        self.opening
+    }
+
+    /// The last moment that it was opened with, if it has one.
+    pub fn until(&self) -> Option<u64>
+        ensures { result ≡ self.now.until }
+    {
+        self.until
+    }
+
+    /// How many entries its history may grow to.
+    pub fn limit(&self) -> u32
+        ensures { result ≡ self.now.limit }
+    {
+        self.limit
+    }
+
     /// The credit that is left.
     pub fn available(&self) -> u64
         ensures { result ≡ available self.now.opening (reverse self.now.history) }
@@ -178,6 +202,17 @@ impl Account {
         self.state(call).paid_if_granted()
     }
 
+    /// The calls that were granted anything, by rising number, with what each has paid so far and
+    /// how it stands.
+    pub fn sums(&self, alloc: Global) -> Result<Vec<CallSum>, AllocError>
+        ensures { IfOk result (λ sums. AreSums (reverse self.now.history) sums.items) }
+    {
+        match self.calls.listing() {
+            Listing::Rising(calls) => list_sums(alloc, calls),
+            Listing::Mixed(calls) => map_sums(alloc, calls),
+        }
+    }
+
     /// What the account knows of a call.
     #[inline(always)]
     fn state(&self, call: u64) -> CallState
@@ -186,8 +221,8 @@ impl Account {
         self.calls.state(call)
     }
 
-    /// What the account knows of the call that is asked for. A Credit is of none, so that nothing is
-    /// looked up for it.
+    /// What the account knows of the call that is asked for. A Credit is of none, so that nothing
+    /// is looked up for it.
     #[inline(always)]
     fn asked_state(&self, op: &Op) -> CallState
         ensures { known_of result ≡ known_asked (asked_of op.now) (reverse self.now.history) }
@@ -222,13 +257,11 @@ impl Account {
         laws::account_is_sound(self);
         reply(op, call, self.funds, self.available, self.last_moment)
     }
-}
 
-impl Account {
     /// Keeps an answered operation, with what was known of its call before. Room for it, and for
     /// all that is owed after it, is made before anything changes.
     #[inline(always)]
-    pub(super) fn keep(&mut self, entry: Entry, before: CallState) -> Result<(), AllocError>
+    fn keep(&mut self, entry: Entry, before: CallState) -> Result<(), AllocError>
         requires known { known_of before
             ≡ known_asked (asked_of entry.op) (reverse self.old.history) }
         requires admitted { refusal_of self.old (asked_of entry.op) ≡ None }
@@ -299,74 +332,52 @@ fn make_room(entries: &mut Vec<Entry>, places: usize) -> Result<(), AllocError>
     entries.try_reserve(places)
 }
 
-impl Account {
-    /// The credit that it was opened with.
-    pub fn opening(&self) -> u64
-        ensures { result ≡ self.now.opening }
-    {
-        self.opening
+/// What each state of a list comes to, in its order.
+fn list_sums(alloc: Global, calls: &[(u64, CallState)]) -> Result<Vec<CallSum>, AllocError>
+    ensures { IfOk result (λ sums. sums.items ≡ sums_told calls.now) }
+{
+    let mut sums = Vec::new(alloc);
+    for (call, state) in calls {
+        add_sum(&mut sums, *call, state)?;
     }
-
-    /// The last moment that it was opened with, if it has one.
-    pub fn until(&self) -> Option<u64>
-        ensures { result ≡ self.now.until }
-    {
-        self.until
-    }
-
-    /// How many entries its history may grow to.
-    pub fn limit(&self) -> u32
-        ensures { result ≡ self.now.limit }
-    {
-        self.limit
-    }
+    Ok(sums)
 }
 
-/// What is known of each call.
-#[derive(Drop)]
-pub(crate) struct CallStates {
-    calls: RisingMap<CallState>,
+/// What each state of a map comes to, by rising number.
+fn map_sums(alloc: Global, calls: &BTreeMap<u64, CallState>) -> Result<Vec<CallSum>, AllocError>
+    ensures sums { IfOk result (λ sums. sums.items ≡ sums_told calls.now.entries) }
+    ensures ordered { IsOrdered nat_cmp calls.now }
+{
+    let mut sums = Vec::new(alloc);
+    for (call, state) in calls.iter() {
+        add_sum(&mut sums, *call, state)?;
+    }
+    Ok(sums)
 }
 
-impl CallStates {
-    ghost use Rattle.account_core.specs.CallStates.{AreSame, Renews, state_of};
-
-    /// Those of no calls.
-    pub fn new(alloc: Global) -> CallStates
-        ensures { (call : ℕ) → state_of result call ≡ CallState.Fresh }
-    {
-        CallStates {
-            calls: RisingMap::new(alloc),
-        }
+/// Adds what a call comes to, where it was granted anything.
+fn add_sum(sums: &mut Vec<CallSum>, call: u64, state: &CallState) -> Result<(), AllocError>
+    ensures { OnOk result (sums.new.items ≡
+        sums.old.items ++ option_to_list (sum_of call (known_of state.now))) }
+{
+    if let Some(sum) = sum_of(call, state) {
+        sums.push(sum)?;
     }
+    Ok(())
+}
 
-    /// What is known of a call.
-    #[inline(always)]
-    pub fn state(&self, call: u64) -> CallState
-        ensures { result ≡ state_of self.now call }
-    {
-        self.calls.get(call).copied().unwrap_or(CallState::Fresh)
-    }
-
-    /// Keeps what is known of a call now. Memory is taken where that was nothing; where it is
-    /// nothing still, as after a Credit, nothing is kept.
-    #[inline(always)]
-    pub fn renew(&mut self, call: u64, state: CallState) -> Result<(), AllocError>
-        ensures renewed { OnOk result (Renews self.old self.new call state) }
-        ensures kept { OnErr result (AreSame self.old self.new) }
-        ensures fresh { OnErr result (state_of self.old call ≡ CallState.Fresh) }
-    {
-        if state.is_fresh() && self.state(call).is_fresh() {
-            return Ok(());
-        }
-        self.calls.insert(call, state)
-    }
-
-    /// Each call with what is known of it, by rising number.
-    pub fn listing(&self) -> Listing<'_, CallState>
-        ensures all { listed result ≡ self.now.calls }
-        ensures rising { IsInOrder result }
-    {
-        self.calls.listing()
-    }
+/// What a call comes to, where it was granted anything.
+fn sum_of(call: u64, state: &CallState) -> Option<CallSum>
+    ensures { result ≡ sum_of call (known_of state.now) }
+{
+    let (held, fate) = match state {
+        CallState::Fresh => return None,
+        CallState::Granted(held) | CallState::Reported(held) => (held, Fate::Holding),
+        CallState::Over(held) => (held, Fate::Returned),
+    };
+    Some(CallSum {
+        call,
+        paid: held.paid(),
+        fate: if held.forfeited { Fate::Forfeit } else { fate },
+    })
 }

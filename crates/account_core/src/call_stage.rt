@@ -23,7 +23,8 @@ pub enum CallStage {
 }
 
 impl CallStage {
-    /// The places that the call is owed: one for its Return, and one for a Settle while it awaits it.
+    /// The places that the call is owed: one for its Return, and one for a Settle while it awaits
+    /// it.
     #[tactic(auto, unfolding(crate::specs::Places::owed_to))]
     pub fn owed(&self) -> usize
         ensures value { (known : CallFacts) → stage_of known ≡ self.now → result ≡ owed_to known }

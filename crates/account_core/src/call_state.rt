@@ -143,7 +143,8 @@ impl CallState {
         self.stage().needed(op)
     }
 
-    /// The places that the call is owed: one for its Return, and one for a Settle while it awaits it.
+    /// The places that the call is owed: one for its Return, and one for a Settle while it awaits
+    /// it.
     pub fn owed(&self) -> usize
         ensures value { result ≡ owed_to (known_of self.now) }
         ensures few { result ≤ 2 }

@@ -12,7 +12,8 @@ pub enum Fate {
     Forfeit,
 }
 
-/// A call that was granted something: what it has paid so far, in units of money, and how it stands.
+/// A call that was granted something: what it has paid so far, in units of money, and how it
+/// stands.
 #[derive(Clone, Copy, Debug, PartialEq, Eq)]
 pub struct CallSum {
     /// The call.

@@ -11,8 +11,8 @@ ghost use Rattle.account_core.specs.CallStates.{AreSame, state_of};
 ghost use Rattle.account_core.specs.Kept.{TellsEach, known_of};
 ghost use Rattle.account_core.specs.Tallied.{IsTallied, IsToldOf, tally_of};
 
-use crate::account::CallStates;
 use crate::call_state::{CallState, inadmissible, reply};
+use crate::call_states::CallStates;
 use crate::{Account, Entry, laws};
 use std::alloc::{AllocError, Global};
 use tariff_core::MAX_MONEY;
@@ -80,8 +80,9 @@ impl HistoryCheck {
         }
     }
 
-    /// Takes one entry more, from any seat. The only error is want of memory, which is taken for the
-    /// first entry and for a call that is new; the check is then still that of the entries before.
+    /// Takes one entry more, from any seat. The only error is want of memory, which is taken for
+    /// the first entry and for a call that is new; the check is then still that of the entries
+    /// before.
     #[inline(always)]
     pub fn hear(&mut self, entry: Entry) -> Result<(), AllocError>
         requires { (opening : ℕ) × (until : Option ℕ) × (h : List EntryData)

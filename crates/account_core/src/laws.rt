@@ -17,8 +17,8 @@ pub fn no_balance_is_negative()
     tariff_laws();
 }
 
-/// A call that was returned without a forfeit has paid exactly the price of its times, and these are
-/// what its last report states.
+/// A call that was returned without a forfeit has paid exactly the price of its times, and these
+/// are what its last report states.
 pub fn closed_calls_pay_the_tariff()
     ensures paid { ClosedCallsPayTheTariff }
     ensures times { TimesAreReported }

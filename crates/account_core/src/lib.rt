@@ -7,6 +7,7 @@ mod account_port;
 mod admitted;
 mod call_stage;
 mod call_state;
+mod call_states;
 mod call_sum;
 mod entry;
 mod fault;

@@ -47,8 +47,8 @@ impl Model for ListAccount {
 }
 
 impl ListAccount {
-    /// An account with an opening credit of 0 to `MAX_MONEY`, a last moment, if it has one, an empty
-    /// history, and the number of entries that this may grow to. It takes no memory yet.
+    /// An account with an opening credit of 0 to `MAX_MONEY`, a last moment, if it has one, an
+    /// empty history, and the number of entries that this may grow to. It takes no memory yet.
     pub fn new(alloc: Global, opening: u64, until: Option<u64>, limit: u32) -> ListAccount
         requires { opening ≤ MAX_MONEY }
         ensures { result

@@ -1,6 +1,6 @@
 use Rattle.std.proofs.lemmas.Result.{on_ok_weaker}
 use Rattle.account_core.proofs.Renewing.{renews}
-use Rattle.account_core.proofs.account.CallStates.renew.Goals as goal
+use Rattle.account_core.proofs.call_states.CallStates.renew.Goals as goal
 
 pub returns-clause-renewed : goal.returns-clause-renewed
 returns-clause-renewed c =
