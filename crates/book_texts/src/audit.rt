@@ -18,6 +18,9 @@ use std::alloc::{AllocError, Global};
 use std::io::Read;
 use table_core::{RowKind, Table, TableFault};
 
+/// The most rows of a table of books, its header not counted.
+const MAX_ROWS: u32 = 1_000_000;
+
 /// What the audit of a table of books says.
 #[derive(Drop)]
 pub struct Audit {
@@ -31,8 +34,8 @@ pub struct Audit {
 /// opening.
 ///
 /// Rows are judged in order as they are read, a row in this order: `Csv` where it has another
-/// number of fields than the header; `TooManyRows` past 1,000,000 rows; `What` where the word of its
-/// operation or of its reply is another one; `Number` where a field isn't a decimal within its
+/// number of fields than the header; `TooManyRows` past 1,000,000 rows; `What` where the word of
+/// its operation or of its reply is another one; `Number` where a field isn't a decimal within its
 /// range; `Empty` where a field that must be empty isn't, as the reply of an opening; `Repeated`
 /// where an account opens again; `Unknown` where no earlier row opens the account of an entry.
 /// `Header` is the fault of row 1.
@@ -72,9 +75,6 @@ fn word(legal: bool) -> &'static str
 {
     if legal { "yes" } else { "no" }
 }
-
-/// The most rows of a table of books, its header not counted.
-const MAX_ROWS: u32 = 1_000_000;
 
 /// A check of each account's history, by rising number. The entries aren't kept.
 fn check_books<I: Read + Drop>(

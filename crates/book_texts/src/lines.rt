@@ -78,19 +78,15 @@ fn word(fate: Fate) -> &'static str
 
 /// What a call came to, and the account that granted it something.
 #[derive(Clone, Copy)]
-pub struct CallLine {
+struct CallLine {
     /// The number of the account.
-    pub account: u32,
+    account: u32,
     /// What the call has paid to it, and how it stands there.
-    pub sum: CallSum,
+    sum: CallSum,
 }
 
 /// Puts the calls of an account behind those of others.
-pub fn add_calls(
-    lines: &mut Vec<CallLine>,
-    account: u32,
-    sums: &[CallSum],
-) -> Result<(), AllocError>
+fn add_calls(lines: &mut Vec<CallLine>, account: u32, sums: &[CallSum]) -> Result<(), AllocError>
     ensures { OnOk result (lines.new.items ≡ lines.old.items ++ map (line_of account) sums.now) }
 {
     for sum in sums {

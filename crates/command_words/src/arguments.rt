@@ -51,7 +51,8 @@ fn asked(matches: &ArgMatches<'_>) -> Result<Request, WordsFault>
     }
 }
 
-/// What is answered where `clap` gives no matches: its help or the version where that was asked for.
+/// What is answered where `clap` gives no matches: its help or the version where that was asked
+/// for.
 fn refusal(alloc: Global, error: &Error) -> Result<Request, WordsFault>
     ensures { IsRefusal (kind_of error.now) result }
 {

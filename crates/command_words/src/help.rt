@@ -1,5 +1,5 @@
-//! What the help of each command says behind its options: an input, the exit statuses, and what each
-//! fault usually means.
+//! What the help of each command says behind its options: an input, the exit statuses, and what
+//! each fault usually means.
 
 /// The day of the program, and the kit that it is proved and built with.
 pub(crate) const VERSION: &str = "2026-11-25 (rattle-kit-13f)";

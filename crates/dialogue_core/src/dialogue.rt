@@ -20,6 +20,17 @@ pub struct Dialogue {
     state: State,
 }
 
+/// A turn of a dialogue.
+#[derive(Debug, PartialEq, Eq, Drop)]
+pub enum Turn {
+    /// The account is asked, and its reply goes to `Dialogue::answer` or `Dialogue::refused`.
+    Ask(Op),
+    /// The gsmSSF is sent these operations, in order.
+    Send(ArrayVec<ScfOp, 4>),
+    /// The dialogue is over.
+    Done,
+}
+
 impl Dialogue {
     /// The dialogue of a call that was triggered at `now`, and its first turn: the account is asked
     /// for time, or the call is cleared where it has no route.
@@ -65,7 +76,7 @@ impl Dialogue {
             on_message (phase_of self.old) number at message ≡ Err fault) }
         ensures unchanged { IfErr result (λ fault. self.new ≡ self.old) }
     {
-        let (turn, state) = told(self.state, number, at, message)?;
+        let (turn, state) = on_message(self.state, number, at, message)?;
         self.state = state;
         Ok(turn)
     }
@@ -77,7 +88,7 @@ impl Dialogue {
         ensures fault { IfErr result (λ fault. on_reply (phase_of self.old) reply ≡ Err fault) }
         ensures unchanged { IfErr result (λ fault. self.new ≡ self.old) }
     {
-        let (turn, state) = replied(self.state, reply)?;
+        let (turn, state) = on_reply(self.state, reply)?;
         self.state = state;
         Ok(turn)
     }
@@ -90,14 +101,19 @@ impl Dialogue {
         ensures unchanged { IfErr result (λ fault. self.new ≡ self.old) }
     {
         let _ = fault;
-        let (turn, state) = unanswered(self.state)?;
+        let (turn, state) = on_refusal(self.state)?;
         self.state = state;
         Ok(turn)
     }
 }
 
 /// The table's rows for a message.
-fn told(state: State, number: u64, at: u64, message: SsfMsg) -> Result<(Turn, State), DialogueFault>
+fn on_message(
+    state: State,
+    number: u64,
+    at: u64,
+    message: SsfMsg,
+) -> Result<(Turn, State), DialogueFault>
     ensures { Follows result (on_message (phase_at state) number at message) }
 {
     match state {
@@ -112,7 +128,7 @@ fn told(state: State, number: u64, at: u64, message: SsfMsg) -> Result<(Turn, St
 }
 
 /// The table's rows for a reply.
-fn replied(state: State, reply: Reply) -> Result<(Turn, State), DialogueFault>
+fn on_reply(state: State, reply: Reply) -> Result<(Turn, State), DialogueFault>
     ensures { Follows result (on_reply (phase_at state) reply) }
 {
     match state {
@@ -133,7 +149,7 @@ fn replied(state: State, reply: Reply) -> Result<(Turn, State), DialogueFault>
 }
 
 /// The table's rows for a refusal.
-fn unanswered(state: State) -> Result<(Turn, State), DialogueFault>
+fn on_refusal(state: State) -> Result<(Turn, State), DialogueFault>
     ensures { Follows result (on_refusal (phase_at state)) }
 {
     match state {
@@ -163,17 +179,6 @@ fn seconds_to(now: u64, switch_at: Option<u64>) -> Option<u32>
         None => None,
         Some(at) => Some((at - now).div_ceil(10) as u32),
     }
-}
-
-/// A turn of a dialogue.
-#[derive(Debug, PartialEq, Eq, Drop)]
-pub enum Turn {
-    /// The account is asked, and its reply goes to `Dialogue::answer` or `Dialogue::refused`.
-    Ask(Op),
-    /// The gsmSSF is sent these operations, in order.
-    Send(ArrayVec<ScfOp, 4>),
-    /// The dialogue is over.
-    Done,
 }
 
 /// A message of a call that was granted time, and its moment.

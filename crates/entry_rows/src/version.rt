@@ -15,7 +15,8 @@ pub enum Version {
 }
 
 impl Version {
-    /// The version of a header, by its place from 0 among the headers of all versions, oldest first.
+    /// The version of a header, by its place from 0 among the headers of all versions, oldest
+    /// first.
     pub fn at(header: usize) -> Version
         ensures { result ≡ version_at header }
     {

@@ -107,8 +107,8 @@ impl Switch {
         Ok(())
     }
 
-    /// The report of the period that was granted, which is talked to its end. After the last one the
-    /// calling party hangs up.
+    /// The report of the period that was granted, which is talked to its end. After the last one
+    /// the calling party hangs up.
     fn report(&mut self) -> SsfMsg
         ensures { self.new.given ≡ self.old.given }
     {

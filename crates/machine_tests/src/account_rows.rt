@@ -25,8 +25,8 @@ pub const WHOLE_CALL: [(Ask, Want); 4] = [
     (Ask::Return(1), NOT_OPEN),
 ];
 
-/// Accounts: the opening credit and its last moment, the number of entries, and what each is asked in
-/// turn.
+/// Accounts: the opening credit and its last moment, the number of entries, and what each is asked
+/// in turn.
 pub const ACCOUNTS: [(&str, u64, Option<u64>, u32, &[(Ask, Want)]); 26] = [
     (
         "a call that talks all of its grant",

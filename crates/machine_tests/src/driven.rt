@@ -60,8 +60,8 @@ const BACKWARDS: Script = &[(100, BcsmEvent::Answer), (50, BcsmEvent::Busy)];
 
 const UNASKED: Left = (0, None, 1500);
 
-/// The opening credit with its last moment, the delay and the script of a call, how it ends, and what
-/// is left.
+/// The opening credit with its last moment, the delay and the script of a call, how it ends, and
+/// what is left.
 const CALLS: [((u64, Option<u64>), u32, Script, End, Left); 10] = [
     (
         (1500, None),

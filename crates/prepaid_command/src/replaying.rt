@@ -21,6 +21,12 @@ use std::io::Read;
 use table_core::{RowKind, Table, TableFault};
 use tariff_core::MAX_MONEY;
 
+/// Where the seat stands in a row.
+const SEAT: usize = 0;
+
+/// Where the columns of the operation begin in a row.
+const OP: usize = 1;
+
 /// One line a row: the account's reply, or the fault that refused the operation. The account opens
 /// with this credit and no last moment, and its history may have as many entries as `limit`.
 pub fn replay<I: Read + Drop>(
@@ -66,23 +72,18 @@ fn write_answer(text: &mut String, answer: Result<Reply, AccountFault>) -> Resul
     }
 }
 
-/// Where the seat stands, and where the columns of the operation begin.
-const SEAT: usize = 0;
-
-const OP: usize = 1;
-
 /// What a seat asks.
 #[derive(Clone, Copy)]
-pub struct Ask {
+struct Ask {
     /// The seat, 0 to 15.
-    pub seat: u32,
+    seat: u32,
     /// What it asks.
-    pub op: Op,
+    op: Op,
 }
 
 /// What a row of a table of this version asks.
 #[tactic(auto, unfolding(crate::specs::Asks::asking_in))]
-pub fn read_ask(row: &ByteRecord, version: Version) -> Result<Ask, RowKind>
+fn read_ask(row: &ByteRecord, version: Version) -> Result<Ask, RowKind>
     requires { HasOperation version (fields_of row.now) 1 }
     ensures { result_map_both asking_of (λ kind. kind) result
         ≡ ask_in version (fields_of row.now) }
@@ -97,7 +98,7 @@ pub fn read_ask(row: &ByteRecord, version: Version) -> Result<Ask, RowKind>
 }
 
 /// Adds the line of a reply.
-pub fn write_reply(text: &mut String, reply: Reply) -> Result<(), AllocError>
+fn write_reply(text: &mut String, reply: Reply) -> Result<(), AllocError>
     ensures { OnOk result (string_bytes text.new ≡ string_bytes text.old ++ reply_line reply) }
 {
     match reply {
@@ -149,7 +150,7 @@ fn write_paid(text: &mut String, words: &str, paid: u64, available: u64) -> Resu
 }
 
 /// Adds the line of a refused operation.
-pub fn write_refused(text: &mut String, fault: AccountFault) -> Result<(), AllocError>
+fn write_refused(text: &mut String, fault: AccountFault) -> Result<(), AllocError>
     ensures { OnOk result (string_bytes text.new ≡ string_bytes text.old ++ refused_line fault) }
 {
     writeln!(text, "refused {fault}")

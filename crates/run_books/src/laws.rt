@@ -9,8 +9,8 @@ use runs_core::reserves_are_in_the_books;
 /// The table that `book_table` prints of the books of a run is read back to their openings and
 /// histories, and an audit of it says yes for each account.
 ///
-/// All that it takes stands in clauses: `IsRun` in that of `runs_core::serve`, `HasAccounts` in those
-/// of `RunSetup::accounts`, and `IsTyped` in that of `book_table`. Two things are left. The
+/// All that it takes stands in clauses: `IsRun` in that of `runs_core::serve`, `HasAccounts` in
+/// those of `RunSetup::accounts`, and `IsTyped` in that of `book_table`. Two things are left. The
 /// driver gave reports with times in their ranges, as `TimeInfo::no_switch` and `TimeInfo::switch`
 /// make them, and recharges with last moments of 0 to `HORIZON`, or none (`AreTimely`). And the
 /// books have at most 1,000,000 rows, one for each account and one for each entry.

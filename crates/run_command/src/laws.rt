@@ -24,8 +24,8 @@ pub(crate) fn is_played(player: &ScriptPlayer)
     let _ = player.given();
 }
 
-/// The table of the books of a run passes the audit, where a table has room for it: the gsmSSFs send
-/// reports in range alone.
+/// The table of the books of a run passes the audit, where a table has room for it: the gsmSSFs
+/// send reports in range alone.
 pub(crate) fn played_books_pass()
     ensures { PlayedBooksPass }
 {

@@ -6,8 +6,8 @@ use runs_core::reserves_are_in_the_books;
 
 /// A call to a number without a route has paid nothing.
 ///
-/// What it takes stands in clauses: `IsRun` in that of `runs_core::serve`, `HasAccounts` in those of
-/// `RunSetup::accounts`, `IsRecord` in that of `call_records::records`. One thing is left to the
+/// What it takes stands in clauses: `IsRun` in that of `runs_core::serve`, `HasAccounts` in those
+/// of `RunSetup::accounts`, `IsRecord` in that of `call_records::records`. One thing is left to the
 /// driver: where it starts a call more than once, each InitialDP of the call names the same parties
 /// (`HaveTheirParties`). A script starts no call twice.
 pub fn unrouted_calls_pay_nothing()

@@ -32,7 +32,8 @@ pub(crate) fn amount(row: &ByteRecord, place: usize) -> Result<u64, RowKind>
     number(row, place, MAX_MONEY)
 }
 
-/// The last moment in the field at `place`: 0 to `LAST_MOMENT`, or none where the field is left out.
+/// The last moment in the field at `place`: 0 to `LAST_MOMENT`, or none where the field is left
+/// out.
 pub(crate) fn until(row: &ByteRecord, place: usize) -> Result<Option<Moment>, RowKind>
     ensures value { result ≡ until_in (fields_of row.now) place }
     ensures within { IfOk result (λ until. expires_in_time until ≡ true) }

@@ -33,10 +33,10 @@ const MAX_ROWS: u32 = 1_000_000;
 ///
 /// Rows are judged in order as they are read, a row in this order: `Csv` where it hasn't the
 /// header's fields; `TooManyRows` past 1,000,000 rows; `What` where its word is another one;
-/// `Number` where a field isn't a decimal, or digits, within its range; `Empty` where a field that must be empty
-/// isn't; `Order` where its moment lies below the one before; `Repeated` where a call starts again;
-/// `Unknown` where no earlier row starts its call, or the setup hasn't its account. `Header` is the
-/// fault of row 1.
+/// `Number` where a field isn't a decimal, or digits, within its range; `Empty` where a field that
+/// must be empty isn't; `Order` where its moment lies below the one before; `Repeated` where a call
+/// starts again; `Unknown` where no earlier row starts its call, or the setup hasn't its account.
+/// `Header` is the fault of row 1.
 pub fn read_script<I: Read + Drop>(
     alloc: Global,
     directory: &Directory,
@@ -70,8 +70,7 @@ pub fn read_script<I: Read + Drop>(
     Ok(rows)
 }
 
-/// What a row says, after a row of the moment `last` and the calls that have
-/// started.
+/// What a row says, after a row of the moment `last` and the calls that have started.
 #[tactic(auto, unfolding(crate::specs::Scripts::row_at))]
 fn judge(
     directory: &Directory,

@@ -25,11 +25,11 @@ const MAX_ROWS: u32 = 10_000;
 /// or with the older header `kind,key,value`, where no account has a last moment.
 ///
 /// Rows are judged in order as they are read, a row in this order: `Csv` where it hasn't the
-/// header's fields; `TooManyRows` past 10,000 rows and 1,000 accounts; `What` where its first word is
-/// another one; `Number` where an account's number isn't a decimal of 32 bits, an opening credit
+/// header's fields; `TooManyRows` past 10,000 rows and 1,000 accounts; `What` where its first word
+/// is another one; `Number` where an account's number isn't a decimal of 32 bits, an opening credit
 /// not one of 0 to `tariff_core::MAX_MONEY`, its last moment not one of 0 to `LAST_MOMENT`, or a
-/// subscriber not 1 to 15 digits; `Empty` where a subscriber has a last moment; `Repeated` where
-/// it names an account or a subscriber again; `Unknown` where no earlier row has a subscriber's
+/// subscriber not 1 to 15 digits; `Empty` where a subscriber has a last moment; `Repeated` where it
+/// names an account or a subscriber again; `Unknown` where no earlier row has a subscriber's
 /// account. `Header` is the fault of row 1.
 pub fn read_setup<I: Read + Drop>(alloc: Global, reader: I) -> Result<Directory, TableFault>
     ensures means { IfSome (I.remaining reader)

@@ -24,8 +24,8 @@ pub const MAX_ACCOUNTS: usize = 1_000;
 /// How many subscribers a run may have.
 pub const MAX_SUBSCRIBERS: usize = 10_000;
 
-/// What a run is set up with: the accounts in ascending order of their numbers, the subscribers, the
-/// tariff, what the service asks for, and the history limit of each account.
+/// What a run is set up with: the accounts in ascending order of their numbers, the subscribers,
+/// the tariff, what the service asks for, and the history limit of each account.
 #[derive(Drop)]
 pub struct RunSetup {
     accounts: Vec<(u32, OpeningCredit)>,

@@ -14,8 +14,8 @@ use std::sync::Wait;
 use std::test::Fail;
 use std::thread::Threads;
 
-/// The limit of the accounts' histories, the posts, one in each round, and the refusals of the posts
-/// of worker 0, and of those of worker 1.
+/// The limit of the accounts' histories, the posts, one in each round, and the refusals of the
+/// posts of worker 0, and of those of worker 1.
 type Row<'a> = (
     u32,
     &'a [Body],

@@ -48,8 +48,8 @@ fn entered(worker: &Worker<'_, SharedAccount>) -> Option<(usize, u64)> {
     Some((mine.len(), mine.last()?.reply.available()))
 }
 
-/// A post's number and body, the operations of its answer, whether it is a stray, and the last fault
-/// that an ask got; and what was entered by then, where that is told.
+/// A post's number and body, the operations of its answer, whether it is a stray, and the last
+/// fault that an ask got; and what was entered by then, where that is told.
 type Row<'a> = (
     u64,
     Body,

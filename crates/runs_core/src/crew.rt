@@ -42,9 +42,9 @@ pub(crate) struct Replies {
 }
 
 impl<S: Shared, G: Gate> Crew<'_, S, G> {
-    /// Hands out the posts of a round, a share to each worker, and gives the answers. The others get
-    /// theirs before the first worker begins. After a fault no answers are left on their way but
-    /// those of workers that have failed.
+    /// Hands out the posts of a round, a share to each worker, and gives the answers. The others
+    /// get theirs before the first worker begins. After a fault no answers are left on their way
+    /// but those of workers that have failed.
     pub(crate) fn answer_round<R: Wait>(
         &mut self,
         rt: &R,
@@ -59,8 +59,7 @@ impl<S: Shared, G: Gate> Crew<'_, S, G> {
             ≡ joined (posts_by self.old) (map (λ share. share.items) shares.items)) }
         ensures goes_on { IfOk result (λ replies. (posts : List Post)
             × GoesOn (λ account. (S.terms account).number)
-            S.key S.reads
-            self.old.desk posts (map answer_view replies.first.items) self.new.desk) }
+            S.key S.reads self.old.desk posts (map answer_view replies.first.items) self.new.desk) }
         ensures heard { IfOk result (λ replies. map heard_by self.new.links.items
             ≡ joined (map heard_by self.old.links.items)
             (map (λ list. list.items) replies.others.items)) }
@@ -98,8 +97,7 @@ impl<S: Shared, G: Gate> Crew<'_, S, G> {
             ≡ joined (map sent_by self.old.links.items)
             (map (λ share. share.items) (into_iter_items shares))) }
         ensures goes_on { IfOk result (λ answers. GoesOn (λ account. (S.terms account).number)
-            S.key S.reads
-            self.old.desk mine.items (map answer_view answers.items) self.new.desk) }
+            S.key S.reads self.old.desk mine.items (map answer_view answers.items) self.new.desk) }
         ensures heard { map heard_by self.new.links.items ≡ map heard_by self.old.links.items }
         ensures promises { promises_of self.new.links.items ≡ promises_of self.old.links.items }
         ensures fault { MayAskGate (G.may_shut gate.now) result }
@@ -178,8 +176,8 @@ fn hear_one<S: Shared, R: Wait, G: Gate>(
     Ok(())
 }
 
-/// What a worker leaves: its seats, one of each account, and the posts that it has handled, with the
-/// refusal of each.
+/// What a worker leaves: its seats, one of each account, and the posts that it has handled, with
+/// the refusal of each.
 #[derive(Drop)]
 pub(crate) struct WorkerEnd<S: Shared> {
     pub seats: Vec<S::Seat>,
@@ -205,8 +203,7 @@ impl<'s, S: Shared> Desk<'s, S> {
     ) -> Result<Desk<'s, S>, RunFault>
         requires numbered { map (λ account. (S.terms account).number) accounts.now
             ≡ keys_of setup.now.accounts }
-        requires fresh { IsFresh S.reads
-            (map S.key accounts.now) number seats.items }
+        requires fresh { IsFresh S.reads (map S.key accounts.now) number seats.items }
         ensures begins { IfOk result (λ desk. HasAnswered (λ account. (S.terms account).number)
             S.key S.reads setup.now accounts.now number [] [] desk) }
         ensures fault { AsksNoGate result }
@@ -229,8 +226,7 @@ impl<'s, S: Shared> Desk<'s, S> {
         requires ready { IsReady (λ account. (S.terms account).number)
             S.key S.reads self.old.worker }
         ensures goes_on { IfOk result (λ answers. GoesOn (λ account. (S.terms account).number)
-            S.key S.reads
-            self.old posts.items (map answer_view answers.items) self.new) }
+            S.key S.reads self.old posts.items (map answer_view answers.items) self.new) }
         ensures fault { MayAskGate (G.may_shut gate.now) result }
     {
         let mut answers = Vec::with_capacity(alloc, posts.len())?;
@@ -240,14 +236,13 @@ impl<'s, S: Shared> Desk<'s, S> {
         Ok(answers)
     }
 
-    /// Handles a post, and puts down its refusal, or none. The room for the refusal is made before an
-    /// account is asked.
+    /// Handles a post, and puts down its refusal, or none. The room for the refusal is made before
+    /// an account is asked.
     fn answer<R: Wait, G: Gate>(&mut self, rt: &R, post: Post, gate: &G) -> Result<Answer, RunFault>
         requires ready { IsReady (λ account. (S.terms account).number)
             S.key S.reads self.old.worker }
         ensures goes_on { IfOk result (λ answer. GoesOn (λ account. (S.terms account).number)
-            S.key S.reads
-            self.old (post ∷ []) (answer_view answer ∷ []) self.new) }
+            S.key S.reads self.old (post ∷ []) (answer_view answer ∷ []) self.new) }
         ensures fault { MayAskGate (G.may_shut gate.now) result }
     {
         self.refusals.reserve(1)?;

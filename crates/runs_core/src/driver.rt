@@ -8,8 +8,8 @@ use tariff_core::HORIZON;
 ///
 /// A driver stores all that it has given, in order, each with its moment in units of 100 ms, and
 /// whether it has ended. It states a plan, which no round changes; of one that has none it is `tt`.
-/// It may state what it becomes by the answers that it hears in a round; what it says of that, `serve`
-/// says of all the rounds of a run.
+/// It may state what it becomes by the answers that it hears in a round; what it says of that,
+/// `serve` says of all the rounds of a run.
 pub trait Driver {
     ghost use Rattle.std.specs.Prelude.{◌≡◌, ◌≤◌, ◌++◌, ℕ, List, Bool, not, false, All, IfOk};
     ghost use Rattle.run_values.specs.declared.post.Answer.{Answer};

@@ -9,8 +9,8 @@ use account_core::{closed_calls_pay_the_tariff, no_balance_is_negative};
 /// In a book of a run no balance is negative, and every call that was closed within its grants has
 /// paid exactly the tariff of the times that its last report states.
 ///
-/// Both premises are clauses of `Book::history`, so they hold of every book: its opening credit is at
-/// most `MAX_MONEY` (`small`), and its history is legal (`legal`).
+/// Both premises are clauses of `Book::history`, so they hold of every book: its opening credit is
+/// at most `MAX_MONEY` (`small`), and its history is legal (`legal`).
 pub fn books_are_right()
     ensures { BooksAreRight }
 {

@@ -1,5 +1,5 @@
-//! Runs: a driver's posts are handled by workers, all but the first in threads of their own, and end
-//! in the books of the accounts.
+//! Runs: a driver's posts are handled by workers, all but the first in threads of their own, and
+//! end in the books of the accounts.
 #![tactic(auto)]
 
 mod crew;

@@ -62,8 +62,7 @@ fn open_account<S: Shared, R>(
       limit = limit;
       seats = workers;
     }) }
-    ensures seats { IfOk result (λ made. IsNew S.reads
-        (S.key made.0) workers made.1.items) }
+    ensures seats { IfOk result (λ made. IsNew S.reads (S.key made.0) workers made.1.items) }
     ensures fault { IfErr result (λ fault. fault ≡ RunFault.OutOfMemory) }
 {
     let (number, opening) = account;

@@ -69,8 +69,7 @@ fn play_round<D: Driver, S: Shared, R: Wait, G: Gate>(
     ensures more { result ≡ Ok true → (added : List (ℕ × Body))
         × (D.given driver.new ≡ D.given driver.old ++ added)
         × IsServedRound (λ account. (S.terms account).number)
-        S.key S.reads
-        (length (D.given driver.old)) added answers.new.items crew.old crew.new }
+        S.key S.reads (length (D.given driver.old)) added answers.new.items crew.old crew.new }
     ensures hears { IfOk result (λ _. D.hears driver.old answers.old.items driver.new) }
     ensures given { result ≡ Ok false → D.given driver.new ≡ D.given driver.old }
     ensures crew { result ≡ Ok false → crew.new ≡ crew.old }

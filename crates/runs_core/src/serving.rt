@@ -37,9 +37,9 @@ const MAX_WORKERS: u32 = 16;
 /// round the others get their posts before the first begins, so a gate that holds one of its posts
 /// holds up no other worker in that round.
 ///
-/// * `run`: in each round the driver hears what handling the items of the round before gave, and the
-///   books are what handling all that it has given comes to. `HasRun` says what that is, a sentence
-///   each.
+/// * `run`: in each round the driver hears what handling the items of the round before gave, and
+///   the books are what handling all that it has given comes to. `HasRun` says what that is, a
+///   sentence each.
 /// * `ended`, `plan`: with books the driver has ended, and always its plan is what it was.
 /// * `workers`, `nothing`: `Workers` exactly where there can't be so many workers; then nothing is
 ///   started.
@@ -150,8 +150,8 @@ fn run_workers<D: Driver, S: Shared, R: Wait + Threads + Sync, G: Gate + Sync>(
     left
 }
 
-/// Starts the workers but for the first in a scope, plays the rounds, and waits for the workers. The
-/// fault told is that of the failed worker with the least number, else the run's own.
+/// Starts the workers but for the first in a scope, plays the rounds, and waits for the workers.
+/// The fault told is that of the failed worker with the least number, else the run's own.
 fn run_in<'s, E, D: Driver, S: Shared, R: Wait + Threads + Sync, G: Gate + Sync>(
     scope: &Scope<'s, E>,
     rt: &'s R,

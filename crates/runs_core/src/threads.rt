@@ -64,8 +64,7 @@ fn start_one<'s, E, S: Shared, R: Wait + Threads + Sync, G: Gate + Sync>(
 ) -> Result<(), RunFault>
     requires numbered { map (λ account. (S.terms account).number) accounts.now
         ≡ keys_of setup.now.accounts }
-    requires fresh { IsFresh S.reads
-        (map S.key accounts.now) number seats.items }
+    requires fresh { IsFresh S.reads (map S.key accounts.now) number seats.items }
     requires count { length links.old.items + 1 ≡ number }
     requires silent { All (λ link. sent_by link ≡ []) links.old.items }
     requires unheard { All (λ link. heard_by link ≡ []) links.old.items }

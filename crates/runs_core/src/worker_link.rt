@@ -26,8 +26,8 @@ use workers_core::{Gone, Inbox, Mail, Outbox, compare, mailbox};
 /// How many mails wait in a mailbox at most: those of one round, and the last one.
 const MAILBOX: u32 = 2;
 
-/// A worker's link: the mailbox of its posts, that of its answers, and its thread. At most one round
-/// is on its way, so neither end ever waits for room.
+/// A worker's link: the mailbox of its posts, that of its answers, and its thread. At most one
+/// round is on its way, so neither end ever waits for room.
 #[derive(Drop)]
 pub(crate) struct WorkerLink<'s, S: Shared, G: Gate> {
     pub outbox: Outbox<Vec<Post>>,
@@ -52,8 +52,7 @@ pub(crate) fn start<'s, E, S: Shared, R: Wait + Threads + Sync, G: Gate + Sync>(
 ) -> Result<WorkerLink<'s, S, G>, RunFault>
     requires numbered { map (λ account. (S.terms account).number) accounts.now
         ≡ keys_of setup.now.accounts }
-    requires fresh { IsFresh S.reads
-        (map S.key accounts.now) number seats.items }
+    requires fresh { IsFresh S.reads (map S.key accounts.now) number seats.items }
     ensures number { IfOk result (λ link. link.child.promise.number ≡ number) }
     ensures setup { IfOk result (λ link. link.child.promise.setup.now ≡ setup.now) }
     ensures accounts { IfOk result (λ link. link.child.promise.accounts.now ≡ accounts.now) }
@@ -75,8 +74,7 @@ pub(crate) fn start<'s, E, S: Shared, R: Wait + Threads + Sync, G: Gate + Sync>(
     let serve = move || -> Result<Finished<S>, RunFault>
         requires { (map (λ account. (S.terms account).number) accounts.now
             ≡ keys_of setup.now.accounts)
-            × IsFresh S.reads
-            (map S.key accounts.now) number seats.items
+            × IsFresh S.reads (map S.key accounts.now) number seats.items
             × (taken posts ≡ []) × (sent answers ≡ []) }
         ensures { IfOk result (λ f. IsSameInbox posts f.inbox
             × IsSameOutbox answers f.outbox
@@ -194,8 +192,7 @@ fn work<S: Shared, R: Wait, G: Gate>(
 ) -> Result<Finished<S>, RunFault>
     requires numbered { map (λ account. (S.terms account).number) accounts.now
         ≡ keys_of setup.now.accounts }
-    requires fresh { IsFresh S.reads
-        (map S.key accounts.now) number seats.items }
+    requires fresh { IsFresh S.reads (map S.key accounts.now) number seats.items }
     requires taken { taken inbox ≡ [] }
     requires sent { sent outbox ≡ [] }
     ensures inbox { IfOk result (λ finished. IsSameInbox inbox finished.inbox) }
@@ -266,8 +263,7 @@ fn answer_round<S: Shared, R: Wait, G: Gate>(
     ensures goes_on { OnOk result ((answers : List Answer)
         × (items_in (sent outbox.new) ≡ items_in (sent outbox.old) ++ answers)
         × GoesOn (λ account. (S.terms account).number)
-        S.key S.reads
-        desk.old posts.items (map answer_view answers) desk.new) }
+        S.key S.reads desk.old posts.items (map answer_view answers) desk.new) }
     ensures fault { MayAskGate (G.may_shut gate.now) result }
 {
     let answers = desk.answer_all(rt, alloc, posts, gate)?;

@@ -22,6 +22,17 @@ use tariff_core::HORIZON;
 /// The most that a gsmSSF sends at one input.
 const MAX_SENT: usize = 8;
 
+/// An input of a gsmSSF that was triggered.
+#[derive(Clone, Copy)]
+pub(crate) enum Input {
+    /// The service sends an operation.
+    Operate(ScfOp),
+    /// The call meets an event.
+    Meet(BcsmEvent),
+    /// Time passes.
+    Wait,
+}
+
 /// The gsmSSFs of the calls that have started, and all items of the run.
 #[derive(Drop)]
 pub(crate) struct Network {
@@ -294,15 +305,4 @@ fn post_one(given: &mut Vec<(u64, Body)>, call: u64, out: Out)
     if let Item::Msg(msg) = out.item {
         given.push((out.at, Body::Ssf { call, msg })).unwrap();
     }
-}
-
-/// An input of a gsmSSF that was triggered.
-#[derive(Clone, Copy)]
-pub(crate) enum Input {
-    /// The service sends an operation.
-    Operate(ScfOp),
-    /// The call meets an event.
-    Meet(BcsmEvent),
-    /// Time passes.
-    Wait,
 }

@@ -30,9 +30,9 @@ use tariff_core::{DAY, HORIZON, LAST_MOMENT};
 /// which they were sent. What a gsmSSF refuses is ignored, and so is an event of a call that hasn't
 /// started, and a further start of one that has.
 ///
-/// It ends where no row is left, and no delivery and no due moment within `HORIZON`, the last moment
-/// that a gsmSSF takes: a run breaks off there. The last row lies at half of it at most, and what
-/// follows that one takes a few days: the periods of a call, a day together, and its timers.
+/// It ends where no row is left, and no delivery and no due moment within `HORIZON`, the last
+/// moment that a gsmSSF takes: a run breaks off there. The last row lies at half of it at most, and
+/// what follows that one takes a few days: the periods of a call, a day together, and its timers.
 #[derive(Drop)]
 pub struct ScriptPlayer {
     network: Network,

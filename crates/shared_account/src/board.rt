@@ -1,5 +1,5 @@
-//! The board of a turn account: its words, the slot that the account lies in, and the rule that holds
-//! of them between any two steps.
+//! The board of a turn account: its words, the slot that the account lies in, and the rule that
+//! holds of them between any two steps.
 
 ghost use Rattle.std.specs.Prelude.{◌≡◌, ◌≤◌, [], None, map, IfOk, IfErr};
 ghost use Rattle.shared_account.specs.Plays.{appended, compared, drawn, handed, looked};
@@ -163,8 +163,8 @@ impl Join<View> for Hear {
 /// A seat of an account that is handed on by turns: it asks under its number, and keeps the list of
 /// its own entries.
 ///
-/// Contracts know its view: the account as the seat has last seen it. A view is a legal history, and
-/// each call, and each seat that it meets, only makes it longer.
+/// Contracts know its view: the account as the seat has last seen it. A view is a legal history,
+/// and each call, and each seat that it meets, only makes it longer.
 #[derive(Drop)]
 pub struct TurnSeat {
     pub(crate) seat: Seat,
@@ -178,7 +178,11 @@ impl Model for TurnSeat {
 
     ghost Value = { TurnSeatView };
 
-    ghost view = { λ s. record { table = s.chair.table_id; place = s.seat; view = s.chair.me.0.seen } };
+    ghost view = { λ s. record {
+      table = s.chair.table_id;
+      place = s.seat;
+      view = s.chair.me.0.seen;
+    } };
 
     ghost invariant = { λ s. IsSitting s.chair.me s.seat s.seen };
 }

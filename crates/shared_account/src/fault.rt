@@ -13,9 +13,9 @@ pub enum CloseFault {
     /// Not all of its seats are there, in the order of their numbers.
     #[error("the seats aren't all there in order")]
     Seats = 1,
-    /// A seat's list isn't the seat's entries in the history, or the opening, its last moment or the
-    /// limit isn't the one that was given, or the history is longer than the limit, or a ticket of a
-    /// `TurnAccount` is out.
+    /// A seat's list isn't the seat's entries in the history, or the opening, its last moment or
+    /// the limit isn't the one that was given, or the history is longer than the limit, or a ticket
+    /// of a `TurnAccount` is out.
     #[error("the history isn't what the seats have entered")]
     Mismatch = 2,
     /// Memory ran out.

@@ -2,8 +2,8 @@
 
 ghost use Rattle.std.specs.Prelude.{◌≡◌, false};
 
-/// Is asked on the way of a call, from many threads. A gate that answers false refuses the call; one
-/// that takes its time holds it.
+/// Is asked on the way of a call, from many threads. A gate that answers false refuses the call;
+/// one that takes its time holds it.
 ///
 /// It states whether it may answer false.
 pub trait Gate {

@@ -43,7 +43,11 @@ impl Model for Seat {
 
     ghost Value = { SeatView };
 
-    ghost view = { λ s. record { account = s.account; number = s.number; mine = map entry_data s.mine.items } };
+    ghost view = { λ s. record {
+      account = s.account;
+      number = s.number;
+      mine = map entry_data s.mine.items;
+    } };
 
     ghost invariant = { λ s. IsRoomy (reverse (map entry_data s.mine.items)) s.stages s.owed
         (vec_capacity s.mine) };
@@ -131,12 +135,10 @@ impl Seat {
             }
         }
     }
-}
 
-impl Seat {
     /// Asks for a Credit, of which nothing but the totals is looked at.
     #[inline(always)]
-    pub(super) fn apply_credit(
+    fn apply_credit(
         &mut self,
         account: &mut Account,
         amount: u64,
@@ -165,7 +167,7 @@ impl Seat {
     }
 
     /// Asks for an operation of a call.
-    pub(super) fn apply_of_call(
+    fn apply_of_call(
         &mut self,
         account: &mut Account,
         call: u64,
@@ -193,8 +195,8 @@ impl Seat {
         }
     }
 
-    /// Enters a Credit that the account admits, there and in the seat's list. All room that the seat
-    /// needs is made first.
+    /// Enters a Credit that the account admits, there and in the seat's list. All room that the
+    /// seat needs is made first.
     #[inline(always)]
     fn enter_credit(
         &mut self,
@@ -263,7 +265,8 @@ impl Seat {
     }
 }
 
-/// The stage of a call. One that had none is kept as fresh, so that its later stages need no memory.
+/// The stage of a call. One that had none is kept as fresh, so that its later stages need no
+/// memory.
 #[inline(always)]
 fn kept_stage(stages: &mut RisingMap<CallStage>, call: u64) -> Result<CallStage, AllocError>
     ensures stage { IfOk result (λ stage. stage ≡ stage_in stages.old call) }

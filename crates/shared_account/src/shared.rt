@@ -9,21 +9,21 @@ use tariff_core::MAX_MONEY;
 /// An account that is asked from several seats, each in a thread of its own.
 ///
 /// A form of it promises what each call comes to for the seat that makes it: a reply of a kind that
-/// the operation has, and the same entry at the end of the seat's own list, or a fault and no entry.
-/// When it is closed with a book, the history is legal, that is each reply was the one right answer
-/// in its place, and it has each seat's own entries, in order, and nothing else.
+/// the operation has, and the same entry at the end of the seat's own list, or a fault and no
+/// entry. When it is closed with a book, the history is legal, that is each reply was the one right
+/// answer in its place, and it has each seat's own entries, in order, and nothing else.
 ///
 /// It can't promise, before it is closed, where in the history an entry stands, nor, where others
 /// are asking too, that `NotOpen`, `CallUsed` or `HistoryFull` was right; and nothing of who comes
 /// first, nor that a call returns.
 ///
-/// It also says what it means that the account refused an operation with a fault (`refuses`). Nothing
-/// but a call shows that, so whoever is generic over the form can't tell of a refusal that no
-/// account gave.
+/// It also says what it means that the account refused an operation with a fault (`refuses`).
+/// Nothing but a call shows that, so whoever is generic over the form can't tell of a refusal that
+/// no account gave.
 ///
-/// What a form tells of a seat is `reads`: the key of its account, its number and its own entries. A
-/// seat is of the account whose key it has: the account's number, or whatever else a form tells its
-/// seats by.
+/// What a form tells of a seat is `reads`: the key of its account, its number and its own entries.
+/// A seat is of the account whose key it has: the account's number, or whatever else a form tells
+/// its seats by.
 pub trait Shared: Sync + Drop {
     ghost use Rattle.std.specs.Prelude.{◌≡◌, ◌≤◌, ◌↔◌, ◌⊎◌, ◌++◌, ◌∷◌, [], ℕ, List, true, false, map, reverse, All, OnErr, IfOk, IfErr};
     ghost use Rattle.std.specs.Coded.{Coded};
@@ -56,8 +56,8 @@ pub trait Shared: Sync + Drop {
     ghost refuses: { Self → Asked → AccountFault → Type 0 };
 
     /// An account with this number, an opening credit of 0 to `MAX_MONEY`, a last moment, if it has
-    /// one, an empty history and the number of entries that this may grow to; and its seats, 1 to 16
-    /// of them, numbered from 0, without entries. A fault is `OutOfMemory`.
+    /// one, an empty history and the number of entries that this may grow to; and its seats, 1 to
+    /// 16 of them, numbered from 0, without entries. A fault is `OutOfMemory`.
     fn new<R>(
         rt: &R,
         alloc: Global,

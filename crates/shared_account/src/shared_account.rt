@@ -52,8 +52,8 @@ impl Model for SharedAccount {
 
 impl SharedAccount {
     /// An account with this number, an opening credit of 0 to `MAX_MONEY`, a last moment, if it has
-    /// one, an empty history and the number of entries that this may grow to; and its seats, 1 to 16
-    /// of them, numbered from 0.
+    /// one, an empty history and the number of entries that this may grow to; and its seats, 1 to
+    /// 16 of them, numbered from 0.
     ///
     /// A fault is `OutOfMemory`.
     pub fn new<R>(

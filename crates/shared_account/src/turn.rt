@@ -216,7 +216,8 @@ pub(crate) fn hear(board: &Board, first: &mut Chair, second: &mut Chair)
     board.shared.join_seat::<Hear>(second, note);
 }
 
-/// Compares what a chair has heard with what it has seen: the longer of the two is what it has seen.
+/// Compares what a chair has heard with what it has seen: the longer of the two is what it has
+/// seen.
 pub(crate) fn compare(board: &Board, chair: &mut Chair)
     requires at { IsAt board.now.shared.table_id chair.old.table_id }
     requires idle { chair.old.me.0.stage ≡ Idles }

@@ -31,8 +31,8 @@ use tariff_core::MAX_MONEY;
 /// An account that its seats hand on by turns: a ticket lock.
 ///
 /// Who asks takes the door, draws a ticket and looks until it is served. Then the account is its
-/// own: it asks, counts the entry and serves the next ticket. So what a seat has seen begins what it
-/// sees next, at each step, and no comparison is needed to know it.
+/// own: it asks, counts the entry and serves the next ticket. So what a seat has seen begins what
+/// it sees next, at each step, and no comparison is needed to know it.
 #[derive(Drop)]
 pub struct TurnAccount {
     number: u32,
@@ -67,8 +67,8 @@ impl Model for TurnAccount {
 
 impl TurnAccount {
     /// An account with this number, an opening credit of 0 to `MAX_MONEY`, a last moment, if it has
-    /// one, an empty history and the number of entries that this may grow to; and its seats, 1 to 16
-    /// of them, numbered from 0, which have seen nothing.
+    /// one, an empty history and the number of entries that this may grow to; and its seats, 1 to
+    /// 16 of them, numbered from 0, which have seen nothing.
     ///
     /// A fault is `OutOfMemory`.
     pub fn new<R>(
@@ -117,10 +117,10 @@ impl TurnAccount {
     ///
     /// The seat then has seen a legal history that begins with all that it had seen. With a reply,
     /// that history ends with the entry of this call, which the seat's own list gains too. With a
-    /// fault, there is no entry: `GateClosed` comes first, where the gate, asked while the account is
-    /// held, answers false; then the faults of `Account::apply` for what was seen. A Return of an open
-    /// call, and its first Settle since its last grant, have no fault but `GateClosed` where the
-    /// call's entries are all of this seat.
+    /// fault, there is no entry: `GateClosed` comes first, where the gate, asked while the account
+    /// is held, answers false; then the faults of `Account::apply` for what was seen. A Return of
+    /// an open call, and its first Settle since its last grant, have no fault but `GateClosed`
+    /// where the call's entries are all of this seat.
     pub fn call<R: Wait, G: Gate>(
         &self,
         rt: &R,
@@ -163,8 +163,8 @@ impl TurnAccount {
         result
     }
 
-    /// Two seats meet: the second has then seen the longer of what the two had seen, which the other
-    /// begins, and the first is unchanged. The answer is how many entries that has.
+    /// Two seats meet: the second has then seen the longer of what the two had seen, which the
+    /// other begins, and the first is unchanged. The answer is how many entries that has.
     ///
     /// It waits for nobody, takes no memory and always succeeds.
     pub fn meet(&self, first: &mut TurnSeat, second: &mut TurnSeat) -> u64

@@ -18,8 +18,8 @@ use crate::{Book, CloseFault, Seat, TurnSeat};
 use account_core::Account;
 use std::alloc::{AllocError, Global};
 
-/// The book of an account whose seats were all handed in, in order. First one of them hears what the
-/// others have seen.
+/// The book of an account whose seats were all handed in, in order. First one of them hears what
+/// the others have seen.
 pub(crate) fn close_board(
     alloc: Global,
     number: u32,

@@ -125,8 +125,8 @@ fn sum(call: u64, paid: u64, fate: Fate) -> CallSum {
     CallSum { call, paid, fate }
 }
 
-/// An opening, a last moment and a limit; what is asked, how many entries each seat makes, the credit
-/// that is left, and what the calls come to.
+/// An opening, a last moment and a limit; what is asked, how many entries each seat makes, the
+/// credit that is left, and what the calls come to.
 type Run<'a> = (
     u64,
     Option<u64>,

@@ -198,6 +198,23 @@ impl Ssf {
     }
 }
 
+/// An input.
+#[derive(Clone, Copy)]
+enum Input {
+    /// The switch invokes it.
+    Invoke,
+    /// A call triggers it.
+    Trigger {
+        call: u64,
+        calling: Number,
+        called: Number,
+    },
+    /// The service sends an operation.
+    Operate(ScfOp),
+    /// The call meets an event.
+    Meet(BcsmEvent),
+}
+
 /// Takes an input.
 fn take(
     config: &SsfConfig,
@@ -271,21 +288,4 @@ fn trigger(
         },
         due: now + u64::from(config.tssf),
     })
-}
-
-/// An input.
-#[derive(Clone, Copy)]
-enum Input {
-    /// The switch invokes it.
-    Invoke,
-    /// A call triggers it.
-    Trigger {
-        call: u64,
-        calling: Number,
-        called: Number,
-    },
-    /// The service sends an operation.
-    Operate(ScfOp),
-    /// The call meets an event.
-    Meet(BcsmEvent),
 }

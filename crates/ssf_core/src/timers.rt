@@ -14,6 +14,26 @@ use arrayvec::ArrayVec;
 use cap_values::Cause;
 use tariff_core::{DAY, HORIZON};
 
+/// A timer.
+#[derive(Clone, Copy)]
+enum Timer {
+    /// It runs to the tariff switch.
+    Tsw,
+    /// It measures a call period.
+    Tcp,
+    /// It waits for a further period.
+    Tccd,
+    /// It waits for instructions.
+    Tssf,
+}
+
+/// The expiry of a timer.
+#[derive(Clone, Copy)]
+struct Expiry {
+    due: Moment,
+    timer: Timer,
+}
+
 /// Lets all timers expire that are due by now, each as of its due moment.
 pub(crate) fn run_timers(
     config: &SsfConfig,
@@ -276,24 +296,4 @@ fn handle_by_default(config: &SsfConfig, sent: &mut ArrayVec<Out, 8>, now: Momen
         DefaultHandling::Proceed => proceed(sent, now),
         DefaultHandling::Release => clear(sent, now, Cause::temporary_failure()),
     }
-}
-
-/// A timer.
-#[derive(Clone, Copy)]
-enum Timer {
-    /// It runs to the tariff switch.
-    Tsw,
-    /// It measures a call period.
-    Tcp,
-    /// It waits for a further period.
-    Tccd,
-    /// It waits for instructions.
-    Tssf,
-}
-
-/// The expiry of a timer.
-#[derive(Clone, Copy)]
-struct Expiry {
-    due: Moment,
-    timer: Timer,
 }

@@ -13,6 +13,9 @@ use crate::RowKind;
 use csv::ByteRecord;
 use std::alloc::AllocError;
 
+/// The most digits that a decimal may have, leading zeros counted.
+const MAX_DIGITS: usize = 20;
+
 /// The bytes of the field at `place`, from 0.
 pub fn field(row: &ByteRecord, place: usize) -> &[u8]
     requires { place < length (fields_of row.now) }
@@ -58,9 +61,6 @@ pub fn optional(row: &ByteRecord, place: usize, most: u64) -> Result<Option<u64>
     Ok(Some(number(row, place, most)?))
 }
 
-/// The most digits that a decimal may have, leading zeros counted.
-const MAX_DIGITS: usize = 20;
-
 /// The number that a text of 1 to 20 ASCII digits writes, or none where the text is anything else
 /// or its number is above `most`. Leading zeros are accepted, a sign is not.
 #[tactic(auto, unfolding(crate::specs::Decimals::decimal_of, crate::specs::Decimals::digits_of))]
@@ -97,7 +97,8 @@ fn short_decimal(text: &[u8]) -> Option<u64>
     Some(number)
 }
 
-/// What `decimal` gives of any text. It stands apart, so that a short text needs no registers for it.
+/// What `decimal` gives of any text. It stands apart, so that a short text needs no registers for
+/// it.
 #[cold]
 #[inline(never)]
 #[tactic(auto, unfolding(crate::specs::Decimals::decimal_of))]

@@ -45,8 +45,8 @@ impl<R: Drop> Drop for Table<R> {
 impl<R: Read + Drop> Table<R> {
     ghost use Rattle.table_core.specs.Reading.{IsAtFirst, Moves, Opens, Steps, header_of, number_of, row_of_table, stopped_by};
 
-    /// The table of `reader`, whose first row is one of these headers, and which has at most `limit`
-    /// rows besides it. `Header` is the fault of row 1.
+    /// The table of `reader`, whose first row is one of these headers, and which has at most
+    /// `limit` rows besides it. `Header` is the fault of row 1.
     pub fn open(
         alloc: Global,
         reader: R,

@@ -8,6 +8,9 @@ ghost use Rattle.tariff_core.specs.declared.times.TheConstants.{DAY};
 use crate::DAY;
 use thiserror::Error;
 
+/// The largest amount of money: no account has more credit.
+pub const MAX_MONEY: u64 = 1_000_000_000_000_000;
+
 /// The highest fee, and the highest rate a minute, in units of money.
 pub const MAX_RATE: u64 = 1_000_000_000;
 
@@ -79,6 +82,3 @@ impl Plan {
         })
     }
 }
-
-/// The largest amount of money: no account has more credit.
-pub const MAX_MONEY: u64 = 1_000_000_000_000_000;

@@ -1,4 +1,5 @@
-//! What times cost, the most that granted times can cost, the units that money covers, and which times may follow.
+//! What times cost, the most that granted times can cost, the units that money covers, and which
+//! times may follow.
 
 ghost use Rattle.std.specs.Prelude.{◌≡◌, ◌+◌, ◌≤◌, true, IsSome};
 ghost use Rattle.tariff_core.specs.Lawful.{is_lawful};

@@ -46,9 +46,9 @@ impl Tariff {
     /// 10,000 rows, no two for one prefix and start, and for each prefix one from `00:00` on.
     ///
     /// Rows are judged in order as they are read, and within a row the faults in the order Csv,
-    /// TooManyRows, Digits, From, Money, Free, Repeated. NoMidnightBand comes after the last row, at the
-    /// first row of the first prefix that has it. OutOfMemory and Device come at the row that was
-    /// being read.
+    /// TooManyRows, Digits, From, Money, Free, Repeated. NoMidnightBand comes after the last row,
+    /// at the first row of the first prefix that has it. OutOfMemory and Device come at the row
+    /// that was being read.
     pub fn read<R: Read + Drop>(alloc: Global, reader: R) -> Result<Tariff, TariffFault>
         ensures { IfSome (R.remaining reader) (λ text. Gives result (tariff_of (rows_of text))) }
     {

@@ -120,7 +120,8 @@ pub enum TimeInfo {
     Switch {
         /// The time since the switch, or since the answer where that came later, 0 to `DAY`.
         since: u32,
-        /// The time from the answer to the switch, 1 to `DAY`; left out where the switch came first.
+        /// The time from the answer to the switch, 1 to `DAY`; left out where the switch came
+        /// first.
         interval: Option<u32>,
     },
 }

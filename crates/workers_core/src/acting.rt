@@ -24,7 +24,8 @@ use run_values::{Answer, Body};
 use shared_account::{Gate, Shared};
 use std::sync::Wait;
 
-/// Makes room for the dialogue of a case, where it has one: it is kept as it stands before its talk.
+/// Makes room for the dialogue of a case, where it has one: it is kept as it stands before its
+/// talk.
 pub(crate) fn make_room(talks: &mut RisingMap<Talk>, case: &Case) -> Result<(), WorkerFault>
     ensures room { OnOk result (HasRoom case.now talks.new) }
     ensures others { OnOk result ((call : ℕ) → standings_in talks.new call

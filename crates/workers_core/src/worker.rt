@@ -73,13 +73,13 @@ impl<'s, S: Shared> Worker<'s, S> {
 
     /// Handles a post.
     ///
-    /// A stray is a recharge of an unknown account, a message that the dialogue of its call refuses,
-    /// among them each further InitialDp, and any other message of a call without dialogue: it sends
-    /// no operation and asks no account. An InitialDp from a number that is no subscriber's is
-    /// answered by ReleaseCall(21), and no account is asked. Else the dialogue of the call talks with
-    /// its account until it sends operations or is done, or the account is recharged. A refusal that
-    /// the answer tells is one that this account gave to what it was asked for the post, so never
-    /// `GateClosed`.
+    /// A stray is a recharge of an unknown account, a message that the dialogue of its call
+    /// refuses, among them each further InitialDp, and any other message of a call without
+    /// dialogue: it sends no operation and asks no account. An InitialDp from a number that is no
+    /// subscriber's is answered by ReleaseCall(21), and no account is asked. Else the dialogue of
+    /// the call talks with its account until it sends operations or is done, or the account is
+    /// recharged. A refusal that the answer tells is one that this account gave to what it was
+    /// asked for the post, so never `GateClosed`.
     ///
     /// `OutOfMemory` comes before any account is asked; `GateClosed` where a gate is closed. After
     /// either the worker isn't used again.
