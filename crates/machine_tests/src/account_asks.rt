@@ -4,7 +4,7 @@ use account_core::{AccountFault, Op, Reply};
 use tariff_core::{Plan, TimeInfo};
 
 /// What an account is asked.
-pub enum Ask {
+pub(crate) enum Ask {
     /// An amount is credited.
     Credit(u64),
     /// So too with another last moment.
@@ -26,7 +26,7 @@ pub enum Ask {
 }
 
 /// What it is to answer: the fields of the reply, in their order.
-pub enum Want {
+pub(crate) enum Want {
     Credited(u64),
     CreditOver(u64),
     Granted(u32, bool, u64),
@@ -38,7 +38,7 @@ pub enum Want {
 }
 
 /// The second rate is cheaper.
-pub const TWO_RATES: Plan = Plan {
+pub(crate) const TWO_RATES: Plan = Plan {
     fee: 50,
     before: 1000,
     after: Some(400),
@@ -61,7 +61,7 @@ const WITH_FREE: Plan = Plan {
 };
 
 /// A call reserves units, and 50 at least, at moment 0.
-pub fn reserve(call: u64, plan: Plan, wanted: u32) -> Op {
+pub(crate) fn reserve(call: u64, plan: Plan, wanted: u32) -> Op {
     reserve_at(call, plan, wanted, 0)
 }
 
@@ -77,12 +77,12 @@ fn reserve_at(call: u64, plan: Plan, wanted: u32, at: u64) -> Op {
 }
 
 /// An amount is credited, with another last moment or none.
-pub fn credit(amount: u64, until: Option<u64>) -> Op {
+pub(crate) fn credit(amount: u64, until: Option<u64>) -> Op {
     Op::Credit { amount, until }
 }
 
 /// The operation that is asked.
-pub fn op_of(ask: &Ask) -> Op {
+pub(crate) fn op_of(ask: &Ask) -> Op {
     let number = 7;
     match *ask {
         Ask::Credit(amount) => credit(amount, None),
@@ -106,7 +106,7 @@ pub fn op_of(ask: &Ask) -> Op {
 }
 
 /// The answer that is wanted.
-pub fn answer_of(want: &Want) -> Result<Reply, AccountFault> {
+pub(crate) fn answer_of(want: &Want) -> Result<Reply, AccountFault> {
     Ok(match *want {
         Want::Credited(available) => Reply::Credited { available },
         Want::CreditOver(available) => Reply::CreditOver { available },

@@ -12,13 +12,13 @@ const OUT_OF_RANGE: Want = Want::Fault(AccountFault::OutOfRange);
 const HISTORY_FULL: Want = Want::Fault(AccountFault::HistoryFull);
 
 /// The largest amount of money.
-pub const MOST: u64 = 1_000_000_000_000_000;
+pub(crate) const MOST: u64 = 1_000_000_000_000_000;
 
 /// More entries than any account here has.
-pub const MANY: u32 = 1_000_000;
+pub(crate) const MANY: u32 = 1_000_000;
 
 /// A call that talks all that it was granted.
-pub const WHOLE_CALL: [(Ask, Want); 4] = [
+pub(crate) const WHOLE_CALL: [(Ask, Want); 4] = [
     (Ask::Reserve(1, 600), Want::Granted(600, false, 450)),
     (Ask::NoSwitch(1, 600), Want::Settled(1050, 450)),
     (Ask::Return(1), Want::Returned(1050, 450)),
@@ -27,7 +27,7 @@ pub const WHOLE_CALL: [(Ask, Want); 4] = [
 
 /// Accounts: the opening credit and its last moment, the number of entries, and what each is asked
 /// in turn.
-pub const ACCOUNTS: [(&str, u64, Option<u64>, u32, &[(Ask, Want)]); 26] = [
+pub(crate) const ACCOUNTS: [(&str, u64, Option<u64>, u32, &[(Ask, Want)]); 26] = [
     (
         "a call that talks all of its grant",
         1500,

@@ -4,6 +4,11 @@ use std::fmt::Debug;
 use std::process::Abort;
 
 /// Looks at what an input gives. One function for every type, so that each look is proved once.
-pub fn gives<I: Debug, T: Debug + PartialEq>(rt: &impl Abort, input: &I, found: &T, want: &T) {
+pub(crate) fn gives<I: Debug, T: Debug + PartialEq>(
+    rt: &impl Abort,
+    input: &I,
+    found: &T,
+    want: &T,
+) {
     assert_eq!(rt; *found, *want, "at {input:?}");
 }

@@ -3,11 +3,11 @@
 use cap_values::{Arming, Arms, Charge, Event, Leg, Mode, Number, ScfOp};
 use std::process::Abort;
 
-pub fn number(rt: &impl Abort, text: &str) -> Number {
+pub(crate) fn number(rt: &impl Abort, text: &str) -> Number {
     Number::new(text).expect(rt, "a number")
 }
 
-pub fn charge(rt: &impl Abort, period: u32, switch: Option<u32>, release: bool) -> ScfOp {
+pub(crate) fn charge(rt: &impl Abort, period: u32, switch: Option<u32>, release: bool) -> ScfOp {
     let charge = Charge::new(Some(period), switch, release);
     ScfOp::ApplyCharging(charge.expect(rt, "a charge"))
 }
@@ -17,7 +17,7 @@ const fn arming(event: Event, leg: Option<Leg>, mode: Mode) -> Arming {
 }
 
 /// The arms of the service, with a mode for CalledPartyBusy.
-pub fn arms(rt: &impl Abort, busy: Mode) -> ScfOp {
+pub(crate) fn arms(rt: &impl Abort, busy: Mode) -> ScfOp {
     let reported = Mode::NotifyAndContinue;
     let armings = [
         arming(Event::RouteSelectFailure, None, reported),

@@ -6,7 +6,7 @@ use ssf_core::{BcsmEvent, DefaultHandling, Moment, SsfFault, State};
 use tariff_core::TimeInfo;
 
 /// What a gsmSSF is handed.
-pub enum Input {
+pub(crate) enum Input {
     /// A charge for a period of this length.
     Charge(u32),
     Continue,
@@ -17,7 +17,7 @@ pub enum Input {
 }
 
 /// What it sends.
-pub enum Sent {
+pub(crate) enum Sent {
     Proceed,
     /// The call is cleared for a temporary failure.
     Fail,
@@ -31,7 +31,7 @@ pub enum Sent {
 
 /// An input and its moment, why it is refused, what is sent, the state then, and when a timer is
 /// due then.
-pub type Row = (
+pub(crate) type Row = (
     Moment,
     Input,
     Option<SsfFault>,
@@ -41,7 +41,7 @@ pub type Row = (
 );
 
 /// Where the rows of a call begin.
-pub enum Start {
+pub(crate) enum Start {
     /// Triggered at 0, with this default handling.
     Triggered(DefaultHandling),
     /// Armed with this mode for a busy party, charged for 600 and continued at 2.
@@ -250,7 +250,7 @@ const A_CALL_IS_INTERRUPTED: [Row; 2] = [
 ];
 
 /// Calls: where each begins, and its rows.
-pub const CALLS: [(&str, Start, &[Row]); 10] = [
+pub(crate) const CALLS: [(&str, Start, &[Row]); 10] = [
     ("a period ends", Start::Answered(2, None), &A_PERIOD_ENDS),
     (
         "switches before answer",

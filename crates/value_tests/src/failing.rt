@@ -4,7 +4,7 @@ use std::io::{self, ErrorKind, Read};
 
 /// A reader that gives some bytes and then fails.
 #[derive(Drop)]
-pub struct Failing<'a> {
+pub(crate) struct Failing<'a> {
     pub bytes: &'a [u8],
 }
 

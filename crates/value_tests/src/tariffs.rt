@@ -11,7 +11,7 @@ use tariff_core::{Plan, Route, Tariff, TariffFault, TariffKind};
 type Rates = (u64, u64, Option<u64>, u32, Option<u64>);
 
 /// Two bands for 49, and one for 4930.
-pub const TABLE: &[u8] =
+pub(crate) const TABLE: &[u8] =
     b"prefix,from,fee,rate\n49,00:00,50,1000\n49,08:00,0,400\n4930,00:00,10,600\n";
 
 const ROUTES: [(&str, u64, Option<Rates>); 12] = [
@@ -163,7 +163,7 @@ const REFUSED: [(&str, u32, TariffKind); 28] = [
 ];
 
 /// The fault of a table, if it has one.
-pub fn fault_of<R: Read + Drop>(alloc: Global, reader: R) -> Option<TariffFault> {
+pub(crate) fn fault_of<R: Read + Drop>(alloc: Global, reader: R) -> Option<TariffFault> {
     Tariff::read(alloc, reader).err()
 }
 
