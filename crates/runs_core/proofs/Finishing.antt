@@ -9,6 +9,7 @@ use Rattle.run_values.specs.declared.directory.OpeningCredit.{OpeningCredit}
 use Rattle.workers_core.proofs.Chaining.{worked_so}
 use Rattle.workers_core.specs.Chains.{IsWorked}
 use Rattle.workers_core.specs.Handled.{AnswerView, answer_view}
+use Rattle.workers_core.specs.Workers.{number_by}
 use Rattle.run_values.specs.declared.post.Answer.{Answer}
 use Rattle.run_values.specs.Setups.{Setup}
 use Rattle.runs_core.specs.Sending.{AreLeftBy, ArePromised, IsFirstFault, IsLeftBy, IsPromised, MayBeShut, heard_by, promises_of, sent_by}
@@ -185,7 +186,7 @@ worked_from read key setup accounts gate number (promise ∷ promises) (answers 
 
 -- the numbers of accounts that were opened are those of the setup
 pub numbers_of : {S : Type 0} (terms : S → Terms) (limit workers : ℕ) (setup : List (ℕ × OpeningCredit)) (accounts : List S) → map terms accounts ≡ terms_of limit workers setup
-    → map (λ account. (terms account).number) accounts ≡ keys_of setup
+    → map (number_by terms) accounts ≡ keys_of setup
 numbers_of terms limit workers [] [] same = refl
 numbers_of terms limit workers [] (account ∷ accounts) same = absurd (cc)
 numbers_of terms limit workers (first ∷ setup) [] same = absurd (cc)

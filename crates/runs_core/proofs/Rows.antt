@@ -7,6 +7,7 @@ use Rattle.account_core.specs.Events.{EntryData}
 use Rattle.shared_account.specs.Closed.{Closed}
 use Rattle.shared_account.specs.Terms.{Terms}
 use Rattle.workers_core.specs.Served.{AreServed, IsServed}
+use Rattle.workers_core.specs.Workers.{number_by}
 use Rattle.run_values.specs.declared.post.Post.{Post}
 use Rattle.runs_core.specs.Closing.{AreOf, AreServedBy, terms_shown}
 use Rattle.runs_core.specs.Dealing.{dealt}
@@ -44,7 +45,7 @@ rows_count read key terms (account ∷ accounts) handled (row ∷ rows) are = ap
 
 -- what one more worker has left goes to the rows
 pub rows_dealt : {K S T : Type 0} (read : Reads K T) (key : S → K) (terms : S → Terms) (accounts : List S) (handled : List (List Post)) (rows : List (List T)) (posts : List Post) (team : List T)
-    → AreRows read key terms accounts handled rows → map read.key team ≡ map key accounts → AreServed (map (λ account. (terms account).number) accounts) posts (map read.mine team)
+    → AreRows read key terms accounts handled rows → map read.key team ≡ map key accounts → AreServed (map (number_by terms) accounts) posts (map read.mine team)
     → AreRows read key terms accounts (handled ++ posts ∷ []) (dealt rows team)
 rows_dealt read key terms [] handled [] posts team are keys served = tt
 rows_dealt read key terms [] handled (row ∷ rows) posts team are keys served = absurd are

@@ -9,7 +9,7 @@ ghost use Rattle.runs_core.specs.RunFaults.{AsksNoGate, MayAskGate};
 ghost use Rattle.runs_core.specs.Sending.{heard_by, promises_of, sent_by};
 ghost use Rattle.runs_core.specs.Teams.{IsFresh, IsLeft};
 ghost use Rattle.workers_core.specs.Handled.{answer_view};
-ghost use Rattle.workers_core.specs.Workers.{IsReady, accounts_of, holding, number_of, posts_of, seats_of, setup_of};
+ghost use Rattle.workers_core.specs.Workers.{IsReady, accounts_of, holding, number_by, number_of, posts_of, seats_of, setup_of};
 ghost use Rattle.run_values.specs.declared.post.Answer.{Answer};
 ghost use Rattle.run_values.specs.declared.post.Post.{Post};
 
@@ -52,13 +52,12 @@ impl<S: Shared, G: Gate> Crew<'_, S, G> {
         shares: Vec<Vec<Post>>,
         gate: &G,
     ) -> Result<Replies, RunFault>
-        requires ready { IsReady (λ account. (S.terms account).number)
-            S.key S.reads self.old.desk.worker }
+        requires ready { IsReady (number_by S.terms) S.key S.reads self.old.desk.worker }
         requires count { length shares.items ≡ count_of self.old }
         ensures posts { OnOk result (posts_by self.new
             ≡ joined (posts_by self.old) (map (λ share. share.items) shares.items)) }
         ensures goes_on { IfOk result (λ replies. (posts : List Post)
-            × GoesOn (λ account. (S.terms account).number)
+            × GoesOn (number_by S.terms)
             S.key S.reads self.old.desk posts (map answer_view replies.first.items) self.new.desk) }
         ensures heard { IfOk result (λ replies. map heard_by self.new.links.items
             ≡ joined (map heard_by self.old.links.items)
@@ -90,13 +89,12 @@ impl<S: Shared, G: Gate> Crew<'_, S, G> {
         shares: IntoIter<Vec<Post>>,
         gate: &G,
     ) -> Result<Vec<Answer>, RunFault>
-        requires ready { IsReady (λ account. (S.terms account).number)
-            S.key S.reads self.old.desk.worker }
+        requires ready { IsReady (number_by S.terms) S.key S.reads self.old.desk.worker }
         requires count { length (into_iter_items shares) ≡ length self.old.links.items }
         ensures posts { OnOk result (map sent_by self.new.links.items
             ≡ joined (map sent_by self.old.links.items)
             (map (λ share. share.items) (into_iter_items shares))) }
-        ensures goes_on { IfOk result (λ answers. GoesOn (λ account. (S.terms account).number)
+        ensures goes_on { IfOk result (λ answers. GoesOn (number_by S.terms)
             S.key S.reads self.old.desk mine.items (map answer_view answers.items) self.new.desk) }
         ensures heard { map heard_by self.new.links.items ≡ map heard_by self.old.links.items }
         ensures promises { promises_of self.new.links.items ≡ promises_of self.old.links.items }
@@ -201,10 +199,9 @@ impl<'s, S: Shared> Desk<'s, S> {
         accounts: &'s [S],
         seats: Vec<S::Seat>,
     ) -> Result<Desk<'s, S>, RunFault>
-        requires numbered { map (λ account. (S.terms account).number) accounts.now
-            ≡ keys_of setup.now.accounts }
+        requires numbered { map (number_by S.terms) accounts.now ≡ keys_of setup.now.accounts }
         requires fresh { IsFresh S.reads (map S.key accounts.now) number seats.items }
-        ensures begins { IfOk result (λ desk. HasAnswered (λ account. (S.terms account).number)
+        ensures begins { IfOk result (λ desk. HasAnswered (number_by S.terms)
             S.key S.reads setup.now accounts.now number [] [] desk) }
         ensures fault { AsksNoGate result }
     {
@@ -223,9 +220,8 @@ impl<'s, S: Shared> Desk<'s, S> {
         posts: Vec<Post>,
         gate: &G,
     ) -> Result<Vec<Answer>, RunFault>
-        requires ready { IsReady (λ account. (S.terms account).number)
-            S.key S.reads self.old.worker }
-        ensures goes_on { IfOk result (λ answers. GoesOn (λ account. (S.terms account).number)
+        requires ready { IsReady (number_by S.terms) S.key S.reads self.old.worker }
+        ensures goes_on { IfOk result (λ answers. GoesOn (number_by S.terms)
             S.key S.reads self.old posts.items (map answer_view answers.items) self.new) }
         ensures fault { MayAskGate (G.may_shut gate.now) result }
     {
@@ -239,9 +235,8 @@ impl<'s, S: Shared> Desk<'s, S> {
     /// Handles a post, and puts down its refusal, or none. The room for the refusal is made before
     /// an account is asked.
     fn answer<R: Wait, G: Gate>(&mut self, rt: &R, post: Post, gate: &G) -> Result<Answer, RunFault>
-        requires ready { IsReady (λ account. (S.terms account).number)
-            S.key S.reads self.old.worker }
-        ensures goes_on { IfOk result (λ answer. GoesOn (λ account. (S.terms account).number)
+        requires ready { IsReady (number_by S.terms) S.key S.reads self.old.worker }
+        ensures goes_on { IfOk result (λ answer. GoesOn (number_by S.terms)
             S.key S.reads self.old (post ∷ []) (answer_view answer ∷ []) self.new) }
         ensures fault { MayAskGate (G.may_shut gate.now) result }
     {
@@ -253,8 +248,7 @@ impl<'s, S: Shared> Desk<'s, S> {
 
     /// What the worker leaves.
     pub(crate) fn finish(self) -> WorkerEnd<S>
-        requires ready { IsReady (λ account. (S.terms account).number)
-            S.key S.reads self.worker }
+        requires ready { IsReady (number_by S.terms) S.key S.reads self.worker }
         ensures seats { result.seats.items ≡ seats_of self.entry.worker }
         ensures posts { result.posts.items ≡ posts_of self.entry.worker }
         ensures refusals { result.refusals.items ≡ self.entry.refusals.items }

@@ -8,7 +8,7 @@ ghost use Rattle.runs_core.specs.Hearing.{AreAnswers};
 ghost use Rattle.runs_core.specs.RunFaults.{AsksNoGate, MayAskGate};
 ghost use Rattle.runs_core.specs.Sending.{promises_of};
 ghost use Rattle.runs_core.specs.Shares.{AreShares, item_at, item_of, worker_of};
-ghost use Rattle.workers_core.specs.Workers.{IsReady, accounts_of, setup_of};
+ghost use Rattle.workers_core.specs.Workers.{IsReady, accounts_of, number_by, setup_of};
 ghost use Rattle.run_values.specs.declared.post.Body.{Body};
 
 use crate::crew::{Crew, Replies};
@@ -30,13 +30,12 @@ pub(crate) fn play<D: Driver, S: Shared, R: Wait, G: Gate>(
     gate: &G,
 ) -> Result<(), RunFault>
     requires fresh { D.given driver.old ≡ [] }
-    requires served { HasServed (λ account. (S.terms account).number)
-        S.key S.reads
+    requires served { HasServed (number_by S.terms) S.key S.reads
         (setup_of crew.old.desk.worker) (accounts_of crew.old.desk.worker) [] [] crew.old }
     ensures ended { OnOk result (D.ended driver.new ≡ true) }
     ensures plan { D.plan driver.new ≡ D.plan driver.old }
     ensures played { OnOk result (HasPlayed D.given D.ended D.hears
-        (λ account. (S.terms account).number) S.key S.reads
+        (number_by S.terms) S.key S.reads
         (setup_of crew.old.desk.worker) (accounts_of crew.old.desk.worker)
         driver.old driver.new crew.new) }
     ensures count { count_of crew.new ≡ count_of crew.old }
@@ -62,13 +61,12 @@ fn play_round<D: Driver, S: Shared, R: Wait, G: Gate>(
     gate: &G,
     answers: &mut Vec<Answer>,
 ) -> Result<bool, RunFault>
-    requires ready { IsReady (λ account. (S.terms account).number)
-        S.key S.reads crew.old.desk.worker }
+    requires ready { IsReady (number_by S.terms) S.key S.reads crew.old.desk.worker }
     ensures ended { IfOk result (λ more. D.ended driver.new ≡ not more) }
     ensures plan { D.plan driver.new ≡ D.plan driver.old }
     ensures more { result ≡ Ok true → (added : List (ℕ × Body))
         × (D.given driver.new ≡ D.given driver.old ++ added)
-        × IsServedRound (λ account. (S.terms account).number)
+        × IsServedRound (number_by S.terms)
         S.key S.reads (length (D.given driver.old)) added answers.new.items crew.old crew.new }
     ensures hears { IfOk result (λ _. D.hears driver.old answers.old.items driver.new) }
     ensures given { result ≡ Ok false → D.given driver.new ≡ D.given driver.old }

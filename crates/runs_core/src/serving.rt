@@ -14,6 +14,7 @@ ghost use Rattle.runs_core.specs.Closing.{AreAllThere, AreLeftFrom, AreListed, A
 ghost use Rattle.account_core.specs.Answers.{IsLegal};
 ghost use Rattle.shared_account.specs.Own.{IsMerged};
 ghost use Rattle.shared_account.specs.Seats.{are_all};
+ghost use Rattle.workers_core.specs.Workers.{number_by};
 
 use crate::crew::{Crew, Desk, WorkerEnd};
 use crate::opened::{Opened, deal, empty_piles, open_accounts};
@@ -112,8 +113,7 @@ fn run_workers<D: Driver, S: Shared, R: Wait + Threads + Sync, G: Gate + Sync>(
     requires given { D.given driver.old ≡ [] }
     requires some { 1 ≤ length teams.items }
     requires few { length teams.items ≤ 16 }
-    requires numbered { map (λ account. (S.terms account).number) accounts.now
-        ≡ keys_of setup.now.accounts }
+    requires numbered { map (number_by S.terms) accounts.now ≡ keys_of setup.now.accounts }
     requires fresh { AreFresh S.reads
         (map S.key accounts.now) 0 (map (λ team. team.items) teams.items) }
     ensures ended { OnOk result (D.ended driver.new ≡ true) }
@@ -129,8 +129,7 @@ fn run_workers<D: Driver, S: Shared, R: Wait + Threads + Sync, G: Gate + Sync>(
         move |scope| -> Served<'_, D, S>
             requires { (D.given driver.now ≡ []) × (1 ≤ length teams.items)
                 × (length teams.items ≤ 16)
-                × (map (λ account. (S.terms account).number) accounts.now
-                ≡ keys_of setup.now.accounts)
+                × (map (number_by S.terms) accounts.now ≡ keys_of setup.now.accounts)
                 × AreFresh S.reads
                 (map S.key accounts.now) 0 (map (λ team. team.items) teams.items) }
             ensures { (result.driver.ghost_name ≡ driver.entry.ghost_name)
@@ -165,8 +164,7 @@ fn run_in<'s, E, D: Driver, S: Shared, R: Wait + Threads + Sync, G: Gate + Sync>
     requires given { D.given driver.old ≡ [] }
     requires some { 1 ≤ length teams.items }
     requires few { length teams.items ≤ 16 }
-    requires numbered { map (λ account. (S.terms account).number) accounts.now
-        ≡ keys_of setup.now.accounts }
+    requires numbered { map (number_by S.terms) accounts.now ≡ keys_of setup.now.accounts }
     requires fresh { AreFresh S.reads
         (map S.key accounts.now) 0 (map (λ team. team.items) teams.items) }
     ensures ended { OnOk result (D.ended driver.new ≡ true) }
@@ -219,20 +217,17 @@ fn start_and_play<'s, E, D: Driver, S: Shared, R: Wait + Threads + Sync, G: Gate
 ) -> Result<(), RunFault>
     requires given { D.given driver.old ≡ [] }
     requires few { length (into_iter_items teams) < 16 }
-    requires numbered { map (λ account. (S.terms account).number) accounts.now
-        ≡ keys_of setup.now.accounts }
+    requires numbered { map (number_by S.terms) accounts.now ≡ keys_of setup.now.accounts }
     requires fresh { AreFresh S.reads
         (map S.key accounts.now) 1 (map (λ team. team.items) (into_iter_items teams)) }
-    requires first { HasAnswered (λ account. (S.terms account).number)
-        S.key S.reads setup.now accounts.now 0 [] []
+    requires first { HasAnswered (number_by S.terms) S.key S.reads setup.now accounts.now 0 [] []
         crew.old.desk }
     requires none { crew.old.links.items ≡ [] }
     ensures ended { OnOk result (D.ended driver.new ≡ true) }
     ensures plan { D.plan driver.new ≡ D.plan driver.old }
     ensures count { OnOk result (length crew.new.links.items ≡ length (into_iter_items teams)) }
     ensures played { OnOk result (HasPlayed D.given D.ended D.hears
-        (λ account. (S.terms account).number) S.key S.reads
-        setup.now accounts.now driver.old driver.new crew.new) }
+        (number_by S.terms) S.key S.reads setup.now accounts.now driver.old driver.new crew.new) }
     ensures promised { ArePromised setup.now accounts.now gate.now 1
         (promises_of crew.new.links.items) }
     ensures fault { MayAskGate (G.may_shut gate.now) result }
@@ -269,7 +264,7 @@ fn close_accounts<S: Shared>(
     left: Vec<WorkerEnd<S>>,
 ) -> Result<Books, RunFault>
     requires left { AreLeftFrom S.reads (map S.key accounts.items)
-        (map (λ account. (S.terms account).number) accounts.items) left.items }
+        (map (number_by S.terms) accounts.items) left.items }
     requires numbers { AreNumberedFrom S.reads 0 left.items }
     requires seats { All (λ account. (S.terms account).seats ≡ length left.items) accounts.items }
     ensures terms { IfOk result

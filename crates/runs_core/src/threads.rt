@@ -7,6 +7,7 @@ ghost use Rattle.runs_core.specs.RunFaults.{AsksNoGate, MayAskGate};
 ghost use Rattle.runs_core.specs.Sending.{AreLeftBy, ArePromised, IsFirstFault, IsLeftBy, MayBeShut, heard_by, promises_of, sent_by};
 ghost use Rattle.runs_core.specs.Teams.{AreFresh, IsFresh};
 ghost use Rattle.runs_core.specs.declared.crew.WorkerEnd.{WorkerEnd};
+ghost use Rattle.workers_core.specs.Workers.{number_by};
 
 use crate::RunFault;
 use crate::crew::WorkerEnd;
@@ -30,8 +31,7 @@ pub(crate) fn start_all<'s, E, S: Shared, R: Wait + Threads + Sync, G: Gate + Sy
     gate: &'s G,
     links: &mut Vec<WorkerLink<'s, S, G>>,
 ) -> Result<(), RunFault>
-    requires numbered { map (λ account. (S.terms account).number) accounts.now
-        ≡ keys_of setup.now.accounts }
+    requires numbered { map (number_by S.terms) accounts.now ≡ keys_of setup.now.accounts }
     requires fresh { AreFresh S.reads
         (map S.key accounts.now) 1 (map (λ team. team.items) (into_iter_items teams)) }
     requires few { length (into_iter_items teams) < 16 }
@@ -62,8 +62,7 @@ fn start_one<'s, E, S: Shared, R: Wait + Threads + Sync, G: Gate + Sync>(
     gate: &'s G,
     links: &mut Vec<WorkerLink<'s, S, G>>,
 ) -> Result<(), RunFault>
-    requires numbered { map (λ account. (S.terms account).number) accounts.now
-        ≡ keys_of setup.now.accounts }
+    requires numbered { map (number_by S.terms) accounts.now ≡ keys_of setup.now.accounts }
     requires fresh { IsFresh S.reads (map S.key accounts.now) number seats.items }
     requires count { length links.old.items + 1 ≡ number }
     requires silent { All (λ link. sent_by link ≡ []) links.old.items }

@@ -9,7 +9,7 @@ ghost use Rattle.runs_core.specs.Desks.{GoesOn};
 ghost use Rattle.workers_core.specs.Ends.{ArePaired, IsSameInbox, IsSameOutbox, sent, taken};
 ghost use Rattle.workers_core.specs.Handled.{answer_view};
 ghost use Rattle.workers_core.specs.Logs.{has_close};
-ghost use Rattle.workers_core.specs.Workers.{IsReady};
+ghost use Rattle.workers_core.specs.Workers.{IsReady, number_by};
 ghost use Rattle.run_values.specs.declared.post.Answer.{Answer};
 ghost use Rattle.workers_core.specs.declared.mailboxes.Mail.TheVariants as mail;
 
@@ -50,8 +50,7 @@ pub(crate) fn start<'s, E, S: Shared, R: Wait + Threads + Sync, G: Gate + Sync>(
     seats: Vec<S::Seat>,
     gate: &'s G,
 ) -> Result<WorkerLink<'s, S, G>, RunFault>
-    requires numbered { map (λ account. (S.terms account).number) accounts.now
-        ≡ keys_of setup.now.accounts }
+    requires numbered { map (number_by S.terms) accounts.now ≡ keys_of setup.now.accounts }
     requires fresh { IsFresh S.reads (map S.key accounts.now) number seats.items }
     ensures number { IfOk result (λ link. link.child.promise.number ≡ number) }
     ensures setup { IfOk result (λ link. link.child.promise.setup.now ≡ setup.now) }
@@ -72,8 +71,7 @@ pub(crate) fn start<'s, E, S: Shared, R: Wait + Threads + Sync, G: Gate + Sync>(
         outbox: Snapshot::of(&answers),
     };
     let serve = move || -> Result<Finished<S>, RunFault>
-        requires { (map (λ account. (S.terms account).number) accounts.now
-            ≡ keys_of setup.now.accounts)
+        requires { (map (number_by S.terms) accounts.now ≡ keys_of setup.now.accounts)
             × IsFresh S.reads (map S.key accounts.now) number seats.items
             × (taken posts ≡ []) × (sent answers ≡ []) }
         ensures { IfOk result (λ f. IsSameInbox posts f.inbox
@@ -190,8 +188,7 @@ fn work<S: Shared, R: Wait, G: Gate>(
     mut outbox: Outbox<Vec<Answer>>,
     gate: &G,
 ) -> Result<Finished<S>, RunFault>
-    requires numbered { map (λ account. (S.terms account).number) accounts.now
-        ≡ keys_of setup.now.accounts }
+    requires numbered { map (number_by S.terms) accounts.now ≡ keys_of setup.now.accounts }
     requires fresh { IsFresh S.reads (map S.key accounts.now) number seats.items }
     requires taken { taken inbox ≡ [] }
     requires sent { sent outbox ≡ [] }
@@ -226,15 +223,13 @@ fn answer_rounds<S: Shared, R: Wait, G: Gate>(
     outbox: &mut Outbox<Vec<Answer>>,
     gate: &G,
 ) -> Result<(), RunFault>
-    requires ready { IsReady (λ account. (S.terms account).number)
-        S.key S.reads desk.old.worker }
+    requires ready { IsReady (number_by S.terms) S.key S.reads desk.old.worker }
     requires taken { taken inbox.old ≡ [] }
     requires sent { sent outbox.old ≡ [] }
     ensures inbox { IsSameInbox inbox.old inbox.new }
     ensures outbox { IsSameOutbox outbox.old outbox.new }
     ensures closed { OnOk result (has_close (taken inbox.new) ≡ true) }
-    ensures goes_on { OnOk result (GoesOn (λ account. (S.terms account).number)
-        S.key S.reads desk.old
+    ensures goes_on { OnOk result (GoesOn (number_by S.terms) S.key S.reads desk.old
         (items_in (taken inbox.new)) (map answer_view (items_in (sent outbox.new))) desk.new) }
     ensures fault { MayAskGate (G.may_shut gate.now) result }
 {
@@ -257,12 +252,11 @@ fn answer_round<S: Shared, R: Wait, G: Gate>(
     outbox: &mut Outbox<Vec<Answer>>,
     gate: &G,
 ) -> Result<(), RunFault>
-    requires ready { IsReady (λ account. (S.terms account).number)
-        S.key S.reads desk.old.worker }
+    requires ready { IsReady (number_by S.terms) S.key S.reads desk.old.worker }
     ensures outbox { IsSameOutbox outbox.old outbox.new }
     ensures goes_on { OnOk result ((answers : List Answer)
         × (items_in (sent outbox.new) ≡ items_in (sent outbox.old) ++ answers)
-        × GoesOn (λ account. (S.terms account).number)
+        × GoesOn (number_by S.terms)
         S.key S.reads desk.old posts.items (map answer_view answers) desk.new) }
     ensures fault { MayAskGate (G.may_shut gate.now) result }
 {

@@ -5,6 +5,7 @@ use Rattle.std.specs.Map.{keys_of, lookup}
 use Rattle.std.specs.Ordering.{nat_cmp}
 use Rattle.account_core.specs.Events.{EntryData}
 use Rattle.shared_account.specs.Seats.{Reads}
+use Rattle.shared_account.specs.Terms.{Terms}
 use Rattle.dialogue_core.specs.Phases.{Phase, FirstAsk, Running, Settling, MoreAsk, Returning, Ending, Closed}
 use Rattle.dialogue_core.specs.Views.{phase_of}
 use Rattle.workers_core.specs.Handled.{Holding}
@@ -23,7 +24,11 @@ standing_of talk = record { phase = phase_of talk.dialogue; place = talk.place }
 abbrev pub standings_in : List (ℕ × Talk) → ℕ → Option DialogueAt
 standings_in talks call = option_map standing_of (lookup (is_at (nat_cmp call)) talks)
 
--- the number of a worker, the setup of its run, the accounts, its seats and the posts that it has handled
+-- the number of an account, by what says its terms
+abbrev pub number_by : {S : Type 0} → (S → Terms) → S → ℕ
+number_by terms account = (terms account).number
+
+-- the number of a worker
 abbrev pub number_of : {S T : Type 0} → Worker S T → ℕ
 number_of worker = worker.number
 

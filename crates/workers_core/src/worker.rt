@@ -6,7 +6,7 @@ ghost use Rattle.workers_core.specs.Handled.{IsHandled, IsRecharged, answer_view
 ghost use Rattle.workers_core.specs.Refusals.{HasRefusedAt, IsRefusedPost};
 ghost use Rattle.workers_core.specs.Served.{AreServed};
 ghost use Rattle.workers_core.specs.Verdicts.{Recharges, Rejects, strays, verdict, fresh, goes_on, home_of, recharged};
-ghost use Rattle.workers_core.specs.Workers.{IsReady, accounts_of, holding, number_of, posts_of, seats_of, setup_of, talks_of, standings_in};
+ghost use Rattle.workers_core.specs.Workers.{IsReady, accounts_of, holding, number_by, number_of, posts_of, seats_of, setup_of, talks_of, standings_in};
 ghost use Rattle.workers_core.specs.Cases.{IsCase};
 ghost use Rattle.cap_values.specs.Orders.{Release, orders_of};
 ghost use Rattle.dialogue_core.specs.Table.{on_message};
@@ -46,8 +46,7 @@ impl<'s, S: Shared> Worker<'s, S> {
         accounts: &'s [S],
         seats: Vec<S::Seat>,
     ) -> Result<Worker<'s, S>, WorkerFault>
-        requires accounts { map (λ account. (S.terms account).number) accounts.now
-            ≡ keys_of setup.now.accounts }
+        requires accounts { map (number_by S.terms) accounts.now ≡ keys_of setup.now.accounts }
         requires keys { map S.reads.key seats.items ≡ map S.key accounts.now }
         requires numbers { All (λ seat. S.reads.number seat ≡ number) seats.items }
         requires empty { All (λ seat. S.reads.mine seat ≡ []) seats.items }
@@ -57,8 +56,7 @@ impl<'s, S: Shared> Worker<'s, S> {
         ensures seats { IfOk result (λ worker. seats_of worker ≡ seats.items) }
         ensures talks { IfOk result (λ worker. (call : ℕ) → talks_of worker call ≡ None) }
         ensures posts { IfOk result (λ worker. posts_of worker ≡ []) }
-        ensures ready { IfOk result (λ worker. IsReady (λ account. (S.terms account).number)
-            S.key S.reads worker) }
+        ensures ready { IfOk result (λ worker. IsReady (number_by S.terms) S.key S.reads worker) }
         ensures fault { IfErr result (λ fault. fault ≡ WorkerFault.OutOfMemory) }
     {
         Ok(Worker {
@@ -89,7 +87,7 @@ impl<'s, S: Shared> Worker<'s, S> {
         post: Post,
         gate: &G,
     ) -> Result<Answer, WorkerFault>
-        requires ready { IsReady (λ account. (S.terms account).number) S.key S.reads self.old }
+        requires ready { IsReady (number_by S.terms) S.key S.reads self.old }
         ensures number { IfOk result (λ answer. answer.number ≡ post.number) }
         ensures handled { IfOk result (λ answer. IsHandled (setup_of self.old) (map
             S.reads.number (seats_of self.old)) post
@@ -118,8 +116,7 @@ impl<'s, S: Shared> Worker<'s, S> {
             S.reads.key (seats_of self.old)) }
         ensures numbers { OnOk result (map S.reads.number (seats_of self.new) ≡ map
             S.reads.number (seats_of self.old)) }
-        ensures ready { OnOk result (IsReady (λ account. (S.terms account).number)
-            S.key S.reads self.new) }
+        ensures ready { OnOk result (IsReady (number_by S.terms) S.key S.reads self.new) }
         ensures memory { result ≡ Err WorkerFault.OutOfMemory → map S.reads.mine (seats_of self.new)
             ≡ map S.reads.mine (seats_of self.old) }
         ensures gate { result ≡ Err WorkerFault.GateClosed → G.may_shut gate.now }
@@ -152,7 +149,7 @@ impl<'s, S: Shared> Worker<'s, S> {
     /// Hands back the seats in the order in which they were given, and the posts that were handled,
     /// in order. It takes no memory.
     pub fn finish(self) -> (Vec<S::Seat>, Vec<Post>)
-        requires ready { IsReady (λ account. (S.terms account).number) S.key S.reads self }
+        requires ready { IsReady (number_by S.terms) S.key S.reads self }
         ensures seats { result.0.items ≡ seats_of self.entry }
         ensures posts { result.1.items ≡ posts_of self.entry }
         ensures served { AreServed (keys_of (setup_of self.entry).accounts) result.1.items (map

@@ -1,10 +1,11 @@
 use Rattle.std.proofs.Common.{refl, rules, ◌∙◌}
 use Rattle.runs_core.proofs.Roundings.{none_played, played_more, played_out}
 use Rattle.runs_core.proofs.rounds.play.Goals as goal
+use Rattle.workers_core.specs.Workers.{number_by}
 
 pub loop-init : goal.loop-init
 loop-init g c = (
-  none_played g.D.Driver.given g.D.Driver.ended g.D.Driver.hears (λ account. (g.S.Shared.terms account).number) g.S.Shared.key g.S.Shared.reads _ _ _ _ _
+  none_played g.D.Driver.given g.D.Driver.ended g.D.Driver.hears (number_by g.S.Shared.terms) g.S.Shared.key g.S.Shared.reads _ _ _ _ _
       c.requires.fresh (search rules) c.requires.served,
   refl,
   refl,
@@ -15,7 +16,7 @@ pub loop-preserved : goal.loop-preserved
 loop-preserved g c =
     let before = c.loop.invariant in
     let more = c.in_ok-play_round.ensures.more (search rules) in (
-      played_more g.D.Driver.given g.D.Driver.ended g.D.Driver.hears (λ account. (g.S.Shared.terms account).number) g.S.Shared.key g.S.Shared.reads _ _
+      played_more g.D.Driver.given g.D.Driver.ended g.D.Driver.hears (number_by g.S.Shared.terms) g.S.Shared.key g.S.Shared.reads _ _
           _ _ _ _ _ _ _ more.0 before.0 more.1 (search rules) (search rules) more.2,
       c.play_round.ensures.count ∙ before.1,
       c.play_round.ensures.promises ∙ before.2,
@@ -25,5 +26,5 @@ loop-preserved g c =
 pub returns-then-not-branch-clause-played : goal.returns-then-not-branch-clause-played
 returns-then-not-branch-clause-played g c =
     let last = c.in_ok-play_round.ensures in
-    played_out g.D.Driver.given g.D.Driver.ended g.D.Driver.hears (λ account. (g.S.Shared.terms account).number) g.S.Shared.key g.S.Shared.reads _ _
+    played_out g.D.Driver.given g.D.Driver.ended g.D.Driver.hears (number_by g.S.Shared.terms) g.S.Shared.key g.S.Shared.reads _ _
     _ _ _ _ _ _ c.loop.invariant.0 (last.given (search rules)) (search rules) (search rules) (last.crew (search rules))

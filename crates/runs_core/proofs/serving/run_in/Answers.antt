@@ -2,6 +2,7 @@ use Rattle.std.proofs.Common.{rules}
 use Rattle.runs_core.proofs.Finishing.{shut_by}
 use Rattle.runs_core.proofs.Roundings.{handled_with, heard_with, left_with}
 use Rattle.runs_core.proofs.serving.run_in.Goals as goal
+use Rattle.workers_core.specs.Workers.{number_by}
 
 pub returns-in_err-finished-clause-fault : goal.returns-in_err-finished-clause-fault
 returns-in_err-finished-clause-fault g c =
@@ -19,12 +20,12 @@ returns-clause-left g c =
     let refusals = c.finish.ensures.refusals in
     let promised = c.start_and_play-ran.ensures.promised in
     let by = c.in_ok-finished.ensures.left in
-    let both = left_with (λ account. (g.S.Shared.terms account).number) g.S.Shared.key read c.args.setup.now c.args.accounts.now c.args.gate.now _ _ _ c.finish.result _ _ _ played.served seats posts refusals promised by in
+    let both = left_with (number_by g.S.Shared.terms) g.S.Shared.key read c.args.setup.now c.args.accounts.now c.args.gate.now _ _ _ c.finish.result _ _ _ played.served seats posts refusals promised by in
     rw (c.in_ok-insert.ensures.items)
     (record {
-      handled = handled_with (λ account. (g.S.Shared.terms account).number) g.S.Shared.key read c.args.setup.now c.args.accounts.now _ _ _ c.finish.result _ _ played.served posts c.in_ok-finished.ensures.posts (search rules);
+      handled = handled_with (number_by g.S.Shared.terms) g.S.Shared.key read c.args.setup.now c.args.accounts.now _ _ _ c.finish.result _ _ played.served posts c.in_ok-finished.ensures.posts (search rules);
       left = both.0;
       worked = both.1;
-      heard = heard_with g.D.Driver.given g.D.Driver.ended g.D.Driver.hears (λ account. (g.S.Shared.terms account).number) g.S.Shared.key read c.args.setup.now c.args.accounts.now c.args.gate.now _ _ _ c.finish.result _
+      heard = heard_with g.D.Driver.given g.D.Driver.ended g.D.Driver.hears (number_by g.S.Shared.terms) g.S.Shared.key read c.args.setup.now c.args.accounts.now c.args.gate.now _ _ _ c.finish.result _
           played seats posts refusals c.in_ok-finished.ensures.posts promised by;
     })

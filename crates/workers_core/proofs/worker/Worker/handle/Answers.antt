@@ -3,7 +3,7 @@ use Rattle.std.proofs.lemmas.List.{length-map}
 use Rattle.workers_core.specs.Handled.{answer_view}
 use Rattle.workers_core.specs.Refusals.{HasRefusedAt}
 use Rattle.workers_core.specs.Verdicts.{verdict}
-use Rattle.workers_core.specs.Workers.{holding, standings_in}
+use Rattle.workers_core.specs.Workers.{holding, number_by, standings_in}
 use Rattle.workers_core.proofs.Handling.{case_within, done_by, recharged_so, rejected_so, sound_after, stray_is, stray_lists}
 use Rattle.run_values.specs.declared.directory.OpeningCredit.{OpeningCredit}
 use Rattle.workers_core.proofs.Refused.{kind_told, post_refused}
@@ -30,7 +30,7 @@ done g c = record {
 pub act-requires-clause-within : goal.act-requires-clause-within
 act-requires-clause-within g c κs within =
     let many : length c.args.self.now.accounts.now ≡ length c.args.self.now.setup.now.accounts =
-    sym (length-map c.args.self.now.accounts.now (λ account. (g.S.Shared.terms account).number)) ∙ ap length c.requires.ready.accounts
+    sym (length-map c.args.self.now.accounts.now (number_by g.S.Shared.terms)) ∙ ap length c.requires.ready.accounts
     ∙ length-map c.args.self.now.setup.now.accounts (λ (e : ℕ × OpeningCredit). e.0) in
     rw many
     (case_within c.args.self.now.setup.now c.args.self.now.posts.items (holding g.S.Shared.reads.mine c.args.self.now) c.args.post c.judge-case.result c.requires.ready.sound c.judge-case.ensures)

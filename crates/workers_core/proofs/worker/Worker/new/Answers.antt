@@ -5,12 +5,13 @@ use Rattle.std.proofs.lemmas.List.Elements.{All-map}
 use Rattle.workers_core.proofs.Doings.{as_many}
 use Rattle.workers_core.proofs.Parts.{none_served}
 use Rattle.workers_core.proofs.worker.Worker.new.Goals as goal
+use Rattle.workers_core.specs.Workers.{number_by}
 
 pub returns-clause-ready : goal.returns-clause-ready
 returns-clause-ready g c =
     let many : length c.args.seats.items ≡ length (keys_of c.args.setup.now.accounts) =
     as_many g.S.Shared.reads.key g.S.Shared.key c.args.seats.items c.args.accounts.now c.requires.keys
-    ∙ sym (length-map c.args.accounts.now (λ account. (g.S.Shared.terms account).number)) ∙ ap length c.requires.accounts in
+    ∙ sym (length-map c.args.accounts.now (number_by g.S.Shared.terms)) ∙ ap length c.requires.accounts in
     record {
       accounts = c.requires.accounts;
       keys = c.requires.keys;
