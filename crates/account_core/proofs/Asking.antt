@@ -4,6 +4,7 @@ use Rattle.account_core.specs.Asked.{Asked, Credits, Reserves, Returns, Settles,
 use Rattle.account_core.specs.Available.{available}
 use Rattle.account_core.specs.Events.{EntryData}
 use Rattle.account_core.specs.Known.{CallFacts, known, known_asked, nothing_known, taken_of}
+use Rattle.account_core.specs.Places.{needed, needed_by, refusal_for}
 use Rattle.account_core.specs.Replies.{reply_for}
 use Rattle.account_core.specs.Sound.{IsSound, IsSoundPast}
 use Rattle.account_core.proofs.Fitting.{money_within}
@@ -19,6 +20,21 @@ module _ (h : List EntryData) where
   replied_alike credit funds last (Reserves call plan wanted least at) = refl
   replied_alike credit funds last (Settles call number info) = refl
   replied_alike credit funds last (Returns call) = refl
+
+  -- and for its refusal
+  pub refused_asked : (limit entries places : ℕ) (asked : Asked) (call : CallFacts) → call ≡ known_asked asked h
+      → refusal_for limit entries places call asked ≡ refusal_for limit entries places (known (call_of asked) h) asked
+  refused_asked limit entries places (Credits amount moment) call call_is = ap (λ k. refusal_for limit entries places k (Credits amount moment)) call_is
+  refused_asked limit entries places (Reserves number plan wanted least at) call call_is = ap (λ k. refusal_for limit entries places k (Reserves number plan wanted least at)) call_is
+  refused_asked limit entries places (Settles number mail info) call call_is = ap (λ k. refusal_for limit entries places k (Settles number mail info)) call_is
+  refused_asked limit entries places (Returns number) call call_is = ap (λ k. refusal_for limit entries places k (Returns number)) call_is
+
+  -- and for the places that it needs
+  pub needed_asked : (asked : Asked) (call : CallFacts) → call ≡ known_asked asked h → needed_by call asked ≡ needed h asked
+  needed_asked (Credits amount moment) call call_is = refl
+  needed_asked (Reserves number plan wanted least at) call call_is = ap (λ k. needed_by k (Reserves number plan wanted least at)) call_is
+  needed_asked (Settles number mail info) call call_is = ap (λ k. needed_by k (Settles number mail info)) call_is
+  needed_asked (Returns number) call call_is = ap (λ k. needed_by k (Returns number)) call_is
 
   sound_alike : (opening : ℕ) (asked : Asked) → IsSoundPast opening h → IsSound (known_asked asked h)
   sound_alike opening (Credits amount moment) sound = refl

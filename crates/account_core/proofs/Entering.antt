@@ -1,12 +1,9 @@
--- An account keeps what its type says when an answered operation is entered.
+-- A teller stands for the longer history when an answered operation is entered.
 use Rattle.std.proofs.Common.{◌≡◌, ℕ, ◌+◌, ◌-◌, ◌≤◌, Bool, true, false, Option, Some, None, List, [], ◌∷◌, ◌++◌, length, refl, sym, ap, ◌∙◌, arith, subst}
 use Rattle.std.specs.Prelude.{◌==◌, if◌then◌else◌, map, nat_lt, reverse}
-use Rattle.std.specs.Vec.{vec_capacity}
-use Rattle.std.specs.declared.vec.Vec.{Vec}
-use Rattle.std.specs.declared.alloc.Global.{Global}
 use Rattle.std.proofs.lemmas.Bool.{eqb-true}
 use Rattle.std.proofs.lemmas.Bool.Decides.{nat_tests}
-use Rattle.std.proofs.lemmas.List.{length-map, length-reverse, map-append, reverse-append}
+use Rattle.std.proofs.lemmas.List.{length-append, length-reverse, map-append, reverse-append}
 use Rattle.tariff_core.specs.Rates.{Rates}
 use Rattle.tariff_core.specs.Times.{Elapsed}
 use Rattle.tariff_core.specs.declared.times.TimeInfo.{TimeInfo}
@@ -16,12 +13,15 @@ use Rattle.account_core.specs.Available.{available, credited, credits, taken_by_
 use Rattle.account_core.specs.CallStates.{Renews, state_of}
 use Rattle.account_core.specs.Events.{EntryData, asked_of, entry_data}
 use Rattle.account_core.specs.Expiry.{last_moment_after}
-use Rattle.account_core.specs.Kept.{IsKept, TellsEach, known_of}
-use Rattle.account_core.specs.Known.{Deed, Ends, CallFacts, Rests, deed_of, is_open, known, known_after, paid_of}
-use Rattle.account_core.specs.Ledger.{Ledger, answer_of, refusal_of}
-use Rattle.account_core.specs.Places.{needed, needed_by, or_else, over_limit, owed, owed_to, refusal}
+use Rattle.account_core.specs.Kept.{TellsEach, known_of}
+use Rattle.account_core.specs.Known.{Deed, Ends, CallFacts, Rests, deed_of, is_open, known, known_after, known_asked, paid_of}
+use Rattle.account_core.specs.Ledger.{Ledger, answer_of, event_by, refusal_of}
+use Rattle.account_core.specs.Places.{needed, needed_by, or_else, over_limit, owed, owed_to, refusal, refusal_for}
 use Rattle.account_core.specs.Sound.{AnswersFit, HasRoom, IsSoundPast}
-use Rattle.account_core.specs.declared.account.Account.TheInside.{Inside}
+use Rattle.account_core.specs.Tallied.{IsTallied, tally_of}
+use Rattle.account_core.specs.Tellers.{IsAnsweredBy, IsTellerOf, entered}
+use Rattle.account_core.specs.declared.tally.Tally.{Tally}
+use Rattle.account_core.specs.declared.account.Teller.{Teller}
 use Rattle.account_core.specs.declared.entry.Entry.{Entry}
 use Rattle.account_core.specs.declared.entry.Reply.{Reply}
 use Rattle.account_core.specs.declared.entry.Reply.TheVariants as reply
@@ -29,20 +29,12 @@ use Rattle.account_core.specs.declared.fault.AccountFault.{AccountFault}
 use Rattle.account_core.specs.declared.fault.AccountFault.TheVariants as fault
 use Rattle.account_core.specs.declared.call_state.CallState.{CallState}
 use Rattle.account_core.specs.declared.call_states.CallStates.{CallStates}
-use Rattle.account_core.specs.declared.call_state.CallState.TheVariants.{Fresh}
+use Rattle.account_core.proofs.Asking.{refused_asked}
 use Rattle.account_core.proofs.Fitting.{answer_shows}
 use Rattle.account_core.proofs.Moves.{at_most_all, its_call, its_deed, known_apart, known_here, sum_moves}
 use Rattle.account_core.proofs.Owing.{owes_denied, owes_end, owes_grant, owes_report}
 use Rattle.account_core.proofs.SoundPasts.{answered_credit, answered_deed}
 use Rattle.account_core.proofs.Verdicts.{credited_capped, in_place}
-
--- what an account keeps, in the words of its callers
-pub kept_of : (a : Inside) (ledger : Ledger) → record { opening = a.opening; until = a.until; limit = a.limit; history = map entry_data a.entries.items } ≡ ledger
-    → IsKept a.opening a.until a.limit (reverse (map entry_data a.entries.items)) a.calls a.funds a.available a.last_moment a.owed (vec_capacity a.entries)
-    → IsKept ledger.opening ledger.until ledger.limit (reverse ledger.history) a.calls a.funds a.available a.last_moment a.owed (vec_capacity a.entries)
-kept_of a ledger view_is kept =
-    let P : Ledger → Type 0 = λ l. IsKept l.opening l.until l.limit (reverse l.history) a.calls a.funds a.available a.last_moment a.owed (vec_capacity a.entries) in
-    subst P view_is kept
 
 -- the history with an entry at its end
 pub past_pushed : (items : List Entry) (entry : Entry) → reverse (map entry_data (items ++ entry ∷ [])) ≡ entry_data entry ∷ reverse (map entry_data items)
@@ -66,6 +58,13 @@ unfolding refusal
 admitted limit h asked is =
     let (admissible, within) = or_else_none (inadmissible h asked) (over_limit limit (length h + owed h) (needed h asked)) is in
     (admissible, within_if limit (length h + owed h + needed h asked) within)
+
+-- what a teller refuses, by what is known of the call, its ledger does
+pub refusal_told : (ledger : Ledger) (teller : Teller) → IsTellerOf ledger teller → (asked : Asked) (call : CallFacts) → call ≡ known_asked asked (reverse ledger.history)
+    → refusal_for teller.limit teller.entries teller.owed call asked ≡ refusal_of ledger asked
+unfolding refusal
+refusal_told ledger teller is asked call call_is =
+    rw (is.limit_is, is.counted, is.owed_are, ← length-reverse ledger.history) (refused_asked (reverse ledger.history) ledger.limit (length (reverse ledger.history)) (owed (reverse ledger.history)) asked call call_is)
 
 -- ---- an account has no gate
 
@@ -178,56 +177,64 @@ of_call call (Reserves other plan wanted least at) is = (is, (λ told. refl, λ 
 of_call call (Settles other number info) is = (is, (λ told. refl, λ last told. refl))
 of_call call (Returns other) is = (is, (λ told. refl, λ last told. refl))
 
--- the states, the totals and the last moment are those of the longer history, and there is room
-pub record IsEntered (h : List EntryData) (event : EntryData) (m : CallStates) (funds funds' : ℕ) (last last' : Option ℕ) (places places' capacity : ℕ) : Type 0 where
-  pub tells : TellsEach m (event ∷ h)
-  pub funds_are : funds' ≡ funds + credited event.asked event.reply
-  pub last_is : last' ≡ last_moment_after last event.asked event.reply
-  pub places_are : places' ≡ owed (event ∷ h)
-  pub room : length h + (places + needed h event.asked) ≤ capacity
+-- what a teller keeps of the longer history, by what it kept
+pub record IsEntered (h : List EntryData) (event : EntryData) (old new : Teller) : Type 0 where
+  pub tells : TellsEach new.tally.calls (event ∷ h)
+  pub funds_are : new.tally.funds ≡ old.tally.funds + credited event.asked event.reply
+  pub credit_is : new.tally.available ≡ shown_by event.reply
+  pub last_is : new.tally.last_moment ≡ last_moment_after old.tally.last_moment event.asked event.reply
+  pub owed_are : new.owed ≡ owed (event ∷ h)
+  pub limit_is : new.limit ≡ old.limit
+  pub one_more : new.entries ≡ old.entries + 1
 
-pub entered : (opening : ℕ) (until : Option ℕ) (limit : ℕ) (h : List EntryData) (m m' : CallStates) (funds funds' credit : ℕ) (last last' : Option ℕ) (places places' capacity capacity' : ℕ) (event : EntryData)
-    → IsKept opening until limit h m funds credit last places capacity → refusal limit h event.asked ≡ None → event.reply ≡ answer opening until h event.asked
-    → IsEntered h event m' funds funds' last last' places places' capacity' → IsKept opening until limit (event ∷ h) m' funds' (shown_by event.reply) last' places' capacity'
-entered opening until limit h m m' funds funds' credit last last' places places' capacity capacity' event kept open_yet is entry =
-    let (admissible, within) = admitted limit h event.asked open_yet in
-    let answered : IsAnswered opening until h event = record { admissible = admissible; answered = is } in
-    let owes_more = owed_after opening until h event answered in
-    let longer : length (event ∷ h) ≡ length h + 1 = omega arith in
+pub past_entered : (history : List EntryData) (event : EntryData) → reverse (history ++ event ∷ []) ≡ event ∷ reverse history
+past_entered history event = reverse-append history (event ∷ [])
+
+-- an admitted operation with its answer is an entry of the history
+pub answered_by : (ledger : Ledger) (asked : Asked) (told : Reply) (seat : ℕ) → refusal_of ledger asked ≡ None → told ≡ answer_of ledger asked
+    → IsAnswered ledger.opening ledger.until (reverse ledger.history) (event_by seat asked told)
+answered_by ledger asked told seat allowed is = record { admissible = (admitted ledger.limit (reverse ledger.history) asked allowed).0; answered = is }
+
+-- the places of the entry and of all that is owed after it are those that were owed and needed
+pub places_after : (ledger : Ledger) (event : EntryData) → IsAnswered ledger.opening ledger.until (reverse ledger.history) event
+    → length (entered ledger event).history + owed (reverse (entered ledger event).history) ≤ length ledger.history + (owed (reverse ledger.history) + needed (reverse ledger.history) event.asked)
+places_after ledger event answered =
+    let longer : owed (reverse (ledger.history ++ event ∷ [])) ≡ owed (event ∷ reverse ledger.history) = ap owed (past_entered ledger.history event) in
+    omega (arith, longer, length-append ledger.history (event ∷ []), owed_after ledger.opening ledger.until (reverse ledger.history) event answered)
+
+pub teller_entered : (ledger : Ledger) (old new : Teller) (entry : Entry) → IsAnsweredBy ledger old entry
+    → IsEntered (reverse ledger.history) (entry_data entry) old new → IsTellerOf (entered ledger (entry_data entry)) new
+teller_entered ledger old new entry is more =
+    let h = reverse ledger.history in
+    let event = entry_data entry in
+    let tallied = is.teller_is.tallied in
+    let answered = answered_by ledger (asked_of entry.op) entry.reply entry.seat is.allowed is.answered in
+    let P : List EntryData → Type 0 = λ past. IsTallied ledger.opening ledger.until past new.tally in
+    let O : List EntryData → Type 0 = λ past. new.owed ≡ owed past in
     record {
-      small = kept.small;
-      legal = (kept.legal, answered);
-      within_limit = omega (arith, within, owes_more, entry.places_are, longer);
-      room = omega (arith, entry.room, owes_more, entry.places_are, kept.places_are, longer);
-      tells = entry.tells;
-      funds_are = omega (arith, entry.funds_are, kept.funds_are);
-      credit_is = answer_shows opening until h event is;
-      last_is = entry.last_is ∙ ap (λ l. last_moment_after l event.asked event.reply) kept.last_is;
-      places_are = entry.places_are;
+      tallied = subst P (sym (past_entered ledger.history event)) (record {
+        small = tallied.small;
+        legal = (tallied.legal, answered);
+        tells = more.tells;
+        funds_are = omega (arith, more.funds_are, tallied.funds_are);
+        credit_is = more.credit_is ∙ answer_shows ledger.opening ledger.until h event is.answered;
+        last_is = more.last_is ∙ ap (λ l. last_moment_after l event.asked event.reply) tallied.last_is;
+      });
+      limit_is = more.limit_is ∙ is.teller_is.limit_is;
+      counted = omega (arith, more.one_more, is.teller_is.counted, length-append ledger.history (event ∷ []));
+      owed_are = subst O (sym (past_entered ledger.history event)) more.owed_are;
+      within_limit = omega (
+        arith,
+        more.one_more,
+        more.owed_are,
+        more.limit_is,
+        is.teller_is.counted,
+        is.teller_is.limit_is,
+        owed_after ledger.opening ledger.until h event answered,
+        (admitted ledger.limit h event.asked is.allowed).1,
+        length-reverse ledger.history,
+      );
     }
-
--- the same of an account's fields
-module _ (a : Inside) (ledger : Ledger) (view_is : record { opening = a.opening; until = a.until; limit = a.limit; history = map entry_data a.entries.items } ≡ ledger)
-    (kept : IsKept a.opening a.until a.limit (reverse (map entry_data a.entries.items)) a.calls a.funds a.available a.last_moment a.owed (vec_capacity a.entries)) where
-  pub length_past : length (reverse ledger.history) ≡ length a.entries.items
-  length_past =
-      ap (λ l. length (reverse l.history)) (sym view_is) ∙ (length-reverse (map entry_data a.entries.items) ∙ length-map a.entries.items entry_data)
-
-  pub entered_inside : (entry : Entry) (items : List Entry) (m : CallStates) (funds credit : ℕ) (last : Option ℕ) (places capacity : ℕ)
-      → refusal_of ledger (asked_of entry.op) ≡ None → entry.reply ≡ answer_of ledger (asked_of entry.op) → items ≡ a.entries.items ++ entry ∷ []
-      → credit ≡ shown_by entry.reply → IsEntered (reverse ledger.history) (entry_data entry) m a.funds funds a.last_moment last a.owed places capacity
-      → IsKept a.opening a.until a.limit (reverse (map entry_data items)) m funds credit last places capacity
-  entered_inside entry items m funds credit last places capacity open_yet is items_are shows entry_is =
-      let R : Ledger → Type 0 = λ l. refusal_of l (asked_of entry.op) ≡ None in
-      let A : Ledger → Type 0 = λ l. entry.reply ≡ answer_of l (asked_of entry.op) in
-      let E : Ledger → Type 0 = λ l. IsEntered (reverse l.history) (entry_data entry) m a.funds funds a.last_moment last a.owed places capacity in
-      let K : List EntryData → Type 0 = λ h. IsKept a.opening a.until a.limit h m funds (shown_by entry.reply) last places capacity in
-      let C : ℕ → Type 0 = λ n. IsKept a.opening a.until a.limit (reverse (map entry_data items)) m funds n last places capacity in
-      let longer : entry_data entry ∷ reverse (map entry_data a.entries.items) ≡ reverse (map entry_data items) =
-      sym (ap (λ es. reverse (map entry_data es)) items_are ∙ past_pushed a.entries.items entry) in
-      let whole = entered a.opening a.until a.limit (reverse (map entry_data a.entries.items)) a.calls m a.funds funds a.available a.last_moment last a.owed places (vec_capacity a.entries) capacity (entry_data entry)
-      kept (subst R (sym view_is) open_yet) (subst A (sym view_is) is) (subst E (sym view_is) entry_is) in
-      subst C (sym shows) (subst K longer whole)
 
 -- ---- a Credit
 
@@ -248,17 +255,21 @@ owed_resting h event rests =
     let same : owed_to (known_after (known (its_call event) h) (its_deed event)) ≡ owed_to (known (its_call event) h) = ap (λ d. owed_to (known_after (known (its_call event) h) d)) rests in
     omega (arith, owed_moves h event, same)
 
-pub credit_entered : (h : List EntryData) (event : EntryData) (m : CallStates) (funds funds' : ℕ) (last last' : Option ℕ) (places capacity : ℕ) → IsCredit event.asked → TellsEach m h
-    → funds' ≡ funds + credited event.asked event.reply → last' ≡ last_moment_after last event.asked event.reply → places ≡ owed h
-    → length h + (places + 1) ≤ capacity → IsEntered h event m funds funds' last last' places places capacity
-credit_entered h event m funds funds' last last' places capacity is tells funds_are last_is places_are room =
+pub credit_entered : (h : List EntryData) (event : EntryData) (old : Teller) → IsCredit event.asked → TellsEach old.tally.calls h → old.owed ≡ owed h
+    → IsEntered h event old (record old {
+      tally = tally_of old.tally.calls (old.tally.funds + credited event.asked event.reply) (shown_by event.reply) (last_moment_after old.tally.last_moment event.asked event.reply);
+      entries = old.entries + 1;
+    })
+credit_entered h event old is tells owed_are =
     let rests = credit_rests event.asked event.reply is in
     record {
-      tells = tells_resting m h event rests tells;
-      funds_are = funds_are;
-      last_is = last_is;
-      places_are = places_are ∙ sym (owed_resting h event rests);
-      room = omega (arith, room, credit_needs h event.asked is);
+      tells = tells_resting old.tally.calls h event rests tells;
+      funds_are = refl;
+      credit_is = refl;
+      last_is = refl;
+      owed_are = owed_are ∙ sym (owed_resting h event rests);
+      limit_is = refl;
+      one_more = refl;
     }
 
 -- the funds stay within the largest money
@@ -290,31 +301,31 @@ module _ (opening : ℕ) (until : Option ℕ) (limit : ℕ) (h : List EntryData)
       let K : CallFacts → Type 0 = λ k. HasRoom k (its_deed event) in
       subst K (sym before_its) (subst P (sym (answered_deed opening until h event answered_here)) (fitting event.asked (admitted limit h event.asked open_yet).0).room)
 
-  pub some_place : (places : ℕ) → places ≡ owed h → 1 ≤ places + needed_by before event.asked
-  some_place places places_are = omega (arith, places_are, needs_known, owed_after opening until h event answered_here)
-
   pub owed_enough : (places : ℕ) → places ≡ owed h → owed_to before ≤ places
   owed_enough places places_are = omega (arith, places_are, ap owed_to before_its, owed_at_most h (its_call event))
 
-  pub call_entered : (old new : CallStates) (state : CallState) (funds : ℕ) (last : Option ℕ) (places places' capacity owed_before owed_now : ℕ)
-      → TellsEach old h → Renews old new call state → known_of state ≡ known_after before (its_deed event) → places ≡ owed h
-      → owed_before ≡ owed_to before → owed_now ≡ owed_to (known_of state) → places' ≡ places + owed_now - owed_before
-      → length h + (places + needed_by before event.asked) ≤ capacity → IsEntered h event new funds funds last last places places' capacity
-  call_entered old new state funds last places places' capacity owed_before owed_now tells renews state_is places_are before_owed now_owed places'_are room =
+  pub call_entered : (old new : Teller) (state : CallState) (owed_before owed_now : ℕ)
+      → TellsEach old.tally.calls h → Renews old.tally.calls new.tally.calls call state → known_of state ≡ known_after before (its_deed event) → old.owed ≡ owed h
+      → owed_before ≡ owed_to before → owed_now ≡ owed_to (known_of state) → new.owed ≡ old.owed + owed_now - owed_before
+      → new.tally.funds ≡ old.tally.funds → new.tally.available ≡ shown_by event.reply → new.tally.last_moment ≡ old.tally.last_moment
+      → new.limit ≡ old.limit → new.entries ≡ old.entries + 1 → IsEntered h event old new
+  call_entered old new state owed_before owed_now tells renews state_is owed_are before_owed now_owed new_owed funds_are credit_is last_is limit_is one_more =
       let (same, (rests, stays)) = of_call call event.asked here in
-      let U : ℕ → Type 0 = λ c. Renews old new c state in
+      let U : ℕ → Type 0 = λ c. Renews old.tally.calls new.tally.calls c state in
       let renewed : known_of state ≡ known_after (known (its_call event) h) (its_deed event) = state_is ∙ ap (λ k. known_after k (its_deed event)) before_its in
       record {
-        tells = tells_renewed old new h event state (subst U (sym same) renews) tells renewed;
-        funds_are = omega (arith, rests event.reply);
-        last_is = sym (stays last event.reply);
-        places_are = omega (arith, places'_are, places_are, before_owed, now_owed, ap owed_to before_its, ap owed_to renewed, owed_moves h event, owed_at_most h (its_call event));
-        room = omega (arith, room, needs_known);
+        tells = tells_renewed old.tally.calls new.tally.calls h event state (subst U (sym same) renews) tells renewed;
+        funds_are = omega (arith, funds_are, rests event.reply);
+        credit_is = credit_is;
+        last_is = last_is ∙ sym (stays old.tally.last_moment event.reply);
+        owed_are = omega (arith, new_owed, owed_are, before_owed, now_owed, ap owed_to before_its, ap owed_to renewed, owed_moves h event, owed_at_most h (its_call event));
+        limit_is = limit_is;
+        one_more = one_more;
       }
 
--- ---- a new account
+-- ---- a new teller
 
-nothing_owed_yet : owed [] ≡ 0
+pub nothing_owed_yet : owed [] ≡ 0
 unfolding owed
 nothing_owed_yet = refl
 
@@ -322,18 +333,12 @@ pub nothing_taken_yet : (opening : ℕ) → available opening [] ≡ opening
 unfolding available taken_by_all
 nothing_taken_yet opening = omega arith
 
-pub kept_new : (opening : ℕ) (until : Option ℕ) (limit : ℕ) (entries : Vec Entry Global) (m : CallStates) → opening ≤ 1000000000000000 → entries.items ≡ [] → ((call : ℕ) → state_of m call ≡ Fresh)
-    → IsKept opening until limit (reverse (map entry_data entries.items)) m opening opening until 0 (vec_capacity entries)
-kept_new opening until limit entries m small none fresh =
-    let K : List Entry → Type 0 = λ es. IsKept opening until limit (reverse (map entry_data es)) m opening opening until 0 (vec_capacity entries) in
-    subst K (sym none) (record {
-      small = small;
-      legal = tt;
-      within_limit = omega arith;
-      room = omega arith;
-      tells = λ call. ap known_of (fresh call);
-      funds_are = omega arith;
-      credit_is = sym (nothing_taken_yet opening);
-      last_is = refl;
-      places_are = sym nothing_owed_yet;
-    })
+pub teller_new : (opening : ℕ) (until : Option ℕ) (limit : ℕ) (tally : Tally) → IsTallied opening until [] tally
+    → IsTellerOf (record { opening = opening; until = until; limit = limit; history = [] }) (record { tally = tally; limit = limit; entries = 0; owed = 0 })
+teller_new opening until limit tally tallied = record {
+  tallied = tallied;
+  limit_is = refl;
+  counted = refl;
+  owed_are = sym nothing_owed_yet;
+  within_limit = omega arith;
+}

@@ -3,6 +3,7 @@ pub mod Asking
 pub mod Entering
 pub mod Expiring
 pub mod Fitting
+pub mod Keeping
 pub mod Kindly
 pub mod LawLemmas
 pub mod Listing

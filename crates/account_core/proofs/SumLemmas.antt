@@ -1,25 +1,22 @@
 -- The sums that an account's states tell are those of its history.
 use Rattle.std.proofs.Common.{◌≡◌, ℕ, Bool, true, false, Option, Some, None, List, [], ◌∷◌, ◌++◌, refl, sym, ap, ◌∙◌, arith, subst}
-use Rattle.std.specs.Prelude.{◌==◌, if◌then◌else◌, map, option_to_list, reverse, unwrap_or}
+use Rattle.std.specs.Prelude.{◌==◌, if◌then◌else◌, map, option_to_list, unwrap_or}
 use Rattle.std.specs.BTreeMap.{is_at}
 use Rattle.std.specs.List.{AllByRecursion}
 use Rattle.std.specs.List.Sorted.{IsStrictlySortedBy}
 use Rattle.std.specs.Map.{lookup}
 use Rattle.std.specs.Ordering.{nat_cmp}
-use Rattle.std.specs.Vec.{vec_capacity}
 use Rattle.std.specs.declared.cmp.Ordering.TheVariants.{Less}
 use Rattle.std.proofs.lemmas.Bool.Decides.{nat_tests}
 use Rattle.tariff_core.specs.Rates.{Rates}
-use Rattle.account_core.specs.Events.{entry_data}
-use Rattle.account_core.specs.Kept.{IsKept, known_of}
+use Rattle.account_core.specs.Events.{EntryData}
+use Rattle.account_core.specs.Kept.{TellsEach, known_of}
 use Rattle.account_core.specs.Known.{CallFacts, known}
-use Rattle.account_core.specs.Ledger.{Ledger}
 use Rattle.account_core.specs.Sums.{AreSums, sum_in, sum_of, sum_under, sums_told}
-use Rattle.account_core.specs.declared.account.Account.TheInside.{Inside}
 use Rattle.account_core.specs.declared.call_state.CallState.{CallState}
+use Rattle.account_core.specs.declared.call_states.CallStates.{CallStates}
 use Rattle.account_core.specs.declared.call_state.CallState.TheVariants.{Fresh}
 use Rattle.account_core.specs.declared.call_sum.CallSum.{CallSum}
-use Rattle.account_core.proofs.Entering.{kept_of}
 
 -- a number lies below all of a list
 abbrev IsBelow : ℕ → List ℕ → Type 0
@@ -107,14 +104,13 @@ found_told q (Some state) call is = ap (sum_of q) is
 
 -- ---- an account's
 
-pub listed_sums : (a : Inside) (ledger : Ledger) → record { opening = a.opening; until = a.until; limit = a.limit; history = map entry_data a.entries.items } ≡ ledger
-    → IsKept a.opening a.until a.limit (reverse (map entry_data a.entries.items)) a.calls a.funds a.available a.last_moment a.owed (vec_capacity a.entries)
-    → (entries : List (ℕ × CallState)) → a.calls.calls ≡ entries → IsStrictlySortedBy nat_cmp (map (λ e. e.0) entries) → (sums : List CallSum) → sums ≡ sums_told entries
-    → AreSums (reverse ledger.history) sums
-listed_sums a ledger view_is kept entries are ordered sums is =
-    let P : List CallSum → Type 0 = AreSums (reverse ledger.history) in
+pub listed_sums : (h : List EntryData) (calls : CallStates) → TellsEach calls h
+    → (entries : List (ℕ × CallState)) → calls.calls ≡ entries → IsStrictlySortedBy nat_cmp (map (λ e. e.0) entries) → (sums : List CallSum) → sums ≡ sums_told entries
+    → AreSums h sums
+listed_sums h calls tells entries are ordered sums is =
+    let P : List CallSum → Type 0 = AreSums h in
     subst P (sym is) (record {
       rising = rising_all entries ordered;
-      each = λ q. found_all q entries ordered ∙ found_told q (lookup (is_at (nat_cmp q)) entries) (known q (reverse ledger.history))
-          (ap (λ es. known_of (unwrap_or (lookup (is_at (nat_cmp q)) es) Fresh)) (sym are) ∙ (kept_of a ledger view_is kept).tells q);
+      each = λ q. found_all q entries ordered ∙ found_told q (lookup (is_at (nat_cmp q)) entries) (known q h)
+          (ap (λ es. known_of (unwrap_or (lookup (is_at (nat_cmp q)) es) Fresh)) (sym are) ∙ tells q);
     })

@@ -16,7 +16,7 @@ use Rattle.account_core.specs.declared.fault.AccountFault.{AccountFault}
 use Rattle.account_core.specs.declared.call_states.CallStates.{CallStates}
 use Rattle.account_core.specs.declared.call_state.CallState.{CallState}
 use Rattle.account_core.specs.declared.call_state.CallState.TheVariants.{Fresh}
-use Rattle.account_core.specs.declared.history_check.Tally.{Tally}
+use Rattle.account_core.specs.declared.tally.Tally.{Tally}
 use Rattle.account_core.proofs.Answering.{money_kept, reply_is_answer}
 use Rattle.account_core.proofs.Entering.{nothing_taken_yet, tells_renewed}
 use Rattle.account_core.proofs.Fitting.{answer_shows}
@@ -24,7 +24,7 @@ use Rattle.account_core.proofs.Moves.{its_call, its_deed, known_here}
 use Rattle.account_core.proofs.Walking.{room_walk}
 
 pub tallied_new : (opening : ℕ) (until : Option ℕ) (calls : CallStates) → opening ≤ 1000000000000000
-    → ((call : ℕ) → state_of calls call ≡ Fresh) → IsTallied [] (tally_of opening until calls opening opening until)
+    → ((call : ℕ) → state_of calls call ≡ Fresh) → IsTallied opening until [] (tally_of calls opening opening until)
 tallied_new opening until calls small none = record {
   small = small;
   legal = tt;
@@ -82,7 +82,7 @@ module _ (opening : ℕ) (until : Option ℕ) (h : List EntryData) (event : Entr
 -- ---- an entry, by the states of all calls
 
 module _ (opening : ℕ) (until : Option ℕ) (h : List EntryData) (calls : CallStates) (funds credit : ℕ) (last : Option ℕ) (event : EntryData)
-    (tallied : IsTallied h (tally_of opening until calls funds credit last)) where
+    (tallied : IsTallied opening until h (tally_of calls funds credit last)) where
   pub told_by : (state : CallState) → state ≡ state_of calls (its_call event) → IsToldOf opening until h event (known_of state) funds credit last
   told_by state is = record {
     small = tallied.small;
@@ -99,18 +99,19 @@ module _ (opening : ℕ) (until : Option ℕ) (h : List EntryData) (calls : Call
 
 -- ---- an entry that was answered
 
-module _ (h : List EntryData) (tally : Tally) (event : EntryData) (tallied : IsTallied h tally) (answered : IsAnswered tally.opening tally.until h event) where
+module _ (opening : ℕ) (until : Option ℕ) (h : List EntryData) (tally : Tally) (event : EntryData) (tallied : IsTallied opening until h tally)
+    (answered : IsAnswered opening until h event) where
   pub funds_more : LegalPastsAreSound → tally.funds + credited event.asked event.reply ≤ 1000000000000000
-  funds_more sounds = omega (arith, tallied.funds_are, (sounds tally.opening tally.until (event ∷ h) tallied.small (tallied.legal, answered)).capped)
+  funds_more sounds = omega (arith, tallied.funds_are, (sounds opening until (event ∷ h) tallied.small (tallied.legal, answered)).capped)
 
-  pub tallied_more : (calls : CallStates) (added credit : ℕ) (last : Option ℕ) → TellsEach calls (event ∷ h) → added ≡ credited event.asked event.reply
-      → credit ≡ shown_by event.reply → last ≡ last_moment_after tally.last_moment event.asked event.reply
-      → IsTallied (event ∷ h) (tally_of tally.opening tally.until calls (tally.funds + added) credit last)
-  tallied_more calls added credit last tells added_is shows last_is = record {
+  pub tallied_more : (calls : CallStates) → TellsEach calls (event ∷ h)
+      → IsTallied opening until (event ∷ h)
+      (tally_of calls (tally.funds + credited event.asked event.reply) (shown_by event.reply) (last_moment_after tally.last_moment event.asked event.reply))
+  tallied_more calls tells = record {
     small = tallied.small;
     legal = (tallied.legal, answered);
     tells = tells;
-    funds_are = omega (arith, tallied.funds_are, added_is);
-    credit_is = shows ∙ answer_shows tally.opening tally.until h event answered.answered;
-    last_is = last_is ∙ ap (λ l. last_moment_after l event.asked event.reply) tallied.last_is;
+    funds_are = omega (arith, tallied.funds_are);
+    credit_is = answer_shows opening until h event answered.answered;
+    last_is = ap (λ l. last_moment_after l event.asked event.reply) tallied.last_is;
   }

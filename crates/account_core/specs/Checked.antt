@@ -11,7 +11,7 @@ use Rattle.tariff_core.specs.declared.plan.TheConstants.{MAX_MONEY}
 -- what was heard of a history from this opening with its last moment: no entry yet, or a tally of the history while it is legal, or that it isn't legal
 abbrev pub IsHeardOf : ℕ → Option ℕ → List EntryData → Heard → Type 0
 IsHeardOf opening until h (Nothing alloc first last) = (first ≡ opening) × (last ≡ until) × (opening ≤ MAX_MONEY) × (h ≡ [])
-IsHeardOf opening until h (Legal tally) = (tally.value.opening ≡ opening) × (tally.value.until ≡ until) × IsTallied h tally.value
+IsHeardOf opening until h (Legal tally) = IsTallied opening until h tally.value
 IsHeardOf opening until h Illegal = IsLegalPast opening until h → ⊥
 
 -- the check is that of this history, from this opening with its last moment

@@ -1,18 +1,13 @@
 -- What an account keeps beside its entries.
-use Rattle.std.specs.Prelude.{◌≡◌, ◌+◌, ◌≤◌, ℕ, Option, List, Bool, Some, false, true, length}
-use Rattle.account_core.specs.Answers.{IsLegalPast}
-use Rattle.account_core.specs.Available.{available, credits}
+use Rattle.std.specs.Prelude.{◌≡◌, ℕ, List, Bool, Some, false, true}
 use Rattle.account_core.specs.CallStates.{state_of}
 use Rattle.account_core.specs.Events.{EntryData}
-use Rattle.account_core.specs.Expiry.{last_moment}
 use Rattle.account_core.specs.KeptPlans.{rates_kept}
 use Rattle.account_core.specs.Known.{CallFacts, known, nothing_known}
-use Rattle.account_core.specs.Places.{owed}
 use Rattle.account_core.specs.declared.call_state.CallState.{CallState}
 use Rattle.account_core.specs.declared.call_states.CallStates.{CallStates}
 use Rattle.account_core.specs.declared.call_state.CallState.TheVariants.{Fresh, Granted, Over, Reported}
 use Rattle.account_core.specs.declared.held_call.HeldCall.{HeldCall}
-use Rattle.tariff_core.specs.declared.plan.TheConstants.{MAX_MONEY}
 
 -- what is known of a call that was granted something, by whether it was returned and whether it awaits a report
 abbrev pub held_of : HeldCall → Bool → Bool → CallFacts
@@ -36,15 +31,3 @@ known_of (Over held) = held_of held true false
 -- each call has the state that the history says
 abbrev pub TellsEach : CallStates → List EntryData → Type 0
 TellsEach calls h = (call : ℕ) → known_of (state_of calls call) ≡ known call h
-
--- the history is legal and within its limit, with a place for each that is owed, in memory too, and the states, the totals and the last moment are those of the history
-pub record IsKept (opening : ℕ) (until : Option ℕ) (limit : ℕ) (h : List EntryData) (calls : CallStates) (funds credit : ℕ) (last : Option ℕ) (places capacity : ℕ) : Type 0 where
-  pub small : opening ≤ MAX_MONEY
-  pub legal : IsLegalPast opening until h
-  pub within_limit : length h + places ≤ limit
-  pub room : length h + places ≤ capacity
-  pub tells : TellsEach calls h
-  pub funds_are : funds ≡ opening + credits h
-  pub credit_is : credit ≡ available opening h
-  pub last_is : last ≡ last_moment until h
-  pub places_are : places ≡ owed h

@@ -8,22 +8,21 @@ use Rattle.account_core.specs.Expiry.{last_moment}
 use Rattle.account_core.specs.Kept.{TellsEach}
 use Rattle.account_core.specs.Known.{CallFacts, known}
 use Rattle.account_core.specs.declared.call_states.CallStates.{CallStates}
-use Rattle.account_core.specs.declared.history_check.Tally.{Tally}
+use Rattle.account_core.specs.declared.tally.Tally.{Tally}
 use Rattle.tariff_core.specs.declared.plan.TheConstants.{MAX_MONEY}
 
 -- a tally with these parts
-abbrev pub tally_of : ℕ → Option ℕ → CallStates → ℕ → ℕ → Option ℕ → Tally
-tally_of opening until calls funds available last =
-    record { opening = opening; until = until; calls = calls; funds = funds; available = available; last_moment = last }
+abbrev pub tally_of : CallStates → ℕ → ℕ → Option ℕ → Tally
+tally_of calls funds available last = record { calls = calls; funds = funds; available = available; last_moment = last }
 
 -- the history is legal from this opening, and the states, the totals and the last moment are those of the history
-pub record IsTallied (h : List EntryData) (tally : Tally) : Type 0 where
-  pub small : tally.opening ≤ MAX_MONEY
-  pub legal : IsLegalPast tally.opening tally.until h
+pub record IsTallied (opening : ℕ) (until : Option ℕ) (h : List EntryData) (tally : Tally) : Type 0 where
+  pub small : opening ≤ MAX_MONEY
+  pub legal : IsLegalPast opening until h
   pub tells : TellsEach tally.calls h
-  pub funds_are : tally.funds ≡ tally.opening + credits h
-  pub credit_is : tally.available ≡ available tally.opening h
-  pub last_is : tally.last_moment ≡ last_moment tally.until h
+  pub funds_are : tally.funds ≡ opening + credits h
+  pub credit_is : tally.available ≡ available opening h
+  pub last_is : tally.last_moment ≡ last_moment until h
 
 -- the history is legal from this opening, and what is known of the entry's call, the funds, the credit and the last moment are those of the history
 pub record IsToldOf (opening : ℕ) (until : Option ℕ) (h : List EntryData) (event : EntryData) (call : CallFacts) (funds credit : ℕ) (last : Option ℕ) : Type 0 where

@@ -1,67 +1,61 @@
 //! The sequential account.
 
-ghost use Rattle.std.specs.Prelude.{◌≡◌, ◌≢◌, ◌≤◌, ◌++◌, ◌∷◌, ◌+◌, [], None, Some, map, option_to_list, reverse, IsOk, OnOk, OnErr, IfOk, IfErr, vec_capacity, vec_len};
-ghost use Rattle.std.specs.BTreeMap.{IsOrdered};
-ghost use Rattle.std.specs.Ordering.{nat_cmp};
+ghost use Rattle.std.specs.Prelude.{◌≡◌, ◌≢◌, ◌+◌, ◌≤◌, ◌++◌, ◌∷◌, [], None, Some, ℕ, map, reverse, IsOk, OnOk, OnErr, IfOk, IfErr};
 ghost use Rattle.account_core.specs.Admitting.{IsAdmitted};
-ghost use Rattle.account_core.specs.Answers.{IsLegal, inadmissible};
+ghost use Rattle.account_core.specs.Answers.{IsLegal};
+ghost use Rattle.account_core.specs.Asked.{IsCredit, IsOfCall};
 ghost use Rattle.account_core.specs.Available.{available};
 ghost use Rattle.account_core.specs.Events.{asked_of, entry_data};
 ghost use Rattle.account_core.specs.Kept.{known_of};
 ghost use Rattle.account_core.specs.Known.{known, known_asked, paid_if_granted};
-ghost use Rattle.account_core.specs.Ledger.{IsRefusal, answer_of, event_by, refusal_of};
-ghost use Rattle.account_core.specs.Places.{IsClosing};
-ghost use Rattle.account_core.specs.Asked.{IsCredit, IsOfCall};
-ghost use Rattle.account_core.specs.Sums.{AreSums, sum_of, sums_told};
+ghost use Rattle.account_core.specs.Ledger.{IsRefusal, Ledger, answer_of, event_by, refusal_of};
+ghost use Rattle.account_core.specs.Places.{IsClosing, needed_by};
+ghost use Rattle.account_core.specs.Sums.{AreSums};
+ghost use Rattle.account_core.specs.Tellers.{Admits, IsAnsweredBy, IsTellerOf, entered};
 
 use crate::call_state::{CallState, judge, reply};
-use crate::call_states::CallStates;
-use crate::{AccountFault, Admitted, CallSum, Entry, Fate, Op, Reply, laws};
-use rising_map::Listing;
+use crate::tally::Tally;
+use crate::{AccountFault, Admitted, CallSum, Entry, Op, Reply, laws};
 use std::alloc::{AllocError, Global};
-use std::collections::BTreeMap;
 use std::marker::Model;
 use tariff_core::MAX_MONEY;
 
 /// An account: a history of entries, each the one right answer of a sequential account in its
 /// place.
 ///
-/// Beside its entries it keeps what they come to: the state of each call, the funds, the credit
-/// that is left, the last moment, and the places that are owed for closing the open calls. It keeps
-/// room in memory for those places, so that a Return of an open call, and its first Settle since
+/// Beside its entries it keeps what they come to. It keeps room in memory for the places that are
+/// owed for closing the open calls, so that a Return of an open call, and its first Settle since
 /// its last grant, always succeed.
 #[derive(Drop)]
 pub struct Account {
     entries: Vec<Entry>,
-    calls: CallStates,
     opening: u64,
     until: Option<u64>,
-    limit: u32,
-    funds: u64,
-    available: u64,
-    last_moment: Option<u64>,
-    owed: usize,
+    teller: Teller,
 }
 
 impl Model for Account {
-    ghost use Rattle.std.specs.Prelude.{map, reverse};
+    ghost use Rattle.std.specs.Prelude.{map};
     ghost use Rattle.std.specs.Vec.{vec_capacity};
     ghost use Rattle.account_core.specs.Events.{entry_data};
-    ghost use Rattle.account_core.specs.Kept.{IsKept};
     ghost use Rattle.account_core.specs.Ledger.{Ledger};
+    ghost use Rattle.account_core.specs.Tellers.{IsKept};
 
     ghost Value = { Ledger };
 
     ghost view = { λ a. record {
       opening = a.opening;
       until = a.until;
-      limit = a.limit;
+      limit = a.teller.limit;
       history = map entry_data a.entries.items;
     } };
 
-    ghost invariant = { λ a. IsKept a.opening a.until a.limit
-        (reverse (map entry_data a.entries.items))
-        a.calls a.funds a.available a.last_moment a.owed (vec_capacity a.entries) };
+    ghost invariant = { λ a. IsKept (record {
+      opening = a.opening;
+      until = a.until;
+      limit = a.teller.limit;
+      history = map entry_data a.entries.items;
+    }) a.teller (vec_capacity a.entries) };
 }
 
 impl Account {
@@ -74,14 +68,9 @@ impl Account {
     {
         Account {
             entries: Vec::new(alloc),
-            calls: CallStates::new(alloc),
             opening,
             until,
-            limit,
-            funds: opening,
-            available: opening,
-            last_moment: until,
-            owed: 0,
+            teller: Teller::new(alloc, opening, until, limit),
         }
     }
 
@@ -121,11 +110,7 @@ impl Account {
         ensures ungated { result ≢ Err AccountFault.GateClosed }
         ensures closing { IsClosing (reverse self.now.history) (asked_of op) → IsOk result }
     {
-        let call = self.asked_state(&op);
-        match self.judge(&op, &call) {
-            Some(fault) => Err(fault),
-            None => Ok(Admitted { op, call }),
-        }
+        self.teller.admit(op)
     }
 
     /// Answers an operation that the account admits as it is, and enters it for a seat: the second
@@ -143,10 +128,10 @@ impl Account {
         ensures closing { IsClosing (reverse self.old.history) (asked_of admitted.op)
             → IsOk result }
     {
-        let Admitted { op, call } = admitted;
-        let reply = self.answer(op, &call);
-        self.keep(Entry { seat, op, reply }, call)?;
-        Ok(reply)
+        self.entries.try_reserve(self.teller.places(&admitted))?;
+        let entry = self.teller.enter(seat, admitted)?;
+        self.entries.push_reserved(entry);
+        Ok(entry.reply)
     }
 
     /// Why an operation would be refused now, if it would be for any reason but want of memory. One
@@ -155,7 +140,7 @@ impl Account {
         ensures value { result ≡ refusal_of self.now (asked_of op.now) }
         ensures closing { IsClosing (reverse self.now.history) (asked_of op.now) → result ≡ None }
     {
-        self.judge(op, &self.asked_state(op))
+        self.teller.judge(op, &self.teller.asked_state(op))
     }
 
     /// The entries, oldest first. They are a legal history.
@@ -185,21 +170,21 @@ impl Account {
     pub fn limit(&self) -> u32
         ensures { result ≡ self.now.limit }
     {
-        self.limit
+        self.teller.limit
     }
 
     /// The credit that is left.
     pub fn available(&self) -> u64
         ensures { result ≡ available self.now.opening (reverse self.now.history) }
     {
-        self.available
+        self.teller.tally.available
     }
 
     /// What a call has paid so far, or none where it was never granted anything.
     pub fn paid(&self, call: u64) -> Option<u64>
         ensures { result ≡ paid_if_granted (known call (reverse self.now.history)) }
     {
-        self.state(call).paid_if_granted()
+        self.teller.tally.calls.state(call).paid_if_granted()
     }
 
     /// The calls that were granted anything, by rising number, with what each has paid so far and
@@ -207,177 +192,202 @@ impl Account {
     pub fn sums(&self, alloc: Global) -> Result<Vec<CallSum>, AllocError>
         ensures { IfOk result (λ sums. AreSums (reverse self.now.history) sums.items) }
     {
-        match self.calls.listing() {
-            Listing::Rising(calls) => list_sums(alloc, calls),
-            Listing::Mixed(calls) => map_sums(alloc, calls),
+        self.teller.tally.calls.sums(alloc)
+    }
+}
+
+/// Answers as an `Account` does, and keeps no entry: only what the entries come to, how many they
+/// are, and the places that are owed for closing the open calls. It is for those that want the
+/// answers alone.
+///
+/// Each clause speaks of every ledger that a teller stands for: one whose history comes to this.
+#[derive(Drop)]
+pub struct Teller {
+    tally: Tally,
+    limit: u32,
+    entries: usize,
+    owed: usize,
+}
+
+impl Teller {
+    /// The teller of an account with an opening credit of 0 to `MAX_MONEY`, a last moment, if it
+    /// has one, an empty history, and the number of entries that this may grow to. It takes no
+    /// memory yet.
+    pub fn new(alloc: Global, opening: u64, until: Option<u64>, limit: u32) -> Teller
+        requires { opening ≤ MAX_MONEY }
+        ensures { IsTellerOf
+            (record { opening = opening; until = until; limit = limit; history = [] }) result }
+    {
+        Teller {
+            tally: Tally::new(alloc, opening, until),
+            limit,
+            entries: 0,
+            owed: 0,
         }
     }
 
-    /// What the account knows of a call.
+    /// Answers an operation of a seat, as `Account::apply`, and with its faults.
     #[inline(always)]
-    fn state(&self, call: u64) -> CallState
-        ensures { known_of result ≡ known call (reverse self.now.history) }
+    pub fn apply(&mut self, seat: u32, op: Op) -> Result<Reply, AccountFault>
+        requires { (ledger : Ledger) × IsTellerOf ledger self.old }
+        ensures answered { IfOk result (λ reply. (ledger : Ledger) → IsTellerOf ledger self.old →
+            reply ≡ answer_of ledger (asked_of op)) }
+        ensures entered { IfOk result (λ reply. (ledger : Ledger) → IsTellerOf ledger self.old →
+            IsTellerOf (entered ledger (event_by seat (asked_of op) reply)) self.new) }
+        ensures admitted { OnOk result ((ledger : Ledger) → IsTellerOf ledger self.old →
+            refusal_of ledger (asked_of op) ≡ None) }
+        ensures kept { OnErr result ((ledger : Ledger) → IsTellerOf ledger self.old →
+            IsTellerOf ledger self.new) }
+        ensures refused { IfErr result (λ fault. (ledger : Ledger) → IsTellerOf ledger self.old →
+            IsRefusal ledger (asked_of op) fault) }
+        ensures ungated { result ≢ Err AccountFault.GateClosed }
+        ensures closing { (ledger : Ledger) → IsTellerOf ledger self.old →
+            IsClosing (reverse ledger.history) (asked_of op) → IsOk result }
     {
-        self.calls.state(call)
+        match self.admit(op) {
+            Ok(admitted) => Ok(self.enter(seat, admitted)?.reply),
+            Err(fault) => Err(fault),
+        }
     }
 
-    /// What the account knows of the call that is asked for. A Credit is of none, so that nothing
-    /// is looked up for it.
+    /// Judges an operation, as `Account::admit`.
+    #[inline(always)]
+    fn admit(&self, op: Op) -> Result<Admitted, AccountFault>
+        requires { (ledger : Ledger) × IsTellerOf ledger self.now }
+        ensures op { IfOk result (λ admitted. admitted.op ≡ op) }
+        ensures admitted { IfOk result (λ admitted. (ledger : Ledger) →
+            IsTellerOf ledger self.now → IsAdmitted ledger admitted) }
+        ensures refused { IfErr result (λ fault. (ledger : Ledger) → IsTellerOf ledger self.now →
+            refusal_of ledger (asked_of op) ≡ Some fault) }
+        ensures ungated { result ≢ Err AccountFault.GateClosed }
+        ensures closing { (ledger : Ledger) → IsTellerOf ledger self.now →
+            IsClosing (reverse ledger.history) (asked_of op) → IsOk result }
+    {
+        let call = self.asked_state(&op);
+        match self.judge(&op, &call) {
+            Some(fault) => Err(fault),
+            None => Ok(Admitted { op, call }),
+        }
+    }
+
+    /// The places that are owed once an operation that is admitted has its entry, and the place of
+    /// that.
+    #[inline(always)]
+    fn places(&self, admitted: &Admitted) -> usize
+        requires { (ledger : Ledger) × IsTellerOf ledger self.now }
+        ensures { result
+            ≡ self.now.owed + needed_by (known_of admitted.now.call) (asked_of admitted.now.op) }
+    {
+        self.owed + admitted.call.needed(&admitted.op)
+    }
+
+    /// Answers an operation that is admitted, and gives its entry for a seat. The only error is
+    /// want of memory, as in `Account::enter`.
+    #[inline(always)]
+    fn enter(&mut self, seat: u32, admitted: Admitted) -> Result<Entry, AllocError>
+        requires { (ledger : Ledger) × Admits ledger self.old admitted }
+        ensures entry { IfOk result (λ entry. (ledger : Ledger) →
+            Admits ledger self.old admitted → entry_data entry ≡ event_by seat
+            (asked_of admitted.op) (answer_of ledger (asked_of admitted.op))) }
+        ensures entered { IfOk result (λ entry. (ledger : Ledger) →
+            Admits ledger self.old admitted →
+            IsTellerOf (entered ledger (entry_data entry)) self.new) }
+        ensures kept { OnErr result ((ledger : Ledger) → IsTellerOf ledger self.old →
+            IsTellerOf ledger self.new) }
+        ensures closing { (ledger : Ledger) → Admits ledger self.old admitted →
+            IsClosing (reverse ledger.history) (asked_of admitted.op) → IsOk result }
+    {
+        let reply = self.answer(&admitted);
+        let Admitted { op, call: before } = admitted;
+        let entry = Entry { seat, op, reply };
+        match op {
+            Op::Credit { .. } => self.keep_credit(&entry),
+            Op::Reserve { call, .. } | Op::Settle { call, .. } | Op::Return { call } => {
+                self.keep_call(call, entry, before)?;
+            }
+        }
+        Ok(entry)
+    }
+
+    /// What is known of the call that is asked for. A Credit is of none, so that nothing is looked
+    /// up for it.
     #[inline(always)]
     fn asked_state(&self, op: &Op) -> CallState
-        ensures { known_of result ≡ known_asked (asked_of op.now) (reverse self.now.history) }
+        ensures { (ledger : Ledger) → IsTellerOf ledger self.now →
+            known_of result ≡ known_asked (asked_of op.now) (reverse ledger.history) }
     {
         match *op {
             Op::Credit { .. } => CallState::Fresh,
             Op::Reserve { call, .. } | Op::Settle { call, .. } | Op::Return { call } => {
-                self.state(call)
+                self.tally.calls.state(call)
             }
         }
     }
 
     /// Why an operation would be refused, by what is known of its call.
-    #[tactic(auto, unfolding(crate::specs::Places::refusal))]
     #[inline(always)]
     fn judge(&self, op: &Op, call: &CallState) -> Option<AccountFault>
-        requires { known_of call.now ≡ known_asked (asked_of op.now) (reverse self.now.history) }
-        ensures value { result ≡ refusal_of self.now (asked_of op.now) }
-        ensures closing { IsClosing (reverse self.now.history) (asked_of op.now) → result ≡ None }
+        requires { (ledger : Ledger) × IsTellerOf ledger self.now }
+        ensures value { (ledger : Ledger) → IsTellerOf ledger self.now →
+            known_of call.now ≡ known_asked (asked_of op.now) (reverse ledger.history) →
+            result ≡ refusal_of ledger (asked_of op.now) }
+        ensures closing { (ledger : Ledger) → IsTellerOf ledger self.now →
+            known_of call.now ≡ known_asked (asked_of op.now) (reverse ledger.history) →
+            IsClosing (reverse ledger.history) (asked_of op.now) → result ≡ None }
     {
-        judge(op, call, self.entries.len(), self.owed, self.limit)
+        judge(op, call, self.entries, self.owed, self.limit)
     }
 
-    /// The answer to an admissible operation, by what is known of its call.
+    /// The answer to an operation that is admitted.
     #[inline(always)]
-    fn answer(&self, op: Op, call: &CallState) -> Reply
-        requires known { known_of call.now
-            ≡ known_asked (asked_of op) (reverse self.now.history) }
-        requires admissible { inadmissible (reverse self.now.history) (asked_of op) ≡ None }
-        ensures { result ≡ answer_of self.now (asked_of op) }
+    fn answer(&self, admitted: &Admitted) -> Reply
+        requires { (ledger : Ledger) × Admits ledger self.now admitted.now }
+        ensures { (ledger : Ledger) → Admits ledger self.now admitted.now →
+            result ≡ answer_of ledger (asked_of admitted.now.op) }
     {
-        laws::account_is_sound(self);
-        reply(op, call, self.funds, self.available, self.last_moment)
+        laws::legal_pasts_are_sound();
+        let Tally {
+            funds,
+            available,
+            last_moment,
+            ..
+        } = self.tally;
+        reply(admitted.op, &admitted.call, funds, available, last_moment)
     }
 
-    /// Keeps an answered operation, with what was known of its call before. Room for it, and for
-    /// all that is owed after it, is made before anything changes.
+    /// Keeps what a Credit changes.
     #[inline(always)]
-    fn keep(&mut self, entry: Entry, before: CallState) -> Result<(), AllocError>
-        requires known { known_of before
-            ≡ known_asked (asked_of entry.op) (reverse self.old.history) }
-        requires admitted { refusal_of self.old (asked_of entry.op) ≡ None }
-        requires answered { entry.reply ≡ answer_of self.old (asked_of entry.op) }
-        ensures ok { OnOk result (self.new ≡
-            record self.old { history = self.old.history ++ entry_data entry ∷ [] }) }
-        ensures kept { OnErr result (self.new ≡ self.old) }
-        ensures closing { IsClosing (reverse self.old.history) (asked_of entry.op) → IsOk result }
+    fn keep_credit(&mut self, entry: &Entry)
+        requires credit { IsCredit (asked_of entry.now.op) }
+        requires of { (ledger : Ledger) × IsAnsweredBy ledger self.old entry.now }
+        ensures { (ledger : Ledger) → IsAnsweredBy ledger self.old entry.now →
+            IsTellerOf (entered ledger (entry_data entry.now)) self.new }
     {
-        match entry.op {
-            Op::Credit { .. } => self.keep_credit(entry),
-            Op::Reserve { call, .. } | Op::Settle { call, .. } | Op::Return { call } => {
-                self.keep_call(call, entry, before)
-            }
-        }
+        laws::legal_pasts_are_sound();
+        self.tally.count(entry);
+        self.entries += 1;
     }
 
-    /// Keeps a Credit.
-    #[inline(always)]
-    fn keep_credit(&mut self, entry: Entry) -> Result<(), AllocError>
-        requires credit { IsCredit (asked_of entry.op) }
-        requires admitted { refusal_of self.old (asked_of entry.op) ≡ None }
-        requires answered { entry.reply ≡ answer_of self.old (asked_of entry.op) }
-        ensures ok { OnOk result (self.new ≡
-            record self.old { history = self.old.history ++ entry_data entry ∷ [] }) }
-        ensures kept { OnErr result (self.new ≡ self.old) }
-    {
-        laws::account_is_sound(self);
-        make_room(&mut self.entries, self.owed + 1)?;
-        self.entries.push_reserved(entry);
-        self.funds += entry.credited();
-        self.available = entry.reply.available();
-        self.last_moment = entry.last_moment(self.last_moment);
-        Ok(())
-    }
-
-    /// Keeps an operation of a call.
+    /// Keeps what an operation of a call changes.
     #[inline(always)]
     fn keep_call(&mut self, call: u64, entry: Entry, before: CallState) -> Result<(), AllocError>
-        requires known { known_of before ≡ known call (reverse self.old.history) }
         requires of_call { IsOfCall call (asked_of entry.op) }
-        requires admitted { refusal_of self.old (asked_of entry.op) ≡ None }
-        requires answered { entry.reply ≡ answer_of self.old (asked_of entry.op) }
-        ensures ok { OnOk result (self.new ≡
-            record self.old { history = self.old.history ++ entry_data entry ∷ [] }) }
-        ensures kept { OnErr result (self.new ≡ self.old) }
-        ensures closing { IsClosing (reverse self.old.history) (asked_of entry.op) → IsOk result }
+        requires of { (ledger : Ledger) × IsAnsweredBy ledger self.old entry ×
+            (known_of before ≡ known call (reverse ledger.history)) }
+        ensures ok { OnOk result ((ledger : Ledger) → IsAnsweredBy ledger self.old entry →
+            known_of before ≡ known call (reverse ledger.history) →
+            IsTellerOf (entered ledger (entry_data entry)) self.new) }
+        ensures kept { OnErr result ((ledger : Ledger) → IsTellerOf ledger self.old →
+            IsTellerOf ledger self.new) }
+        ensures closing { (ledger : Ledger) → IsAnsweredBy ledger self.old entry →
+            IsClosing (reverse ledger.history) (asked_of entry.op) → IsOk result }
     {
-        laws::account_is_sound(self);
-        make_room(&mut self.entries, self.owed + before.needed(&entry.op))?;
+        laws::legal_pasts_are_sound();
         let after = before.after(entry.op, entry.reply);
-        self.calls.renew(call, after)?;
-        self.entries.push_reserved(entry);
-        self.available = entry.reply.available();
+        self.tally.calls.renew(call, after)?;
+        self.tally.available = entry.reply.available();
         self.owed = self.owed + after.owed() - before.owed();
+        self.entries += 1;
         Ok(())
     }
-}
-
-/// Makes room for so many more entries.
-#[inline(always)]
-fn make_room(entries: &mut Vec<Entry>, places: usize) -> Result<(), AllocError>
-    ensures items { entries.new.items ≡ entries.old.items }
-    ensures ok { OnOk result (vec_len entries.new + places ≤ vec_capacity entries.new) }
-    ensures grows { vec_capacity entries.old ≤ vec_capacity entries.new }
-    ensures enough { vec_len entries.old + places ≤ vec_capacity entries.old → IsOk result }
-{
-    entries.try_reserve(places)
-}
-
-/// What each state of a list comes to, in its order.
-fn list_sums(alloc: Global, calls: &[(u64, CallState)]) -> Result<Vec<CallSum>, AllocError>
-    ensures { IfOk result (λ sums. sums.items ≡ sums_told calls.now) }
-{
-    let mut sums = Vec::new(alloc);
-    for (call, state) in calls {
-        add_sum(&mut sums, *call, state)?;
-    }
-    Ok(sums)
-}
-
-/// What each state of a map comes to, by rising number.
-fn map_sums(alloc: Global, calls: &BTreeMap<u64, CallState>) -> Result<Vec<CallSum>, AllocError>
-    ensures sums { IfOk result (λ sums. sums.items ≡ sums_told calls.now.entries) }
-    ensures ordered { IsOrdered nat_cmp calls.now }
-{
-    let mut sums = Vec::new(alloc);
-    for (call, state) in calls.iter() {
-        add_sum(&mut sums, *call, state)?;
-    }
-    Ok(sums)
-}
-
-/// Adds what a call comes to, where it was granted anything.
-fn add_sum(sums: &mut Vec<CallSum>, call: u64, state: &CallState) -> Result<(), AllocError>
-    ensures { OnOk result (sums.new.items ≡
-        sums.old.items ++ option_to_list (sum_of call (known_of state.now))) }
-{
-    if let Some(sum) = sum_of(call, state) {
-        sums.push(sum)?;
-    }
-    Ok(())
-}
-
-/// What a call comes to, where it was granted anything.
-fn sum_of(call: u64, state: &CallState) -> Option<CallSum>
-    ensures { result ≡ sum_of call (known_of state.now) }
-{
-    let (held, fate) = match state {
-        CallState::Fresh => return None,
-        CallState::Granted(held) | CallState::Reported(held) => (held, Fate::Holding),
-        CallState::Over(held) => (held, Fate::Returned),
-    };
-    Some(CallSum {
-        call,
-        paid: held.paid(),
-        fate: if held.forfeited { Fate::Forfeit } else { fate },
-    })
 }

@@ -1,19 +1,15 @@
 //! Whether a history that is told entry by entry is legal.
 
-ghost use Rattle.std.specs.Prelude.{◌≡◌, ◌≤◌, ◌∷◌, [], Ok, true, false, map, ℕ, List, Option, OnErr, OnOk, IfNone, IfOk, IfSome};
+ghost use Rattle.std.specs.Prelude.{◌≡◌, ◌≤◌, ◌∷◌, [], Ok, true, false, map, ℕ, List, Option, OnErr, OnOk};
 ghost use Rattle.std.specs.Bool.{Decides};
-ghost use Rattle.account_core.specs.Answers.{IsLegal, IsLegalPast, IsAnswered};
+ghost use Rattle.account_core.specs.Answers.{IsLegal, IsLegalPast};
 ghost use Rattle.account_core.specs.Events.{entry_data, EntryData, asked_of};
 ghost use Rattle.account_core.specs.Asked.{call_of};
 ghost use Rattle.account_core.specs.Checked.{HasBegun, IsCheckOf};
 ghost use Rattle.account_core.specs.Known.{known, nothing_known};
-ghost use Rattle.account_core.specs.CallStates.{AreSame, state_of};
-ghost use Rattle.account_core.specs.Kept.{TellsEach, known_of};
-ghost use Rattle.account_core.specs.Tallied.{IsTallied, IsToldOf, tally_of};
 
-use crate::call_state::{CallState, inadmissible, reply};
-use crate::call_states::CallStates;
-use crate::{Account, Entry, laws};
+use crate::tally::Tally;
+use crate::{Account, Entry};
 use std::alloc::{AllocError, Global};
 use tariff_core::MAX_MONEY;
 
@@ -152,136 +148,4 @@ impl HistoryCheck {
         }
         Ok(())
     }
-}
-
-/// What a legal history comes to: the state of each call, the opening with the accepted credits,
-/// the credit that is left, and the last moment, if there is one. The history itself isn't kept:
-/// each clause speaks of every history that comes to this.
-#[derive(Drop)]
-struct Tally {
-    opening: u64,
-    until: Option<u64>,
-    calls: CallStates,
-    funds: u64,
-    available: u64,
-    last_moment: Option<u64>,
-}
-
-impl Tally {
-    /// That of the empty history.
-    pub fn new(alloc: Global, opening: u64, until: Option<u64>) -> Tally
-        requires { opening ≤ MAX_MONEY }
-        ensures tallied { IsTallied [] result }
-        ensures opening { result.opening ≡ opening }
-        ensures until { result.until ≡ until }
-    {
-        Tally {
-            opening,
-            until,
-            calls: CallStates::new(alloc),
-            funds: opening,
-            available: opening,
-            last_moment: until,
-        }
-    }
-
-    /// Adds an entry to those so far where it is legal after them, and tells whether it is. Memory
-    /// is taken where the entry's call is new, which is 0 at a Credit.
-    #[inline(always)]
-    pub fn hear(&mut self, entry: Entry) -> Result<bool, AllocError>
-        requires { (h : List EntryData) × IsTallied h self.old }
-        ensures legal { IfOk result (λ legal. legal ≡ true → (h : List EntryData) →
-            IsTallied h self.old → IsTallied (entry_data entry ∷ h) self.new) }
-        ensures illegal { IfOk result (λ legal. legal ≡ false → (h : List EntryData) →
-            IsTallied h self.old → IsAnswered self.old.opening self.old.until h (entry_data entry)
-            → ⊥) }
-        ensures opening { self.new.opening ≡ self.old.opening }
-        ensures until { self.new.until ≡ self.old.until }
-        ensures kept { OnErr result ((h : List EntryData) →
-            IsTallied h self.old → IsTallied h self.new) }
-        ensures fresh { OnErr result ((h : List EntryData) → IsTallied h self.old →
-            known (call_of (asked_of entry.op)) h ≡ nothing_known) }
-    {
-        laws::legal_pasts_are_sound();
-        if !renew_state(
-            &mut self.calls,
-            entry,
-            self.funds,
-            self.available,
-            self.last_moment,
-        )? {
-            return Ok(false);
-        }
-        self.funds += entry.credited();
-        self.available = entry.reply.available();
-        self.last_moment = entry.last_moment(self.last_moment);
-        Ok(true)
-    }
-}
-
-/// Keeps what is known of a call after an entry of it, where the entry is legal after a history
-/// with these funds, of which so much is available, and this last moment; tells whether it is.
-#[inline(always)]
-fn renew_state(
-    calls: &mut CallStates,
-    entry: Entry,
-    funds: u64,
-    available: u64,
-    last_moment: Option<u64>,
-) -> Result<bool, AllocError>
-    requires { (opening : ℕ) × (until : Option ℕ) × (h : List EntryData) ×
-        IsTallied h (tally_of opening until calls.old funds available last_moment) }
-    ensures legal { IfOk result (λ legal. legal ≡ true
-        → (opening : ℕ) (until : Option ℕ) (h : List EntryData)
-        → IsTallied h (tally_of opening until calls.old funds available last_moment)
-        → IsAnswered opening until h (entry_data entry)
-        × TellsEach calls.new (entry_data entry ∷ h)) }
-    ensures illegal { IfOk result (λ legal. legal ≡ false
-        → (opening : ℕ) (until : Option ℕ) (h : List EntryData)
-        → IsTallied h (tally_of opening until calls.old funds available last_moment)
-        → IsAnswered opening until h (entry_data entry) → ⊥) }
-    ensures kept { OnErr result (AreSame calls.old calls.new) }
-    ensures fresh { OnErr result (state_of calls.old (call_of (asked_of entry.op))
-        ≡ CallState.Fresh) }
-{
-    let call = entry.op.call();
-    let state = calls.state(call);
-    let Some(after) = after_legal(entry, &state, funds, available, last_moment) else {
-        return Ok(false);
-    };
-    calls.renew(call, after)?;
-    Ok(true)
-}
-
-/// What is known of a call after an entry of it, where the entry is legal after a history with
-/// these funds, of which so much is available, and this last moment.
-#[inline(always)]
-fn after_legal(
-    entry: Entry,
-    state: &CallState,
-    funds: u64,
-    available: u64,
-    last_moment: Option<u64>,
-) -> Option<CallState>
-    requires { (opening : ℕ) × (until : Option ℕ) × (h : List EntryData) ×
-        IsToldOf opening until h (entry_data entry) (known_of state.now)
-        funds available last_moment }
-    ensures legal { IfSome result (λ after. (opening : ℕ) (until : Option ℕ) (h : List EntryData) →
-        IsToldOf opening until h (entry_data entry) (known_of state.now)
-        funds available last_moment →
-        IsAnswered opening until h (entry_data entry)
-        × (known_of after ≡ known (call_of (asked_of entry.op)) (entry_data entry ∷ h))) }
-    ensures illegal { IfNone result ((opening : ℕ) (until : Option ℕ) (h : List EntryData) →
-        IsToldOf opening until h (entry_data entry) (known_of state.now)
-        funds available last_moment →
-        IsAnswered opening until h (entry_data entry) → ⊥) }
-{
-    laws::legal_pasts_are_sound();
-    if inadmissible(&entry.op, state).is_some() {
-        return None;
-    }
-    if reply(entry.op, state, funds, available, last_moment) != entry.reply {
-        return None;
-    }
-    Some(state.after(entry.op, entry.reply))
 }

@@ -7,7 +7,7 @@ ghost use Rattle.account_core.specs.Sound.{AnswersFit, IsSoundPast, LegalPastsAr
 ghost use Rattle.account_core.specs.TariffLaws.{TariffLaws};
 ghost use Rattle.account_core.specs.SharingLaws.{AccountsHaveNoGate, EachIsOwedItsShare, EntriesOweToTheirCalls};
 
-use crate::{Account, ListAccount};
+use crate::ListAccount;
 use tariff_core::{afforded_is_greatest, ceiling_is_greatest, lawful_times_follow};
 
 /// No balance is negative: at no place of a legal history do its calls take more than there is.
@@ -56,17 +56,7 @@ pub fn entries_are_in_range()
     tariff_laws();
 }
 
-/// What holds of an account's history, and of the answers that come next.
-pub(crate) fn account_is_sound(account: &Account)
-    ensures sound { IsSoundPast account.now.opening (reverse account.now.history) }
-    ensures fitting { AnswersFit account.now.opening account.now.until
-        (reverse account.now.history) }
-{
-    let _ = account.history();
-    legal_pasts_are_sound();
-}
-
-/// The same of the account that walks its list.
+/// What holds of the history of an account that walks its list, and of the answers that come next.
 pub(crate) fn list_is_sound(account: &ListAccount)
     ensures sound { IsSoundPast account.now.opening (reverse account.now.history) }
     ensures fitting { AnswersFit account.now.opening account.now.until

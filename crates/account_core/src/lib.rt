@@ -17,8 +17,9 @@ mod kept_plan;
 mod laws;
 mod limits;
 mod list_account;
+mod tally;
 
-pub use account::Account;
+pub use account::{Account, Teller};
 pub use account_port::{AccountPort, Port};
 pub use admitted::Admitted;
 pub use call_stage::CallStage;

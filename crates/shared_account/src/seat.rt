@@ -1,6 +1,6 @@
 //! Seats, from which an account is asked.
 
-ghost use Rattle.std.specs.Prelude.{◌≡◌, ◌≢◌, ◌≤◌, ◌++◌, ◌∷◌, ◌+◌, [], None, false, map, reverse, IsOk, OnOk, OnErr, IfOk, IfErr, ℕ, vec_capacity, vec_len, IsSome};
+ghost use Rattle.std.specs.Prelude.{◌≡◌, ◌≢◌, ◌≤◌, ◌++◌, ◌∷◌, ◌+◌, [], None, false, map, reverse, IsOk, OnOk, OnErr, IfOk, IfErr, ℕ, IsSome};
 ghost use Rattle.std.specs.BTreeMap.{is_at};
 ghost use Rattle.std.specs.Map.{lookup};
 ghost use Rattle.std.specs.Ordering.{nat_cmp};
@@ -218,7 +218,7 @@ impl Seat {
         ensures kept { OnErr result (self.new ≡ self.old) }
     {
         places_go_with_entries();
-        make_room(&mut self.mine, self.owed + 1)?;
+        self.mine.try_reserve(self.owed + 1)?;
         let seat = self.number;
         let op = admitted.op();
         let reply = account.enter(seat, admitted)?;
@@ -254,7 +254,7 @@ impl Seat {
         let seat = self.number;
         let op = admitted.op();
         let before = kept_stage(&mut self.stages, call)?;
-        make_room(&mut self.mine, self.owed + before.needed(&op))?;
+        self.mine.try_reserve(self.owed + before.needed(&op))?;
         let reply = account.enter(seat, admitted)?;
         let after = before.after(op, reply);
         self.stages.set(call, after);
@@ -281,14 +281,4 @@ fn kept_stage(stages: &mut RisingMap<CallStage>, call: u64) -> Result<CallStage,
             Ok(CallStage::Fresh)
         }
     }
-}
-
-/// Makes room for so many more entries.
-fn make_room(mine: &mut Vec<Entry>, places: usize) -> Result<(), AllocError>
-    ensures items { mine.new.items ≡ mine.old.items }
-    ensures ok { OnOk result (vec_len mine.new + places ≤ vec_capacity mine.new) }
-    ensures grows { vec_capacity mine.old ≤ vec_capacity mine.new }
-    ensures enough { vec_len mine.old + places ≤ vec_capacity mine.old → IsOk result }
-{
-    mine.try_reserve(places)
 }

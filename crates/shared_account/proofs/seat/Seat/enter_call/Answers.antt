@@ -12,7 +12,7 @@ push_reserved-requires c =
     (rw c.op-op.ensures c.requires.of_call) (rw c.op-op.ensures c.in_ok-reply.ensures.answered) (search rules) c.after-after.ensures c.owed-2.ensures.value c.owed.ensures.value c.needed.ensures.value in
     omega (
       arith,
-      c.in_ok-make_room.ensures.ok,
+      c.in_ok-try_reserve.ensures.ok,
       c.self.invariant.places_are,
       owed_after c.places_go_with_entries.ensures.moves (reverse (map entry_data c.self.inside.mine.items))
           (record { seat = c.self.inside.number; asked = asked_of c.op-op.result; reply = c.in_ok-reply.reply }) c.in_ok-before.before c.after-after.result c.owed-2.result c.owed.result c.needed.result entered,
@@ -31,16 +31,16 @@ invariant_of-self-2 c =
     (rw c.op-op.ensures c.requires.of_call) (rw c.op-op.ensures c.in_ok-reply.ensures.answered) (search rules) c.after-after.ensures c.owed-2.ensures.value c.owed.ensures.value c.needed.ensures.value in
     let same = of_call c.args.call (asked_of c.op-op.result) (rw c.op-op.ensures c.requires.of_call) in
     roomy_pushed old c.push_reserved.new.self.items entry _ places capacity
-    (c.push_reserved.ensures.items ∙ ap (λ items. items ++ entry ∷ []) c.make_room.ensures.items)
+    (c.push_reserved.ensures.items ∙ ap (λ items. items ++ entry ∷ []) c.try_reserve.ensures.items)
     (roomy_after c.places_go_with_entries.ensures.moves (reverse (map entry_data old)) (entry_data entry) before after c.owed-2.result c.owed.result c.needed.result entered
     c.args.call c.kept_stage.new.stages c.set.new.self c.self.inside.owed places (vec_capacity c.self.inside.mine) capacity
     same (roomy_same _ c.self.inside.stages c.kept_stage.new.stages _ _ c.kept_stage.ensures.same c.self.invariant) c.set.ensures
     (omega arith)
     (omega (
       arith,
-      c.in_ok-make_room.ensures.ok,
-      c.make_room.new.mine.ok.0,
-      ap length c.make_room.ensures.items,
+      c.in_ok-try_reserve.ensures.ok,
+      c.try_reserve.new.self.ok.0,
+      ap length c.try_reserve.ensures.items,
       c.push_reserved.ensures.capacity,
       length_past old,
     )))

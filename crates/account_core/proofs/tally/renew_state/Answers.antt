@@ -3,7 +3,7 @@ use Rattle.account_core.specs.CallStates.{Renews, state_of}
 use Rattle.account_core.specs.Events.{entry_data}
 use Rattle.account_core.proofs.Moves.{its_call}
 use Rattle.account_core.proofs.Tallying.{tells_after, told_by}
-use Rattle.account_core.proofs.history_check.renew_state.Goals as goal
+use Rattle.account_core.proofs.tally.renew_state.Goals as goal
 
 pub returns-clause-legal : goal.returns-clause-legal
 returns-clause-legal c = λ yes opening until h tallied.

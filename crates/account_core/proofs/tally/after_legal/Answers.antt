@@ -2,7 +2,7 @@ use Rattle.std.proofs.Common.{◌≡◌, rules, sym, ◌∙◌}
 use Rattle.account_core.specs.Events.{entry_data}
 use Rattle.account_core.specs.Kept.{known_of}
 use Rattle.account_core.proofs.Tallying.{admissible_told, not_some, reply_told, told_after, told_legal, told_money, told_room}
-use Rattle.account_core.proofs.history_check.after_legal.Goals as goal
+use Rattle.account_core.proofs.tally.after_legal.Goals as goal
 
 pub reply-requires-clause-money : goal.reply-requires-clause-money
 reply-requires-clause-money c =

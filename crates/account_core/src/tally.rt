@@ -1,0 +1,159 @@
+//! What a legal history comes to.
+
+ghost use Rattle.std.specs.Prelude.{◌≡◌, ◌+◌, ◌≤◌, ◌∷◌, [], true, false, ℕ, List, Option, OnErr, IfNone, IfOk, IfSome};
+ghost use Rattle.account_core.specs.Answers.{IsAnswered, shown_by};
+ghost use Rattle.account_core.specs.Asked.{call_of};
+ghost use Rattle.account_core.specs.Available.{credited};
+ghost use Rattle.account_core.specs.CallStates.{AreSame, state_of};
+ghost use Rattle.account_core.specs.Events.{entry_data, EntryData, asked_of};
+ghost use Rattle.account_core.specs.Expiry.{last_moment_after};
+ghost use Rattle.account_core.specs.Kept.{TellsEach, known_of};
+ghost use Rattle.account_core.specs.Known.{known, nothing_known};
+ghost use Rattle.account_core.specs.Tallied.{IsTallied, IsToldOf, tally_of};
+
+use crate::call_state::{CallState, inadmissible, reply};
+use crate::call_states::CallStates;
+use crate::{Entry, laws};
+use std::alloc::{AllocError, Global};
+use tariff_core::MAX_MONEY;
+
+/// What a legal history comes to: the state of each call, the opening with the accepted credits,
+/// the credit that is left, and the last moment, if there is one. The history itself isn't kept:
+/// each clause speaks of every history that comes to this.
+#[derive(Drop)]
+pub(crate) struct Tally {
+    pub calls: CallStates,
+    pub funds: u64,
+    pub available: u64,
+    pub last_moment: Option<u64>,
+}
+
+impl Tally {
+    /// That of the empty history.
+    pub fn new(alloc: Global, opening: u64, until: Option<u64>) -> Tally
+        requires { opening ≤ MAX_MONEY }
+        ensures { IsTallied opening until [] result }
+    {
+        Tally {
+            calls: CallStates::new(alloc),
+            funds: opening,
+            available: opening,
+            last_moment: until,
+        }
+    }
+
+    /// Adds an entry to those so far where it is legal after them, and tells whether it is. Memory
+    /// is taken where the entry's call is new, which is 0 at a Credit.
+    #[inline(always)]
+    pub fn hear(&mut self, entry: Entry) -> Result<bool, AllocError>
+        requires { (opening : ℕ) × (until : Option ℕ) × (h : List EntryData)
+            × IsTallied opening until h self.old }
+        ensures legal { IfOk result (λ legal. legal ≡ true
+            → (opening : ℕ) (until : Option ℕ) (h : List EntryData) →
+            IsTallied opening until h self.old
+            → IsTallied opening until (entry_data entry ∷ h) self.new) }
+        ensures illegal { IfOk result (λ legal. legal ≡ false
+            → (opening : ℕ) (until : Option ℕ) (h : List EntryData) →
+            IsTallied opening until h self.old → IsAnswered opening until h (entry_data entry)
+            → ⊥) }
+        ensures kept { OnErr result ((opening : ℕ) (until : Option ℕ) (h : List EntryData) →
+            IsTallied opening until h self.old → IsTallied opening until h self.new) }
+        ensures fresh { OnErr result ((opening : ℕ) (until : Option ℕ) (h : List EntryData) →
+            IsTallied opening until h self.old → known (call_of (asked_of entry.op)) h
+            ≡ nothing_known) }
+    {
+        laws::legal_pasts_are_sound();
+        if !renew_state(
+            &mut self.calls,
+            entry,
+            self.funds,
+            self.available,
+            self.last_moment,
+        )? {
+            return Ok(false);
+        }
+        self.count(&entry);
+        Ok(true)
+    }
+
+    /// Adds an entry to the totals, and to the last moment.
+    #[inline(always)]
+    pub fn count(&mut self, entry: &Entry)
+        requires { self.old.funds + credited (asked_of entry.now.op) entry.now.reply ≤ MAX_MONEY }
+        ensures { self.new ≡ tally_of self.old.calls
+            (self.old.funds + credited (asked_of entry.now.op) entry.now.reply)
+            (shown_by entry.now.reply)
+            (last_moment_after self.old.last_moment (asked_of entry.now.op) entry.now.reply) }
+    {
+        self.funds += entry.credited();
+        self.available = entry.reply.available();
+        self.last_moment = entry.last_moment(self.last_moment);
+    }
+}
+
+/// Keeps what is known of a call after an entry of it, where the entry is legal after a history
+/// with these funds, of which so much is available, and this last moment; tells whether it is.
+#[inline(always)]
+fn renew_state(
+    calls: &mut CallStates,
+    entry: Entry,
+    funds: u64,
+    available: u64,
+    last_moment: Option<u64>,
+) -> Result<bool, AllocError>
+    requires { (opening : ℕ) × (until : Option ℕ) × (h : List EntryData) ×
+        IsTallied opening until h (tally_of calls.old funds available last_moment) }
+    ensures legal { IfOk result (λ legal. legal ≡ true
+        → (opening : ℕ) (until : Option ℕ) (h : List EntryData)
+        → IsTallied opening until h (tally_of calls.old funds available last_moment)
+        → IsAnswered opening until h (entry_data entry)
+        × TellsEach calls.new (entry_data entry ∷ h)) }
+    ensures illegal { IfOk result (λ legal. legal ≡ false
+        → (opening : ℕ) (until : Option ℕ) (h : List EntryData)
+        → IsTallied opening until h (tally_of calls.old funds available last_moment)
+        → IsAnswered opening until h (entry_data entry) → ⊥) }
+    ensures kept { OnErr result (AreSame calls.old calls.new) }
+    ensures fresh { OnErr result (state_of calls.old (call_of (asked_of entry.op))
+        ≡ CallState.Fresh) }
+{
+    let call = entry.op.call();
+    let state = calls.state(call);
+    let Some(after) = after_legal(entry, &state, funds, available, last_moment) else {
+        return Ok(false);
+    };
+    calls.renew(call, after)?;
+    Ok(true)
+}
+
+/// What is known of a call after an entry of it, where the entry is legal after a history with
+/// these funds, of which so much is available, and this last moment.
+#[inline(always)]
+fn after_legal(
+    entry: Entry,
+    state: &CallState,
+    funds: u64,
+    available: u64,
+    last_moment: Option<u64>,
+) -> Option<CallState>
+    requires { (opening : ℕ) × (until : Option ℕ) × (h : List EntryData) ×
+        IsToldOf opening until h (entry_data entry) (known_of state.now)
+        funds available last_moment }
+    ensures legal { IfSome result (λ after. (opening : ℕ) (until : Option ℕ) (h : List EntryData) →
+        IsToldOf opening until h (entry_data entry) (known_of state.now)
+        funds available last_moment →
+        IsAnswered opening until h (entry_data entry)
+        × (known_of after ≡ known (call_of (asked_of entry.op)) (entry_data entry ∷ h))) }
+    ensures illegal { IfNone result ((opening : ℕ) (until : Option ℕ) (h : List EntryData) →
+        IsToldOf opening until h (entry_data entry) (known_of state.now)
+        funds available last_moment →
+        IsAnswered opening until h (entry_data entry) → ⊥) }
+{
+    laws::legal_pasts_are_sound();
+    if inadmissible(&entry.op, state).is_some() {
+        return None;
+    }
+    if reply(entry.op, state, funds, available, last_moment) != entry.reply {
+        return None;
+    }
+    Some(state.after(entry.op, entry.reply))
+}
