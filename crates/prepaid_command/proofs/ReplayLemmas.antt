@@ -5,6 +5,8 @@ use Rattle.std.proofs.lemmas.List.{reverse-append}
 use Rattle.account_core.specs.Asked.{Asked}
 use Rattle.account_core.specs.Events.{EntryData}
 use Rattle.account_core.specs.Ledger.{IsRefusal, Ledger, answer_of, event_by, refusal_of}
+use Rattle.account_core.specs.Tellers.{IsTellerOf, entered}
+use Rattle.account_core.specs.declared.account.Teller.{Teller}
 use Rattle.account_core.specs.declared.entry.Reply.{Reply}
 use Rattle.account_core.specs.declared.fault.AccountFault.{AccountFault}
 use Rattle.account_core.specs.declared.fault.AccountFault.TheVariants as fault
@@ -44,21 +46,22 @@ lines_more opening until limit h [] ask = append-nil (line_of_ask opening until 
 lines_more opening until limit h (first ∷ asks) ask =
     rw (lines_more opening until limit (history_after opening until limit h first) asks ask) (sym (append_assoc (line_of_ask opening until limit h first) _ _))
 
--- what was replayed so far: these asks, whose lines were printed, and whose history the account has
-pub record IsReplayed (opening : ℕ) (until : Option ℕ) (limit : ℕ) (text : List ℕ) (account : Ledger) (asks : List Asking) : Type 0 where
-  pub opened : account.opening ≡ opening
-  pub lasting : account.until ≡ until
-  pub limited : account.limit ≡ limit
+-- what was replayed so far: these asks, whose lines were printed, and whose history the ledger has
+pub record IsReplayed (opening : ℕ) (until : Option ℕ) (limit : ℕ) (text : List ℕ) (ledger : Ledger) (asks : List Asking) : Type 0 where
+  pub opened : ledger.opening ≡ opening
+  pub lasting : ledger.until ≡ until
+  pub limited : ledger.limit ≡ limit
   pub lines : replay_lines opening until limit [] asks ≡ text
-  pub history : history_of opening until limit [] asks ≡ reverse account.history
+  pub history : history_of opening until limit [] asks ≡ reverse ledger.history
 
-pub none_replayed : (opening : ℕ) (until : Option ℕ) (limit : ℕ) (account : Ledger) → account.opening ≡ opening → account.until ≡ until → account.limit ≡ limit → account.history ≡ [] → IsReplayed opening until limit [] account []
+pub none_replayed : (opening : ℕ) (until : Option ℕ) (limit : ℕ)
+    → IsReplayed opening until limit [] (record { opening = opening; until = until; limit = limit; history = [] }) []
 unfolding history_of replay_lines
-none_replayed opening until limit account opened lasting limited none = record { opened = opened; lasting = lasting; limited = limited; lines = refl; history = rw none refl }
+none_replayed opening until limit = record { opened = refl; lasting = refl; limited = refl; lines = refl; history = refl }
 
 -- ---- one operation
 
--- what the account's answer to an ask does to the lines and to the history
+-- what the answer to an ask does to the lines and to the history
 pub record IsStep (old new : Ledger) (ask : Asking) (told : Result Reply AccountFault) : Type 0 where
   pub line : told_line told ≡ line_of_ask old.opening old.until old.limit (reverse old.history) ask
   pub history : reverse new.history ≡ history_after old.opening old.until old.limit (reverse old.history) ask
@@ -66,26 +69,40 @@ pub record IsStep (old new : Ledger) (ask : Asking) (told : Result Reply Account
   pub until : new.until ≡ old.until
   pub limit : new.limit ≡ old.limit
 
-pub step : (old new : Ledger) (seat : ℕ) (asked : Asked) (told : Result Reply AccountFault)
-    → IfOk told (λ reply. reply ≡ answer_of old asked)
-    → IfOk told (λ reply. new ≡ record old { history = old.history ++ event_by seat asked reply ∷ [] })
-    → OnOk told (refusal_of old asked ≡ None) → OnErr told (new ≡ old) → IfErr told (λ why. IsRefusal old asked why)
-    → told ≢ Err fault.OutOfMemory → IsStep old new (record { seat = seat; asked = asked }) told
-step old new seat asked (Ok reply) answered entered admitted kept refused memory = record {
-  line = rw (admitted, answered) refl;
-  history = rw (entered, admitted, ← answered) (reverse-append old.history (event_by seat asked reply ∷ []));
-  opening = rw entered refl;
-  until = rw entered refl;
-  limit = rw entered refl;
-}
-step old new seat asked (Err why) answered entered admitted kept (inl refused) memory = record {
-  line = rw refused refl;
-  history = rw (kept, refused) refl;
-  opening = rw kept refl;
-  until = rw kept refl;
-  limit = rw kept refl;
-}
-step old new seat asked (Err why) answered entered admitted kept (inr refused) memory = absurd (memory (ap Err refused.1))
+-- the ledger after an answer
+abbrev pub ledger_after : Ledger → ℕ → Asked → Result Reply AccountFault → Ledger
+ledger_after ledger seat asked (Ok reply) = entered ledger (event_by seat asked reply)
+ledger_after ledger seat asked (Err why) = ledger
+
+refused_step : (ledger : Ledger) (seat : ℕ) (asked : Asked) (why : AccountFault) → IsRefusal ledger asked why → why ≢ fault.OutOfMemory
+    → IsStep ledger ledger (record { seat = seat; asked = asked }) (Err why)
+refused_step ledger seat asked why (inl refused) memory = record { line = rw refused refl; history = rw refused refl; opening = refl; until = refl; limit = refl }
+refused_step ledger seat asked why (inr refused) memory = absurd (memory refused.1)
+
+module _ (old new : Teller) (ledger : Ledger) (is : IsTellerOf ledger old) (seat : ℕ) (asked : Asked) where
+  pub step : (told : Result Reply AccountFault)
+      → IfOk told (λ reply. (l : Ledger) → IsTellerOf l old → reply ≡ answer_of l asked)
+      → OnOk told ((l : Ledger) → IsTellerOf l old → refusal_of l asked ≡ None)
+      → IfErr told (λ why. (l : Ledger) → IsTellerOf l old → IsRefusal l asked why)
+      → told ≢ Err fault.OutOfMemory → IsStep ledger (ledger_after ledger seat asked told) (record { seat = seat; asked = asked }) told
+  step (Ok reply) answered admitted refused memory =
+      let none : refusal_of ledger asked ≡ None = admitted ledger is in
+      let right : reply ≡ answer_of ledger asked = answered ledger is in
+      record {
+        line = rw (none, right) refl;
+        history = rw (none, ← right) (reverse-append ledger.history (event_by seat asked reply ∷ []));
+        opening = refl;
+        until = refl;
+        limit = refl;
+      }
+  step (Err why) answered admitted refused memory = refused_step ledger seat asked why (refused ledger is) (λ same. memory (ap Err same))
+
+  pub teller_after : (told : Result Reply AccountFault)
+      → IfOk told (λ reply. (l : Ledger) → IsTellerOf l old → IsTellerOf (entered l (event_by seat asked reply)) new)
+      → OnErr told ((l : Ledger) → IsTellerOf l old → IsTellerOf l new)
+      → IsTellerOf (ledger_after ledger seat asked told) new
+  teller_after (Ok reply) entered kept = entered ledger is
+  teller_after (Err why) entered kept = kept ledger is
 
 pub one_replayed : (opening : ℕ) (until : Option ℕ) (limit : ℕ) (text : List ℕ) (old new : Ledger) (asks : List Asking) (ask : Asking) (told : Result Reply AccountFault)
     → IsReplayed opening until limit text old asks → IsStep old new ask told → IsReplayed opening until limit (text ++ told_line told) new (asks ++ ask ∷ [])

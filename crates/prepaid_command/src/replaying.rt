@@ -13,7 +13,7 @@ ghost use Rattle.entry_rows.specs.Columns.{HasOperation};
 ghost use Rattle.table_core.specs.declared.fault.TableFault.TheVariants as out;
 
 use crate::tables::MAX_ROWS;
-use account_core::{Account, AccountFault, Op, Reply};
+use account_core::{AccountFault, Op, Reply, Teller};
 use csv::ByteRecord;
 use entry_rows::{Version, is_op_blank, read_op, read_op_word, read_seat};
 use std::alloc::{AllocError, Global};
@@ -47,14 +47,14 @@ pub fn replay<I: Read + Drop>(
         ],
     ];
     let mut table = Table::open(alloc, reader, headers, MAX_ROWS)?;
-    let mut account = Account::new(alloc, opening, None, limit);
+    let mut teller = Teller::new(alloc, opening, None, limit);
     let mut text = String::new(alloc);
     while table.next_row()? {
         let ask = match read_ask(table.row(), Version::at(table.header())) {
             Ok(ask) => ask,
             Err(kind) => return Err(table.fault(kind)),
         };
-        write_answer(&mut text, account.apply(ask.seat, ask.op))?;
+        write_answer(&mut text, teller.apply(ask.seat, ask.op))?;
     }
     Ok(text)
 }
