@@ -33,7 +33,7 @@ use Rattle.contend.proofs.seat_all.Given as goal
 
 -- the seats that are left are of the account
 abbrev pub invariant-loop-number : goal.invariant-loop-number
-invariant-loop-number g l = All (λ seat. g.S.Shared.key_of seat ≡ g.S.Shared.key l.account.value) l.seats.items
+invariant-loop-number g l = All (λ seat. g.S.Shared.reads.key seat ≡ g.S.Shared.key l.account.value) l.seats.items
 PROOF
 echo "proving the program of the bench, which takes some minutes"
 (cd "$program" && rt run -- lock calls 1 1 3 > "$work/built" 2>&1) || { tail "$work/built"; exit 1; }
