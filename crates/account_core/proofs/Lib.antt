@@ -6,7 +6,6 @@ pub mod Fitting
 pub mod Keeping
 pub mod Kindly
 pub mod LawLemmas
-pub mod Listing
 pub mod Moves
 pub mod Owing
 pub mod Ranging

@@ -13,7 +13,6 @@ pub mod KeptPlans
 pub mod Known
 pub mod Laws
 pub mod Ledger
-pub mod Listed
 pub mod Places
 pub mod Replies
 pub mod SharingLaws

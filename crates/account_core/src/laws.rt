@@ -1,13 +1,13 @@
 //! Laws of legal histories, each the contract of a function that does nothing: what the sequential
-//! account comes to, in words that know nothing of how it answers.
+//! account comes to, in words that know nothing of how it answers. And the limits in plain numbers.
 
-ghost use Rattle.std.specs.Prelude.{reverse};
+ghost use Rattle.std.specs.Prelude.{◌≡◌, ◌^◌};
 ghost use Rattle.account_core.specs.Laws.{AnswersAreKindly, ClosedCallsPayTheTariff, EntriesAreInRange, NoBalanceIsNegative, NothingIsGrantedLate, SettlesKeepTheCredit, TimesAreReported};
-ghost use Rattle.account_core.specs.Sound.{AnswersFit, IsSoundPast, LegalPastsAreSound, SoundPastsAnswer};
+ghost use Rattle.account_core.specs.Sound.{LegalPastsAreSound, SoundPastsAnswer};
 ghost use Rattle.account_core.specs.TariffLaws.{TariffLaws};
 ghost use Rattle.account_core.specs.SharingLaws.{AccountsHaveNoGate, EachIsOwedItsShare, EntriesOweToTheirCalls};
+ghost use Rattle.account_core.specs.declared.limits.TheConstants.{MAX_LIMIT, MIN_LIMIT};
 
-use crate::ListAccount;
 use tariff_core::{afforded_is_greatest, ceiling_is_greatest, lawful_times_follow};
 
 /// No balance is negative: at no place of a legal history do its calls take more than there is.
@@ -56,16 +56,6 @@ pub fn entries_are_in_range()
     tariff_laws();
 }
 
-/// What holds of the history of an account that walks its list, and of the answers that come next.
-pub(crate) fn list_is_sound(account: &ListAccount)
-    ensures sound { IsSoundPast account.now.opening (reverse account.now.history) }
-    ensures fitting { AnswersFit account.now.opening account.now.until
-        (reverse account.now.history) }
-{
-    let _ = account.history();
-    legal_pasts_are_sound();
-}
-
 /// What holds after every legal history, and of the answers that come next.
 pub(crate) fn legal_pasts_are_sound()
     ensures sound { LegalPastsAreSound }
@@ -93,4 +83,10 @@ pub fn places_go_with_entries()
 /// An account by itself never answers `GateClosed`.
 pub fn accounts_have_no_gate()
     ensures { AccountsHaveNoGate }
+{}
+
+/// The limits of a history in plain numbers.
+pub fn limits_in_numbers()
+    ensures fewest_entries { MIN_LIMIT ≡ 3 }
+    ensures most_entries { MAX_LIMIT ≡ 10 ^ 6 }
 {}

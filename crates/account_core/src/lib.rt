@@ -16,7 +16,6 @@ mod history_check;
 mod kept_plan;
 mod laws;
 mod limits;
-mod list_account;
 mod tally;
 
 pub use account::{Account, Teller};
@@ -29,8 +28,7 @@ pub use fault::AccountFault;
 pub use history_check::HistoryCheck;
 pub use laws::{
     accounts_have_no_gate, answers_are_kindly, closed_calls_pay_the_tariff, entries_are_in_range,
-    no_balance_is_negative, nothing_is_granted_late, places_go_with_entries,
+    limits_in_numbers, no_balance_is_negative, nothing_is_granted_late, places_go_with_entries,
     settles_keep_the_credit,
 };
 pub use limits::{MAX_LIMIT, MIN_LIMIT};
-pub use list_account::ListAccount;

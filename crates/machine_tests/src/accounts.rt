@@ -3,33 +3,37 @@
 use crate::account_asks::{Ask, Want, answer_of, op_of};
 use crate::account_rows::{ACCOUNTS, MANY, MOST, WHOLE_CALL};
 use crate::looking::gives;
-use account_core::{Account, AccountPort, Entry, ListAccount, Op, Port};
+use account_core::{Account, AccountPort, Entry, Op, Port, Reply};
 use std::process::Abort;
 
-/// Looks at the last entry of an account, and of one that walks its list.
-fn enters(rt: &impl Abort, name: &str, account: &Account, walking: &ListAccount, entry: Entry) {
-    let entered = (
-        account.history().last().copied(),
-        walking.history().last().copied(),
+/// Looks at the last entry of an account, at the credit that is left, and at what its call has paid.
+fn enters(rt: &impl Abort, name: &str, account: &Account, entry: Entry) {
+    gives(
+        rt,
+        &(name, entry.op),
+        &account.history().last().copied(),
+        &Some(entry),
     );
-    gives(rt, &(name, entry.op), &entered, &(Some(entry), Some(entry)));
     gives(
         rt,
         &(name, entry.op),
         &account.available(),
         &entry.reply.available(),
     );
+    let paid = match entry.reply {
+        Reply::Settled { paid, .. } | Reply::Forfeit { paid, .. } | Reply::Returned { paid, .. } =>
+            paid,
+        _ => return,
+    };
+    gives(
+        rt,
+        &(name, entry.op),
+        &account.paid(entry.op.call()),
+        &Some(paid),
+    );
 }
 
-/// Looks at whether an account agrees with one that walks its list, about the credit and a call.
-fn agree(rt: &impl Abort, name: &str, account: &Account, walking: &ListAccount, op: Op) {
-    gives(rt, &(name, op), &walking.available(), &account.available());
-    let call = op.call();
-    gives(rt, &(name, op), &walking.paid(call), &account.paid(call));
-}
-
-/// Asks an account each operation in turn, and looks at its answers and its entries; and one that
-/// walks its list beside it.
+/// Asks an account each operation in turn, and looks at its answers and its entries.
 fn answers<R: Abort + AllocGlobal>(
     rt: &R,
     name: &str,
@@ -40,18 +44,15 @@ fn answers<R: Abort + AllocGlobal>(
 ) {
     assert!(rt; opening <= MOST);
     let mut account = Account::new(rt.alloc(), opening, until, limit);
-    let mut walking = ListAccount::new(rt.alloc(), opening, until, limit);
     let mut entries = 0usize;
     for (ask, want) in rows {
         let (op, want) = (op_of(ask), answer_of(want));
         gives(rt, &(name, op), &account.apply(3, op), &want);
-        gives(rt, &(name, op), &walking.apply(3, op), &want);
         if let Ok(reply) = want {
-            enters(rt, name, &account, &walking, Entry { seat: 3, op, reply });
+            enters(rt, name, &account, Entry { seat: 3, op, reply });
             entries = entries.wrapping_add(1);
         }
         gives(rt, &(name, op), &account.history().len(), &entries);
-        agree(rt, name, &account, &walking, op);
     }
     let checked = Account::check(rt.alloc(), opening, until, account.history());
     gives(rt, &name, &checked, &Ok(true));

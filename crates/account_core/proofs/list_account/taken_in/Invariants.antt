@@ -1,9 +1,0 @@
-use Rattle.std.proofs.Common.{◌≡◌, map, reverse, sum_by}
-use Rattle.account_core.specs.Available.{calls}
-use Rattle.account_core.specs.Events.{entry_data}
-use Rattle.account_core.specs.Known.{known, taken_of}
-use Rattle.account_core.proofs.Walking.{past_to}
-use Rattle.account_core.proofs.list_account.taken_in.Given as goal
-
-abbrev pub invariant-loop-at : goal.invariant-loop-at
-invariant-loop-at l = l.taken ≡ sum_by (λ call. taken_of (known call (reverse (map entry_data l.history)))) (calls (past_to l.history l.at))
