@@ -1,4 +1,4 @@
-//! The numbers of faults, and their names where they are printed.
+//! The texts and the numbers of faults.
 
 use crate::looking::gives;
 use account_core::AccountFault;
@@ -15,29 +15,49 @@ const ACCOUNT_FAULTS: [(AccountFault, u8, &str); 6] = [
     (AccountFault::GateClosed, 6, "GateClosed"),
 ];
 
+const SSF_FAULTS: [(SsfFault, u8, &str); 4] = [
+    (
+        SsfFault::UnexpectedComponentSequence,
+        1,
+        "an unexpected component sequence",
+    ),
+    (
+        SsfFault::ParameterOutOfRange,
+        2,
+        "a parameter is out of range",
+    ),
+    (SsfFault::TimeBackwards, 3, "a moment before the last one"),
+    (SsfFault::NoSuchEvent, 4, "no such event"),
+];
+
+const DIALOGUE_FAULTS: [(DialogueFault, u8, &str); 3] = [
+    (DialogueFault::Unexpected, 1, "unexpected"),
+    (DialogueFault::NoAskPending, 2, "no ask is pending"),
+    (DialogueFault::AskPending, 3, "an ask is pending"),
+];
+
+const DRIVE_FAULTS: [(DriveFault, u8, &str); 3] = [
+    (DriveFault::Backwards, 1, "an event before the last one"),
+    (DriveFault::Delay, 2, "a delay out of its range"),
+    (DriveFault::OutOfMemory, 3, "memory ran out"),
+];
+
 #[test]
-fn faults_have_names_and_numbers(rt: HostRuntime) {
-    for &(fault, number, name) in &ACCOUNT_FAULTS {
+fn faults_have_texts_and_numbers(rt: HostRuntime) {
+    for &(fault, number, want) in &ACCOUNT_FAULTS {
         let text = fault.to_string(rt.alloc()).expect(&rt, "memory");
-        gives(&rt, &fault, &(fault as u8, text.as_str()), &(number, name));
+        gives(&rt, &fault, &(fault as u8, text.as_str()), &(number, want));
     }
-    let of_the_switch = [
-        SsfFault::UnexpectedComponentSequence as u8,
-        SsfFault::ParameterOutOfRange as u8,
-        SsfFault::TimeBackwards as u8,
-        SsfFault::NoSuchEvent as u8,
-    ];
-    let of_the_service = [
-        DialogueFault::Unexpected.code(),
-        DialogueFault::NoAskPending.code(),
-        DialogueFault::AskPending.code(),
-    ];
-    let of_a_drive = [
-        DriveFault::Backwards as u8,
-        DriveFault::Delay as u8,
-        DriveFault::OutOfMemory as u8,
-    ];
-    assert!(rt; of_the_switch == [1, 2, 3, 4]);
-    assert!(rt; of_the_service == [1, 2, 3]);
-    assert!(rt; of_a_drive == [1, 2, 3]);
+    for &(fault, number, want) in &SSF_FAULTS {
+        let text = fault.to_string(rt.alloc()).expect(&rt, "memory");
+        gives(&rt, &fault, &(fault as u8, text.as_str()), &(number, want));
+    }
+    for &(fault, number, want) in &DIALOGUE_FAULTS {
+        let text = fault.to_string(rt.alloc()).expect(&rt, "memory");
+        gives(&rt, &fault, &(fault.code(), text.as_str()), &(number, want));
+    }
+    for &(fault, number, want) in &DRIVE_FAULTS {
+        let text = fault.to_string(rt.alloc()).expect(&rt, "memory");
+        gives(&rt, &fault, &(fault as u8, text.as_str()), &(number, want));
+    }
 }

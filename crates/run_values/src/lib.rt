@@ -2,11 +2,13 @@
 #![tactic(auto)]
 
 mod directory;
+mod laws;
 mod post;
 mod setup;
 mod setup_fault;
 
 pub use directory::{Directory, OpeningCredit};
+pub use laws::limits_in_numbers;
 pub use post::{Answer, Body, Post};
 pub use setup::{MAX_ACCOUNTS, MAX_SUBSCRIBERS, RunSetup};
 pub use setup_fault::SetupFault;

@@ -6,6 +6,7 @@ pub mod Laws
 pub mod Places
 pub mod Prefixes
 pub mod Price
+pub mod RangeTexts
 pub mod Rates
 pub mod RatesOf
 pub mod Reading

@@ -1,7 +1,23 @@
-//! Laws of the definitions, each the contract of a function that does nothing: what the ceiling of
-//! a call and the units afforded are, in words that know nothing of how they are found.
+//! Laws of the definitions, each the contract of a function that does nothing: the limits in plain
+//! numbers, and what the ceiling of a call and the units afforded are, in words that know nothing
+//! of how they are found.
 
-ghost use Rattle.tariff_core.specs.Laws.{AffordedAreCovered, AffordedAreLast, AffordedAreWithin, CeilingIsAttained, CeilingIsNotPassed, ComingIsTransitive, ComingTimesStand, ReadTimesAre, TimesMayStay};
+ghost use Rattle.std.specs.Prelude.{◌≡◌, ◌*◌, ◌^◌};
+ghost use Rattle.tariff_core.specs.Price.{price_of};
+ghost use Rattle.tariff_core.specs.Laws.{dearest_plan, AffordedAreCovered, AffordedAreLast, AffordedAreWithin, CeilingIsAttained, CeilingIsNotPassed, ComingIsTransitive, ComingTimesStand, ReadTimesAre, TimesMayStay};
+ghost use Rattle.tariff_core.specs.declared.plan.TheConstants.{MAX_MONEY, MAX_RATE};
+ghost use Rattle.tariff_core.specs.declared.pricing.TheConstants.{MAX_PRICE};
+ghost use Rattle.tariff_core.specs.declared.times.TheConstants.{DAY, HORIZON, LAST_MOMENT};
+
+/// The limits in plain numbers. The greatest price is what a day costs under the dearest plan.
+pub fn limits_in_numbers()
+    ensures day { DAY ≡ 864000 }
+    ensures last_moment { LAST_MOMENT ≡ 10 ^ 12 }
+    ensures horizon { HORIZON ≡ 2 * 10 ^ 12 }
+    ensures most_money { MAX_MONEY ≡ 10 ^ 15 }
+    ensures highest_rate { MAX_RATE ≡ 10 ^ 9 }
+    ensures greatest_price { MAX_PRICE ≡ price_of dearest_plan DAY 0 }
+{}
 
 /// The ceiling is the greatest price that a call may come to: some times cost it, none cost more.
 pub fn ceiling_is_greatest()

@@ -15,7 +15,7 @@ mod tariff_fault;
 mod times;
 
 pub use bands::time_of_day;
-pub use laws::{afforded_is_greatest, ceiling_is_greatest, lawful_times_follow};
+pub use laws::{afforded_is_greatest, ceiling_is_greatest, lawful_times_follow, limits_in_numbers};
 pub use plan::{MAX_MONEY, MAX_RATE, Plan, PlanRange};
 pub use pricing::{MAX_PRICE, afford, ceiling, debit, lawful, price};
 pub use reading::read_times;

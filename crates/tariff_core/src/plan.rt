@@ -1,12 +1,14 @@
 //! What a call is charged by.
 
-ghost use Rattle.std.specs.Prelude.{◌≡◌, ◌≤◌, ◌↔◌, IsOk, IfOk, unwrap_or};
+ghost use Rattle.std.specs.Prelude.{◌≡◌, ◌≤◌, ◌↔◌, IsOk, IfOk, Some, unwrap_or};
+ghost use Rattle.tariff_core.specs.RangeTexts.{plan_range_text};
 ghost use Rattle.tariff_core.specs.Rates.{AreRates};
 ghost use Rattle.tariff_core.specs.declared.plan.TheConstants.{MAX_RATE};
 ghost use Rattle.tariff_core.specs.declared.times.TheConstants.{DAY};
 
 use crate::DAY;
-use thiserror::Error;
+use std::error::Error;
+use std::fmt;
 
 /// The largest amount of money: no account has more credit.
 pub const MAX_MONEY: u64 = 1_000_000_000_000_000;
@@ -15,9 +17,21 @@ pub const MAX_MONEY: u64 = 1_000_000_000_000_000;
 pub const MAX_RATE: u64 = 1_000_000_000;
 
 /// A fee or a rate is above `MAX_RATE`, or the free units are more than a day.
-#[derive(Clone, Copy, Debug, PartialEq, Eq, Error)]
-#[error("a fee or a rate is above {MAX_RATE}, or the free units are above {DAY}")]
+#[derive(Clone, Copy, Debug, PartialEq, Eq)]
 pub struct PlanRange;
+
+impl fmt::Display for PlanRange {
+    ghost output = { λ _. Some plan_range_text };
+
+    fn fmt<W: fmt::Write>(&self, f: &mut fmt::Formatter<W>) -> fmt::Result {
+        write!(
+            f,
+            "a fee or a rate is above {MAX_RATE}, or the free units are above {DAY}"
+        )
+    }
+}
+
+impl Error for PlanRange {}
 
 /// A charging plan: what a call costs once it is talked, what a minute of it costs, and how long it
 /// is free.

@@ -1,12 +1,14 @@
 //! The times of a call.
 
-ghost use Rattle.std.specs.Prelude.{◌≡◌, ◌+◌, ◌≤◌, ◌↔◌, Bool, false, IsSome, IfSome, IsOk, IfOk};
+ghost use Rattle.std.specs.Prelude.{◌≡◌, ◌+◌, ◌≤◌, ◌↔◌, Bool, false, IsSome, IfSome, IsOk, IfOk, Some};
+ghost use Rattle.tariff_core.specs.RangeTexts.{time_range_text};
 ghost use Rattle.tariff_core.specs.Times.{IsTimes, no_times};
 ghost use Rattle.tariff_core.specs.TimeInfo.{IsNoSwitch, IsSwitch};
 ghost use Rattle.tariff_core.specs.declared.times.TimeInfo.TheVariants as info;
 
+use std::error::Error;
+use std::fmt;
 use std::marker::Model;
-use thiserror::Error;
 
 /// A day, in units of 100 ms: the longest time that a call is charged for.
 pub const DAY: u32 = 864_000;
@@ -101,9 +103,18 @@ impl Times {
 }
 
 /// A time of a report is out of its range.
-#[derive(Clone, Copy, Debug, PartialEq, Eq, Error)]
-#[error("a time of a report is out of its range")]
+#[derive(Clone, Copy, Debug, PartialEq, Eq)]
 pub struct TimeRange;
+
+impl fmt::Display for TimeRange {
+    ghost output = { λ _. Some time_range_text };
+
+    fn fmt<W: fmt::Write>(&self, f: &mut fmt::Formatter<W>) -> fmt::Result {
+        f.write_str("a time of a report is out of its range")
+    }
+}
+
+impl Error for TimeRange {}
 
 /// The times of a charging report, in units of 100 ms (GSM 09.78, TimeInformation).
 ///

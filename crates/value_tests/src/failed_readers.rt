@@ -2,7 +2,7 @@
 
 use crate::failing::Failing;
 use crate::looking::gives;
-use crate::tariffs::{TABLE, fault_of};
+use crate::tariffs::{REFUSED, TABLE, fault_of};
 use std::io::Read;
 use std::process::Abort;
 use table_core::{Table, TableFault};
@@ -42,5 +42,25 @@ fn a_tariff_tells_the_row(rt: HostRuntime) {
         let row = 1 + bytes.iter().filter(|byte| **byte == b'\n').count().min(9) as u32;
         let kind = TariffKind::Device;
         gives(&rt, &length, &fault, &Some(TariffFault { row, kind }));
+    }
+    for &(text, row, kind) in &REFUSED {
+        let bytes = text.as_bytes();
+        let fault = fault_of(rt.alloc(), Failing { bytes });
+        gives(&rt, &text, &fault, &Some(before_failing(bytes, row, kind)));
+    }
+}
+
+/// The fault of a table whose reader fails behind these bytes, where the whole table has another:
+/// that one, if its row was read, and the reader's else. A prefix without a row from midnight on
+/// shows only at the end.
+fn before_failing(bytes: &[u8], row: u32, kind: TariffKind) -> TariffFault {
+    if bytes.ends_with(b"\n") && kind != TariffKind::NoMidnightBand {
+        return TariffFault { row, kind };
+    }
+    let ends_row = |pair: &&[u8]| pair[0] != b'\n' && pair[1] == b'\n';
+    let read = bytes.windows(2).filter(ends_row).count().min(99);
+    TariffFault {
+        row: 1 + read as u32,
+        kind: TariffKind::Device,
     }
 }

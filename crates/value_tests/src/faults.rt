@@ -3,7 +3,7 @@
 use crate::looking::gives;
 use cap_values::ValueFault;
 use table_core::{RowFault, RowKind, TableFault};
-use tariff_core::{TariffFault, TariffKind};
+use tariff_core::{PlanRange, TariffFault, TariffKind, TimeRange};
 
 const KINDS: [(TariffKind, u8, &str); 11] = [
     (TariffKind::Csv, 1, "row 7: Csv"),
@@ -17,6 +17,19 @@ const KINDS: [(TariffKind, u8, &str); 11] = [
     (TariffKind::Device, 9, "row 7: Device"),
     (TariffKind::TooManyRows, 10, "row 7: TooManyRows"),
     (TariffKind::Free, 11, "row 7: Free"),
+];
+
+const PLAN_RANGE: &str = "a fee or a rate is above 1000000000, or the free units are above 864000";
+
+const TIME_RANGE: &str = "a time of a report is out of its range";
+
+const VALUE_FAULTS: [(ValueFault, u8, &str); 2] = [
+    (
+        ValueFault::ParameterOutOfRange,
+        1,
+        "a parameter is out of range",
+    ),
+    (ValueFault::MissingParameter, 2, "a parameter is missing"),
 ];
 
 #[test]
@@ -40,9 +53,12 @@ fn faults_have_texts_and_numbers(rt: HostRuntime) {
             .expect(&rt, "memory");
         gives(&rt, &kind, &(kind.code(), text.as_str()), &(code, want));
     }
-    let numbers = [
-        ValueFault::ParameterOutOfRange as u8,
-        ValueFault::MissingParameter as u8,
-    ];
-    assert!(rt; numbers == [1, 2]);
+    let text = PlanRange.to_string(rt.alloc()).expect(&rt, "memory");
+    gives(&rt, &PlanRange, &text.as_str(), &PLAN_RANGE);
+    let text = TimeRange.to_string(rt.alloc()).expect(&rt, "memory");
+    gives(&rt, &TimeRange, &text.as_str(), &TIME_RANGE);
+    for &(fault, number, want) in &VALUE_FAULTS {
+        let text = fault.to_string(rt.alloc()).expect(&rt, "memory");
+        gives(&rt, &fault, &(fault as u8, text.as_str()), &(number, want));
+    }
 }

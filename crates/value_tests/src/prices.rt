@@ -55,8 +55,18 @@ const FREE_DEARER: Plan = Plan {
     free: 300,
 };
 
+/// The highest fee and the highest rates.
+const DEAREST: Plan = Plan {
+    fee: MOST,
+    before: MOST,
+    after: Some(MOST),
+    free: 0,
+};
+
 /// The times before and after a switch, and their price.
-const PRICES: [(Plan, u32, u32, u64); 12] = [
+const PRICES: [(Plan, u32, u32, u64); 14] = [
+    (DEAREST, 864_000, 0, 1_441_000_000_000),
+    (DEAREST, 1, 863_999, 1_441_000_000_000),
     (FREE, 1, 0, 50),
     (FREE, 300, 0, 50),
     (FREE, 600, 0, 550),

@@ -74,6 +74,18 @@ fn a_failed_reader_is_no_end(rt: HostRuntime) {
             &Err(TableFault::Device),
         );
     }
+    for &(bytes, want) in &TABLES {
+        let want = match want {
+            Err((row, kind)) if bytes.ends_with(b"\n") => TableFault::Row(RowFault { row, kind }),
+            _ => TableFault::Device,
+        };
+        gives(
+            &rt,
+            &bytes,
+            &read(rt.alloc(), Failing { bytes }),
+            &Err(want),
+        );
+    }
 }
 
 /// A table without an end, which counts the lines that were begun to be taken of it.

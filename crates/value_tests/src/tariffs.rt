@@ -63,7 +63,7 @@ const EMPTY_PREFIX_ROUTES: [(&str, u64, Option<Rates>); 4] = [
 ];
 
 /// Tables, and the row and the kind of the fault of each.
-const REFUSED: [(&str, u32, TariffKind); 28] = [
+pub(crate) const REFUSED: [(&str, u32, TariffKind); 28] = [
     ("prefix,from,fee,rate,fee\n", 1, TariffKind::Header),
     (
         "prefix,from,fee,rate,free\n44,00:00,1,1\n",

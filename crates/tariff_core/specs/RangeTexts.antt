@@ -1,0 +1,13 @@
+-- What a value says that is out of its range.
+use Rattle.std.specs.Prelude.{ℕ, List, ◌++◌, codes}
+use Rattle.std.specs.Fmt.{decimal}
+use Rattle.tariff_core.specs.declared.plan.TheConstants.{MAX_RATE}
+use Rattle.tariff_core.specs.declared.times.TheConstants.{DAY}
+
+-- the text of a plan that is out of its range
+abbrev pub plan_range_text : List ℕ
+plan_range_text = codes "a fee or a rate is above " ++ (decimal MAX_RATE ++ (codes ", or the free units are above " ++ decimal DAY))
+
+-- the text of a time that is out of its range
+abbrev pub time_range_text : List ℕ
+time_range_text = codes "a time of a report is out of its range"
