@@ -121,7 +121,11 @@ ungranted_of() {
 is_command_right() {
     local name=$1 refused=$2 status=$3
     if [ "$status" -eq "$(status_of "$name")" ] && [ ! -s "$work/faults" ]; then
-        cmp -s "$work/output" "$work/answer" && return
+        cmp -s "$work/output" "$work/answer"
+        return
+    fi
+    # The run went on without the grant, and says so.
+    if [ "$status" -eq 0 ] && [ "$(cat "$work/faults")" = 'prepaid: refused: 1 OutOfMemory' ]; then
         [ "$refused" -gt 0 ] && [ -s "$work/ungranted" ] && cmp -s "$work/output" "$work/ungranted"
         return
     fi

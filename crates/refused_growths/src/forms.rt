@@ -13,19 +13,19 @@ pub(crate) const NUMBER: u32 = 7;
 
 /// A form of shared account.
 pub(crate) trait Form: Shared {
-    /// The entries that a seat has made.
-    fn mine(seat: &Self::Seat) -> &[Entry];
+    /// The list of its entries that a seat keeps, if it keeps one.
+    fn mine(seat: &Self::Seat) -> Option<&[Entry]>;
 }
 
 impl Form for SharedAccount {
-    fn mine(seat: &Seat) -> &[Entry] {
-        seat.mine()
+    fn mine(seat: &Seat) -> Option<&[Entry]> {
+        Some(seat.mine())
     }
 }
 
 impl Form for TurnAccount {
-    fn mine(seat: &TurnSeat) -> &[Entry] {
-        seat.mine()
+    fn mine(_seat: &TurnSeat) -> Option<&[Entry]> {
+        None
     }
 }
 
@@ -54,5 +54,5 @@ pub(crate) fn close<S: Form>(
     let mut seats = Vec::with_capacity(alloc, 2)?;
     seats.push_reserved(first);
     seats.push_reserved(second);
-    Ok(account.close(alloc, seats)?)
+    Ok(account.close(seats)?)
 }

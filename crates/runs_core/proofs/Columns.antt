@@ -1,14 +1,14 @@
 -- Items are laid out on piles, time after time: what was laid out first is the first column.
-use Rattle.std.proofs.Common.{◌≡◌, ◌<◌, ◌+◌, ◌∙◌, ℕ, Bool, zero, suc, List, [], ◌∷◌, length, map, refl, ap, sym, subst, arith}
+use Rattle.std.proofs.Common.{◌≡◌, ◌≤◌, ◌<◌, ◌+◌, ◌∙◌, ℕ, Bool, zero, suc, List, [], ◌∷◌, length, map, refl, ap, sym, subst, arith}
 use Rattle.std.specs.Prelude.{All, IfOk, Result, Ok, Err, replicate, slice_index_or}
 use Rattle.std.proofs.lemmas.List.{get_or_append_left, get_or_push, length-append, length-map, map-append}
 use Rattle.account_core.specs.Answers.{IsLegal}
 use Rattle.account_core.specs.Events.{EntryData}
 use Rattle.shared_account.specs.Closed.{Closed}
-use Rattle.shared_account.specs.Own.{IsMerged}
 use Rattle.shared_account.specs.Terms.{Terms}
+use Rattle.runs_core.proofs.Booking.{own_column}
 use Rattle.runs_core.proofs.Rows.{map_twice}
-use Rattle.runs_core.specs.Closing.{AreLeftFrom, AreListed, AreServedBy, AreWorked, AreWorkedFrom, terms_shown}
+use Rattle.runs_core.specs.Closing.{AreLeftFrom, AreListed, AreServedBy, AreWorked, AreWorkedFrom, lists_in, terms_shown}
 use Rattle.runs_core.specs.Dealing.{dealt}
 use Rattle.runs_core.specs.Hearing.{AreAnsweredFrom, HasLeft, IsAnsweredBy, all_heard, answers_to}
 use Rattle.runs_core.specs.Runs.{HasRun, run_shown}
@@ -112,20 +112,23 @@ teams_even read keys numbers [] are = tt
 teams_even read keys numbers (one ∷ left) are =
     (length-map one.seats.items read.mine ∙ sym (length-map one.seats.items read.key) ∙ ap length are.0.of_accounts, teams_even read keys numbers left are.1)
 
-in_books : (books : List Closed) (rows : List (List (List EntryData))) (worker : ℕ) (lists : List (List (List EntryData))) → map (λ book. book.own) books ≡ rows → AreColumns [] rows worker lists
-    → AreListed books worker lists
-in_books books rows worker [] own are = tt
-in_books books rows worker (one ∷ lists) own are =
-    (map_twice (λ (book : Closed). book.own) (λ own. slice_index_or own worker []) books ∙ ap (column [] worker) own ∙ are.0, in_books books rows (worker + 1) lists own are.1)
+in_books : (workers : ℕ) (books : List Closed) (rows : List (List (List EntryData))) (worker : ℕ) (lists : List (List (List EntryData))) → map (lists_in workers) books ≡ rows
+    → worker + length lists ≤ workers → AreColumns [] rows worker lists → AreListed books worker lists
+in_books workers books rows worker [] own within are = tt
+in_books workers books rows worker (one ∷ lists) own within are = (
+  own_column workers worker (omega (arith, within)) books ∙ (ap (column [] worker) own ∙ are.0),
+  in_books workers books rows (worker + 1) lists own (omega (arith, within)) are.1,
+)
 
 -- the lists in the books are those that the workers left
 pub listed_by : {K S T X : Type 0} (read : Reads K T) (key : X → K) (accounts : List X) (numbers : List ℕ) (left : List (WorkerEnd S T)) (books : List Closed) (rows : List (List (List EntryData)))
-    → AreLeftFrom read (map key accounts) numbers left → map (λ book. book.own) books ≡ rows
+    → AreLeftFrom read (map key accounts) numbers left → map (lists_in (length left)) books ≡ rows
     → rows ≡ laid (replicate (length accounts) []) (map (λ one. map read.mine one.seats.items) left) → AreListed books 0 (map (λ one. map read.mine one.seats.items) left)
 listed_by read key accounts numbers left books rows are own is =
     let many = length-map accounts key ∙ sym (none_many (List EntryData) accounts) in
     let long = let P : ℕ → Type 0 = λ n. AreEven n (map (λ one. map read.mine one.seats.items) left) in subst P many (teams_even read (map key accounts) numbers left are) in
-    in_books books _ 0 _ (own ∙ is) (columns_of [] 0 (replicate (length accounts) []) (map (λ one. map read.mine one.seats.items) left) (even_none (List EntryData) accounts) long)
+    let within : 0 + length (map (λ one. map read.mine one.seats.items) left) ≤ length left = omega (arith, length-map left (λ one. map read.mine one.seats.items)) in
+    in_books (length left) books _ 0 _ (own ∙ is) within (columns_of [] 0 (replicate (length accounts) []) (map (λ one. map read.mine one.seats.items) left) (even_none (List EntryData) accounts) long)
 
 -- and so those in the books are what handling the posts of the workers comes to
 pub worked_in_books : {K S T : Type 0} (read : Reads K T) (setup : Setup) (books : List Closed) (worker : ℕ) (left : List (WorkerEnd S T)) → AreWorkedFrom read setup worker left
@@ -157,24 +160,24 @@ answered_at read setup books first (suc worker) (answers ∷ lists) (one ∷ lef
 -- what the books of a run come to, where it has books
 pub run_so : {D K S T : Type 0} (given : D → List (ℕ × Body)) (ended : D → Bool) (hears : D → List Answer → D → Type 0) (read : Reads K T) (keys : List K) (setup : Setup) (workers many : ℕ) (old new : D) (left : List (WorkerEnd S T)) (terms : List Terms) (result : Result Books RunFault)
     → workers ≡ length left → many ≡ workers → HasLeft given ended hears read keys setup many old new left → terms ≡ terms_of setup.limit workers setup.accounts
-    → IfOk result (λ all. map terms_shown all.books.items ≡ terms)
+    → IfOk result (λ all. map (terms_shown (length left)) all.books.items ≡ terms)
     → IfOk result (λ all. All (λ book. IsLegal book.opening book.until book.history) all.books.items)
-    → IfOk result (λ all. All (λ book. IsMerged book.history book.own) all.books.items)
-    → IfOk result (λ all. All (λ book. AreServedBy book.account (map (λ posts. posts.items) all.handled.items) book.own) all.books.items)
+    → IfOk result (λ all. All (λ book. All (λ event. event.seat < length left) book.history) all.books.items)
+    → IfOk result (λ all. All (λ book. AreServedBy book.account (map (λ posts. posts.items) all.handled.items) (lists_in (length left) book)) all.books.items)
     → IfOk result (λ all. map (λ posts. posts.items) all.handled.items ≡ map (λ one. one.posts.items) left)
     → IfOk result (λ all. map (λ one. one.items) all.refusals.items ≡ map (λ one. one.refusals.items) left)
     → IfOk result (λ all. AreListed all.books.items 0 (map (λ one. map read.mine one.seats.items) left))
     → IfOk result (λ all. HasRun given ended hears setup workers old new (run_shown all))
-run_so given ended hears read keys setup workers many old new left terms (Err fault) all_there same has opened shown legal merged served handled refused listed = tt
-run_so given ended hears read keys setup workers many old new left terms (Ok all) all_there same has opened shown legal merged served handled refused listed = record {
+run_so given ended hears read keys setup workers many old new left terms (Err fault) all_there same has opened shown legal owned served handled refused listed = tt
+run_so given ended hears read keys setup workers many old new left terms (Ok all) all_there same has opened shown legal owned served handled refused listed = record {
   heard = has.heard.heard;
   rounds = has.heard.rounds;
   run = record {
-    opened = shown ∙ opened;
+    opened = ap (λ (n : ℕ). map (terms_shown n) all.books.items) all_there ∙ (shown ∙ opened);
     legal = legal;
-    merged = merged;
+    owned = rw (all_there) owned;
     shares = subst (λ n. HaveHandled n (given new) (run_shown all).handled) same (rw (handled) has.handled);
-    served = served;
+    served = rw (all_there) served;
     worked = rw (handled, refused) (worked_in_books read setup all.books.items 0 left has.worked listed);
     each_heard = has.heard.are_answers.numbers;
     answered = rw (handled, refused) (λ worker below.

@@ -5,8 +5,9 @@ use Rattle.std.proofs.lemmas.List.{get_or-map}
 use Rattle.account_core.specs.Events.{EntryData}
 use Rattle.account_core.specs.declared.fault.AccountFault.{AccountFault}
 use Rattle.runs_core.specs.Closing.{AreWorked, lists_of}
-use Rattle.runs_core.specs.Entered.{IsBookOf, RechargesAreInTheBooks, ReservesAreInTheBooks}
+use Rattle.runs_core.specs.Entered.{IsBookAt, RechargesAreInTheBooks, ReservesAreInTheBooks}
 use Rattle.shared_account.specs.Closed.{Closed}
+use Rattle.shared_account.specs.Own.{own}
 use Rattle.workers_core.proofs.Entering.{recharges_are_entered}
 use Rattle.workers_core.proofs.Reserving.{reserves_are_on_terms}
 use Rattle.workers_core.specs.Chains.{IsWorked}
@@ -35,10 +36,10 @@ worked_by_one setup books worker handled refusals are within =
     subst (λ n. IsWorked setup n (slice_index_or handled worker []) (slice_index_or refusals worker []) (lists_of n books)) here (worked_at setup books 0 worker handled refusals are within)
 
 -- its list in a book
-list_in : (setup : Setup) (books : List Closed) (worker account place : ℕ) (book : Closed) → IsBookOf setup books account place book
-    → slice_index_or (lists_of worker books) place [] ≡ slice_index_or book.own worker []
+list_in : (setup : Setup) (books : List Closed) (worker account place : ℕ) (book : Closed) → IsBookAt setup books account place book
+    → slice_index_or (lists_of worker books) place [] ≡ own worker book.history
 list_in setup books worker account place book is =
-    get_or-map (λ (b : Closed). slice_index_or b.own worker []) books place book [] is.within ∙ ap (λ (b : Closed). slice_index_or b.own worker []) is.book_is
+    get_or-map (λ (b : Closed). own worker b.history) books place book [] is.within ∙ ap (λ (b : Closed). own worker b.history) is.book_is
 
 pub recharges_in_books : RechargesAreInTheBooks
 recharges_in_books setup books handled refusals worker account place book are within is =

@@ -1,4 +1,5 @@
 pub mod AtDesks
+pub mod Booking
 pub mod Columns
 pub mod Deals
 pub mod Finishing

@@ -9,7 +9,7 @@ use Rattle.shared_account.specs.Terms.{Terms}
 use Rattle.workers_core.specs.Served.{AreServed, IsServed}
 use Rattle.workers_core.specs.Workers.{number_by}
 use Rattle.run_values.specs.declared.post.Post.{Post}
-use Rattle.runs_core.specs.Closing.{AreOf, AreServedBy, terms_shown}
+use Rattle.runs_core.specs.Closing.{AreOf, AreServedBy, lists_in, terms_shown}
 use Rattle.runs_core.specs.Dealing.{dealt}
 use Rattle.shared_account.specs.Seats.{Reads}
 
@@ -68,20 +68,20 @@ rows_of read key terms (account ∷ accounts) handled [] are = absurd are
 rows_of read key terms (account ∷ accounts) handled (row ∷ rows) are = (are.0, rows_of read key terms accounts handled rows are.2)
 
 -- the lists of the books come from the posts
-pub books_served : {K S T : Type 0} (read : Reads K T) (key : S → K) (terms : S → Terms) (accounts : List S) (handled : List (List Post)) (rows : List (List T)) (books : List Closed)
-    → AreRows read key terms accounts handled rows → map terms_shown books ≡ map terms accounts → map (λ book. book.own) books ≡ map (map read.mine) rows
-    → All (λ book. AreServedBy book.account handled book.own) books
-books_served read key terms accounts handled rows [] are shown own = All-nil (λ book. AreServedBy book.account handled book.own)
-books_served read key terms [] handled rows (book ∷ books) are shown own = absurd (cc)
-books_served read key terms (account ∷ accounts) handled [] (book ∷ books) are shown own = absurd are
-books_served read key terms (account ∷ accounts) handled (row ∷ rows) (book ∷ books) are shown own =
-    let its : terms_shown book ≡ terms account = cc in
+pub books_served : {K S T : Type 0} (read : Reads K T) (key : S → K) (terms : S → Terms) (accounts : List S) (handled : List (List Post)) (rows : List (List T)) (workers : ℕ) (books : List Closed)
+    → AreRows read key terms accounts handled rows → map (terms_shown workers) books ≡ map terms accounts → map (lists_in workers) books ≡ map (map read.mine) rows
+    → All (λ book. AreServedBy book.account handled (lists_in workers book)) books
+books_served read key terms accounts handled rows workers [] are shown own = All-nil (λ book. AreServedBy book.account handled (lists_in workers book))
+books_served read key terms [] handled rows workers (book ∷ books) are shown own = absurd (cc)
+books_served read key terms (account ∷ accounts) handled [] workers (book ∷ books) are shown own = absurd are
+books_served read key terms (account ∷ accounts) handled (row ∷ rows) workers (book ∷ books) are shown own =
+    let its : terms_shown workers book ≡ terms account = cc in
     let number : book.account ≡ (terms account).number = ap (λ (t : Terms). t.number) its in
-    let lists : book.own ≡ map read.mine row = cc in
-    let later : map terms_shown books ≡ map terms accounts = cc in
-    let others : map (λ (book : Closed). book.own) books ≡ map (map read.mine) rows = cc in
-    All-cons (λ book. AreServedBy book.account handled book.own) book books
-    (rw (number, lists) are.1) (books_served read key terms accounts handled rows books are.2 later others)
+    let lists : lists_in workers book ≡ map read.mine row = cc in
+    let later : map (terms_shown workers) books ≡ map terms accounts = cc in
+    let others : map (lists_in workers) books ≡ map (map read.mine) rows = cc in
+    All-cons (λ book. AreServedBy book.account handled (lists_in workers book)) book books
+    (rw (number, lists) are.1) (books_served read key terms accounts handled rows workers books are.2 later others)
 
 pub team_count : {K T : Type 0} {S : Type 0} (read : Reads K T) (key : S → K) (team : List T) (accounts : List S) → map read.key team ≡ map key accounts → length team ≡ length accounts
 team_count read key team accounts keys = sym (length-map team read.key) ∙ ap length keys ∙ length-map accounts key

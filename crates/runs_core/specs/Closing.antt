@@ -1,8 +1,10 @@
 -- The books of a run, and where their entries come from.
-use Rattle.std.specs.Prelude.{◌≡◌, ◌+◌, ℕ, Option, true, List, [], ◌∷◌, length, map, All, slice_index_or}
+use Rattle.std.specs.Prelude.{◌≡◌, ◌+◌, ℕ, Option, true, List, [], ◌∷◌, map, All}
+use Rattle.std.proofs.Common.{zero, suc}
 use Rattle.account_core.specs.Events.{EntryData}
 use Rattle.account_core.specs.declared.fault.AccountFault.{AccountFault}
-use Rattle.shared_account.specs.Closed.{Closed}
+use Rattle.shared_account.specs.Closed.{Closed, IsBookOf}
+use Rattle.shared_account.specs.Own.{own}
 use Rattle.shared_account.specs.Seats.{Reads, are_all}
 use Rattle.shared_account.specs.Terms.{Terms}
 use Rattle.workers_core.specs.Chains.{IsWorked}
@@ -11,9 +13,26 @@ use Rattle.run_values.specs.Setups.{Setup}
 use Rattle.run_values.specs.declared.post.Post.{Post}
 use Rattle.runs_core.specs.declared.crew.WorkerEnd.{WorkerEnd}
 
--- what a book shows of its account: its number, the credit that it was opened with and its last moment, how many entries it may have, and how many seats it has
-abbrev pub terms_shown : Closed → Terms
-terms_shown book = record { number = book.account; opening = book.opening; until = book.until; limit = book.limit; seats = length book.own }
+-- what a book shows of an account with so many seats: its number, the credit that it was opened with and its last moment, and how many entries it may have
+abbrev pub terms_shown : ℕ → Closed → Terms
+terms_shown seats book = record { number = book.account; opening = book.opening; until = book.until; limit = book.limit; seats = seats }
+
+-- these are the books of accounts that were made with these terms, and whose seats have these entries
+abbrev pub AreBooksOf : List Terms → List (List (List EntryData)) → List Closed → Type 0
+AreBooksOf [] rows [] = Unit {0}
+AreBooksOf [] rows (book ∷ books) = ⊥
+AreBooksOf (terms ∷ accounts) rows [] = ⊥
+AreBooksOf (terms ∷ accounts) [] (book ∷ books) = ⊥
+AreBooksOf (terms ∷ accounts) (lists ∷ rows) (book ∷ books) = IsBookOf terms lists book × AreBooksOf accounts rows books
+
+-- the own entries of so many workers in a history, from this number on
+abbrev pub own_lists : ℕ → ℕ → List EntryData → List (List EntryData)
+own_lists first zero history = []
+own_lists first (suc workers) history = own first history ∷ own_lists (first + 1) workers history
+
+-- those of all workers in a book
+abbrev pub lists_in : ℕ → Closed → List (List EntryData)
+lists_in workers book = own_lists 0 workers book.history
 
 -- each row of seats is of its account
 abbrev pub AreOf : {K T : Type 0} → (T → K) → List K → List (List T) → Type 0
@@ -46,9 +65,9 @@ AreServedBy account [] (mine ∷ lists) = ⊥
 AreServedBy account (posts ∷ handled) [] = ⊥
 AreServedBy account (posts ∷ handled) (mine ∷ lists) = IsServed account posts mine × AreServedBy account handled lists
 
--- the lists of a worker's seats, in the order of the books
+-- a worker's own entries in the books, in the order of the books
 abbrev pub lists_of : ℕ → List Closed → List (List EntryData)
-lists_of worker books = map (λ book. slice_index_or book.own worker []) books
+lists_of worker books = map (λ book. own worker book.history) books
 
 -- the workers from this number on have these lists in the books
 abbrev pub AreListed : List Closed → ℕ → List (List (List EntryData)) → Type 0

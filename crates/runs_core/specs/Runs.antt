@@ -6,13 +6,12 @@ use Rattle.run_values.specs.Setups.{Setup}
 use Rattle.run_values.specs.declared.post.Answer.{Answer}
 use Rattle.run_values.specs.declared.post.Body.{Body}
 use Rattle.run_values.specs.declared.post.Post.{Post}
-use Rattle.runs_core.specs.Closing.{AreServedBy, AreWorked, terms_shown}
+use Rattle.runs_core.specs.Closing.{AreServedBy, AreWorked, lists_in, terms_shown}
 use Rattle.runs_core.specs.Hearing.{AnswersEach, HearsRounds, IsAnsweredBy, all_heard, answers_to}
 use Rattle.runs_core.specs.Shares.{HaveHandled}
 use Rattle.runs_core.specs.Teams.{terms_of}
 use Rattle.runs_core.specs.declared.serving.Books.{Books}
 use Rattle.shared_account.specs.Closed.{Closed}
-use Rattle.shared_account.specs.Own.{IsMerged}
 
 -- what stands in the books of a run: the book of each account, what each worker has handled, and the refusal of each post, or none
 pub record RunShown : Type 0 where
@@ -26,17 +25,17 @@ run_shown all = record { books = all.books.items; handled = map (λ posts. posts
 
 -- a run by so many workers in this setup has come to this, where its driver has given these items and heard these answers
 pub record IsRun (setup : Setup) (workers : ℕ) (given : List (ℕ × Body)) (answers : List Answer) (shown : RunShown) : Type 0 where
-  -- there is one book for each account, in their order, with its opening credit, its limit and a list for each worker
-  pub opened : map terms_shown shown.books ≡ terms_of setup.limit workers setup.accounts
+  -- there is one book for each account, in their order, with its opening credit and its limit
+  pub opened : map (terms_shown workers) shown.books ≡ terms_of setup.limit workers setup.accounts
   -- each history is legal from that credit
   pub legal : All (λ book. IsLegal book.opening book.until book.history) shown.books
-  -- and merges the lists of the workers
-  pub merged : All (λ book. IsMerged book.history book.own) shown.books
+  -- and each entry is of one of the workers
+  pub owned : All (λ book. All (λ event. event.seat < workers) book.history) shown.books
   -- each worker has handled its share of what was given, in order, and nothing else
   pub shares : HaveHandled workers given shown.handled
   -- each entry comes from what its worker has handled
-  pub served : All (λ book. AreServedBy book.account shown.handled book.own) shown.books
-  -- and a worker's lists are what handling its posts, one after another, comes to, where these of the posts were refused
+  pub served : All (λ book. AreServedBy book.account shown.handled (lists_in workers book)) shown.books
+  -- and a worker's own entries are what handling its posts, one after another, comes to, where these of the posts were refused
   pub worked : AreWorked setup shown.books 0 shown.handled shown.refusals
   -- there is one answer for each item, in order
   pub each_heard : AnswersEach 0 given answers

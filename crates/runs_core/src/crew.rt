@@ -1,6 +1,6 @@
 //! The workers of a run.
 
-ghost use Rattle.std.specs.Prelude.{◌≡◌, ◌++◌, ◌∷◌, [], List, length, map, IfOk, OnOk};
+ghost use Rattle.std.specs.Prelude.{◌≡◌, ◌++◌, ◌∷◌, ◌⊎◌, [], List, length, map, None, Some, IfErr, IfOk, IfSome, OnOk};
 ghost use Rattle.std.specs.Vec.Iter.{into_iter_items};
 ghost use Rattle.std.specs.Map.{keys_of};
 ghost use Rattle.runs_core.specs.Crews.{count_of, joined, posts_by};
@@ -28,8 +28,8 @@ use workers_core::Worker;
 pub(crate) struct Crew<'s, S: Shared, G: Gate> {
     /// The first worker.
     pub desk: Desk<'s, S>,
-    /// Whether the first worker has failed.
-    pub failed: bool,
+    /// Why the first worker has failed, if it has.
+    pub failed: Option<RunFault>,
     /// The links of the others, in order.
     pub links: Vec<WorkerLink<'s, S, G>>,
 }
@@ -44,7 +44,8 @@ pub(crate) struct Replies {
 impl<S: Shared, G: Gate> Crew<'_, S, G> {
     /// Hands out the posts of a round, a share to each worker, and gives the answers. The others
     /// get theirs before the first worker begins. After a fault no answers are left on their way
-    /// but those of workers that have failed.
+    /// but those of workers that have failed. The fault of the first worker comes before those of
+    /// the others.
     pub(crate) fn answer_round<R: Wait>(
         &mut self,
         rt: &R,
@@ -53,6 +54,7 @@ impl<S: Shared, G: Gate> Crew<'_, S, G> {
         gate: &G,
     ) -> Result<Replies, RunFault>
         requires ready { IsReady (number_by S.terms) S.key S.reads self.old.desk.worker }
+        requires works { self.old.failed ≡ None }
         requires count { length shares.items ≡ count_of self.old }
         ensures posts { OnOk result (posts_by self.new
             ≡ joined (posts_by self.old) (map (λ share. share.items) shares.items)) }
@@ -67,6 +69,9 @@ impl<S: Shared, G: Gate> Crew<'_, S, G> {
         ensures count { count_of self.new ≡ count_of self.old }
         ensures promises { promises_of self.new.links.items ≡ promises_of self.old.links.items }
         ensures fault { MayAskGate (G.may_shut gate.now) result }
+        ensures failed { IfSome self.new.failed (λ why. result ≡ Err why) }
+        ensures closed { result ≡ Err RunFault.GateClosed
+            → self.new.failed ≡ Some RunFault.GateClosed }
     {
         let mut others = Vec::with_capacity(alloc, self.links.len())?;
         let mut shares = shares.into_iter();
@@ -80,7 +85,8 @@ impl<S: Shared, G: Gate> Crew<'_, S, G> {
         Ok(Replies { first, others })
     }
 
-    /// Sends the others their posts, and handles those of the first worker.
+    /// Sends the others their posts, and handles those of the first worker. Its fault is put down:
+    /// every other fault is `Channel`.
     fn send_and_answer<R: Wait>(
         &mut self,
         rt: &R,
@@ -90,6 +96,7 @@ impl<S: Shared, G: Gate> Crew<'_, S, G> {
         gate: &G,
     ) -> Result<Vec<Answer>, RunFault>
         requires ready { IsReady (number_by S.terms) S.key S.reads self.old.desk.worker }
+        requires works { self.old.failed ≡ None }
         requires count { length (into_iter_items shares) ≡ length self.old.links.items }
         ensures posts { OnOk result (map sent_by self.new.links.items
             ≡ joined (map sent_by self.old.links.items)
@@ -99,10 +106,13 @@ impl<S: Shared, G: Gate> Crew<'_, S, G> {
         ensures heard { map heard_by self.new.links.items ≡ map heard_by self.old.links.items }
         ensures promises { promises_of self.new.links.items ≡ promises_of self.old.links.items }
         ensures fault { MayAskGate (G.may_shut gate.now) result }
+        ensures failed { IfSome self.new.failed (λ why. result ≡ Err why) }
+        ensures first { IfErr result (λ why. (why ≡ RunFault.Channel)
+            ⊎ (self.new.failed ≡ Some why)) }
     {
         send_all(rt, &mut self.links, shares)?;
         let answers = self.desk.answer_all(rt, alloc, mine, gate);
-        self.failed = answers.is_err();
+        self.failed = answers.as_ref().err().copied();
         answers
     }
 }
@@ -118,7 +128,7 @@ fn send_all<S: Shared, R: Wait, G: Gate>(
         (map (λ share. share.items) (into_iter_items shares))) }
     ensures heard { map heard_by links.new.items ≡ map heard_by links.old.items }
     ensures promises { promises_of links.new.items ≡ promises_of links.old.items }
-    ensures fault { AsksNoGate result }
+    ensures fault { IfErr result (λ fault. fault ≡ RunFault.Channel) }
 {
     let mut at = 0;
     for share in shares {

@@ -1,7 +1,7 @@
 //! The rounds of a run: what the driver gives is handed out to the workers, and their answers go
 //! back to it.
 
-ghost use Rattle.std.specs.Prelude.{◌≡◌, ◌≤◌, ◌<◌, ◌^◌, ◌+◌, ◌++◌, ◌∷◌, [], ℕ, List, length, map, not, true, false, All, IfOk, OnOk};
+ghost use Rattle.std.specs.Prelude.{◌≡◌, ◌≤◌, ◌<◌, ◌^◌, ◌+◌, ◌++◌, ◌∷◌, [], ℕ, List, length, map, not, true, false, None, All, IfOk, IfSome, OnOk};
 ghost use Rattle.std.specs.List.{HoldsAt};
 ghost use Rattle.runs_core.specs.Crews.{HasPlayed, HasServed, IsServedRound, count_of};
 ghost use Rattle.runs_core.specs.Hearing.{AreAnswers};
@@ -32,6 +32,7 @@ pub(crate) fn play<D: Driver, S: Shared, R: Wait, G: Gate>(
     requires fresh { D.given driver.old ≡ [] }
     requires served { HasServed (number_by S.terms) S.key S.reads
         (setup_of crew.old.desk.worker) (accounts_of crew.old.desk.worker) [] [] crew.old }
+    requires works { crew.old.failed ≡ None }
     ensures ended { OnOk result (D.ended driver.new ≡ true) }
     ensures plan { D.plan driver.new ≡ D.plan driver.old }
     ensures played { OnOk result (HasPlayed D.given D.ended D.hears
@@ -41,6 +42,7 @@ pub(crate) fn play<D: Driver, S: Shared, R: Wait, G: Gate>(
     ensures count { count_of crew.new ≡ count_of crew.old }
     ensures promises { promises_of crew.new.links.items ≡ promises_of crew.old.links.items }
     ensures fault { MayAskGate (G.may_shut gate.now) result }
+    ensures failed { IfSome crew.new.failed (λ why. result ≡ Err why) }
 {
     let mut answers = Vec::new(alloc);
     for _ in rt.forever() {
@@ -62,6 +64,7 @@ fn play_round<D: Driver, S: Shared, R: Wait, G: Gate>(
     answers: &mut Vec<Answer>,
 ) -> Result<bool, RunFault>
     requires ready { IsReady (number_by S.terms) S.key S.reads crew.old.desk.worker }
+    requires works { crew.old.failed ≡ None }
     ensures ended { IfOk result (λ more. D.ended driver.new ≡ not more) }
     ensures plan { D.plan driver.new ≡ D.plan driver.old }
     ensures more { result ≡ Ok true → (added : List (ℕ × Body))
@@ -74,6 +77,7 @@ fn play_round<D: Driver, S: Shared, R: Wait, G: Gate>(
     ensures count { count_of crew.new ≡ count_of crew.old }
     ensures promises { promises_of crew.new.links.items ≡ promises_of crew.old.links.items }
     ensures fault { MayAskGate (G.may_shut gate.now) result }
+    ensures failed { IfSome crew.new.failed (λ why. result ≡ Err why) }
 {
     let first = driver.given().len();
     if !driver.round(answers.as_slice())? {

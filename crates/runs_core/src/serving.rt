@@ -1,6 +1,6 @@
 //! A run, from its setup to its books.
 
-ghost use Rattle.std.specs.Prelude.{◌≡◌, ◌≤◌, ◌<◌, ◌↔◌, [], true, false, length, map, IfOk, OnOk, All};
+ghost use Rattle.std.specs.Prelude.{◌≡◌, ◌≤◌, ◌<◌, ◌↔◌, [], true, false, length, map, None, IfOk, IfSome, OnOk, All};
 ghost use Rattle.std.specs.Map.{keys_of};
 ghost use Rattle.std.specs.Vec.Iter.{into_iter_items};
 ghost use Rattle.runs_core.specs.Crews.{HasPlayed, count_of};
@@ -10,9 +10,9 @@ ghost use Rattle.runs_core.specs.RunFaults.{MayAskGate, AsksNoGate};
 ghost use Rattle.runs_core.specs.Runs.{HasRun, run_shown};
 ghost use Rattle.runs_core.specs.Sending.{ArePromised, promises_of};
 ghost use Rattle.runs_core.specs.Teams.{AreFresh, are_workers};
-ghost use Rattle.runs_core.specs.Closing.{AreAllThere, AreLeftFrom, AreListed, AreNumberedFrom, AreOf, AreServedBy, terms_shown};
+ghost use Rattle.runs_core.specs.Closing.{AreAllThere, AreBooksOf, AreLeftFrom, AreListed, AreNumberedFrom, AreOf, AreServedBy, lists_in, terms_shown};
 ghost use Rattle.account_core.specs.Answers.{IsLegal};
-ghost use Rattle.shared_account.specs.Own.{IsMerged};
+ghost use Rattle.shared_account.specs.Closed.{IsBookOf};
 ghost use Rattle.shared_account.specs.Seats.{are_all};
 ghost use Rattle.workers_core.specs.Workers.{number_by};
 
@@ -182,7 +182,7 @@ fn run_in<'s, E, D: Driver, S: Shared, R: Wait + Threads + Sync, G: Gate + Sync>
     };
     let mut crew = Crew {
         desk: Desk::new(alloc, 0, setup, accounts, team)?,
-        failed: false,
+        failed: None,
         links,
     };
     let ran = start_and_play(
@@ -194,8 +194,8 @@ fn run_in<'s, E, D: Driver, S: Shared, R: Wait + Threads + Sync, G: Gate + Sync>
         links,
     } = crew;
     let finished = finish_all(rt, links, &mut left);
-    if failed {
-        ran?;
+    if let Some(why) = failed {
+        return Err(why);
     }
     finished?;
     ran?;
@@ -222,6 +222,7 @@ fn start_and_play<'s, E, D: Driver, S: Shared, R: Wait + Threads + Sync, G: Gate
         (map S.key accounts.now) 1 (map (λ team. team.items) (into_iter_items teams)) }
     requires first { HasAnswered (number_by S.terms) S.key S.reads setup.now accounts.now 0 [] []
         crew.old.desk }
+    requires works { crew.old.failed ≡ None }
     requires none { crew.old.links.items ≡ [] }
     ensures ended { OnOk result (D.ended driver.new ≡ true) }
     ensures plan { D.plan driver.new ≡ D.plan driver.old }
@@ -231,6 +232,7 @@ fn start_and_play<'s, E, D: Driver, S: Shared, R: Wait + Threads + Sync, G: Gate
     ensures promised { ArePromised setup.now accounts.now gate.now 1
         (promises_of crew.new.links.items) }
     ensures fault { MayAskGate (G.may_shut gate.now) result }
+    ensures failed { IfSome crew.new.failed (λ why. result ≡ Err why) }
 {
     start_all(
         scope,
@@ -267,16 +269,17 @@ fn close_accounts<S: Shared>(
         (map (number_by S.terms) accounts.items) left.items }
     requires numbers { AreNumberedFrom S.reads 0 left.items }
     requires seats { All (λ account. (S.terms account).seats ≡ length left.items) accounts.items }
-    ensures terms { IfOk result
-        (λ all. map terms_shown all.books.items ≡ map S.terms accounts.items) }
+    ensures terms { IfOk result (λ all. map (terms_shown (length left.items)) all.books.items
+        ≡ map S.terms accounts.items) }
     ensures legal { IfOk result
         (λ all. All (λ book. IsLegal book.opening book.until book.history) all.books.items) }
-    ensures merged { IfOk result
-        (λ all. All (λ book. IsMerged book.history book.own) all.books.items) }
+    ensures owned { IfOk result (λ all. All (λ book.
+        All (λ event. event.seat < length left.items) book.history) all.books.items) }
     ensures handled { IfOk result (λ all.
         map (λ posts. posts.items) all.handled.items ≡ map (λ one. one.posts.items) left.items) }
     ensures served { IfOk result (λ all. All (λ book. AreServedBy book.account
-        (map (λ posts. posts.items) all.handled.items) book.own) all.books.items) }
+        (map (λ posts. posts.items) all.handled.items)
+        (lists_in (length left.items) book)) all.books.items) }
     ensures refusals { IfOk result (λ all. map (λ one. one.items) all.refusals.items
         ≡ map (λ one. one.refusals.items) left.items) }
     ensures lists { IfOk result (λ all. AreListed all.books.items 0
@@ -314,14 +317,8 @@ fn close_each<S: Shared>(
         (map (λ row. row.items) rows.items) }
     requires all { AreAllThere (map (λ account. (S.terms account).seats) accounts.items)
         (map (λ row. map S.reads.number row.items) rows.items) }
-    ensures terms { IfOk result
-        (λ books. map terms_shown books.items ≡ map S.terms accounts.items) }
-    ensures own { IfOk result (λ books.
-        map (λ book. book.own) books.items ≡ map (λ row. map S.reads.mine row.items) rows.items) }
-    ensures legal { IfOk result
-        (λ books. All (λ book. IsLegal book.opening book.until book.history) books.items) }
-    ensures merged { IfOk result
-        (λ books. All (λ book. IsMerged book.history book.own) books.items) }
+    ensures books { IfOk result (λ books. AreBooksOf (map S.terms accounts.items)
+        (map (λ row. map S.reads.mine row.items) rows.items) books.items) }
     ensures fault { AsksNoGate result }
 {
     let mut books = Vec::with_capacity(alloc, accounts.len())?;
@@ -330,24 +327,21 @@ fn close_each<S: Shared>(
         let Some(seats) = rows_left.next() else {
             unreachable!()
         };
-        books.push(close(alloc, account, seats)?)?;
+        books.push(close(account, seats)?)?;
     }
     Ok(books)
 }
 
 /// Closes an account with its seats.
-fn close<S: Shared>(alloc: Global, account: S, seats: Vec<S::Seat>) -> Result<Book, RunFault>
+fn close<S: Shared>(account: S, seats: Vec<S::Seat>) -> Result<Book, RunFault>
     requires keys { All (λ seat. S.reads.key seat ≡ S.key account) seats.items }
     requires all { are_all (S.terms account).seats (map S.reads.number seats.items) ≡ true }
-    ensures terms { IfOk result (λ book. terms_shown book ≡ S.terms account) }
-    ensures own { IfOk result (λ book. book.own ≡ map S.reads.mine seats.items) }
-    ensures legal { IfOk result (λ book. IsLegal book.opening book.until book.history) }
-    ensures merged { IfOk result (λ book. IsMerged book.history book.own) }
+    ensures book { IfOk result (λ book.
+        IsBookOf (S.terms account) (map S.reads.mine seats.items) book) }
     ensures fault { AsksNoGate result }
 {
-    match account.close(alloc, seats) {
+    match account.close(seats) {
         Ok(book) => Ok(book),
-        Err(CloseFault::OutOfMemory) => Err(RunFault::OutOfMemory),
         Err(CloseFault::Mismatch) => Err(RunFault::Mismatch),
         Err(CloseFault::Seats) => unreachable!(),
     }

@@ -1,6 +1,6 @@
 //! The main thread's side of a worker in a thread of its own.
 
-ghost use Rattle.std.specs.Prelude.{◌≡◌, ◌++◌, ◌∷◌, [], true, map, IfOk, OnOk, List};
+ghost use Rattle.std.specs.Prelude.{◌≡◌, ◌++◌, ◌∷◌, [], true, map, IfErr, IfOk, OnOk, List};
 ghost use Rattle.std.specs.Map.{keys_of};
 ghost use Rattle.runs_core.specs.Mails.{items_in};
 ghost use Rattle.runs_core.specs.RunFaults.{AsksNoGate, MayAskGate};
@@ -105,7 +105,7 @@ impl<S: Shared, G: Gate> WorkerLink<'_, S, G> {
             ≡ items_in (sent self.old.outbox) ++ posts.items) }
         ensures inbox { self.new.inbox ≡ self.old.inbox }
         ensures child { self.new.child ≡ self.old.child }
-        ensures fault { AsksNoGate result }
+        ensures fault { IfErr result (λ fault. fault ≡ RunFault.Channel) }
     {
         if posts.is_empty() {
             return Ok(());

@@ -1,91 +1,106 @@
--- What a seat of a turn account keeps through a call, and through a meeting.
-use Rattle.std.proofs.Common.{◌≡◌, ◌⊎◌, ℕ, List, [], ◌∷◌, ◌++◌, Result, Ok, Err, length, refl, sym, ap, ◌∙◌, arith, subst, inl, inr}
-use Rattle.std.specs.Prelude.{All, IfOk, OnErr, max, slice_index_or}
-use Rattle.std.proofs.lemmas.List.Elements.{All-push}
-use Rattle.account_core.specs.Answers.{IsLegal}
+-- What a seat of a turn account has seen after a call, and after a meeting.
+use Rattle.std.proofs.Common.{◌≡◌, ℕ, List, [], ◌∷◌, ◌++◌, Option, Result, Ok, Err, append_assoc, refl, sym, ap, ◌∙◌, subst}
+use Rattle.std.specs.Prelude.{IfOk, MatchResult, OnErr, reverse}
+use Rattle.std.proofs.lemmas.List.{reverse-append}
+use Rattle.account_core.specs.Answers.{IsLegal, IsLegalPast}
 use Rattle.account_core.specs.Asked.{Asked}
 use Rattle.account_core.specs.Events.{EntryData}
-use Rattle.account_core.specs.Ledger.{Ledger, event_by}
+use Rattle.account_core.specs.Ledger.{event_by}
 use Rattle.account_core.specs.declared.entry.Reply.{Reply}
 use Rattle.account_core.specs.declared.fault.AccountFault.{AccountFault}
+use Rattle.shared_account.specs.Kinds.{IsReplyTo}
 use Rattle.shared_account.specs.Own.{own}
 use Rattle.shared_account.specs.Plays.{HasMet, IsLater, Sitter, with_entry}
-use Rattle.shared_account.specs.Prefixes.{IsPrefix}
-use Rattle.shared_account.specs.Seats.{SeatView}
-use Rattle.shared_account.specs.TurnViews.{TurnSeatView}
+use Rattle.shared_account.specs.Prefixes.{EndsWith, IsPrefix}
 use Rattle.shared_account.specs.Sitting.{IsSitting}
 use Rattle.shared_account.specs.Views.{at_stage, hearing, seeing}
 use Rattle.shared_account.specs.declared.board.Stage.TheVariants.{Idles}
 use Rattle.shared_account.specs.declared.board.View.{View}
-use Rattle.shared_account.proofs.Beginnings.{begins_further, begins_longer, begins_within, own_entry}
+use Rattle.shared_account.proofs.Answering.{answer_fits}
+use Rattle.shared_account.proofs.Beginnings.{begins_further, begins_longer, own_entry}
 
--- a seat after its turn: what it sees begins with what it saw, and its own entries there are its list
-pub record HasGone (before after : View) (seat : SeatView) : Type 0 where
-  pub number : after.number ≡ seat.number
+-- a seat after its turn: it has seen what it saw, and more
+pub record HasGone (before after : View) : Type 0 where
+  pub number : after.number ≡ before.number
+  pub opening : after.seen.opening ≡ before.seen.opening
+  pub until : after.seen.until ≡ before.seen.until
+  pub limit : after.seen.limit ≡ before.seen.limit
+  pub ended : after.ended ≡ before.ended
   pub begins : IsPrefix before.seen.history after.seen.history
-  pub own : own seat.number after.seen.history ≡ seat.mine
 
-module _ (before here : View) (seat : SeatView) (account : Ledger) (asked : Asked) (later : IsLater before here) (number : before.number ≡ seat.number)
-    (its_own : own seat.number before.seen.history ≡ seat.mine) (held : account ≡ here.seen) where
-  here_own : own seat.number here.seen.history ≡ seat.mine
-  here_own = ap (λ (n : ℕ). own n here.seen.history) (sym number) ∙ (later.own ∙ (ap (λ (n : ℕ). own n before.seen.history) number ∙ its_own))
+module _ (before here : View) (later : IsLater before here) where
+  unentered : HasGone before here
+  unentered = record { number = later.number; opening = later.opening; until = later.until; limit = later.limit; ended = later.ended; begins = later.begins }
 
-  unentered : HasGone before here seat
-  unentered = record { number = later.number ∙ number; begins = later.begins; own = here_own }
+  entered : (event : EntryData) → HasGone before (seeing here (with_entry here.seen event))
+  entered event = record {
+    number = later.number;
+    opening = later.opening;
+    until = later.until;
+    limit = later.limit;
+    ended = later.ended;
+    begins = begins_further before.seen.history here.seen.history (here.seen.history ++ event ∷ []) later.begins (begins_longer here.seen.history event);
+  }
 
-  entered : (reply : Reply)
-      → HasGone before (seeing here (with_entry account (event_by seat.number asked reply))) (record seat { mine = seat.mine ++ event_by seat.number asked reply ∷ [] })
-  entered reply =
-      let event : EntryData = event_by seat.number asked reply in
-      let begins : IsPrefix before.seen.history account.history = subst (λ (a : Ledger). IsPrefix before.seen.history a.history) (sym held) later.begins in
-      record {
-        number = later.number ∙ number;
-        begins = begins_further before.seen.history account.history (account.history ++ event ∷ []) begins (begins_longer account.history event);
-        own = own_entry seat.number account.history event refl ∙ ap (λ (h : List EntryData). h ++ event ∷ []) (ap (λ (a : Ledger). own seat.number a.history) held ∙ here_own);
-      }
+  pub gone : (after : View) (event : Reply → EntryData) (told : Result Reply AccountFault) → IfOk told (λ reply. after ≡ seeing here (with_entry here.seen (event reply)))
+      → OnErr told (after ≡ here) → HasGone before after
+  gone after event (Ok reply) seen kept = subst (HasGone before) (sym seen) (entered (event reply))
+  gone after event (Err why) seen kept = subst (HasGone before) (sym kept) unentered
 
-  pub gone : (after : View) (place : SeatView) (told : Result Reply AccountFault) → IfOk told (λ reply. after ≡ seeing here (with_entry account (event_by seat.number asked reply)))
-      → IfOk told (λ reply. place ≡ record seat { mine = seat.mine ++ event_by seat.number asked reply ∷ [] }) → OnErr told (after ≡ here) → OnErr told (place ≡ seat)
-      → HasGone before after place
-  gone after place (Ok reply) seen mine unseen kept = subst (λ (x : View × SeatView). HasGone before x.0 x.1) (λ i. (sym seen i, sym mine i)) (entered reply)
-  gone after place (Err why) seen mine unseen kept = subst (λ (x : View × SeatView). HasGone before x.0 x.1) (λ i. (sym unseen i, sym kept i)) unentered
+  -- with a reply, the history ends with the entry
+  pub ends : (after : View) (event : Reply → EntryData) (told : Result Reply AccountFault) → IfOk told (λ reply. after ≡ seeing here (with_entry here.seen (event reply)))
+      → IfOk told (λ reply. EndsWith before.seen.history (event reply) after.seen.history)
+  ends after event (Ok reply) seen = record {
+    between = later.begins.rest;
+    is = ap (λ (v : View). v.seen.history) seen ∙ (ap (λ (h : List EntryData). h ++ event reply ∷ []) later.begins.is ∙ append_assoc before.seen.history later.begins.rest (event reply ∷ []));
+  }
+  ends after event (Err why) seen = tt
 
-pub sits : (me : Sitter) (before after : View) (seat : SeatView) (entries : ℕ) → me ≡ (at_stage after Idles, []) → HasGone before after seat
-    → entries ≡ length after.seen.history → IsLegal after.seen.opening after.seen.until after.seen.history → IsSitting me seat entries
-sits me before after seat entries rests gone count legal =
-    subst (λ (m : Sitter). IsSitting m seat entries) (sym rests) (record { idle = refl; hands = refl; number = gone.number; count = count; own = gone.own; legal = legal })
+  -- and the seat has one entry more, of its own
+  pub owns : (after : View) (asked : Asked) (seat : ℕ) (told : Result Reply AccountFault) → before.number ≡ seat
+      → IfOk told (λ reply. after ≡ seeing here (with_entry here.seen (event_by seat asked reply))) → OnErr told (after ≡ here)
+      → MatchResult told (λ reply. own seat after.seen.history ≡ own seat before.seen.history ++ event_by seat asked reply ∷ [])
+      (λ _. own seat after.seen.history ≡ own seat before.seen.history)
+  owns after asked seat (Ok reply) number seen kept =
+      let here_own : own seat here.seen.history ≡ own seat before.seen.history = subst (λ (n : ℕ). own n here.seen.history ≡ own n before.seen.history) number later.own in
+      ap (λ (v : View). own seat v.seen.history) seen
+      ∙ (own_entry seat here.seen.history (event_by seat asked reply) refl ∙ ap (λ (h : List EntryData). h ++ event_by seat asked reply ∷ []) here_own)
+  owns after asked seat (Err why) number seen kept =
+      ap (λ (v : View). own seat v.seen.history) kept ∙ subst (λ (n : ℕ). own n here.seen.history ≡ own n before.seen.history) number later.own
 
--- the same of what it has seen alone, once it rests
-pub rests_after : (me : Sitter) (before after : View) (seat : SeatView) → me ≡ (at_stage after Idles, []) → HasGone before after seat
-    → IsPrefix before.seen.history me.0.seen.history × (own seat.number me.0.seen.history ≡ seat.mine)
-rests_after me before after seat rests gone =
-    subst (λ (m : Sitter). IsPrefix before.seen.history m.0.seen.history × (own seat.number m.0.seen.history ≡ seat.mine)) (sym rests) (gone.begins, gone.own)
+pub sits : (me : Sitter) (before after : View) (seat : ℕ) → me ≡ (at_stage after Idles, []) → HasGone before after → before.number ≡ seat → before.ended ≡ []
+    → IsLegal after.seen.opening after.seen.until after.seen.history → IsSitting me seat
+sits me before after seat rests gone number ended legal =
+    subst (λ (m : Sitter). IsSitting m seat) (sym rests)
+    (record { idle = refl; hands = refl; number = gone.number ∙ number; ended = gone.ended ∙ ended; legal = legal })
 
 -- ---- a meeting
 
-longer_of : (first second after : List EntryData) → IsPrefix second after → IsPrefix first after → (after ≡ first) ⊎ (after ≡ second) → max (length first) (length second) ≡ length after
-longer_of first second after begins too (inl is) = omega (arith, begins_within second after begins, ap length is)
-longer_of first second after begins too (inr is) = omega (arith, begins_within first after too, ap length is)
-
-pub met_sits : (first second heard after : Sitter) (other seat : SeatView) (n m k : ℕ) → IsSitting first other n → IsSitting second seat m → heard ≡ (hearing second.0 first.0, second.1)
-    → HasMet heard.0.seen.history heard.0.heard.history heard.0 after.0 → after.1 ≡ heard.1 → k ≡ max n m → IsSitting after seat k
-met_sits first second heard after other seat n m k sitting rests hears met hands most =
+pub met_sits : (second heard after : Sitter) (first : View) (seat : ℕ) → IsSitting second seat → heard ≡ (hearing second.0 first, second.1)
+    → HasMet heard.0.seen.history heard.0.heard.history heard.0 after.0 → after.1 ≡ heard.1 → IsSitting after seat
+met_sits second heard after first seat rests hears met hands =
     let M : Sitter → Type 0 = λ x. HasMet x.0.seen.history x.0.heard.history x.0 after.0 in
-    let now : HasMet second.0.seen.history first.0.seen.history (hearing second.0 first.0) after.0 = subst M hears met in
-    let long = longer_of first.0.seen.history second.0.seen.history after.0.seen.history now.begins_seen now.begins_heard now.one in
+    let now : HasMet second.0.seen.history first.seen.history (hearing second.0 first) after.0 = subst M hears met in
     record {
       idle = now.stage ∙ rests.idle;
       hands = hands ∙ (ap (λ (x : Sitter). x.1) hears ∙ rests.hands);
       number = now.number ∙ rests.number;
-      count = omega (arith, most, sitting.count, rests.count, long);
-      own = ap (λ (x : ℕ). own x after.0.seen.history) (sym rests.number) ∙ (now.own ∙ (ap (λ (x : ℕ). own x second.0.seen.history) rests.number ∙ rests.own));
+      ended = now.ended ∙ rests.ended;
       legal = now.legal;
     }
 
--- ---- a chair that hears one seat after another
+-- ---- a reply at the end of a legal history is of its operation's kind
 
-pub heard_more : (seats : List TurnSeatView) (seat : TurnSeatView) (before after : List EntryData) → All (λ s. IsPrefix s.view.history before) seats → IsPrefix before after
-    → IsPrefix seat.view.history after → All (λ s. IsPrefix s.view.history after) (seats ++ seat ∷ [])
-heard_more seats seat before after all begins its =
-    All-push (λ s. IsPrefix s.view.history after) seats seat
-    (λ k d within. begins_further (slice_index_or seats k d).view.history before after (all k d within) begins) its
+fits_last : (opening : ℕ) (until : Option ℕ) (before : List EntryData) (event : EntryData) → IsLegal opening until (before ++ event ∷ []) → IsReplyTo event.asked event.reply
+fits_last opening until before event legal =
+    let L : List EntryData → Type 0 = IsLegalPast opening until in
+    let last = (subst L (reverse-append before (event ∷ [])) legal).1 in
+    subst (IsReplyTo event.asked) (sym last.answered) (answer_fits opening until (reverse before) event.asked)
+
+pub ends_kindly : (opening : ℕ) (until : Option ℕ) (before after : List EntryData) (seat : ℕ) (asked : Asked) (told : Result Reply AccountFault) → IsLegal opening until after
+    → IfOk told (λ reply. EndsWith before (event_by seat asked reply) after) → IfOk told (IsReplyTo asked)
+ends_kindly opening until before after seat asked (Ok reply) legal ends =
+    let event : EntryData = event_by seat asked reply in
+    let whole : after ≡ (before ++ ends.between) ++ event ∷ [] = ends.is ∙ sym (append_assoc before ends.between (event ∷ [])) in
+    fits_last opening until (before ++ ends.between) event (subst (IsLegal opening until) whole legal)
+ends_kindly opening until before after seat asked (Err why) legal ends = tt

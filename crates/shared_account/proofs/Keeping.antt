@@ -25,12 +25,13 @@ serving_is (Waits t) serving = absurd serving
 serving_is (Serves t) serving = refl
 
 pub numbered_so : (now : BoardState) (served out : ℕ) (holder : Option ℕ) (v : View) (stage : Stage) (heard : Ledger) → IsNumbered now v
-    → IsNumbered (record { account = now.account; made = now.made; served = served; out = out; holder = holder }) (record v { stage = stage; heard = heard })
+    → IsNumbered (record { account = now.account; made = now.made; gone = now.gone; served = served; out = out; holder = holder }) (record v { stage = stage; heard = heard })
 numbered_so now served out holder v stage heard numbered = record {
   opening = numbered.opening;
   until = numbered.until;
   limit = numbered.limit;
   number = numbered.number;
+  gone = numbered.gone;
   first = numbered.first;
   own = numbered.own;
 }
@@ -95,7 +96,7 @@ module _ (start : Start) where
     words = kept.words;
     past = kept.past;
     totals = record {
-      seats = total_kept seats_at s.views id v w there (ap seats_at stage) ∙ kept.totals.seats;
+      seats = ap (λ (n : ℕ). n + kept.now.gone) (total_kept seats_at s.views id v w there (ap seats_at stage)) ∙ kept.totals.seats;
       tickets = total_kept tickets_at s.views id v w there (ap tickets_at stage) ∙ kept.totals.tickets;
     };
     each = views_stay (Knows kept.now) s.views id w knows (λ at u other is. kept.each at u is);

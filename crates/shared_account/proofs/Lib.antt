@@ -1,6 +1,7 @@
 pub mod Answering
 pub mod Beginnings
 pub mod Calls
+pub mod Ending
 pub mod Keeping
 pub mod Knowing
 pub mod Longer

@@ -40,6 +40,8 @@ module _ (start : Start) where
         each = views_grow (Knows now) s.views note (λ at. record {
           seen = (kept.each id v there).seen;
           heard = begins_any now.account.history;
+          ended = tt;
+          gone = omega arith;
           seated = λ seat. absurd seat;
           ticket = λ t has. absurd (cc has);
           turn = λ t has. absurd (cc has);
@@ -62,13 +64,17 @@ module _ (start : Start) where
       let mid = revises start s id v (hearing v note) kept there refl (λ _. refl) (record {
         seen = knew.seen;
         heard = (kept.each other note before).seen;
-        seated = λ seat. let n = knew.seated seat in record { opening = n.opening; until = n.until; limit = n.limit; number = n.number; first = n.first; own = n.own };
+        ended = knew.ended;
+        gone = knew.gone;
+        seated = λ seat. let n = knew.seated seat in record { opening = n.opening; until = n.until; limit = n.limit; number = n.number; gone = n.gone; first = n.first; own = n.own };
         ticket = knew.ticket;
         turn = λ t has. let turn = knew.turn t has in record { served = turn.served; holder = turn.holder; seen = turn.seen };
       }) in
       revises start (record { words = s.words; homes = s.homes; views = set s.views id (hearing v note) }) other note spent_note mid here (sym is) (λ seat. absurd seat) (record {
         seen = begins_any mid.now.account.history;
         heard = begins_any mid.now.account.history;
+        ended = tt;
+        gone = omega arith;
         seated = λ seat. absurd seat;
         ticket = λ t has. absurd (cc has);
         turn = λ t has. absurd (cc has);
@@ -106,11 +112,14 @@ module _ (start : Start) where
           begins_seen = begins;
           begins_heard = begins_itself v.heard.history;
           own = same;
+          ended = refl;
         },
         revises start s id v w kept there refl (λ _. refl) (record {
           seen = knew.heard;
           heard = knew.heard;
-          seated = λ _. record { opening = seated.opening; until = seated.until; limit = seated.limit; number = seated.number; first = seated.first; own = same ∙ seated.own };
+          ended = knew.ended;
+          gone = knew.gone;
+          seated = λ _. record { opening = seated.opening; until = seated.until; limit = seated.limit; number = seated.number; gone = seated.gone; first = seated.first; own = same ∙ seated.own };
           ticket = knew.ticket;
           turn = λ t has. let never : Idles ≡ Serves t = sym idle ∙ has in absurd (cc never);
         }),
@@ -140,5 +149,6 @@ module _ (start : Start) where
         begins_seen = begins_itself seen;
         begins_heard = shorter_begins heard seen kept.now.account.history knew.heard knew.seen less;
         own = refl;
+        ended = refl;
       } in
       (m.0, keeps, tt, unchanged start s 1 id m.0 there kept, (met, refl)))

@@ -13,14 +13,15 @@ pub first_by : (here rest : Bool) → here && rest ≡ true → (here ≡ true) 
 first_by true rest is = (refl, is)
 first_by false rest is = cc
 
-numbered_at : (first : ℕ) (seats : List SeatView) (k : ℕ) (d : SeatView) → are_numbered first (map (λ seat. seat.number) seats) ≡ true → k < length seats
-    → (slice_index_or seats k d).number ≡ first + k
-numbered_at first [] k d are within = absurd (omega (arith, within))
-numbered_at first (seat ∷ seats) zero d are within =
-    let here : seat.number ≡ first = eqb-true seat.number first (first_by (seat.number == first) (are_numbered (first + 1) (map (λ s. s.number) seats)) are).0 in
+pub numbered_at : {T : Type 0} (number : T → ℕ) (first : ℕ) (seats : List T) (k : ℕ) (d : T) → are_numbered first (map number seats) ≡ true → k < length seats
+    → number (slice_index_or seats k d) ≡ first + k
+numbered_at number first [] k d are within = absurd (omega (arith, within))
+numbered_at number first (seat ∷ seats) zero d are within =
+    let here : number seat ≡ first = eqb-true (number seat) first (first_by (number seat == first) (are_numbered (first + 1) (map number seats)) are).0 in
     omega (arith, here)
-numbered_at first (seat ∷ seats) (suc k) d are within =
-    let rest : (slice_index_or seats k d).number ≡ first + 1 + k = numbered_at (first + 1) seats k d (first_by (seat.number == first) (are_numbered (first + 1) (map (λ s. s.number) seats)) are).1 (omega (arith, within)) in
+numbered_at number first (seat ∷ seats) (suc k) d are within =
+    let rest : number (slice_index_or seats k d) ≡ first + 1 + k =
+    numbered_at number (first + 1) seats k d (first_by (number seat == first) (are_numbered (first + 1) (map number seats)) are).1 (omega (arith, within)) in
     omega (arith, rest)
 
 nobody : SeatView
@@ -35,7 +36,7 @@ merged history seats numbered each others =
     record {
       each = λ seat within.
           let here : seat < length seats = omega (arith, count, within) in
-          let number : (slice_index_or seats seat nobody).number ≡ seat = omega (arith, numbered_at 0 seats seat nobody numbered here) in
+          let number : (slice_index_or seats seat nobody).number ≡ seat = omega (arith, numbered_at (λ (place : SeatView). place.number) 0 seats seat nobody numbered here) in
           ap (λ n. own n (map entry_data history)) (sym number) ∙ (each seat nobody here
           ∙ sym (get_or-map (λ (place : SeatView). place.mine) seats seat nobody [] here));
       no_others = subst O (sym count) (All-map (λ event. event.seat < length seats) entry_data history others);
@@ -45,7 +46,7 @@ module _ (history : List Entry) (seats : List SeatView) (is : IsMerged (map entr
   pub merged_each : are_numbered 0 (map (λ seat. seat.number) seats) ≡ true → All (λ seat. own seat.number (map entry_data history) ≡ seat.mine) seats
   merged_each numbered k d within =
       let there : k < length (map (λ (seat : SeatView). seat.mine) seats) = omega (arith, length-map seats (λ (seat : SeatView). seat.mine), within) in
-      let number : (slice_index_or seats k d).number ≡ k = omega (arith, numbered_at 0 seats k d numbered within) in
+      let number : (slice_index_or seats k d).number ≡ k = omega (arith, numbered_at (λ (place : SeatView). place.number) 0 seats k d numbered within) in
       ap (λ n. own n (map entry_data history)) number ∙ (is.each k there ∙ get_or-map (λ (place : SeatView). place.mine) seats k d [] within)
 
   pub merged_others : All (λ entry. entry.seat < length seats) history

@@ -7,7 +7,7 @@ use Rattle.std.proofs.lemmas.List.Elements.{All-nil, All-push}
 use Rattle.shared_account.specs.Seats.{SeatView, are_all, are_numbered, fresh_seats}
 use Rattle.shared_account.proofs.Merging.{first_by}
 
-numbered_push : (first : ℕ) (numbers : List ℕ) (last : ℕ) → are_numbered first numbers ≡ true → last ≡ first + length numbers
+pub numbered_push : (first : ℕ) (numbers : List ℕ) (last : ℕ) → are_numbered first numbers ≡ true → last ≡ first + length numbers
     → are_numbered first (numbers ++ last ∷ []) ≡ true
 numbered_push first [] last are is =
     let same : last ≡ first = omega (arith, is) in

@@ -18,47 +18,6 @@ fits_of account asked told is =
     let R : Reply → Type 0 = IsReplyTo asked in
     subst R (sym is) (answer_fits account.opening account.until (reverse account.history) asked)
 
--- ---- out of range
-
-either : (b : Bool) (first second : Option AccountFault) → (first ≡ Some fault.OutOfRange → ⊥) → (second ≡ Some fault.OutOfRange → ⊥)
-    → (if b then first else second) ≡ Some fault.OutOfRange → ⊥
-either true first second x y is = x is
-either false first second x y is = y is
-
-first_or : (first second : Option AccountFault) → (first ≡ Some fault.OutOfRange → ⊥) → (second ≡ Some fault.OutOfRange → ⊥)
-    → or_else first second ≡ Some fault.OutOfRange → ⊥
-first_or None second x y is = y is
-first_or (Some why) second x y is = x is
-
-misplaced_ranged : (call : CallFacts) (asked : Asked) → misplaced call asked ≡ Some fault.OutOfRange → ⊥
-misplaced_ranged call (Credits amount moment) is = cc
-misplaced_ranged call (Reserves number plan wanted least at) is = either call.returned (Some fault.CallUsed) None (λ e. cc) (λ e. cc) is
-misplaced_ranged call (Settles number mail info) is = either (is_open call) None (Some fault.NotOpen) (λ e. cc) (λ e. cc) is
-misplaced_ranged call (Returns number) is = either (is_open call) None (Some fault.NotOpen) (λ e. cc) (λ e. cc) is
-
-out_of_range : (ranged : Bool) (call : CallFacts) (asked : Asked) (over : Option AccountFault) → (over ≡ Some fault.OutOfRange → ⊥)
-    → or_else (if ranged then misplaced call asked else Some fault.OutOfRange) over ≡ Some fault.OutOfRange → ranged ≡ false
-out_of_range true call asked over not_over is = absurd (first_or (misplaced call asked) over (misplaced_ranged call asked) not_over is)
-out_of_range false call asked over not_over is = refl
-
-range_refusal : (limit : ℕ) (h : List EntryData) (asked : Asked) → refusal limit h asked ≡ Some fault.OutOfRange → is_in_range asked ≡ false
-unfolding refusal
-range_refusal limit h asked is =
-    let needs = needed_by (known (call_of asked) h) asked in
-    out_of_range (is_in_range asked) (known (call_of asked) h) asked (over_limit limit (length h + owed h) needs)
-    (either (nat_lt limit (length h + owed h + needs)) (Some fault.HistoryFull) None (λ e. cc) (λ e. cc)) is
-
-range_told : (account : Ledger) (asked : Asked) → IsRefusal account asked fault.OutOfRange → is_in_range asked ≡ false
-range_told account asked (inl is) = range_refusal account.limit (reverse account.history) asked is
-range_told account asked (inr is) = cc is.1
-
-pub range_of : (account : Ledger) (asked : Asked) (told : Result Reply AccountFault) → IfErr told (IsRefusal account asked) → told ≡ Err fault.OutOfRange → is_in_range asked ≡ false
-range_of account asked (Ok answered) refused is = cc
-range_of account asked (Err why) refused is =
-    let same : why ≡ fault.OutOfRange = cc is in
-    let R : AccountFault → Type 0 = IsRefusal account asked in
-    range_told account asked (subst R same refused)
-
 -- ---- a Return of a call that is open by the seat's own entries
 
 return_closed : (open_yet : Bool) (account : Ledger) (call : ℕ) (why : AccountFault) → is_open (known call (reverse account.history)) ≡ open_yet
@@ -82,6 +41,24 @@ returning_of account mine (Reserves call plan wanted least at) (Err why) refused
 returning_of account mine (Settles call number info) (Err why) refused closing return own = absurd return
 returning_of account mine (Returns call) (Err why) refused closing return own =
     return_closed (is_open (known call (reverse account.history))) account call why refl (λ is. fails why (closing is own)) refused
+
+open_or_not : (open_yet : Bool) (account : Ledger) (call : ℕ) (why : AccountFault) → is_open (known call (reverse account.history)) ≡ open_yet
+    → (is_open (known call (reverse account.history)) ≡ true → why ≡ fault.GateClosed) → (why ≡ fault.GateClosed) ⊎ IsRefusal account (Returns call) why
+    → (why ≡ fault.NotOpen) ⊎ (why ≡ fault.GateClosed)
+open_or_not true account call why is closing refused = inr (closing is)
+open_or_not false account call why is closing (inl gate) = inr gate
+open_or_not false account call why is closing (inr refused) = inl (return_closed false account call why is (λ e. cc e) refused)
+
+-- the same where the account is seen, and its gate may have refused too
+pub returned_by : (account : Ledger) (asked : Asked) (told : Result Reply AccountFault) → IfErr told (λ why. (why ≡ fault.GateClosed) ⊎ IsRefusal account asked why)
+    → (IsClosing (reverse account.history) asked → IfErr told (λ why. why ≡ fault.GateClosed)) → IsReturn asked
+    → IfErr told (λ why. (why ≡ fault.NotOpen) ⊎ (why ≡ fault.GateClosed))
+returned_by account asked (Ok answered) refused closing return = tt
+returned_by account (Credits amount moment) (Err why) refused closing return = absurd return
+returned_by account (Reserves call plan wanted least at) (Err why) refused closing return = absurd return
+returned_by account (Settles call number info) (Err why) refused closing return = absurd return
+returned_by account (Returns call) (Err why) refused closing return =
+    open_or_not (is_open (known call (reverse account.history))) account call why refl closing refused
 
 -- ---- the kind of a fault
 
@@ -142,3 +119,13 @@ refused_kind account asked why (inr is) = fault_kind account asked why is
 pub refused_by : (account : Ledger) (asked : Asked) (why : AccountFault) → (why ≡ fault.GateClosed) ⊎ IsRefusal account asked why → IsRefused asked why
 refused_by account asked why (inl gate) = inl gate
 refused_by account asked why (inr is) = inr (record { account = account; refused = is })
+
+pub refusals_kind : (account : Ledger) (asked : Asked) (told : Result Reply AccountFault) → IfErr told (λ why. (why ≡ fault.GateClosed) ⊎ IsRefusal account asked why)
+    → IfErr told (IsFaultOf asked)
+refusals_kind account asked (Ok answered) refused = tt
+refusals_kind account asked (Err why) refused = refused_kind account asked why refused
+
+pub refusals_by : (account : Ledger) (asked : Asked) (told : Result Reply AccountFault) → IfErr told (λ why. (why ≡ fault.GateClosed) ⊎ IsRefusal account asked why)
+    → IfErr told (IsRefused asked)
+refusals_by account asked (Ok answered) refused = tt
+refusals_by account asked (Err why) refused = refused_by account asked why refused

@@ -6,6 +6,7 @@ use native.Mathlib.Decide.{ℕ_discrete}
 use lib.ListN.{get_elem?}
 use Rattle.atomic_table.proofs.Lists.{at_longer, at_set, set_else, set_here}
 use Rattle.account_core.specs.Ledger.{Ledger}
+use Rattle.shared_account.specs.Ended.{HaveEnded}
 use Rattle.shared_account.specs.Prefixes.{IsPrefix}
 use Rattle.shared_account.specs.Turns.{BoardState, AllApart, AreApart, HasTurn, IsNumbered, IsOut, IsTaken, Knows, AccountLiesAt}
 use Rattle.shared_account.specs.Views.{IsSeat, seats_at, ticket_of, tickets_at, total}
@@ -38,11 +39,14 @@ views_grow P views w mine others at v e =
     ⊎_elim (λ (t : get_elem? views at ≡ some v). others at v t) (λ (t : (at ≡ length views) × (w ≡ v)). subst (P at) t.1 (mine at)) (at_end views w v at e)
 
 pub knows_again : (now after : BoardState) (at : ℕ) (v : View) → Knows now at v → IsPrefix v.seen.history after.account.history → IsPrefix v.heard.history after.account.history
+    → HaveEnded after.account.history 0 v.ended → now.gone ≤ after.gone
     → (IsSeat v.stage → IsNumbered now v → IsNumbered after v) → ((t : ℕ) → ticket_of v.stage ≡ Some t → IsOut now t → IsOut after t)
     → ((t : ℕ) → v.stage ≡ Serves t → HasTurn now at v t → HasTurn after at v t) → Knows after at v
-knows_again now after at v knows seen heard numbered out turn = record {
+knows_again now after at v knows seen heard ended gone numbered out turn = record {
   seen = seen;
   heard = heard;
+  ended = ended;
+  gone = omega (arith, knows.gone, gone);
   seated = λ seat. numbered seat (knows.seated seat);
   ticket = λ t is. out t is (knows.ticket t is);
   turn = λ t is. turn t is (knows.turn t is);

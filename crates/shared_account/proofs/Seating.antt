@@ -1,42 +1,47 @@
 -- The seats of a turn account, from its opening to its close.
-use Rattle.std.specs.Prelude.{◌≢◌, IfSome, IsNone}
-use Rattle.std.proofs.Common.{zero, suc, ◌≡◌, ◌≤◌, ◌<◌, ◌+◌, ◌%◌, ◌^◌, ℕ, Option, Some, None, List, [], ◌∷◌, length, get_or, set, refl, sym, ap, ◌∙◌, arith, subst}
-use mathlib.Core.Option.{none, some, some-injective, some-ne-none}
-use mathlib.Core.Option as maybe
+use Rattle.std.specs.Prelude.{◌≢◌}
+use Rattle.std.proofs.Common.{◌≡◌, ◌≤◌, ◌<◌, ◌+◌, ◌^◌, ℕ, Option, Some, None, List, [], ◌∷◌, ◌++◌, length, set, sym, ap, ◌∙◌, arith, subst, refl, ⊎_elim, length-append}
+use mathlib.Core.Logic.{dite}
+use mathlib.Core.Option.{some, some-injective, some-ne-none}
+use native.Mathlib.Decide.{ℕ_discrete}
 use lib.ListN.{get_elem?}
-use Rattle.atomic_table.specs.Table.{Final, Seen, Splits, opening}
-use Rattle.atomic_table.proofs.Lists.{one_turn}
+use Rattle.atomic_table.specs.Table.{Final, Joins, Seen, Splits, opening}
+use Rattle.atomic_table.proofs.Lists.{at_set, set_else}
 use Rattle.account_core.specs.Events.{EntryData}
 use Rattle.account_core.specs.Ledger.{Ledger}
+use Rattle.shared_account.specs.Ended.{HasEnded, IsClosedAs}
 use Rattle.shared_account.specs.Own.{own}
 use Rattle.shared_account.specs.Prefixes.{IsPrefix}
-use Rattle.shared_account.specs.Turns.{BoardState, AllKnow, AreApart, HasTicketOut, Kept, Knows, AccountLiesAt}
-use Rattle.shared_account.specs.Views.{IsSeat, first_view, next_seat, one_more, seats_at, ticket_of, tickets_at}
-use Rattle.shared_account.specs.declared.board.Stage.TheVariants.{Idles}
+use Rattle.shared_account.specs.Turns.{BoardState, AccountLiesAt, AreApart, IsNumbered, Kept, Knows}
+use Rattle.shared_account.specs.Views.{IsSeat, first_view, next_seat, one_more, seats_at, spent_note, taking_in, ticket_of, tickets_at}
+use Rattle.shared_account.specs.declared.board.Stage.TheVariants.{Idles, Serves}
 use Rattle.shared_account.specs.declared.board.Start.{Start}
 use Rattle.shared_account.specs.declared.board.View.{View}
 use Rattle.shared_account.proofs.Beginnings.{begins_any, begins_within, nothing, own_begins}
-use Rattle.shared_account.proofs.Rosters.{apart_alike, apart_end, apart_set, knows_again, lies_end, lies_set, tickets_fewer, total_end, total_kept, views_grow, views_stay}
-use Rattle.shared_account.proofs.Keeping.{Table, serving_is}
+use Rattle.shared_account.proofs.Ending.{all_below, one_ended}
+use Rattle.shared_account.proofs.Rosters.{apart_alike, apart_end, apart_set, knows_again, lies_end, lies_set, note_apart, total_end, total_kept, total_set, views_grow, views_stay}
+use Rattle.shared_account.proofs.Keeping.{Table}
 
 module _ (start : Start) where
   -- ---- the opening
 
-  pub starts : start.limit < 2 ^ 32
+  pub starts : start.limit < 2 ^ 32 → 1 ≤ start.seats → start.seats ≤ 16
       → Kept start (opening (0 ∷ 0 ∷ 0 ∷ []) (Some (record { opening = start.opening; until = start.until; limit = start.limit; history = [] }) ∷ []) (first_view start.opening start.until start.limit))
-  starts bounded =
+  starts bounded one_seat few =
       let account : Ledger = record { opening = start.opening; until = start.until; limit = start.limit; history = [] } in
-      let now : BoardState = record { account = account; made = 1; served = 0; out = 0; holder = None } in
+      let now : BoardState = record { account = account; made = 1; gone = 0; served = 0; out = 0; holder = None } in
       let first : View = first_view start.opening start.until start.limit in
       record {
         now = now;
         words = record { wide = refl; ticket = refl; serving = refl; count = refl };
-        past = record { opening = refl; until = refl; limit = refl; bounded = bounded; legal = tt; short = omega arith; few = omega arith; unmade = λ n made. refl };
+        past = record { opening = refl; until = refl; limit = refl; bounded = bounded; legal = tt; short = omega arith; few = one_seat; sixteen = few; unmade = λ n made. refl };
         totals = record { seats = refl; tickets = refl };
         each = views_grow (Knows now) [] first (λ at. record {
           seen = begins_any [];
           heard = begins_any [];
-          seated = λ _. record { opening = refl; until = refl; limit = refl; number = omega arith; first = λ _. refl; own = refl };
+          ended = tt;
+          gone = omega arith;
+          seated = λ _. record { opening = refl; until = refl; limit = refl; number = omega arith; gone = omega arith; first = λ _. refl; own = refl };
           ticket = λ t has. absurd (cc has);
           turn = λ t has. absurd (cc has);
         }) (λ at v here. absurd (some-ne-none v (sym here)));
@@ -50,7 +55,7 @@ module _ (start : Start) where
   own_none seat earlier later begins without =
       nothing (own seat earlier) (omega (arith, begins_within (own seat earlier) (own seat later) (own_begins seat earlier later begins), ap length without))
 
-  pub numbers : (id : ℕ) (v : View) → v.stage ≡ Idles → v.number ≡ 0 → v.made < 16 → Splits (Kept start) id v (one_more v) (next_seat v)
+  pub numbers : (id : ℕ) (v : View) → v.stage ≡ Idles → v.number ≡ 0 → v.made < start.seats → Splits (Kept start) id v (one_more v) (next_seat v)
   numbers id v idle is_first few s kept there =
       let now = kept.now in
       let after : BoardState = record now { made = now.made + 1 } in
@@ -79,6 +84,7 @@ module _ (start : Start) where
           legal = kept.past.legal;
           short = kept.past.short;
           few = omega (arith, few, made);
+          sixteen = kept.past.sixteen;
           unmade = λ n more. kept.past.unmade n (omega (arith, more));
         };
         totals = record {
@@ -88,11 +94,14 @@ module _ (start : Start) where
         each = views_grow (Knows after) mid next (λ at. record {
           seen = knew.seen;
           heard = begins_any now.account.history;
+          ended = tt;
+          gone = omega arith;
           seated = λ _. record {
             opening = seated.opening;
             until = seated.until;
             limit = seated.limit;
             number = omega (arith, made);
+            gone = omega (arith, made, seated.gone, seated.number);
             first = λ zero_made. omega (arith, zero_made, made, seated.number);
             own = own_none v.made v.seen.history now.account.history knew.seen none_yet ∙ sym none_yet;
           };
@@ -102,16 +111,19 @@ module _ (start : Start) where
             (views_stay (Knows after) s.views id w (record {
               seen = knew.seen;
               heard = knew.heard;
-              seated = λ _. record { opening = seated.opening; until = seated.until; limit = seated.limit; number = omega (arith, seated.number); first = λ _. ap (λ n. n + 1) made; own = seated.own };
+              ended = knew.ended;
+              gone = knew.gone;
+              seated = λ _. record { opening = seated.opening; until = seated.until; limit = seated.limit; number = omega (arith, seated.number); gone = seated.gone; first = λ _. ap (λ n. n + 1) made; own = seated.own };
               ticket = λ t has. let out = knew.ticket t has in record { drawn = out.drawn; unserved = out.unserved };
               turn = λ t has. let old = knew.turn t has in record { served = old.served; holder = old.holder; seen = old.seen };
             })
-            (λ at u other here. let know = kept.each at u here in knows_again now after at u know know.seen know.heard
+            (λ at u other here. let know = kept.each at u here in knows_again now after at u know know.seen know.heard know.ended (omega arith)
             (λ second n. record {
               opening = n.opening;
               until = n.until;
               limit = n.limit;
               number = omega (arith, n.number);
+              gone = n.gone;
               first = λ zero_too. absurd ((kept.apart id at v u (λ i. other (sym i)) there here).numbers seat second (is_first ∙ sym zero_too));
               own = n.own;
             })
@@ -122,49 +134,135 @@ module _ (start : Start) where
         lies = lies_end now.account s.homes mid next now.holder (lies_set now.account s.homes s.views id v w now.holder there (λ t has. has) kept.lies);
       }
 
+  -- ---- a seat takes in the next one, which has ended
+
+  pub takes_in : (id : ℕ) (v : View) (other : ℕ) (w : View) → v.stage ≡ Idles → w.stage ≡ Idles → w.number ≡ length v.ended
+      → Joins (Kept start) id v other w (taking_in v w) spent_note
+  takes_in id v other w idle ends is_next s kept there differs here =
+      let now = kept.now in
+      let after : BoardState = record now { gone = now.gone + 1 } in
+      let both : View = taking_in v w in
+      let mid : List View = set s.views id both in
+      let before : get_elem? s.views other ≡ some w = sym (set_else s.views id other both differs) ∙ here in
+      let knew = kept.each id v there in
+      let seated = knew.seated (subst IsSeat (sym idle) tt) in
+      let other_knew = kept.each other w before in
+      let other_seat : IsSeat w.stage = subst IsSeat (sym ends) tt in
+      let other_seated = other_knew.seated other_seat in
+      let first : w.number ≡ now.gone = omega (arith, is_next, knew.gone, other_seated.gone) in
+      let numbered : (u : View) → IsNumbered now u → w.number ≢ u.number → IsNumbered after u = λ u n apart. record {
+        opening = n.opening;
+        until = n.until;
+        limit = n.limit;
+        number = n.number;
+        gone = omega (arith, n.gone, first, apart);
+        first = n.first;
+        own = n.own;
+      } in
+      let last : HasEnded now.account.history (length v.ended) w.seen =
+      record { seen = other_knew.seen; own = subst (λ (n : ℕ). own n w.seen.history ≡ own n now.account.history) is_next other_seated.own } in
+      let mine : Knows after id both = record {
+        seen = knew.seen;
+        heard = knew.heard;
+        ended = one_ended now.account.history 0 v.ended w.seen knew.ended (subst (λ (n : ℕ). HasEnded now.account.history n w.seen) (omega arith) last);
+        gone = omega (arith, length-append v.ended (w.seen ∷ []), knew.gone);
+        seated = λ seat.
+            let n = numbered v seated ((kept.apart other id w v differs before there).numbers other_seat seat) in
+            record { opening = n.opening; until = n.until; limit = n.limit; number = n.number; gone = n.gone; first = n.first; own = n.own };
+        ticket = λ t has. let never : None ≡ Some t = ap ticket_of (sym idle) ∙ has in absurd (cc never);
+        turn = λ t has. let never : Idles ≡ Serves t = sym idle ∙ has in absurd (cc never);
+      } in
+      let others : (at : ℕ) (u : View) → at ≢ other → get_elem? s.views at ≡ some u → Knows after at u = λ at u ne is.
+      let know = kept.each at u is in
+      knows_again now after at u know know.seen know.heard know.ended (omega arith)
+      (λ second n. numbered u n ((kept.apart other at w u (λ i. ne (sym i)) before is).numbers other_seat second))
+      (λ t has out. record { drawn = out.drawn; unserved = out.unserved })
+      (λ t has turn. record { served = turn.served; holder = turn.holder; seen = turn.seen }) in
+      let idle_no_turn : (u : View) → u.stage ≡ Idles → (t : ℕ) → u.stage ≡ Serves t → ⊥ = λ u rests t has. let never : Idles ≡ Serves t = sym rests ∙ has in cc never in
+      record {
+        now = after;
+        words = record { wide = kept.words.wide; ticket = kept.words.ticket; serving = kept.words.serving; count = kept.words.count };
+        past = kept.past;
+        totals = record {
+          seats = omega (
+            arith,
+            total_set seats_at mid other w spent_note here,
+            total_kept seats_at s.views id v both there refl,
+            ap seats_at ends,
+            kept.totals.seats,
+          );
+          tickets = omega (
+            arith,
+            total_set tickets_at mid other w spent_note here,
+            total_kept tickets_at s.views id v both there refl,
+            ap tickets_at ends,
+            kept.totals.tickets,
+          );
+        };
+        each = views_stay (Knows after) mid other spent_note (record {
+          seen = begins_any now.account.history;
+          heard = begins_any now.account.history;
+          ended = tt;
+          gone = omega arith;
+          seated = λ seat. absurd seat;
+          ticket = λ t has. absurd (cc has);
+          turn = λ t has. absurd (cc has);
+        })
+            (λ at u ne is. ⊎_elim (λ (t : (at ≡ id) × (both ≡ u)). subst (λ (x : ℕ × View). Knows after x.0 x.1) (λ i. (sym t.0 i, t.1 i)) mine)
+            (λ (t : (at ≢ id) × (get_elem? s.views at ≡ some u)). others at u ne t.1) (at_set s.views id at both u is));
+        apart = apart_set mid other spent_note
+            (apart_set s.views id both kept.apart (λ by u ne is. apart_alike v both u (λ _. refl) (λ x. x) (λ t has. has) (kept.apart id by v u (λ e. ne (sym e)) there is)))
+            (λ by u ne is. note_apart spent_note u refl);
+        lies = lies_set now.account s.homes mid other w spent_note now.holder here (λ t has. absurd (idle_no_turn w ends t has))
+            (lies_set now.account s.homes s.views id v both now.holder there (λ t has. has) kept.lies);
+      }
+
   -- ---- the close
 
-  nobody_left : (now : BoardState) (homes : List (maybe.Option (Option Ledger))) (views : List View) (holder : Option ℕ) → AllKnow now views → now.out ≡ 0
-      → AccountLiesAt now.account homes views holder → homes ≡ some (Some now.account) ∷ []
-  nobody_left now homes views None each all_in lies = lies
-  nobody_left now homes views (Some at) each all_in lies =
-      let out = (each at lies.view lies.there).ticket lies.ticket (ap ticket_of lies.serves) in
-      absurd (omega (arith, out.drawn, out.unserved, all_in))
+  -- where all seats but this one have ended, nobody has the turn
+  alone : (s : Table) (kept : Kept start s) (id : ℕ) (v : View) → get_elem? s.views id ≡ some v → v.stage ≡ Idles → v.number ≡ length v.ended
+      → length v.ended + 1 ≡ start.seats → (holder : Option ℕ) → AccountLiesAt kept.now.account s.homes s.views holder
+      → s.homes ≡ some (Some kept.now.account) ∷ []
+  alone s kept id v there idle is_next is_last None lies = lies
+  alone s kept id v there idle is_next is_last (Some at) lies =
+      let seat : IsSeat v.stage = subst IsSeat (sym idle) tt in
+      let holds : IsSeat lies.view.stage = subst IsSeat (sym lies.serves) tt in
+      let mine = (kept.each id v there).seated seat in
+      let its = (kept.each at lies.view lies.there).seated holds in
+      let same : v.number ≡ lies.view.number = omega (arith, is_next, is_last, (kept.each id v there).gone, mine.gone, its.gone, its.number, kept.past.few) in
+      absurd (dite (ℕ_discrete at id)
+      (λ (e : at ≡ id).
+      let view : get_elem? s.views id ≡ some lies.view = subst (λ (i : ℕ). get_elem? s.views i ≡ some lies.view) e lies.there in
+      let alike : v ≡ lies.view = some-injective v lies.view (sym there ∙ view) in
+      let never : Idles ≡ Serves lies.ticket = sym idle ∙ (ap (λ (u : View). u.stage) alike ∙ lies.serves) in
+      cc never)
+      (λ (ne : at ≢ id). (kept.apart id at v lies.view (λ e. ne (sym e)) there lies.there).numbers seat holds same))
 
-  none_out : (s : Table) (kept : Kept start s) → get_or s.words 0 0 ≡ get_or s.words 1 0 → kept.now.out ≡ 0
-  none_out s kept same =
-      let now = kept.now in
-      let few : now.out ≤ 16 = omega (arith, tickets_fewer s.views, kept.totals.seats, kept.totals.tickets, kept.past.few) in
-      let near : now.served + now.out < now.served + 2 ^ 64 = omega (arith, few) in
-      let round : now.served % 2 ^ 64 ≡ (now.served + now.out) % 2 ^ 64 = sym kept.words.serving ∙ (sym same ∙ kept.words.ticket) in
-      let here : now.served ≡ now.served + now.out = one_turn now.served (now.served + now.out) (2 ^ 64) (omega arith) near round in
-      omega (arith, here)
-
-  word_at : (words : List ℕ) (i a : ℕ) → get_elem? words i ≡ some a → get_or words i 0 ≡ a
-  word_at [] i a is = absurd (some-ne-none a (sym is))
-  word_at (x ∷ xs) zero a is = some-injective x a is
-  word_at (x ∷ xs) (suc i) a is = word_at xs i a is
-
-  -- where all tickets were served, the account is in the slot, and its history begins with what any seat has seen
-  pub closes : (id : ℕ) (v : View) (words : List ℕ) (slots : List (Option Ledger)) (ticket serving : ℕ) (left : Option Ledger) → Final (Seen (Kept start) id v) words slots
-      → get_elem? words 0 ≡ some ticket → get_elem? words 1 ≡ some serving → ticket ≡ serving → get_elem? slots 0 ≡ some left
-      → IfSome left (λ account. IsPrefix v.seen.history account.history) × (IsNone left → HasTicketOut)
-  closes id v words slots ticket serving left final ticket_is serving_is same left_is =
+  -- where all seats but one have ended, the account is in the slot, and is what they all have seen
+  pub closes : (id : ℕ) (v : View) (words : List ℕ) (slots : List (Option Ledger)) (left : Option Ledger) → Final (Seen (Kept start) id v) words slots
+      → get_elem? slots 0 ≡ some left → v.stage ≡ Idles → v.number ≡ length v.ended → length v.ended + 1 ≡ start.seats
+      → (account : Ledger) × (left ≡ Some account) × IsClosedAs start (v.ended ++ v.seen ∷ []) account
+  closes id v words slots left final left_is idle is_next is_last =
       let s = final.0 in
       let kept = final.1.0 in
+      let there = final.1.1 in
       let now = kept.now in
-      let W : List ℕ → Type 0 = λ ws. get_or ws 0 0 ≡ get_or ws 1 0 in
-      let words_same : get_or s.words 0 0 ≡ get_or s.words 1 0 = subst W (sym final.2) (word_at words 0 ticket ticket_is ∙ (same ∙ sym (word_at words 1 serving serving_is))) in
-      let home : s.homes ≡ some (Some now.account) ∷ [] = nobody_left now s.homes s.views now.holder kept.each (none_out s kept words_same) kept.lies in
-      let there : get_elem? slots 0 ≡ some (Some now.account) = final.4 0 (Some now.account) (ap (λ hs. get_elem? hs 0) home) in
-      let is : Some now.account ≡ left = some-injective (Some now.account) left (sym there ∙ left_is) in
-      let B : Option Ledger → Type 0 = λ x. IfSome x (λ account. IsPrefix v.seen.history account.history) × (IsNone x → HasTicketOut) in
-      subst B is ((kept.each id v final.1.1).seen, λ none. absurd (cc none))
-
-  -- where the words differ, a ticket is out
-  pub waits : (id : ℕ) (v : View) (words : List ℕ) (slots : List (Option Ledger)) (ticket serving : ℕ) → Final (Seen (Kept start) id v) words slots
-      → get_elem? words 0 ≡ some ticket → get_elem? words 1 ≡ some serving → ticket ≢ serving → HasTicketOut
-  waits id v words slots ticket serving final ticket_is serving_is other =
-      let W : List ℕ → Type 0 = λ ws. get_or ws 0 0 ≡ get_or ws 1 0 → ⊥ in
-      let words_other : get_or words 0 0 ≡ get_or words 1 0 → ⊥ = λ same. other (sym (word_at words 0 ticket ticket_is) ∙ (same ∙ word_at words 1 serving serving_is)) in
-      record { start = start; board = final.0; kept = final.1.0; unserved = subst W (sym final.2) words_other }
+      let knew = kept.each id v there in
+      let seated = knew.seated (subst IsSeat (sym idle) tt) in
+      let home : s.homes ≡ some (Some now.account) ∷ [] = alone s kept id v there idle is_next is_last now.holder kept.lies in
+      let found : get_elem? slots 0 ≡ some (Some now.account) = final.4 0 (Some now.account) (ap (λ hs. get_elem? hs 0) home) in
+      let last : HasEnded now.account.history (length v.ended) v.seen =
+      record { seen = knew.seen; own = subst (λ (n : ℕ). own n v.seen.history ≡ own n now.account.history) is_next seated.own } in
+      let count : length (v.ended ++ v.seen ∷ []) ≡ start.seats = omega (arith, length-append v.ended (v.seen ∷ []), is_last) in (
+        now.account,
+        some-injective left (Some now.account) (sym left_is ∙ found),
+        record {
+          opening = kept.past.opening;
+          until = kept.past.until;
+          limit = kept.past.limit;
+          legal = kept.past.legal;
+          short = kept.past.short;
+          each = one_ended now.account.history 0 v.ended v.seen knew.ended (subst (λ (n : ℕ). HasEnded now.account.history n v.seen) (omega arith) last);
+          no_others = all_below now.account.history (length (v.ended ++ v.seen ∷ [])) (λ n above. kept.past.unmade n (omega (arith, above, count, kept.past.few)));
+        },
+      )

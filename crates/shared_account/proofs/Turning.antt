@@ -8,9 +8,11 @@ use lib.ListN.{get_elem?}
 use lib.Seq.{set-get_or}
 use Rattle.atomic_table.specs.Table.{Allows, gives, keeps, put_back, step, takes}
 use Rattle.atomic_table.proofs.Lists.{one_turn, set_here}
+use Rattle.account_core.specs.Answers.{IsLegal}
 use Rattle.account_core.specs.Events.{EntryData}
 use Rattle.account_core.specs.Ledger.{Ledger, answer_of, refusal_of}
 use Rattle.account_core.specs.SharingLaws.{EachIsOwedItsShare}
+use Rattle.shared_account.specs.Ended.{HaveEnded}
 use Rattle.shared_account.specs.Own.{own}
 use Rattle.shared_account.specs.Plays.{IsLater, Sitter, appended, drawn, handed, looked, with_entry}
 use Rattle.shared_account.specs.Prefixes.{IsPrefix}
@@ -20,6 +22,7 @@ use Rattle.shared_account.specs.declared.board.Stage.TheVariants.{Idles, Serves,
 use Rattle.shared_account.specs.declared.board.Start.{Start}
 use Rattle.shared_account.specs.declared.board.View.{View}
 use Rattle.shared_account.proofs.Beginnings.{begins_further, begins_itself, begins_longer, own_other}
+use Rattle.shared_account.proofs.Ending.{ended_longer}
 use Rattle.shared_account.proofs.Longer.{legal_with, short_with}
 use Rattle.shared_account.proofs.Rosters.{apart_alike, apart_set, knows_again, lies_set, tickets_fewer, total_kept, total_set, views_stay, within_views}
 use Rattle.shared_account.proofs.Keeping.{Table, numbered_so, serving_is, unchanged, words_count, words_draw, words_hand}
@@ -59,17 +62,19 @@ module _ (start : Start) where
           words = words_draw now s.words kept.words;
           past = kept.past;
           totals = record {
-            seats = total_kept seats_at s.views id m.0 w there (ap seats_at (sym idle)) ∙ kept.totals.seats;
+            seats = ap (λ (n : ℕ). n + now.gone) (total_kept seats_at s.views id m.0 w there (ap seats_at (sym idle))) ∙ kept.totals.seats;
             tickets = omega (arith, total_set tickets_at s.views id m.0 w there, ap tickets_at idle, kept.totals.tickets);
           };
           each = views_stay (Knows after) s.views id w (record {
             seen = knew.seen;
             heard = knew.heard;
+            ended = knew.ended;
+            gone = knew.gone;
             seated = λ _. numbered_so now now.served (now.out + 1) now.holder m.0 (Waits t) m.0.heard (knew.seated seat);
             ticket = λ t' is. let same : t ≡ t' = cc is in subst (IsOut after) same (record { drawn = omega arith; unserved = omega arith });
             turn = λ t' is. absurd (cc is);
           })
-              (λ at u other is. let know = kept.each at u is in knows_again now after at u know know.seen know.heard
+              (λ at u other is. let know = kept.each at u is in knows_again now after at u know know.seen know.heard know.ended (omega arith)
               (λ _ n. numbered_so now now.served (now.out + 1) now.holder u u.stage u.heard n)
               (λ t' _ out. record { drawn = out.drawn; unserved = omega (arith, out.unserved) })
               (λ t' _ turn. record { served = turn.served; holder = turn.holder; seen = turn.seen }));
@@ -85,7 +90,7 @@ module _ (start : Start) where
   -- ---- the ticket that is served is looked at
 
   out_few : (s : Table) (kept : Kept start s) → kept.now.out ≤ 16
-  out_few s kept = omega (arith, tickets_fewer s.views, kept.totals.seats, kept.totals.tickets, kept.past.few)
+  out_few s kept = omega (arith, tickets_fewer s.views, kept.totals.seats, kept.totals.tickets, kept.past.few, kept.past.sixteen)
 
   served_is : (s : Table) (kept : Kept start s) (t : ℕ) → IsOut kept.now t → get_or s.words 1 0 ≡ t % 2 ^ 64 → t ≡ kept.now.served
   served_is s kept t out found =
@@ -110,17 +115,19 @@ module _ (start : Start) where
         words = subst (AreWords after) (sym (set-get_or s.words 1 0)) words;
         past = kept.past;
         totals = record {
-          seats = total_kept seats_at s.views id m.0 w there (ap seats_at (sym waits)) ∙ kept.totals.seats;
+          seats = ap (λ (n : ℕ). n + now.gone) (total_kept seats_at s.views id m.0 w there (ap seats_at (sym waits))) ∙ kept.totals.seats;
           tickets = total_kept tickets_at s.views id m.0 w there (ap tickets_at (sym waits)) ∙ kept.totals.tickets;
         };
         each = views_stay (Knows after) s.views id w (record {
           seen = begins_itself now.account.history;
           heard = knew.heard;
-          seated = λ _. record { opening = refl; until = refl; limit = refl; number = seated.number; first = seated.first; own = refl };
+          ended = knew.ended;
+          gone = knew.gone;
+          seated = λ _. record { opening = refl; until = refl; limit = refl; number = seated.number; gone = seated.gone; first = seated.first; own = refl };
           ticket = λ t' is. let same : t ≡ t' = cc is in subst (IsOut after) same (record { drawn = out.drawn; unserved = out.unserved });
           turn = λ t' is. let same : t ≡ t' = cc is in record { served = sym same ∙ served; holder = refl; seen = refl };
         })
-            (λ at u other is. let know = kept.each at u is in knows_again now after at u know know.seen know.heard
+            (λ at u other is. let know = kept.each at u is in knows_again now after at u know know.seen know.heard know.ended (omega arith)
             (λ _ n. numbered_so now now.served now.out (Some id) u u.stage u.heard n)
             (λ t' _ o. record { drawn = o.drawn; unserved = o.unserved })
             (λ t' _ turn. let never : None ≡ Some at = sym nobody ∙ turn.holder in absurd (cc never)));
@@ -154,6 +161,7 @@ module _ (start : Start) where
         legal = kept.past.legal;
         begins = knew.seen;
         own = sym seated.own;
+        ended = refl;
       } in (
         record m.0 { stage = Serves t; seen = now.account },
         takes 0 (Some now.account),
@@ -187,7 +195,9 @@ module _ (start : Start) where
       let same_limit : now.account.limit ≡ m.0.seen.limit = ap (λ (a : Ledger). a.limit) was in
       let short : length account.history ≤ m.0.seen.limit = omega (arith, short_with m.0.seen event admitted share, sum) in
       let others_own : (n : ℕ) → event.seat ≢ n → own n now.account.history ≡ own n account.history = λ n ne.
-      ap (λ (a : Ledger). own n a.history) was ∙ sym (own_other n m.0.seen.history event ne) in (
+      ap (λ (a : Ledger). own n a.history) was ∙ sym (own_other n m.0.seen.history event ne) in
+      let ended_still : (at : ℕ) (u : View) → Knows now at u → HaveEnded account.history 0 u.ended = λ at u know.
+      ended_longer now.account.history account.history 0 u.ended longer (λ n first last. others_own n (λ e. omega (arith, e, its, seated.gone, know.gone, last))) know.ended in (
         w,
         keeps,
         tt,
@@ -199,30 +209,35 @@ module _ (start : Start) where
             until = ap (λ (a : Ledger). a.until) turn.seen ∙ kept.past.until;
             limit = ap (λ (a : Ledger). a.limit) turn.seen ∙ kept.past.limit;
             bounded = omega (arith, same_limit, kept.past.bounded);
-            legal = legal_with m.0.seen event admitted (subst (λ (a : Ledger). Rattle.account_core.specs.Answers.IsLegal a.opening a.until a.history) was kept.past.legal) answered;
+            legal = legal_with m.0.seen event admitted (subst (λ (a : Ledger). IsLegal a.opening a.until a.history) was kept.past.legal) answered;
             short = short;
             few = kept.past.few;
+            sixteen = kept.past.sixteen;
             unmade = λ n made. sym (others_own n (λ e. omega (arith, e, its, seated.number, made))) ∙ kept.past.unmade n made;
           };
           totals = record {
-            seats = total_kept seats_at s.views id m.0 w there refl ∙ kept.totals.seats;
+            seats = ap (λ (n : ℕ). n + now.gone) (total_kept seats_at s.views id m.0 w there refl) ∙ kept.totals.seats;
             tickets = total_kept tickets_at s.views id m.0 w there refl ∙ kept.totals.tickets;
           };
           each = views_stay (Knows after) s.views id w (record {
             seen = begins_itself account.history;
             heard = begins_further m.0.heard.history now.account.history account.history knew.heard longer;
-            seated = λ _. record { opening = refl; until = refl; limit = refl; number = seated.number; first = seated.first; own = refl };
+            ended = ended_still id m.0 knew;
+            gone = knew.gone;
+            seated = λ _. record { opening = refl; until = refl; limit = refl; number = seated.number; gone = seated.gone; first = seated.first; own = refl };
             ticket = λ t' has. let out = knew.ticket t' has in record { drawn = out.drawn; unserved = out.unserved };
             turn = λ t' has. let old = knew.turn t' has in record { served = old.served; holder = old.holder; seen = refl };
           })
               (λ at u other here. let know = kept.each at u here in knows_again now after at u know
               (begins_further u.seen.history now.account.history account.history know.seen longer)
               (begins_further u.heard.history now.account.history account.history know.heard longer)
+              (ended_still at u know) (omega arith)
               (λ second n. record {
                 opening = n.opening ∙ ap (λ (a : Ledger). a.opening) was;
                 until = n.until ∙ ap (λ (a : Ledger). a.until) was;
                 limit = n.limit ∙ ap (λ (a : Ledger). a.limit) was;
                 number = n.number;
+                gone = n.gone;
                 first = n.first;
                 own = n.own ∙ others_own u.number (λ e. (kept.apart id at m.0 u (λ i. other (sym i)) there here).numbers seat second (sym its ∙ e));
               })
@@ -270,17 +285,19 @@ module _ (start : Start) where
           words = words_hand now s.words kept.words some_out;
           past = kept.past;
           totals = record {
-            seats = total_kept seats_at s.views id m.0 w there (ap seats_at (sym is)) ∙ kept.totals.seats;
+            seats = ap (λ (n : ℕ). n + now.gone) (total_kept seats_at s.views id m.0 w there (ap seats_at (sym is))) ∙ kept.totals.seats;
             tickets = omega (arith, total_set tickets_at s.views id m.0 w there, ap tickets_at is, kept.totals.tickets, some_out);
           };
           each = views_stay (Knows after) s.views id w (record {
             seen = knew.seen;
             heard = knew.heard;
+            ended = knew.ended;
+            gone = knew.gone;
             seated = λ _. numbered_so now (now.served + 1) (now.out - 1) None m.0 Idles m.0.heard (knew.seated seat);
             ticket = λ t' has. absurd (cc has);
             turn = λ t' has. absurd (cc has);
           })
-              (λ at u other here. let know = kept.each at u here in knows_again now after at u know know.seen know.heard
+              (λ at u other here. let know = kept.each at u here in knows_again now after at u know know.seen know.heard know.ended (omega arith)
               (λ _ n. numbered_so now (now.served + 1) (now.out - 1) None u u.stage u.heard n)
               (λ t' has o.
               let differs : t' ≢ now.served = λ e. (kept.apart id at m.0 u (λ i. other (sym i)) there here).tickets t' (ap ticket_of is ∙ ap (λ (n : ℕ). Some n) (turn.served ∙ sym e)) has in
@@ -290,5 +307,9 @@ module _ (start : Start) where
               (kept.apart id by m.0 u (λ e. other (sym e)) there here));
           lies = ap (put_back s.homes) hand ∙ (ap (λ hs. set hs 0 (some (Some m.0.seen))) taken.empty ∙ ap (λ (a : Ledger). some (Some a) ∷ []) turn.seen);
         },
-        (refl, refl),
+        (
+          refl,
+          refl,
+          subst (λ (a : Ledger). IsLegal a.opening a.until a.history) (sym turn.seen) kept.past.legal,
+        ),
       )

@@ -4,15 +4,15 @@ use Rattle.account_core.specs.Answers.{IsLegal}
 use Rattle.account_core.specs.Events.{EntryData}
 use Rattle.account_core.specs.Ledger.{Ledger}
 use Rattle.shared_account.specs.Own.{IsMerged}
+use Rattle.shared_account.specs.Terms.{Terms}
 
--- the account's number, its opening with the last moment of that, if it has one, and its limit; its history, oldest first; and the list of each seat
+-- the account's number, its opening with the last moment of that, if it has one, and its limit; and its history, oldest first
 pub record Closed : Type 0 where
   pub account : ℕ
   pub opening : ℕ
   pub until : Option ℕ
   pub limit : ℕ
   pub history : List EntryData
-  pub own : List (List EntryData)
 
 -- an account is closed with a book where it is what it was opened as, keeps within its limit, and its history merges the lists of its seats
 pub record IsClosable (opening : ℕ) (until : Option ℕ) (limit : ℕ) (account : Ledger) (lists : List (List EntryData)) : Type 0 where
@@ -22,8 +22,11 @@ pub record IsClosable (opening : ℕ) (until : Option ℕ) (limit : ℕ) (accoun
   pub within_limit : length account.history ≤ limit
   pub merged : IsMerged account.history lists
 
--- an account that is closed isn't what it was opened as, or its history isn't what its seats have entered
-pub record IsMismatch (opening : ℕ) (until : Option ℕ) (limit : ℕ) (lists : List (List EntryData)) : Type 0 where
-  pub account : Ledger
-  pub legal : IsLegal account.opening account.until account.history
-  pub differs : ¬ IsClosable opening until limit account lists
+-- the book of an account that was made with these terms, and whose seats have these entries: the history is legal and merges them
+pub record IsBookOf (terms : Terms) (lists : List (List EntryData)) (book : Closed) : Type 0 where
+  pub account : book.account ≡ terms.number
+  pub opening : book.opening ≡ terms.opening
+  pub until : book.until ≡ terms.until
+  pub limit : book.limit ≡ terms.limit
+  pub legal : IsLegal book.opening book.until book.history
+  pub merged : IsMerged book.history lists

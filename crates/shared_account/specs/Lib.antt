@@ -1,4 +1,5 @@
 pub mod Closed
+pub mod Ended
 pub mod Faults
 pub mod Kinds
 pub mod Own

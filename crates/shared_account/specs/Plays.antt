@@ -31,6 +31,7 @@ pub record IsLater (before after : View) : Type 0 where
   pub legal : IsLegal after.seen.opening after.seen.until after.seen.history
   pub begins : IsPrefix before.seen.history after.seen.history
   pub own : own before.number after.seen.history ≡ own before.number before.seen.history
+  pub ended : after.ended ≡ before.ended
 
 -- a ticket is drawn
 abbrev pub drawn : At → Sitter → ℕ → Sitter → Type 0
@@ -52,9 +53,10 @@ looked step before found after =
 abbrev pub appended : EntryData → At → Sitter → ℕ → Sitter → Type 0
 appended event step before found after = (after.0 ≡ seeing before.0 (with_entry before.0.seen event)) × (after.1 ≡ before.1)
 
--- the turn is passed on, and what was taken lies in the slot again
+-- the turn is passed on, what was taken lies in the slot again, and what was seen is legal
 abbrev pub handed : At → Sitter → ℕ → Sitter → Type 0
-handed step before found after = (after.0 ≡ at_stage before.0 Idles) × (after.1 ≡ rest before.1)
+handed step before found after =
+    (after.0 ≡ at_stage before.0 Idles) × (after.1 ≡ rest before.1) × IsLegal before.0.seen.opening before.0.seen.until before.0.seen.history
 
 -- the longer of what was seen and what was heard, which the other begins
 pub record HasMet (seen heard : List EntryData) (before after : View) : Type 0 where
@@ -68,6 +70,7 @@ pub record HasMet (seen heard : List EntryData) (before after : View) : Type 0 w
   pub begins_seen : IsPrefix seen after.seen.history
   pub begins_heard : IsPrefix heard after.seen.history
   pub own : own before.number after.seen.history ≡ own before.number before.seen.history
+  pub ended : after.ended ≡ before.ended
 
 -- two views have met
 abbrev pub compared : At → Sitter → ℕ → Sitter → Type 0

@@ -6,6 +6,7 @@ use lib.ListN.{get_elem?}
 use Rattle.atomic_table.specs.Table.{State}
 use Rattle.account_core.specs.Answers.{IsLegal}
 use Rattle.account_core.specs.Ledger.{Ledger}
+use Rattle.shared_account.specs.Ended.{HaveEnded}
 use Rattle.shared_account.specs.Own.{own}
 use Rattle.shared_account.specs.Prefixes.{IsPrefix}
 use Rattle.shared_account.specs.Views.{IsSeat, seats_at, ticket_of, tickets_at, total}
@@ -13,10 +14,11 @@ use Rattle.shared_account.specs.declared.board.Stage.TheVariants.{Serves}
 use Rattle.shared_account.specs.declared.board.Start.{Start}
 use Rattle.shared_account.specs.declared.board.View.{View}
 
--- the account with its history so far; how many seats were made; how many tickets were served, and how many are out; and who has the turn, by its place among the views
+-- the account with its history so far; how many seats were made, and how many of them, the first ones, have ended; how many tickets were served, and how many are out; and who has the turn, by its place among the views
 pub record BoardState : Type 0 where
   pub account : Ledger
   pub made : ℕ
+  pub gone : ℕ
   pub served : ℕ
   pub out : ℕ
   pub holder : Option ℕ
@@ -28,7 +30,7 @@ pub record AreWords (now : BoardState) (words : List ℕ) : Type 0 where
   pub serving : slice_index words 1 ≡ now.served % 2 ^ 64
   pub count : slice_index words 2 ≡ length now.account.history
 
--- the account was opened as was asked, its history is legal and within its limit, and a number that no seat has yet has no entry
+-- the account was opened as was asked, its history is legal and within its limit, no more seats were made than it is to have, and a number that no seat has yet has no entry
 pub record IsPast (start : Start) (account : Ledger) (made : ℕ) : Type 0 where
   pub opening : account.opening ≡ start.opening
   pub until : account.until ≡ start.until
@@ -36,20 +38,22 @@ pub record IsPast (start : Start) (account : Ledger) (made : ℕ) : Type 0 where
   pub bounded : account.limit < 2 ^ 32
   pub legal : IsLegal account.opening account.until account.history
   pub short : length account.history ≤ account.limit
-  pub few : made ≤ 16
+  pub few : made ≤ start.seats
+  pub sixteen : start.seats ≤ 16
   pub unmade : (number : ℕ) → made ≤ number → own number account.history ≡ []
 
--- each seat that was made has a view, and each ticket that is out is with a view
+-- each seat that was made and hasn't ended has a view, and each ticket that is out is with a view
 pub record AreTotals (now : BoardState) (views : List View) : Type 0 where
-  pub seats : total seats_at views ≡ now.made
+  pub seats : total seats_at views + now.gone ≡ now.made
   pub tickets : total tickets_at views ≡ now.out
 
--- a seat has seen all entries of its own
+-- a seat hasn't ended, and has seen all entries of its own
 pub record IsNumbered (now : BoardState) (view : View) : Type 0 where
   pub opening : view.seen.opening ≡ now.account.opening
   pub until : view.seen.until ≡ now.account.until
   pub limit : view.seen.limit ≡ now.account.limit
   pub number : view.number < now.made
+  pub gone : now.gone ≤ view.number
   pub first : view.number ≡ 0 → view.made ≡ now.made
   pub own : own view.number view.seen.history ≡ own view.number now.account.history
 
@@ -64,10 +68,12 @@ pub record HasTurn (now : BoardState) (at : ℕ) (view : View) (ticket : ℕ) : 
   pub holder : now.holder ≡ Some at
   pub seen : view.seen ≡ now.account
 
--- what a view says is so. What was seen and what was heard begin the history
+-- what a view says is so. What was seen and what was heard begin the history, and so does what was seen by the seats that were taken in
 pub record Knows (now : BoardState) (at : ℕ) (view : View) : Type 0 where
   pub seen : IsPrefix view.seen.history now.account.history
   pub heard : IsPrefix view.heard.history now.account.history
+  pub ended : HaveEnded now.account.history 0 view.ended
+  pub gone : length view.ended ≤ now.gone
   pub seated : IsSeat view.stage → IsNumbered now view
   pub ticket : (ticket : ℕ) → ticket_of view.stage ≡ Some ticket → IsOut now ticket
   pub turn : (ticket : ℕ) → view.stage ≡ Serves ticket → HasTurn now at view ticket
@@ -107,10 +113,3 @@ pub record Kept (start : Start) (s : State (Option Ledger) View) : Type 0 where
   pub each : AllKnow now s.views
   pub apart : AllApart s.views
   pub lies : AccountLiesAt now.account s.homes s.views now.holder
-
--- a ticket is out: the one that is drawn next isn't the one that is served
-pub record HasTicketOut : Type 0 where
-  pub start : Start
-  pub board : State (Option Ledger) View
-  pub kept : Kept start board
-  pub unserved : slice_index board.words 0 ≢ slice_index board.words 1

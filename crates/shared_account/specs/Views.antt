@@ -1,5 +1,5 @@
 -- What those who share a turn account know of it.
-use Rattle.std.specs.Prelude.{◌+◌, ℕ, Option, Some, None, List, [], ◌∷◌}
+use Rattle.std.specs.Prelude.{◌+◌, ℕ, Option, Some, None, List, [], ◌∷◌, ◌++◌}
 use Rattle.account_core.specs.Ledger.{Ledger}
 use Rattle.shared_account.specs.declared.board.Stage.{Stage}
 use Rattle.shared_account.specs.declared.board.Stage.TheVariants.{Idles, Notes, Serves, Waits}
@@ -65,6 +65,7 @@ first_view opening until limit = record {
   made = 1;
   seen = record { opening = opening; until = until; limit = limit; history = [] };
   heard = unopened;
+  ended = [];
 }
 
 -- the first seat once it has made another, and that seat, under the next number
@@ -73,16 +74,20 @@ one_more view = record view { made = view.made + 1 }
 
 -- the view of the seat that is made next
 abbrev pub next_seat : View → View
-next_seat view = record { stage = Idles; number = view.made; made = 0; seen = view.seen; heard = unopened }
+next_seat view = record { stage = Idles; number = view.made; made = 0; seen = view.seen; heard = unopened; ended = [] }
 
--- a note of what a seat has seen, a seat that has heard it, and a note that was taken in
+-- a note of what a seat has seen
 abbrev pub note_of : View → View
-note_of view = record { stage = Notes; number = 0; made = 0; seen = view.seen; heard = unopened }
+note_of view = record { stage = Notes; number = 0; made = 0; seen = view.seen; heard = unopened; ended = [] }
 
 -- a view that has heard a note
 abbrev pub hearing : View → View → View
 hearing view note = record view { heard = note.seen }
 
--- a note that was heard
+-- the view of a seat that has taken in the next one, which has ended
+abbrev pub taking_in : View → View → View
+taking_in view next = record view { ended = view.ended ++ next.seen ∷ [] }
+
+-- a note that was heard, or a seat that was taken in
 abbrev pub spent_note : View
-spent_note = record { stage = Notes; number = 0; made = 0; seen = unopened; heard = unopened }
+spent_note = record { stage = Notes; number = 0; made = 0; seen = unopened; heard = unopened; ended = [] }

@@ -1,21 +1,21 @@
 //! The board of a turn account: its words, the slot that the account lies in, and the rule that
 //! holds of them between any two steps.
 
-ghost use Rattle.std.specs.Prelude.{◌≡◌, ◌≤◌, [], None, map, IfOk, IfErr};
+ghost use Rattle.std.specs.Prelude.{◌≡◌, ◌≤◌, [], None, IfOk, IfErr};
 ghost use Rattle.shared_account.specs.Plays.{appended, compared, drawn, handed, looked};
-ghost use Rattle.shared_account.specs.Views.{hearing, next_seat, note_of, one_more, spent_note, first_view};
+ghost use Rattle.shared_account.specs.Views.{hearing, next_seat, note_of, one_more, spent_note, first_view, taking_in};
 ghost use Rattle.shared_account.specs.declared.board.Stage.TheVariants.{Idles};
 ghost use Rattle.shared_account.specs.TurnViews.{fresh_turn_seats};
 ghost use Rattle.shared_account.specs.Sitting.{IsAt};
 ghost use Rattle.account_core.specs.Asked.{Credits};
-ghost use Rattle.account_core.specs.Events.{EntryData, entry_data};
+ghost use Rattle.account_core.specs.Events.{EntryData};
 ghost use Rattle.account_core.specs.declared.entry.Reply.TheVariants as reply;
 
-use crate::Seat;
 use crate::turn::next_chair;
-use account_core::{Account, AccountFault, Entry};
+use account_core::{Account, AccountFault};
 use atomic_table::{Join, Play, Refused, Split, TableRule};
 use std::alloc::{AllocError, Global};
+use std::collections::LinkedList;
 use std::marker::{Brand, Model, PhantomData};
 use tariff_core::MAX_MONEY;
 
@@ -31,13 +31,14 @@ pub(crate) const COUNT: usize = 2;
 /// The slot of the account.
 pub(crate) const SLOT: usize = 0;
 
-/// What an account is opened with: the credit, its last moment, if it has one, and how many entries
-/// it may have.
+/// What an account is opened with: the credit, its last moment, if it has one, how many entries it
+/// may have, and how many seats.
 #[derive(Clone, Copy)]
 pub(crate) struct Start {
     pub opening: u64,
     pub until: Option<u64>,
     pub limit: u32,
+    pub seats: u32,
 }
 
 /// What a chair at the board is doing.
@@ -63,6 +64,9 @@ pub(crate) struct View {
     pub seen: Account,
     /// The account as a note that was heard has seen it.
     pub heard: Account,
+    /// The account as the seats that it has taken in have last seen it: seat 0, seat 1 and so on,
+    /// which have ended.
+    pub ended: LinkedList<Account>,
 }
 
 /// The rule of the board.
@@ -160,16 +164,25 @@ impl Join<View> for Hear {
     ghost spent = { spent_note };
 }
 
-/// A seat of an account that is handed on by turns: it asks under its number, and keeps the list of
-/// its own entries.
+/// A seat takes in the next one, which has ended.
+pub(crate) struct TakeIn;
+
+impl Join<View> for TakeIn {
+    ghost both = { taking_in };
+
+    ghost spent = { spent_note };
+}
+
+/// A seat of an account that is handed on by turns: it asks under its number, which is all that it
+/// keeps.
 ///
 /// Contracts know its view: the account as the seat has last seen it. A view is a legal history,
-/// and each call, and each seat that it meets, only makes it longer.
+/// and each call, and each seat that it meets, only makes it longer. The seat's own entries are
+/// those of its number there.
 #[derive(Drop)]
 pub struct TurnSeat {
-    pub(crate) seat: Seat,
+    pub(crate) number: u32,
     pub(crate) chair: Chair,
-    pub(crate) seen: u64,
 }
 
 impl Model for TurnSeat {
@@ -180,60 +193,46 @@ impl Model for TurnSeat {
 
     ghost view = { λ s. record {
       table = s.chair.table_id;
-      place = s.seat;
+      number = s.number;
       view = s.chair.me.0.seen;
     } };
 
-    ghost invariant = { λ s. IsSitting s.chair.me s.seat s.seen };
+    ghost invariant = { λ s. IsSitting s.chair.me s.number };
 }
 
 impl TurnSeat {
-    /// A seat with this number and no entries, which has seen nothing. It takes no memory yet.
-    pub(crate) fn new(alloc: Global, chair: Chair, account: u32, number: u32) -> TurnSeat
+    /// A seat with this number, which has seen nothing.
+    pub(crate) fn new(chair: Chair, number: u32) -> TurnSeat
         requires idle { chair.me.0.stage ≡ Idles }
         requires hands { chair.me.1 ≡ [] }
         requires number { chair.me.0.number ≡ number }
+        requires ended { chair.me.0.ended ≡ [] }
         requires empty { chair.me.0.seen.history ≡ [] }
         ensures { result ≡ record {
           table = chair.table_id;
-          place = record { account = account; number = number; mine = [] };
+          number = number;
           view = chair.me.0.seen;
         } }
     {
-        TurnSeat {
-            seat: Seat::new(alloc, account, number),
-            chair,
-            seen: 0,
-        }
-    }
-
-    /// The number of its account.
-    pub fn account(&self) -> u32
-        ensures { result ≡ self.now.place.account }
-    {
-        self.seat.account()
+        TurnSeat { number, chair }
     }
 
     /// Its own number.
     pub fn number(&self) -> u32
-        ensures { result ≡ self.now.place.number }
+        ensures { result ≡ self.now.number }
     {
-        self.seat.number()
-    }
-
-    /// Its own entries, oldest first.
-    pub fn mine(&self) -> &[Entry]
-        ensures { map entry_data result.now ≡ self.now.place.mine }
-    {
-        self.seat.mine()
+        self.number
     }
 }
 
 /// A board with a new account in its slot, and its first chair.
 pub(crate) fn lay_board(alloc: Global, start: Start) -> Result<(Board, Chair), AccountFault>
-    requires { start.opening ≤ MAX_MONEY }
+    requires opening { start.opening ≤ MAX_MONEY }
+    requires some_seats { 1 ≤ start.seats }
+    requires few_seats { start.seats ≤ 16 }
     ensures words { IfOk result (λ made. made.0.shared.table_id.words ≡ 3) }
     ensures slots { IfOk result (λ made. made.0.shared.table_id.slots ≡ 1) }
+    ensures key { IfOk result (λ made. made.0.shared.key ≡ start) }
     ensures table { IfOk result (λ made. made.1.table_id ≡ made.0.shared.table_id) }
     ensures first { IfOk result (λ made. made.1.me
         ≡ (first_view start.opening start.until start.limit, [])) }
@@ -253,7 +252,6 @@ pub(crate) fn make_seats(
     alloc: Global,
     board: &Board,
     mut first: Chair,
-    account: u32,
     count: u32,
 ) -> Result<Vec<TurnSeat>, AllocError>
     requires at { IsAt board.now.shared.table_id first.table_id }
@@ -262,21 +260,16 @@ pub(crate) fn make_seats(
           first.me.0.seen.until first.me.0.seen.limit,
       [],
     ) }
+    requires seats { board.now.shared.key.seats ≡ count }
     requires some_seats { 1 ≤ count }
-    requires few_seats { count ≤ 16 }
-    ensures { IfOk result (λ made. made.items ≡ fresh_turn_seats board.now.shared.table_id record {
-      number = account;
-      opening = first.me.0.seen.opening;
-      until = first.me.0.seen.until;
-      limit = first.me.0.seen.limit;
-      seats = count;
-    } count) }
+    ensures { IfOk result (λ made. made.items
+        ≡ fresh_turn_seats board.now.shared.table_id first.me.0.seen count) }
 {
     let mut made = Vec::with_capacity(alloc, count as usize)?;
     for number in 1..count {
         let chair = next_chair(board, &mut first);
-        made.push(TurnSeat::new(alloc, chair, account, number))?;
+        made.push(TurnSeat::new(chair, number))?;
     }
-    made.insert(0, TurnSeat::new(alloc, first, account, 0))?;
+    made.insert(0, TurnSeat::new(first, 0))?;
     Ok(made)
 }

@@ -1,7 +1,7 @@
 //! Books of accounts that were closed.
 
 ghost use Rattle.std.specs.Prelude.{◌≡◌, ◌≤◌, ◌↔◌, ◌<◌, map, reverse, length, IfOk, true, false, All, IsTrue};
-ghost use Rattle.shared_account.specs.Closed.{IsClosable};
+ghost use Rattle.shared_account.specs.Closed.{IsBookOf, IsClosable};
 ghost use Rattle.shared_account.specs.Own.{IsMerged, own};
 ghost use Rattle.shared_account.specs.Seats.{are_all, are_numbered};
 ghost use Rattle.account_core.specs.Answers.{IsLegal};
@@ -12,24 +12,21 @@ ghost use Rattle.tariff_core.specs.RatesOf.{rates_of};
 ghost use Rattle.shared_account.specs.declared.fault.CloseFault.TheVariants as close;
 
 use crate::board::Start;
-use crate::{CloseFault, Seat};
+use crate::{CloseFault, OwnEntries, Seat};
 use account_core::{Account, CallSum, Entry, Op};
 use std::alloc::{AllocError, Global};
 use std::marker::Model;
 use tariff_core::{MAX_MONEY, Plan};
 
-/// The book of an account that was closed: its history, which is legal, and what each of its seats
-/// has entered. Only closing makes one.
+/// The book of an account that was closed: its history, which is legal. Only closing makes one.
 #[derive(Drop)]
 pub struct Book {
     number: u32,
     account: Account,
-    own: Vec<Vec<Entry>>,
 }
 
 impl Model for Book {
-    ghost use Rattle.std.specs.Prelude.{◌≤◌, length, map};
-    ghost use Rattle.account_core.specs.Events.{entry_data};
+    ghost use Rattle.std.specs.Prelude.{◌≤◌, length};
     ghost use Rattle.shared_account.specs.Closed.{Closed};
 
     ghost Value = { Closed };
@@ -40,15 +37,14 @@ impl Model for Book {
       until = b.account.until;
       limit = b.account.limit;
       history = b.account.history;
-      own = map (λ list. map entry_data list.items) b.own.items;
     } };
 
     ghost invariant = { λ b. length b.account.history ≤ b.account.limit };
 }
 
 impl Book {
-    /// The book of an account, with what each of its seats has entered.
-    pub(crate) fn new(number: u32, account: Account, own: Vec<Vec<Entry>>) -> Book
+    /// The book of an account.
+    pub(crate) fn new(number: u32, account: Account) -> Book
         requires { length account.history ≤ account.limit }
         ensures { result ≡ record {
           account = number;
@@ -56,14 +52,9 @@ impl Book {
           until = account.until;
           limit = account.limit;
           history = account.history;
-          own = map (λ list. map entry_data list.items) own.items;
         } }
     {
-        Book {
-            number,
-            account,
-            own,
-        }
+        Book { number, account }
     }
 
     /// The account's number.
@@ -105,11 +96,11 @@ impl Book {
         self.account.history()
     }
 
-    /// What each seat has entered, oldest first.
-    pub fn own(&self) -> &[Vec<Entry>]
-        ensures { map (λ list. map entry_data list.items) result.now ≡ self.now.own }
+    /// What the seat with this number has entered, oldest first.
+    pub fn own(&self, seat: u32) -> OwnEntries<'_>
+        ensures { map entry_data result ≡ own seat self.now.history }
     {
-        self.own.as_slice()
+        OwnEntries::new(self.history(), seat)
     }
 
     /// What the account came to, and each call that it granted anything.
@@ -151,36 +142,33 @@ pub struct Summary {
 /// The book of an account whose seats were all handed in, in order, where their lists are what the
 /// history says of them.
 pub(crate) fn close_book(
-    alloc: Global,
     number: u32,
     start: Start,
-    count: u32,
     account: Account,
-    seats: Vec<Seat>,
+    seats: &[Seat],
 ) -> Result<Book, CloseFault>
-    ensures account { IfOk result (λ book. book.account ≡ number) }
-    ensures opening { IfOk result (λ book. book.opening ≡ start.opening) }
-    ensures until { IfOk result (λ book. book.until ≡ start.until) }
-    ensures limit { IfOk result (λ book. book.limit ≡ start.limit) }
+    ensures book { IfOk result (λ book. IsBookOf record {
+      number = number;
+      opening = start.opening;
+      until = start.until;
+      limit = start.limit;
+      seats = start.seats;
+    } (map (λ seat. seat.mine) seats.now) book) }
     ensures history { IfOk result (λ book. book.history ≡ account.history) }
-    ensures legal { IfOk result (λ book. IsLegal book.opening book.until book.history) }
-    ensures own { IfOk result (λ book. book.own ≡ map (λ seat. seat.mine) seats.items) }
-    ensures merged { IfOk result (λ book. IsMerged book.history book.own) }
     ensures seats { (result ≡ Err close.Seats)
-        ↔ (are_all count (map (λ seat. seat.number) seats.items) ≡ false) }
+        ↔ (are_all start.seats (map (λ seat. seat.number) seats.now) ≡ false) }
     ensures mismatch { (result ≡ Err close.Mismatch)
-        ↔ ((are_all count (map (λ seat. seat.number) seats.items) ≡ true)
+        ↔ ((are_all start.seats (map (λ seat. seat.number) seats.now) ≡ true)
         × (¬ IsClosable start.opening start.until start.limit account
-        (map (λ seat. seat.mine) seats.items))) }
+        (map (λ seat. seat.mine) seats.now))) }
 {
-    if !are_all(count, seats.as_slice()) {
+    if !are_all(start.seats, seats) {
         return Err(CloseFault::Seats);
     }
-    if !is_closable(&start, &account, seats.as_slice()) {
+    if !is_closable(&start, &account, seats) {
         return Err(CloseFault::Mismatch);
     }
-    let own = lists_of(alloc, seats)?;
-    Ok(Book::new(number, account, own))
+    Ok(Book::new(number, account))
 }
 
 /// Whether an account is what it was opened as, and its history what its seats have entered.
@@ -263,18 +251,6 @@ fn are_of_seats(history: &[Entry], seats: usize) -> bool
         }
     }
     true
-}
-
-/// The lists of seats that are needed no more.
-fn lists_of(alloc: Global, seats: Vec<Seat>) -> Result<Vec<Vec<Entry>>, AllocError>
-    ensures { IfOk result (λ lists. map (λ list. map entry_data list.items) lists.items
-        ≡ map (λ seat. seat.mine) seats.items) }
-{
-    let mut lists = Vec::new(alloc);
-    for seat in seats {
-        lists.push(seat.into_mine())?;
-    }
-    Ok(lists)
 }
 
 /// Whether two entries are of the same seat, operation and reply.

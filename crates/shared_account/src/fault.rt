@@ -2,9 +2,7 @@
 
 ghost use Rattle.std.specs.Prelude.{◌≡◌};
 ghost use Rattle.shared_account.specs.Faults.{code_of};
-ghost use Rattle.shared_account.specs.declared.fault.CloseFault.TheVariants as out;
 
-use std::alloc::{AllocError, AllocFailed};
 use thiserror::Error;
 
 /// Why a shared account isn't closed with a book. It is given up then.
@@ -14,13 +12,10 @@ pub enum CloseFault {
     #[error("the seats aren't all there in order")]
     Seats = 1,
     /// A seat's list isn't the seat's entries in the history, or the opening, its last moment or
-    /// the limit isn't the one that was given, or the history is longer than the limit, or a ticket
-    /// of a `TurnAccount` is out.
+    /// the limit isn't the one that was given, or the history is longer than the limit. A
+    /// `TurnAccount` compares nothing, and never has this fault.
     #[error("the history isn't what the seats have entered")]
     Mismatch = 2,
-    /// Memory ran out.
-    #[error("out of memory")]
-    OutOfMemory = 3,
 }
 
 impl CloseFault {
@@ -29,21 +24,5 @@ impl CloseFault {
         ensures { result ≡ code_of self }
     {
         self as u8
-    }
-}
-
-impl From<AllocError> for CloseFault {
-    ghost from_gives = { λ _ fault. fault ≡ out.OutOfMemory };
-
-    fn from(_error: AllocError) -> CloseFault {
-        CloseFault::OutOfMemory
-    }
-}
-
-impl<T: Drop> From<AllocFailed<T>> for CloseFault {
-    ghost from_gives = { λ _ fault. fault ≡ out.OutOfMemory };
-
-    fn from(_error: AllocFailed<T>) -> CloseFault {
-        CloseFault::OutOfMemory
     }
 }

@@ -1,11 +1,12 @@
 //! An account that is shared among seats: each call of it is one step of a sequential account, and
-//! at the end a book tells its history and what each seat has entered.
+//! at the end a book has its history, in which each entry is of one of the seats.
 #![tactic(auto)]
 
 mod board;
 mod book;
 mod fault;
 mod gate;
+mod own_entries;
 mod seat;
 mod shared;
 mod shared_account;
@@ -18,6 +19,7 @@ pub use board::TurnSeat;
 pub use book::{Book, Summary};
 pub use fault::CloseFault;
 pub use gate::{Gate, OpenGate};
+pub use own_entries::OwnEntries;
 pub use seat::Seat;
 pub use shared::Shared;
 pub use shared_account::SharedAccount;

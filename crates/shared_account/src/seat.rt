@@ -7,7 +7,7 @@ ghost use Rattle.std.specs.Ordering.{nat_cmp};
 ghost use Rattle.shared_account.specs.Kinds.{IsFaultOf, IsReplyTo, IsReturn};
 ghost use Rattle.shared_account.specs.Own.{of_call};
 ghost use Rattle.shared_account.specs.Room.{stage_in};
-ghost use Rattle.account_core.specs.Asked.{call_of, is_in_range, Credits, IsCredit, IsOfCall};
+ghost use Rattle.account_core.specs.Asked.{call_of, Credits, IsCredit, IsOfCall};
 ghost use Rattle.account_core.specs.Events.{asked_of, entry_data};
 ghost use Rattle.account_core.specs.Ledger.{IsRefusal, answer_of, event_by, refusal_of};
 ghost use Rattle.account_core.specs.Places.{IsClosing};
@@ -88,14 +88,6 @@ impl Seat {
         self.mine.as_slice()
     }
 
-    /// Its own entries, oldest first, for whoever needs the seat no more.
-    pub fn into_mine(self) -> Vec<Entry>
-        ensures { map entry_data result.items ≡ self.mine }
-    {
-        let Seat { mine, .. } = self;
-        mine
-    }
-
     /// Asks an account under the seat's number, and keeps the same entry in the seat's list.
     ///
     /// A fault changes neither the account nor the seat, and faults come as in `Account::apply`:
@@ -118,7 +110,6 @@ impl Seat {
         ensures ungated { result ≢ Err AccountFault.GateClosed }
         ensures kind { IfOk result (λ reply. IsReplyTo (asked_of op) reply) }
         ensures fault { IfErr result (λ fault. IsFaultOf (asked_of op) fault) }
-        ensures range { result ≡ Err AccountFault.OutOfRange → is_in_range (asked_of op) ≡ false }
         ensures returning { IsReturn (asked_of op) → IsClosing (reverse self.old.mine) (asked_of op)
             → IfErr result (λ fault. fault ≡ AccountFault.NotOpen) }
         ensures closing { IsClosing (reverse account.old.history) (asked_of op)

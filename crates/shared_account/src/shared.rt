@@ -9,9 +9,9 @@ use tariff_core::MAX_MONEY;
 /// An account that is asked from several seats, each in a thread of its own.
 ///
 /// A form of it promises what each call comes to for the seat that makes it: a reply of a kind that
-/// the operation has, and the same entry at the end of the seat's own list, or a fault and no
-/// entry. When it is closed with a book, the history is legal, that is each reply was the one right
-/// answer in its place, and it has each seat's own entries, in order, and nothing else.
+/// the operation has, and the same entry as the last of the seat's own, or a fault and no entry.
+/// When it is closed with a book, the history is legal, that is each reply was the one right answer
+/// in its place, and it has each seat's own entries, in order, and nothing else.
 ///
 /// It can't promise, before it is closed, where in the history an entry stands, nor, where others
 /// are asking too, that `NotOpen`, `CallUsed` or `HistoryFull` was right; and nothing of who comes
@@ -25,17 +25,16 @@ use tariff_core::MAX_MONEY;
 /// A seat is of the account whose key it has: the account's number, or whatever else a form tells
 /// its seats by.
 pub trait Shared: Sync + Drop {
-    ghost use Rattle.std.specs.Prelude.{◌≡◌, ◌≤◌, ◌↔◌, ◌⊎◌, ◌++◌, ◌∷◌, [], ℕ, List, true, false, map, reverse, All, OnErr, IfOk, IfErr};
+    ghost use Rattle.std.specs.Prelude.{◌≡◌, ◌≤◌, ◌↔◌, ◌⊎◌, ◌++◌, ◌∷◌, [], true, false, map, reverse, All, OnErr, IfOk, IfErr};
     ghost use Rattle.std.specs.Coded.{Coded};
-    ghost use Rattle.account_core.specs.Answers.{IsLegal};
-    ghost use Rattle.account_core.specs.Asked.{Asked, is_in_range};
-    ghost use Rattle.account_core.specs.Events.{EntryData, asked_of};
+    ghost use Rattle.account_core.specs.Asked.{Asked};
+    ghost use Rattle.account_core.specs.Events.{asked_of};
     ghost use Rattle.account_core.specs.Ledger.{event_by};
     ghost use Rattle.account_core.specs.Places.{IsClosing};
     ghost use Rattle.account_core.specs.declared.fault.AccountFault.{AccountFault};
     ghost use Rattle.account_core.specs.declared.fault.AccountFault.TheVariants as out;
+    ghost use Rattle.shared_account.specs.Closed.{IsBookOf};
     ghost use Rattle.shared_account.specs.Kinds.{IsFaultOf, IsReplyTo, IsReturn};
-    ghost use Rattle.shared_account.specs.Own.{IsMerged};
     ghost use Rattle.shared_account.specs.Seats.{Reads, are_all};
     ghost use Rattle.shared_account.specs.Terms.{Terms};
     ghost use Rattle.shared_account.specs.declared.fault.CloseFault.TheVariants as close;
@@ -104,7 +103,6 @@ pub trait Shared: Sync + Drop {
         ensures kept { OnErr result (reads.mine seat.new ≡ reads.mine seat.old) }
         ensures refused { IfErr result (λ fault. refuses self.now (asked_of op) fault) }
         ensures fault { IfErr result (λ fault. IsFaultOf (asked_of op) fault) }
-        ensures range { result ≡ Err out.OutOfRange → is_in_range (asked_of op) ≡ false }
         ensures gate { result ≡ Err out.GateClosed → G.may_shut gate.now }
         ensures returning { IsReturn (asked_of op)
             → IsClosing (reverse (reads.mine seat.old)) (asked_of op)
@@ -112,15 +110,10 @@ pub trait Shared: Sync + Drop {
 
     /// Ends the sharing: the account's book, where all of its seats are handed in, in the order of
     /// their numbers.
-    fn close(self, alloc: Global, seats: Vec<Self::Seat>) -> Result<Book, CloseFault>
+    fn close(self, seats: Vec<Self::Seat>) -> Result<Book, CloseFault>
         requires { All (λ seat. reads.key seat ≡ key self) seats.items }
-        ensures account { IfOk result (λ book. book.account ≡ (terms self).number) }
-        ensures opening { IfOk result (λ book. book.opening ≡ (terms self).opening) }
-        ensures until { IfOk result (λ book. book.until ≡ (terms self).until) }
-        ensures limit { IfOk result (λ book. book.limit ≡ (terms self).limit) }
-        ensures legal { IfOk result (λ book. IsLegal book.opening book.until book.history) }
-        ensures own { IfOk result (λ book. book.own ≡ map reads.mine seats.items) }
-        ensures merged { IfOk result (λ book. IsMerged book.history book.own) }
+        ensures book { IfOk result (λ book.
+            IsBookOf (terms self) (map reads.mine seats.items) book) }
         ensures seats { (result ≡ Err close.Seats)
             ↔ (are_all (terms self).seats (map reads.number seats.items) ≡ false) };
 }

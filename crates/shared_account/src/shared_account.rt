@@ -1,12 +1,9 @@
 //! The account under its lock.
 
 ghost use Rattle.std.specs.Prelude.{◌≡◌, ◌≢◌, ◌≤◌, ◌↔◌, ◌⊎◌, ◌++◌, ◌∷◌, [], false, map, reverse, All, OnErr, IfOk, IfErr};
-ghost use Rattle.shared_account.specs.Closed.{IsMismatch};
+ghost use Rattle.shared_account.specs.Closed.{IsBookOf};
 ghost use Rattle.shared_account.specs.Kinds.{IsFaultOf, IsRefused, IsReplyTo, IsReturn};
-ghost use Rattle.shared_account.specs.Own.{IsMerged};
 ghost use Rattle.shared_account.specs.Seats.{are_all, fresh_seats};
-ghost use Rattle.account_core.specs.Answers.{IsLegal};
-ghost use Rattle.account_core.specs.Asked.{is_in_range};
 ghost use Rattle.account_core.specs.Events.{asked_of};
 ghost use Rattle.account_core.specs.Ledger.{event_by};
 ghost use Rattle.account_core.specs.Places.{IsClosing};
@@ -113,7 +110,6 @@ impl SharedAccount {
         ensures kept { OnErr result (seat.new ≡ seat.old) }
         ensures refused { IfErr result (λ fault. IsRefused (asked_of op) fault) }
         ensures fault { IfErr result (λ fault. IsFaultOf (asked_of op) fault) }
-        ensures range { result ≡ Err AccountFault.OutOfRange → is_in_range (asked_of op) ≡ false }
         ensures gate { result ≡ Err AccountFault.GateClosed → G.may_shut gate.now }
         ensures returning { IsReturn (asked_of op) → IsClosing (reverse seat.old.mine) (asked_of op)
             → IfErr result (λ fault.
@@ -127,20 +123,14 @@ impl SharedAccount {
     }
 
     /// Ends the sharing: the account's book, where all of its seats are handed in, in the order of
-    /// their numbers, and each one's list is what its entries in the history are.
-    pub fn close(self, alloc: Global, seats: Vec<Seat>) -> Result<Book, CloseFault>
+    /// their numbers, and each one's list is what its entries in the history are. It takes no
+    /// memory.
+    pub fn close(self, seats: Vec<Seat>) -> Result<Book, CloseFault>
         requires { All (λ seat. seat.account ≡ self.number) seats.items }
-        ensures account { IfOk result (λ book. book.account ≡ self.number) }
-        ensures opening { IfOk result (λ book. book.opening ≡ self.opening) }
-        ensures until { IfOk result (λ book. book.until ≡ self.until) }
-        ensures limit { IfOk result (λ book. book.limit ≡ self.limit) }
-        ensures legal { IfOk result (λ book. IsLegal book.opening book.until book.history) }
-        ensures own { IfOk result (λ book. book.own ≡ map (λ seat. seat.mine) seats.items) }
-        ensures merged { IfOk result (λ book. IsMerged book.history book.own) }
+        ensures book { IfOk result (λ book.
+            IsBookOf self (map (λ seat. seat.mine) seats.items) book) }
         ensures seats { (result ≡ Err close.Seats)
             ↔ (are_all self.seats (map (λ seat. seat.number) seats.items) ≡ false) }
-        ensures mismatch { result ≡ Err close.Mismatch
-            → IsMismatch self.opening self.until self.limit (map (λ seat. seat.mine) seats.items) }
     {
         let SharedAccount {
             number,
@@ -154,8 +144,9 @@ impl SharedAccount {
             opening,
             until,
             limit,
+            seats: count,
         };
-        close_book(alloc, number, start, count, locked.into_inner(), seats)
+        close_book(number, start, locked.into_inner(), seats.as_slice())
     }
 }
 
@@ -212,18 +203,13 @@ impl Shared for SharedAccount {
         self.call(rt, seat, op, gate)
     }
 
-    fn close(self, alloc: Global, seats: Vec<Seat>) -> Result<Book, CloseFault>
+    fn close(self, seats: Vec<Seat>) -> Result<Book, CloseFault>
         requires { All (λ seat. seat.account ≡ self.number) seats.items }
-        ensures account { IfOk result (λ book. book.account ≡ self.number) }
-        ensures opening { IfOk result (λ book. book.opening ≡ self.opening) }
-        ensures until { IfOk result (λ book. book.until ≡ self.until) }
-        ensures limit { IfOk result (λ book. book.limit ≡ self.limit) }
-        ensures legal { IfOk result (λ book. IsLegal book.opening book.until book.history) }
-        ensures own { IfOk result (λ book. book.own ≡ map (λ seat. seat.mine) seats.items) }
-        ensures merged { IfOk result (λ book. IsMerged book.history book.own) }
+        ensures book { IfOk result (λ book.
+            IsBookOf self (map (λ seat. seat.mine) seats.items) book) }
         ensures seats { (result ≡ Err close.Seats)
             ↔ (are_all self.seats (map (λ seat. seat.number) seats.items) ≡ false) }
     {
-        self.close(alloc, seats)
+        self.close(seats)
     }
 }

@@ -1,15 +1,12 @@
 //! A turn of an account: it is waited for, and the account is asked where it lies.
 
-ghost use Rattle.std.specs.Prelude.{◌≡◌, ◌≢◌, ◌%◌, ◌^◌, ◌++◌, ◌∷◌, ◌+◌, ◌≤◌, ◌<◌, [], None, Some, false, length, reverse, OnOk, OnErr, IfOk, IfErr};
-ghost use Rattle.shared_account.specs.Kinds.{IsFaultOf, IsReplyTo, IsReturn};
-ghost use Rattle.shared_account.specs.Own.{of_call, own};
+ghost use Rattle.std.specs.Prelude.{◌≡◌, ◌≢◌, ◌%◌, ◌^◌, ◌∷◌, ◌<◌, [], None, Some, length, reverse, IsOk, OnOk, OnErr, IfOk, IfErr};
+ghost use Rattle.account_core.specs.Answers.{IsLegal};
 ghost use Rattle.shared_account.specs.Plays.{HasCome, IsLater, with_entry, HasMet};
 ghost use Rattle.shared_account.specs.Sitting.{IsAt};
-ghost use Rattle.shared_account.specs.Views.{IsServing, its_ticket, at_stage, hearing, next_seat, one_more, seeing};
+ghost use Rattle.shared_account.specs.Views.{IsServing, its_ticket, at_stage, hearing, next_seat, one_more, seeing, taking_in};
 ghost use Rattle.shared_account.specs.declared.board.Stage.TheVariants.{Idles, Waits};
 ghost use Rattle.shared_account.specs.Prefixes.{IsPrefix};
-ghost use Rattle.account_core.specs.Answers.{IsLegal};
-ghost use Rattle.account_core.specs.Asked.{call_of, is_in_range};
 ghost use Rattle.account_core.specs.Events.{asked_of, entry_data};
 ghost use Rattle.account_core.specs.Ledger.{IsRefusal, answer_of, event_by, refusal_of};
 ghost use Rattle.account_core.specs.Places.{IsClosing};
@@ -17,10 +14,9 @@ ghost use Rattle.account_core.specs.Places.{IsClosing};
 #[cfg(test)]
 mod tests;
 
-use crate::Seat;
 use crate::board::{
     Append, Appended, Board, COUNT, Chair, Compare, Draw, HandOn, Hear, Look, Number, SERVING,
-    SLOT, TICKET, TakeNote,
+    SLOT, TICKET, TakeIn, TakeNote,
 };
 use account_core::{AccountFault, Entry, Op, Reply, places_go_with_entries};
 use std::marker::Brand;
@@ -62,7 +58,7 @@ fn wait<R: Wait>(rt: &R, board: &Board, chair: &mut Chair, ticket: u64)
 pub(crate) fn ask_in_turn(
     board: &Board,
     chair: &mut Chair,
-    seat: &mut Seat,
+    seat: u32,
     op: Op,
 ) -> Result<Reply, AccountFault>
     requires table { chair.old.table_id ≡ board.now.shared.table_id }
@@ -72,45 +68,17 @@ pub(crate) fn ask_in_turn(
     ensures answered { IfOk result (λ reply. reply ≡ answer_of chair.old.me.0.seen (asked_of op)) }
     ensures entered { IfOk result (λ reply. chair.new.me.1 ≡ (
       0,
-      Some (with_entry
-          chair.old.me.0.seen (event_by seat.old.number (asked_of op) reply)),
+      Some (with_entry chair.old.me.0.seen (event_by seat (asked_of op) reply)),
     ) ∷ []) }
-    ensures mine { IfOk result (λ reply. seat.new ≡ record seat.old {
-      mine = seat.old.mine ++ event_by seat.old.number (asked_of op) reply ∷ [];
-    }) }
     ensures admitted { OnOk result (refusal_of chair.old.me.0.seen (asked_of op) ≡ None) }
-    ensures left { OnErr result (chair.new.me ≡ chair.old.me) }
-    ensures kept { OnErr result (seat.new ≡ seat.old) }
+    ensures kept { OnErr result (chair.new.me ≡ chair.old.me) }
     ensures refused { IfErr result (λ fault. IsRefusal chair.old.me.0.seen (asked_of op) fault) }
     ensures ungated { result ≢ Err AccountFault.GateClosed }
-    ensures kind { IfOk result (λ reply. IsReplyTo (asked_of op) reply) }
-    ensures fault { IfErr result (λ fault. IsFaultOf (asked_of op) fault) }
-    ensures range { result ≡ Err AccountFault.OutOfRange → is_in_range (asked_of op) ≡ false }
     ensures closing { IsClosing (reverse chair.old.me.0.seen.history) (asked_of op)
-        → of_call (call_of (asked_of op)) chair.old.me.0.seen.history
-        ≡ of_call (call_of (asked_of op)) seat.old.mine
-        → OnErr result ⊥ }
-    ensures returning { IsReturn (asked_of op) → IsClosing (reverse seat.old.mine) (asked_of op)
-        → IfErr result (λ fault. fault ≡ AccountFault.NotOpen) }
+        → IsOk result }
 {
     match chair.slot_mut(&board.shared, SLOT) {
-        Some(account) => seat.apply_to(account, op),
-        None => unreachable!(),
-    }
-}
-
-/// How many entries the account has, of a chair that has the turn.
-pub(crate) fn entries_in_turn(board: &Board, chair: &mut Chair) -> u64
-    requires table { chair.old.table_id ≡ board.now.shared.table_id }
-    requires hands { chair.old.me.1 ≡ (0, Some chair.old.me.0.seen) ∷ [] }
-    ensures table { chair.new.table_id ≡ chair.old.table_id }
-    ensures same { chair.new.me ≡ chair.old.me }
-    ensures count { result ≡ length chair.old.me.0.seen.history }
-    ensures legal { IsLegal chair.old.me.0.seen.opening chair.old.me.0.seen.until
-        chair.old.me.0.seen.history }
-{
-    match chair.slot_mut(&board.shared, SLOT) {
-        Some(account) => account.history().len() as u64,
+        Some(account) => account.apply(seat, op),
         None => unreachable!(),
     }
 }
@@ -121,7 +89,7 @@ pub(crate) fn next_chair(board: &Board, first: &mut Chair) -> Chair
     requires words { 0 < board.now.shared.table_id.words }
     requires idle { first.old.me.0.stage ≡ Idles }
     requires number { first.old.me.0.number ≡ 0 }
-    requires few { first.old.me.0.made < 16 }
+    requires few { first.old.me.0.made < board.now.shared.key.seats }
     ensures tables { (first.new.table_id ≡ first.old.table_id)
         × (result.table_id ≡ first.old.table_id) }
     ensures first { first.new.me ≡ (one_more first.old.me.0, first.old.me.1) }
@@ -198,6 +166,8 @@ pub(crate) fn hand_on(board: &Board, chair: &mut Chair)
     requires hands { chair.old.me.1 ≡ (0, Some chair.old.me.0.seen) ∷ [] }
     ensures table { chair.new.table_id ≡ chair.old.table_id }
     ensures idle { chair.new.me ≡ (at_stage chair.old.me.0 Idles, []) }
+    ensures legal { IsLegal chair.old.me.0.seen.opening chair.old.me.0.seen.until
+        chair.old.me.0.seen.history }
 {
     board.shared.fetch_add::<HandOn>(chair, SERVING, 1);
 }
@@ -227,4 +197,19 @@ pub(crate) fn compare(board: &Board, chair: &mut Chair)
     ensures hands { chair.new.me.1 ≡ chair.old.me.1 }
 {
     board.shared.load::<Compare>(chair, SERVING);
+}
+
+/// Takes in the next seat, which has ended.
+pub(crate) fn take_in(board: &Board, chair: &mut Chair, next: Chair)
+    requires table { chair.old.table_id ≡ board.now.shared.table_id }
+    requires next { next.table_id ≡ board.now.shared.table_id }
+    requires words { 0 < board.now.shared.table_id.words }
+    requires idle { chair.old.me.0.stage ≡ Idles }
+    requires next_idle { next.me.0.stage ≡ Idles }
+    requires hands { next.me.1 ≡ [] }
+    requires number { next.me.0.number ≡ length chair.old.me.0.ended }
+    ensures table { chair.new.table_id ≡ chair.old.table_id }
+    ensures taken { chair.new.me ≡ (taking_in chair.old.me.0 next.me.0, chair.old.me.1) }
+{
+    board.shared.join_seat::<TakeIn>(chair, next);
 }

@@ -1,27 +1,23 @@
 //! The account that is handed on by turns.
 
-ghost use Rattle.std.specs.Prelude.{◌≡◌, ◌≤◌, ◌↔◌, ◌⊎◌, ◌++◌, ◌∷◌, [], Some, false, length, map, reverse, All, OnErr, IfOk, IfErr};
-ghost use Rattle.shared_account.specs.Closed.{IsMismatch};
-ghost use Rattle.shared_account.specs.Kinds.{IsFaultOf, IsReplyTo, IsReturn};
-ghost use Rattle.shared_account.specs.Own.{IsMerged, of_call, own};
+ghost use Rattle.std.specs.Prelude.{◌≡◌, ◌≤◌, ◌↔◌, ◌⊎◌, ◌++◌, ◌∷◌, [], Some, false, map, reverse, All, MatchResult, OnErr, IfOk, IfErr};
+ghost use Rattle.shared_account.specs.Closed.{IsBookOf};
 ghost use Rattle.shared_account.specs.Seats.{are_all};
 ghost use Rattle.shared_account.specs.Plays.{with_entry};
 ghost use Rattle.shared_account.specs.Prefixes.{EndsWith, IsPrefix};
-ghost use Rattle.shared_account.specs.TurnViews.{IsSameAccount, fresh_turn_seats};
+ghost use Rattle.shared_account.specs.TurnViews.{IsSameSeat, fresh_turn_seats, own_of, unused};
 ghost use Rattle.shared_account.specs.Sitting.{IsAt};
-ghost use Rattle.shared_account.specs.Turns.{HasTicketOut};
 ghost use Rattle.shared_account.specs.Views.{IsServing, seeing};
 ghost use Rattle.account_core.specs.Answers.{IsLegal};
-ghost use Rattle.account_core.specs.Asked.{call_of, is_in_range};
 ghost use Rattle.account_core.specs.Events.{asked_of};
 ghost use Rattle.account_core.specs.Ledger.{IsRefusal, event_by};
 ghost use Rattle.account_core.specs.Places.{IsClosing};
 ghost use Rattle.shared_account.specs.declared.fault.CloseFault.TheVariants as close;
 
 use crate::board::{Board, Chair, Start, lay_board, make_seats};
-use crate::turn::{append, ask_in_turn, compare, entries_in_turn, hand_on, hear, take_turn};
+use crate::turn::{append, ask_in_turn, compare, hand_on, hear, take_turn};
 use crate::turn_closing::close_board;
-use crate::{Book, CloseFault, Gate, Seat, Shared, TurnSeat};
+use crate::{Book, CloseFault, Gate, Shared, TurnSeat};
 use account_core::{AccountFault, Entry, Op, Reply};
 use std::alloc::Global;
 use std::marker::Model;
@@ -36,9 +32,6 @@ use tariff_core::MAX_MONEY;
 #[derive(Drop)]
 pub struct TurnAccount {
     number: u32,
-    opening: u64,
-    until: Option<u64>,
-    limit: u32,
     seats: u32,
     board: Board,
     /// Lets one thread in at a time. It is held for the whole turn, so no ticket waits behind it.
@@ -55,14 +48,14 @@ impl Model for TurnAccount {
       table = a.board.shared.table_id;
       terms = record {
         number = a.number;
-        opening = a.opening;
-        until = a.until;
-        limit = a.limit;
+        opening = a.board.shared.key.opening;
+        until = a.board.shared.key.until;
+        limit = a.board.shared.key.limit;
         seats = a.seats;
       };
     } };
 
-    ghost invariant = { λ a. IsBoard a.board.shared.table_id a.seats };
+    ghost invariant = { λ a. IsBoard a.board.shared.table_id a.board.shared.key a.seats };
 }
 
 impl TurnAccount {
@@ -90,22 +83,20 @@ impl TurnAccount {
           limit = limit;
           seats = seats;
         }) }
-        ensures seats { IfOk result (λ made.
-            made.1.items ≡ fresh_turn_seats made.0.table made.0.terms seats) }
+        ensures seats { IfOk result (λ made. made.1.items
+            ≡ fresh_turn_seats made.0.table (unused made.0.terms) seats) }
         ensures refused { IfErr result (λ fault. fault ≡ AccountFault.OutOfMemory) }
     {
         let start = Start {
             opening,
             until,
             limit,
+            seats,
         };
         let (board, first) = lay_board(alloc, start)?;
-        let made = make_seats(alloc, &board, first, number, seats)?;
+        let made = make_seats(alloc, &board, first, seats)?;
         let account = TurnAccount {
             number,
-            opening,
-            until,
-            limit,
             seats,
             board,
             door: Mutex::new(()),
@@ -116,11 +107,10 @@ impl TurnAccount {
     /// Asks the account from one of its seats, once it is this call's turn.
     ///
     /// The seat then has seen a legal history that begins with all that it had seen. With a reply,
-    /// that history ends with the entry of this call, which the seat's own list gains too. With a
-    /// fault, there is no entry: `GateClosed` comes first, where the gate, asked while the account
-    /// is held, answers false; then the faults of `Account::apply` for what was seen. A Return of
-    /// an open call, and its first Settle since its last grant, have no fault but `GateClosed`
-    /// where the call's entries are all of this seat.
+    /// that history ends with the entry of this call, the only new one of the seat. With a fault,
+    /// there is no entry: `GateClosed` comes first, where the gate, asked while the account is
+    /// held, answers false; then the faults of `Account::apply` for what was seen. A Return of an
+    /// open call, and its first Settle since its last grant, have no fault but `GateClosed`.
     pub fn call<R: Wait, G: Gate>(
         &self,
         rt: &R,
@@ -129,100 +119,74 @@ impl TurnAccount {
         gate: &G,
     ) -> Result<Reply, AccountFault>
         requires { seat.old.table ≡ self.now.table }
-        ensures same { IsSameAccount seat.old seat.new }
+        ensures same { IsSameSeat seat.old seat.new }
         ensures legal { IsLegal seat.new.view.opening seat.new.view.until seat.new.view.history }
         ensures begins { IsPrefix seat.old.view.history seat.new.view.history }
         ensures ends { IfOk result (λ reply. EndsWith seat.old.view.history
-            (event_by seat.old.place.number (asked_of op) reply) seat.new.view.history) }
-        ensures own { own seat.new.place.number seat.new.view.history ≡ seat.new.place.mine }
-        ensures mine { IfOk result (λ reply. seat.new.place ≡ record seat.old.place {
-          mine = seat.old.place.mine
-              ++ event_by seat.old.place.number (asked_of op) reply ∷ [];
-        }) }
-        ensures kind { IfOk result (λ reply. IsReplyTo (asked_of op) reply) }
-        ensures kept { OnErr result (seat.new.place ≡ seat.old.place) }
+            (event_by seat.old.number (asked_of op) reply) seat.new.view.history) }
+        ensures own { MatchResult result
+            (λ reply. own_of seat.new
+            ≡ own_of seat.old ++ event_by seat.old.number (asked_of op) reply ∷ [])
+            (λ _. own_of seat.new ≡ own_of seat.old) }
         ensures refused { IfErr result (λ fault. (fault ≡ AccountFault.GateClosed)
             ⊎ IsRefusal seat.new.view (asked_of op) fault) }
-        ensures fault { IfErr result (λ fault. IsFaultOf (asked_of op) fault) }
-        ensures range { result ≡ Err AccountFault.OutOfRange → is_in_range (asked_of op) ≡ false }
         ensures gate { result ≡ Err AccountFault.GateClosed → G.may_shut gate.now }
         ensures closing { IsClosing (reverse seat.new.view.history) (asked_of op)
-            → of_call (call_of (asked_of op)) seat.new.view.history
-            ≡ of_call (call_of (asked_of op)) seat.new.place.mine
             → IfErr result (λ fault. fault ≡ AccountFault.GateClosed) }
-        ensures returning { IsReturn (asked_of op)
-            → IsClosing (reverse seat.old.place.mine) (asked_of op)
-            → IfErr result (λ fault.
-            (fault ≡ AccountFault.NotOpen) ⊎ (fault ≡ AccountFault.GateClosed)) }
     {
         let _door = self.door.lock(rt);
         take_turn(rt, &self.board, &mut seat.chair);
-        let result = enter(&self.board, &mut seat.chair, &mut seat.seat, op, gate);
-        seat.seen = entries_in_turn(&self.board, &mut seat.chair);
+        let result = enter(
+            &self.board,
+            &mut seat.chair,
+            self.number,
+            seat.number,
+            op,
+            gate,
+        );
         hand_on(&self.board, &mut seat.chair);
         result
     }
 
     /// Two seats meet: the second has then seen the longer of what the two had seen, which the
-    /// other begins, and the first is unchanged. The answer is how many entries that has.
+    /// other begins, and the first is unchanged.
     ///
     /// It waits for nobody, takes no memory and always succeeds.
-    pub fn meet(&self, first: &mut TurnSeat, second: &mut TurnSeat) -> u64
+    pub fn meet(&self, first: &mut TurnSeat, second: &mut TurnSeat)
         requires first { first.old.table ≡ self.now.table }
         requires second { second.old.table ≡ self.now.table }
         ensures unchanged { first.new ≡ first.old }
-        ensures same { IsSameAccount second.old second.new }
-        ensures mine { second.new.place ≡ second.old.place }
+        ensures same { IsSameSeat second.old second.new }
         ensures one { (second.new.view.history ≡ first.old.view.history)
             ⊎ (second.new.view.history ≡ second.old.view.history) }
         ensures begins_first { IsPrefix first.old.view.history second.new.view.history }
         ensures begins_second { IsPrefix second.old.view.history second.new.view.history }
-        ensures own { own second.new.place.number second.new.view.history
-            ≡ second.new.place.mine }
-        ensures length { result ≡ length second.new.view.history }
+        ensures own { own_of second.new ≡ own_of second.old }
     {
         hear(&self.board, &mut first.chair, &mut second.chair);
         compare(&self.board, &mut second.chair);
-        second.seen = first.seen.max(second.seen);
-        second.seen
     }
 
     /// Ends the sharing: the account's book, where all of its seats are handed in, in the order of
     /// their numbers. Its history begins with all that any of them has seen.
     ///
-    /// For the lists of the seats it compares, as the account under its lock does.
-    pub fn close(self, alloc: Global, seats: Vec<TurnSeat>) -> Result<Book, CloseFault>
+    /// It takes no memory and compares nothing: the fault is `Seats`.
+    pub fn close(self, seats: Vec<TurnSeat>) -> Result<Book, CloseFault>
         requires { All (λ seat. seat.table ≡ self.table) seats.items }
-        ensures account { IfOk result (λ book. book.account ≡ self.terms.number) }
-        ensures opening { IfOk result (λ book. book.opening ≡ self.terms.opening) }
-        ensures until { IfOk result (λ book. book.until ≡ self.terms.until) }
-        ensures limit { IfOk result (λ book. book.limit ≡ self.terms.limit) }
-        ensures legal { IfOk result (λ book. IsLegal book.opening book.until book.history) }
+        ensures book { IfOk result (λ book. IsBookOf self.terms (map own_of seats.items) book) }
         ensures seen { IfOk result (λ book.
             All (λ seat. IsPrefix seat.view.history book.history) seats.items) }
-        ensures own { IfOk result (λ book. book.own ≡ map (λ seat. seat.place.mine) seats.items) }
-        ensures merged { IfOk result (λ book. IsMerged book.history book.own) }
+        ensures fault { IfErr result (λ fault. fault ≡ close.Seats) }
         ensures seats { (result ≡ Err close.Seats)
-            ↔ (are_all self.terms.seats (map (λ seat. seat.place.number) seats.items) ≡ false) }
-        ensures mismatch { result ≡ Err close.Mismatch → HasTicketOut
-            ⊎ IsMismatch self.terms.opening self.terms.until self.terms.limit
-            (map (λ seat. seat.place.mine) seats.items) }
+            ↔ (are_all self.terms.seats (map (λ seat. seat.number) seats.items) ≡ false) }
     {
         let TurnAccount {
             number,
-            opening,
-            until,
-            limit,
             seats: count,
             board,
             ..
         } = self;
-        let start = Start {
-            opening,
-            until,
-            limit,
-        };
-        close_board(alloc, number, start, count, board, seats)
+        close_board(number, count, board, seats)
     }
 }
 
@@ -230,42 +194,30 @@ impl TurnAccount {
 fn enter<G: Gate>(
     board: &Board,
     chair: &mut Chair,
-    seat: &mut Seat,
+    account: u32,
+    seat: u32,
     op: Op,
     gate: &G,
 ) -> Result<Reply, AccountFault>
     requires at { IsAt board.now.shared.table_id chair.old.table_id }
     requires serving { IsServing chair.old.me.0.stage }
-    requires number { chair.old.me.0.number ≡ seat.old.number }
+    requires number { chair.old.me.0.number ≡ seat }
     requires hands { chair.old.me.1 ≡ (0, Some chair.old.me.0.seen) ∷ [] }
     ensures table { chair.new.table_id ≡ chair.old.table_id }
     ensures hands { chair.new.me.1 ≡ (0, Some chair.new.me.0.seen) ∷ [] }
     ensures entered { IfOk result (λ reply. chair.new.me.0 ≡ seeing chair.old.me.0
-        (with_entry chair.old.me.0.seen (event_by seat.old.number (asked_of op) reply))) }
-    ensures mine { IfOk result (λ reply. seat.new ≡ record seat.old {
-      mine = seat.old.mine ++ event_by seat.old.number (asked_of op) reply ∷ [];
-    }) }
-    ensures kind { IfOk result (λ reply. IsReplyTo (asked_of op) reply) }
-    ensures unseen { OnErr result (chair.new.me.0 ≡ chair.old.me.0) }
-    ensures kept { OnErr result (seat.new ≡ seat.old) }
+        (with_entry chair.old.me.0.seen (event_by seat (asked_of op) reply))) }
+    ensures kept { OnErr result (chair.new.me.0 ≡ chair.old.me.0) }
     ensures refused { IfErr result (λ fault. (fault ≡ AccountFault.GateClosed)
         ⊎ IsRefusal chair.old.me.0.seen (asked_of op) fault) }
-    ensures fault { IfErr result (λ fault. IsFaultOf (asked_of op) fault) }
-    ensures range { result ≡ Err AccountFault.OutOfRange → is_in_range (asked_of op) ≡ false }
     ensures gate { result ≡ Err AccountFault.GateClosed → G.may_shut gate.now }
     ensures closing { IsClosing (reverse chair.old.me.0.seen.history) (asked_of op)
-        → of_call (call_of (asked_of op)) chair.old.me.0.seen.history
-        ≡ of_call (call_of (asked_of op)) seat.old.mine
         → IfErr result (λ fault. fault ≡ AccountFault.GateClosed) }
-    ensures returning { IsReturn (asked_of op) → IsClosing (reverse seat.old.mine) (asked_of op)
-        → IfErr result (λ fault.
-        (fault ≡ AccountFault.NotOpen) ⊎ (fault ≡ AccountFault.GateClosed)) }
 {
-    if !gate.inside(seat.account()) {
+    if !gate.inside(account) {
         return Err(AccountFault::GateClosed);
     }
     let reply = ask_in_turn(board, chair, seat, op)?;
-    let seat = seat.number();
     append(board, chair, &Entry { seat, op, reply });
     Ok(reply)
 }
@@ -286,8 +238,8 @@ impl Shared for TurnAccount {
 
     ghost reads = { record {
       key = λ seat. seat.table;
-      number = λ seat. seat.place.number;
-      mine = λ seat. seat.place.mine;
+      number = λ seat. seat.number;
+      mine = own_of;
     } };
 
     ghost refuses = { λ _ asked fault. IsRefused asked fault };
@@ -314,20 +266,12 @@ impl Shared for TurnAccount {
         self.call(rt, seat, op, gate)
     }
 
-    fn close(self, alloc: Global, seats: Vec<TurnSeat>) -> Result<Book, CloseFault>
+    fn close(self, seats: Vec<TurnSeat>) -> Result<Book, CloseFault>
         requires { All (λ seat. seat.table ≡ self.table) seats.items }
-        ensures account { IfOk result (λ book. book.account ≡ self.terms.number) }
-        ensures opening { IfOk result (λ book. book.opening ≡ self.terms.opening) }
-        ensures until { IfOk result (λ book. book.until ≡ self.terms.until) }
-        ensures limit { IfOk result (λ book. book.limit ≡ self.terms.limit) }
-        ensures legal { IfOk result (λ book. IsLegal book.opening book.until book.history) }
-        ensures seen { IfOk result (λ book.
-            All (λ seat. IsPrefix seat.view.history book.history) seats.items) }
-        ensures own { IfOk result (λ book. book.own ≡ map (λ seat. seat.place.mine) seats.items) }
-        ensures merged { IfOk result (λ book. IsMerged book.history book.own) }
+        ensures book { IfOk result (λ book. IsBookOf self.terms (map own_of seats.items) book) }
         ensures seats { (result ≡ Err close.Seats)
-            ↔ (are_all self.terms.seats (map (λ seat. seat.place.number) seats.items) ≡ false) }
+            ↔ (are_all self.terms.seats (map (λ seat. seat.number) seats.items) ≡ false) }
     {
-        self.close(alloc, seats)
+        self.close(seats)
     }
 }

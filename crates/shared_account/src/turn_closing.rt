@@ -1,91 +1,59 @@
 //! The close of a turn account.
 
-ghost use Rattle.std.specs.Prelude.{◌≡◌, ◌≢◌, ◌↔◌, ◌≤◌, ◌⊎◌, false, length, map, All, IfOk, IfSome, IsNone, OnOk};
-ghost use Rattle.account_core.specs.Answers.{IsLegal};
-ghost use Rattle.shared_account.specs.Closed.{IsMismatch};
-ghost use Rattle.shared_account.specs.Own.{IsMerged};
+ghost use Rattle.std.specs.Prelude.{◌≡◌, ◌+◌, ◌↔◌, ◌≤◌, ◌<◌, ◌++◌, ◌∷◌, [], true, false, length, map, All, IfOk, IfErr};
+ghost use Rattle.shared_account.specs.Closed.{IsBookOf};
+ghost use Rattle.shared_account.specs.Ended.{IsClosedAs};
 ghost use Rattle.shared_account.specs.Prefixes.{IsPrefix};
 ghost use Rattle.shared_account.specs.Seats.{are_all, are_numbered};
 ghost use Rattle.shared_account.specs.Sitting.{IsAt, IsBoard};
-ghost use Rattle.shared_account.specs.Turns.{HasTicketOut};
+ghost use Rattle.shared_account.specs.TurnViews.{own_of};
 ghost use Rattle.shared_account.specs.declared.board.Stage.TheVariants.{Idles};
 ghost use Rattle.shared_account.specs.declared.fault.CloseFault.TheVariants as close;
 
-use crate::board::{Board, Chair, SERVING, SLOT, Start, TICKET};
-use crate::book::close_book;
-use crate::turn::{compare, hear};
-use crate::{Book, CloseFault, Seat, TurnSeat};
+use crate::board::{Board, Chair, SLOT};
+use crate::turn::take_in;
+use crate::{Book, CloseFault, TurnSeat};
 use account_core::Account;
-use std::alloc::{AllocError, Global};
 
-/// The book of an account whose seats were all handed in, in order. First one of them hears what
-/// the others have seen.
+/// The book of an account whose seats were all handed in, in order. One takes in the others.
 pub(crate) fn close_board(
-    alloc: Global,
     number: u32,
-    start: Start,
     count: u32,
     board: Board,
     seats: Vec<TurnSeat>,
 ) -> Result<Book, CloseFault>
-    requires board { IsBoard board.shared.table_id count }
+    requires board { IsBoard board.shared.table_id board.shared.key count }
     requires tables { All (λ seat. seat.table ≡ board.shared.table_id) seats.items }
-    ensures account { IfOk result (λ book. book.account ≡ number) }
-    ensures opening { IfOk result (λ book. book.opening ≡ start.opening) }
-    ensures until { IfOk result (λ book. book.until ≡ start.until) }
-    ensures limit { IfOk result (λ book. book.limit ≡ start.limit) }
-    ensures legal { IfOk result (λ book. IsLegal book.opening book.until book.history) }
+    ensures book { IfOk result (λ book. IsBookOf record {
+      number = number;
+      opening = board.shared.key.opening;
+      until = board.shared.key.until;
+      limit = board.shared.key.limit;
+      seats = count;
+    } (map own_of seats.items) book) }
     ensures seen { IfOk result (λ book.
         All (λ seat. IsPrefix seat.view.history book.history) seats.items) }
-    ensures own { IfOk result (λ book. book.own ≡ map (λ seat. seat.place.mine) seats.items) }
-    ensures merged { IfOk result (λ book. IsMerged book.history book.own) }
+    ensures fault { IfErr result (λ fault. fault ≡ close.Seats) }
     ensures seats { (result ≡ Err close.Seats)
-        ↔ (are_all count (map (λ seat. seat.place.number) seats.items) ≡ false) }
-    ensures mismatch { result ≡ Err close.Mismatch → HasTicketOut
-        ⊎ IsMismatch start.opening start.until start.limit
-        (map (λ seat. seat.place.mine) seats.items) }
+        ↔ (are_all count (map (λ seat. seat.number) seats.items) ≡ false) }
 {
     if !are_all(count, seats.as_slice()) {
         return Err(CloseFault::Seats);
     }
-    let (account, places) = unseat(alloc, board, seats)?;
-    close_book(alloc, number, start, count, account, places)
-}
-
-/// The account of a board and the places of all seats, when one of them has heard what the others
-/// have seen. `Mismatch` where a ticket is out.
-fn unseat(
-    alloc: Global,
-    board: Board,
-    seats: Vec<TurnSeat>,
-) -> Result<(Account, Vec<Seat>), CloseFault>
-    requires words { board.shared.table_id.words ≡ 3 }
-    requires slots { board.shared.table_id.slots ≡ 1 }
-    requires tables { All (λ seat. seat.table ≡ board.shared.table_id) seats.items }
-    requires some_seats { 1 ≤ length seats.items }
-    ensures seen { IfOk result (λ made.
-        All (λ seat. IsPrefix seat.view.history made.0.history) seats.items) }
-    ensures places { IfOk result (λ made. made.1.items ≡ map (λ seat. seat.place) seats.items) }
-    ensures fault { result ≢ Err close.Seats }
-    ensures mismatch { result ≡ Err close.Mismatch → HasTicketOut }
-{
-    let (chair, places) = gather(alloc, &board, seats)?;
-    match clear(board, chair) {
-        Some(account) => Ok((account, places)),
-        None => Err(CloseFault::Mismatch),
-    }
+    let chair = gather(&board, seats);
+    Ok(Book::new(number, clear(board, chair)))
 }
 
 /// Whether these are all seats of an account, in the order of their numbers.
 fn are_all(count: u32, seats: &[TurnSeat]) -> bool
-    ensures { result ≡ are_all count (map (λ seat. seat.place.number) seats.now) }
+    ensures { result ≡ are_all count (map (λ seat. seat.number) seats.now) }
 {
     seats.len() == count as usize && are_numbered(seats)
 }
 
 /// Whether the numbers of seats go on from 0 by ones.
 fn are_numbered(seats: &[TurnSeat]) -> bool
-    ensures { result ≡ are_numbered 0 (map (λ seat. seat.place.number) seats.now) }
+    ensures { result ≡ are_numbered 0 (map (λ seat. seat.number) seats.now) }
 {
     for (at, seat) in seats.iter().enumerate() {
         if seat.number() as usize != at {
@@ -95,88 +63,59 @@ fn are_numbered(seats: &[TurnSeat]) -> bool
     true
 }
 
-/// The places of all seats, and the chair of the last one, which has heard what all have seen.
-fn gather(
-    alloc: Global,
-    board: &Board,
-    mut seats: Vec<TurnSeat>,
-) -> Result<(Chair, Vec<Seat>), AllocError>
+/// The chair of the last seat, which has taken in all others.
+fn gather(board: &Board, mut seats: Vec<TurnSeat>) -> Chair
     requires words { board.now.shared.table_id.words ≡ 3 }
     requires tables { All (λ seat. seat.table ≡ board.now.shared.table_id) seats.items }
+    requires numbers { are_numbered 0 (map (λ seat. seat.number) seats.items) ≡ true }
     requires some_seats { 1 ≤ length seats.items }
-    ensures table { IfOk result (λ made. made.0.table_id ≡ board.now.shared.table_id) }
-    ensures seen { IfOk result (λ made.
-        All (λ seat. IsPrefix seat.view.history made.0.me.0.seen.history) seats.items) }
-    ensures places { IfOk result (λ made. made.1.items ≡ map (λ seat. seat.place) seats.items) }
+    ensures table { result.table_id ≡ board.now.shared.table_id }
+    ensures idle { result.me.0.stage ≡ Idles }
+    ensures last { length result.me.0.ended + 1 ≡ length seats.items }
+    ensures number { result.me.0.number ≡ length result.me.0.ended }
+    ensures taken { result.me.0.ended ++ result.me.0.seen ∷ []
+        ≡ map (λ seat. seat.view) seats.items }
 {
     let Some(last) = seats.pop() else {
         unreachable!()
     };
-    let TurnSeat {
-        seat,
-        mut chair,
-        ..
-    } = last;
-    let mut places = hear_all(alloc, board, &mut chair, seats)?;
-    places.push(seat)?;
-    Ok((chair, places))
+    let TurnSeat { mut chair, .. } = last;
+    take_in_all(board, &mut chair, seats);
+    chair
 }
 
-/// Lets a chair hear what seats have seen, and keeps their places.
-fn hear_all(
-    alloc: Global,
-    board: &Board,
-    chair: &mut Chair,
-    seats: Vec<TurnSeat>,
-) -> Result<Vec<Seat>, AllocError>
+/// Lets a chair take in the seats before its own.
+fn take_in_all(board: &Board, chair: &mut Chair, seats: Vec<TurnSeat>)
     requires at { IsAt board.now.shared.table_id chair.old.table_id }
     requires idle { chair.old.me.0.stage ≡ Idles }
+    requires ended { chair.old.me.0.ended ≡ [] }
     requires tables { All (λ seat. seat.table ≡ board.now.shared.table_id) seats.items }
+    requires numbers { are_numbered 0 (map (λ seat. seat.number) seats.items) ≡ true }
     ensures table { chair.new.table_id ≡ chair.old.table_id }
-    ensures before { OnOk result
-        (IsPrefix chair.old.me.0.seen.history chair.new.me.0.seen.history) }
-    ensures seen { OnOk result
-        (All (λ seat. IsPrefix seat.view.history chair.new.me.0.seen.history) seats.items) }
-    ensures places { IfOk result (λ made. made.items ≡ map (λ seat. seat.place) seats.items) }
+    ensures taken { chair.new.me.0 ≡ record chair.old.me.0 {
+      ended = map (λ seat. seat.view) seats.items;
+    } }
 {
-    let mut places = Vec::new(alloc);
     for seat in seats {
-        places.push(hear_one(board, chair, seat))?;
+        let TurnSeat { chair: next, .. } = seat;
+        take_in(board, chair, next);
     }
-    Ok(places)
 }
 
-/// Lets a chair hear what a seat has seen, and keeps the seat's place.
-fn hear_one(board: &Board, chair: &mut Chair, seat: TurnSeat) -> Seat
-    requires at { IsAt board.now.shared.table_id chair.old.table_id }
-    requires idle { chair.old.me.0.stage ≡ Idles }
-    requires same { seat.table ≡ board.now.shared.table_id }
-    ensures table { chair.new.table_id ≡ chair.old.table_id }
-    ensures idle { chair.new.me.0.stage ≡ Idles }
-    ensures before { IsPrefix chair.old.me.0.seen.history chair.new.me.0.seen.history }
-    ensures heard { IsPrefix seat.view.history chair.new.me.0.seen.history }
-    ensures place { result ≡ seat.place }
-{
-    let TurnSeat {
-        seat,
-        chair: mut other,
-        ..
-    } = seat;
-    hear(board, &mut other, chair);
-    compare(board, chair);
-    seat
-}
-
-/// The account that a board had in its slot, where each ticket that was drawn was served.
-fn clear(board: Board, chair: Chair) -> Option<Account>
+/// The account that a board has in its slot once all seats but the last have ended.
+fn clear(board: Board, chair: Chair) -> Account
     requires at { IsAt board.shared.table_id chair.table_id }
     requires slots { board.shared.table_id.slots ≡ 1 }
-    ensures seen { IfSome result (λ account. IsPrefix chair.me.0.seen.history account.history) }
-    ensures out { IsNone result → HasTicketOut }
+    requires idle { chair.me.0.stage ≡ Idles }
+    requires number { chair.me.0.number ≡ length chair.me.0.ended }
+    requires last { length chair.me.0.ended + 1 ≡ board.shared.key.seats }
+    ensures { IsClosedAs board.shared.key (chair.me.0.ended ++ chair.me.0.seen ∷ []) result }
 {
     let mut closed = board.close_with(chair);
-    let is_over = closed.word(TICKET) == closed.word(SERVING);
     let account = closed.take(SLOT);
     closed.free();
-    if is_over { account } else { None }
+    match account {
+        Some(account) => account,
+        None => unreachable!(),
+    }
 }

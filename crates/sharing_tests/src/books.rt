@@ -3,8 +3,8 @@
 ghost use Rattle.std.specs.Prelude.{◌≡◌, ◌≤◌};
 
 use crate::forms::{
-    Answer, Form, close, credit, credit_until, credited, granted, plan, reserve, reserve_at,
-    returned, settled, two_seats, two_seats_within,
+    Answer, Form, close, credit, credit_until, credited, entries_of_each, granted, plan, reserve,
+    reserve_at, returned, settled, two_seats, two_seats_within,
 };
 use account_core::{Account, AccountFault, CallSum, Fate, Op, Port, Reply};
 use shared_account::{Book, CloseFault, Gate, OpenGate, SharedAccount, SharedPort, TurnAccount};
@@ -22,7 +22,8 @@ fn closes_in_order<S: Form, R: Abort>(rt: &R, alloc: Global) -> Result<(), Fail>
         (book.account(), book.opening(), book.limit()),
         (1, 1500, 100)
     );
-    assert_eq!(rt; (book.history().len(), book.own().len()), (0, 2));
+    assert!(rt; book.history().is_empty());
+    assert_eq!(rt; entries_of_each(&book), (0, 0));
 
     let (account, first, second) = two_seats::<S, R>(rt, alloc, 1, 1500, None)?;
     let exchanged = close(alloc, account, second, first)?;
@@ -31,7 +32,7 @@ fn closes_in_order<S: Form, R: Abort>(rt: &R, alloc: Global) -> Result<(), Fail>
     let (account, first, _second) = two_seats::<S, R>(rt, alloc, 1, 1500, None)?;
     let mut seats = Vec::new(alloc);
     seats.push(first)?;
-    assert_eq!(rt; account.close(alloc, seats).err(), Some(CloseFault::Seats));
+    assert_eq!(rt; account.close(seats).err(), Some(CloseFault::Seats));
     Ok(())
 }
 
@@ -104,9 +105,9 @@ fn book_of<S: Form, R: Abort + Wait>(
         let answer = ask_one(rt, &account, &mut first, &mut second, *seat, *op, *gate);
         assert_eq!(rt; answer, *want, "at {op:?}");
     }
-    assert_eq!(rt; S::told(&first), (1, 0, made.0));
-    assert_eq!(rt; S::told(&second), (1, 1, made.1));
-    Ok(close(alloc, account, first, second)??)
+    let book = close(alloc, account, first, second)??;
+    assert_eq!(rt; entries_of_each(&book), made);
+    Ok(book)
 }
 
 fn settle(call: u64, t: u32) -> Op {
@@ -222,7 +223,6 @@ fn sums_up<S: Form, R: Abort + Wait>(rt: &R, alloc: Global) -> Result<(), Fail> 
             (book.account(), book.opening(), book.until(), book.limit()),
             (1, opening, until, limit)
         );
-        assert_eq!(rt; book.own().len(), 2);
         let summary = book.summary(alloc)?;
         assert_eq!(rt; (summary.account, summary.opening), (1, opening));
         assert_eq!(rt; summary.available, available, "after {made:?} entries");
@@ -239,13 +239,14 @@ fn sums_up_its_calls(rt: HostRuntime) -> Result<(), Fail> {
     sums_up::<TurnAccount, _>(&rt, rt.alloc())
 }
 
-/// A port asks from its seat.
+/// A port asks from its seat, and another seat is answered after it.
 fn asks_by_port<S: Form, R: Abort + Wait>(rt: &R, alloc: Global) -> Result<(), Fail> {
     let x = plan()?;
-    let (account, mut first, _second) = two_seats::<S, R>(rt, alloc, 1, 1500, None)?;
-    let mut port = SharedPort::new(&account, &mut first, rt, &OpenGate);
+    let (account, mut first, mut second) = two_seats::<S, R>(rt, alloc, 1, 1500, None)?;
+    let mut port = SharedPort::new(&account, &mut second, rt, &OpenGate);
     assert_eq!(rt; port.ask(reserve(1, x)), granted(600, false, 450));
-    assert_eq!(rt; S::told(&first), (1, 0, 1));
+    let answer = account.call(rt, &mut first, credit(10), &OpenGate);
+    assert_eq!(rt; answer, credited(460));
     Ok(())
 }
 
@@ -284,7 +285,6 @@ fn names_its_faults(rt: HostRuntime) -> Result<(), Fail> {
             2,
             "the history isn't what the seats have entered",
         ),
-        (CloseFault::OutOfMemory, 3, "out of memory"),
     ];
     for (fault, number, text) in faults {
         assert_eq!(rt; fault.code(), number);

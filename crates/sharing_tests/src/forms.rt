@@ -13,19 +13,19 @@ pub(crate) type Answer = Result<Reply, AccountFault>;
 
 /// A form of shared account.
 pub(crate) trait Form: Shared {
-    /// The account and the number of a seat, and how many entries it has made.
-    fn told(seat: &Self::Seat) -> (u32, u32, usize);
+    /// The number of a seat.
+    fn number(seat: &Self::Seat) -> u32;
 }
 
 impl Form for SharedAccount {
-    fn told(seat: &Seat) -> (u32, u32, usize) {
-        (seat.account(), seat.number(), seat.mine().len())
+    fn number(seat: &Seat) -> u32 {
+        seat.number()
     }
 }
 
 impl Form for TurnAccount {
-    fn told(seat: &TurnSeat) -> (u32, u32, usize) {
-        (seat.account(), seat.number(), seat.mine().len())
+    fn number(seat: &TurnSeat) -> u32 {
+        seat.number()
     }
 }
 
@@ -60,8 +60,7 @@ pub(crate) fn two_seats_within<S: Form, R: Abort>(
     let (account, mut seats) = S::new(rt, alloc, number, opening, until, limit, 2)?;
     let second = seats.pop().expect(rt, "two seats");
     let first = seats.pop().expect(rt, "two seats");
-    assert_eq!(rt; S::told(&first), (number, 0, 0));
-    assert_eq!(rt; S::told(&second), (number, 1, 0));
+    assert_eq!(rt; (S::number(&first), S::number(&second)), (0, 1));
     Ok((account, first, second))
 }
 
@@ -78,7 +77,21 @@ pub(crate) fn close<S: Form>(
     let mut seats = Vec::with_capacity(alloc, 2)?;
     seats.push_reserved(first);
     seats.push_reserved(second);
-    Ok(account.close(alloc, seats))
+    Ok(account.close(seats))
+}
+
+/// How many entries of a book each of the two seats has made.
+pub(crate) fn entries_of_each(book: &Book) -> (usize, usize) {
+    (entries_of(book, 0), entries_of(book, 1))
+}
+
+/// How many entries of a book a seat has made.
+fn entries_of(book: &Book, seat: u32) -> usize {
+    let mut count = 0usize;
+    for _entry in book.own(seat) {
+        count = count.saturating_add(1);
+    }
+    count
 }
 
 /// Two rates, the second cheaper.

@@ -70,6 +70,7 @@ fn tickets_wait_for_their_turn(rt: HostRuntime) -> Result<(), Fail> {
         opening: 0,
         until: None,
         limit: 100,
+        seats: 2,
     };
     let (board, mut first) = lay_board(rt.alloc(), start)?;
     let second = next_chair(&board, &mut first);

@@ -1,4 +1,6 @@
 use Rattle.std.proofs.Common.{refl, rules, ◌∙◌}
+use Rattle.std.specs.Prelude.{true}
+use Rattle.runs_core.proofs.Finishing.{none_failed}
 use Rattle.runs_core.proofs.Roundings.{none_played, played_more, played_out}
 use Rattle.runs_core.proofs.rounds.play.Goals as goal
 use Rattle.workers_core.specs.Workers.{number_by}
@@ -10,6 +12,7 @@ loop-init g c = (
   refl,
   refl,
   refl,
+  c.requires.works,
 )
 
 pub loop-preserved : goal.loop-preserved
@@ -21,6 +24,7 @@ loop-preserved g c =
       c.play_round.ensures.count ∙ before.1,
       c.play_round.ensures.promises ∙ before.2,
       c.play_round.ensures.plan ∙ before.3,
+      none_failed _ _ true c.play_round.ensures.failed (search rules),
     )
 
 pub returns-then-not-branch-clause-played : goal.returns-then-not-branch-clause-played

@@ -4,7 +4,8 @@ use Rattle.std.specs.Vec.Iter.{into_iter_items}
 use Rattle.std.proofs.lemmas.List.{append_assoc, length-append, length-map, map-append}
 use Rattle.runs_core.proofs.Columns.{laid, listed_by, map_dealt, none_laid}
 use Rattle.runs_core.proofs.Numbers.{AreRising, all_there, more_rising, rising_none}
-use Rattle.runs_core.specs.Closing.{AreNumberedFrom}
+use Rattle.runs_core.specs.Closing.{AreAllThere, AreBooksOf, AreNumberedFrom}
+use Rattle.runs_core.proofs.Booking.{books_legal, books_listed, books_shown}
 use Rattle.runs_core.specs.Dealing.{dealt}
 use Rattle.runs_core.proofs.Shifting.{empty_by}
 use Rattle.runs_core.proofs.Rows.{books_served, map_twice, rows_for, rows_count, rows_dealt, rows_of, team_count}
@@ -63,14 +64,63 @@ close_each-requires-clause-all g c = λ _ _.
     (all_there (λ account. (g.S.Shared.terms account).seats) (length c.loop-one.handled.items) c.args.accounts.items (map (map g.S.Shared.reads.number) rows) (subst Each all c.requires.seats) left.6
     (length-map rows (map g.S.Shared.reads.number) ∙ rows_count g.S.Shared.reads g.S.Shared.key g.S.Shared.terms c.args.accounts.items _ _ left.0))
 
+pub returns-clause-terms : goal.returns-clause-terms
+returns-clause-terms g c = books_shown g.S.Shared.terms (length c.args.left.items) c.args.accounts.items _ c.in_ok-books.books.items c.in_ok-books.ensures.books c.requires.seats
+
+pub returns-clause-legal : goal.returns-clause-legal
+returns-clause-legal g c = books_legal g.S.Shared.terms c.args.accounts.items _ c.in_ok-books.books.items c.in_ok-books.ensures.books
+
+pub returns-clause-owned : goal.returns-clause-owned
+returns-clause-owned g c =
+    let read = g.S.Shared.reads in
+    let many = length c.args.left.items in
+    let books = c.in_ok-books.books.items in
+    let rows = map (λ row. row.items) c.loop-one.rows.items in
+    let none : into_iter_items c.loop-one.one-iterator ≡ [] = empty_by _ (omega (arith, c.in-None.ensures.steps.0, c.loop-one.one-iterator.rest.ok)) in
+    let left = rw (none) at c.loop-one.invariant in
+    let all : many ≡ length c.loop-one.handled.items = omega (arith, left.7) in
+    let Each : ℕ → Type 0 = λ n. All (λ account. (g.S.Shared.terms account).seats ≡ n) c.args.accounts.items in
+    let there : AreAllThere (map (λ account. (g.S.Shared.terms account).seats) c.args.accounts.items) (map (map read.number) rows) =
+    all_there (λ account. (g.S.Shared.terms account).seats) (length c.loop-one.handled.items) c.args.accounts.items (map (map read.number) rows) (subst Each all c.requires.seats) left.6
+    (length-map rows (map read.number) ∙ rows_count read g.S.Shared.key g.S.Shared.terms c.args.accounts.items _ _ left.0) in
+    let are : AreBooksOf (map g.S.Shared.terms c.args.accounts.items) (map (map read.mine) rows) books =
+    subst (λ lists. AreBooksOf (map g.S.Shared.terms c.args.accounts.items) lists books) (map_twice (λ row. row.items) (map read.mine) c.loop-one.rows.items) c.in_ok-books.ensures.books in
+    let listed = books_listed g.S.Shared.terms read many c.args.accounts.items rows books are there c.requires.seats in
+    listed.1
+
 pub returns-clause-served : goal.returns-clause-served
 returns-clause-served g c =
-    books_served g.S.Shared.reads g.S.Shared.key g.S.Shared.terms c.args.accounts.items _ (map (λ row. row.items) c.loop-one.rows.items) c.in_ok-books.books.items
-    c.loop-one.invariant.0 c.in_ok-books.ensures.terms (c.in_ok-books.ensures.own ∙ map_twice _ _ c.loop-one.rows.items)
+    let read = g.S.Shared.reads in
+    let many = length c.args.left.items in
+    let books = c.in_ok-books.books.items in
+    let rows = map (λ row. row.items) c.loop-one.rows.items in
+    let none : into_iter_items c.loop-one.one-iterator ≡ [] = empty_by _ (omega (arith, c.in-None.ensures.steps.0, c.loop-one.one-iterator.rest.ok)) in
+    let left = rw (none) at c.loop-one.invariant in
+    let all : many ≡ length c.loop-one.handled.items = omega (arith, left.7) in
+    let Each : ℕ → Type 0 = λ n. All (λ account. (g.S.Shared.terms account).seats ≡ n) c.args.accounts.items in
+    let there : AreAllThere (map (λ account. (g.S.Shared.terms account).seats) c.args.accounts.items) (map (map read.number) rows) =
+    all_there (λ account. (g.S.Shared.terms account).seats) (length c.loop-one.handled.items) c.args.accounts.items (map (map read.number) rows) (subst Each all c.requires.seats) left.6
+    (length-map rows (map read.number) ∙ rows_count read g.S.Shared.key g.S.Shared.terms c.args.accounts.items _ _ left.0) in
+    let are : AreBooksOf (map g.S.Shared.terms c.args.accounts.items) (map (map read.mine) rows) books =
+    subst (λ lists. AreBooksOf (map g.S.Shared.terms c.args.accounts.items) lists books) (map_twice (λ row. row.items) (map read.mine) c.loop-one.rows.items) c.in_ok-books.ensures.books in
+    let listed = books_listed g.S.Shared.terms read many c.args.accounts.items rows books are there c.requires.seats in
+    books_served read g.S.Shared.key g.S.Shared.terms c.args.accounts.items _ rows many books c.loop-one.invariant.0
+    (books_shown g.S.Shared.terms many c.args.accounts.items _ books are c.requires.seats) listed.0
 
 pub returns-clause-lists : goal.returns-clause-lists
 returns-clause-lists g c =
+    let read = g.S.Shared.reads in
+    let many = length c.args.left.items in
+    let books = c.in_ok-books.books.items in
+    let rows = map (λ row. row.items) c.loop-one.rows.items in
     let none : into_iter_items c.loop-one.one-iterator ≡ [] = empty_by _ (omega (arith, c.in-None.ensures.steps.0, c.loop-one.one-iterator.rest.ok)) in
     let left = rw (none) at c.loop-one.invariant in
-    listed_by g.S.Shared.reads g.S.Shared.key c.args.accounts.items _ c.args.left.items c.in_ok-books.books.items _ c.requires.left
-    (c.in_ok-books.ensures.own ∙ map_twice _ _ c.loop-one.rows.items) left.4
+    let all : many ≡ length c.loop-one.handled.items = omega (arith, left.7) in
+    let Each : ℕ → Type 0 = λ n. All (λ account. (g.S.Shared.terms account).seats ≡ n) c.args.accounts.items in
+    let there : AreAllThere (map (λ account. (g.S.Shared.terms account).seats) c.args.accounts.items) (map (map read.number) rows) =
+    all_there (λ account. (g.S.Shared.terms account).seats) (length c.loop-one.handled.items) c.args.accounts.items (map (map read.number) rows) (subst Each all c.requires.seats) left.6
+    (length-map rows (map read.number) ∙ rows_count read g.S.Shared.key g.S.Shared.terms c.args.accounts.items _ _ left.0) in
+    let are : AreBooksOf (map g.S.Shared.terms c.args.accounts.items) (map (map read.mine) rows) books =
+    subst (λ lists. AreBooksOf (map g.S.Shared.terms c.args.accounts.items) lists books) (map_twice (λ row. row.items) (map read.mine) c.loop-one.rows.items) c.in_ok-books.ensures.books in
+    let listed = books_listed g.S.Shared.terms read many c.args.accounts.items rows books are there c.requires.seats in
+    listed_by read g.S.Shared.key c.args.accounts.items _ c.args.left.items books _ c.requires.left listed.0 left.4

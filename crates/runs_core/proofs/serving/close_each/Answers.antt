@@ -1,28 +1,28 @@
-use Rattle.std.proofs.Common.{rules, arith, ◌≡◌, ◌∷◌, [], map}
+use Rattle.std.proofs.Common.{rules, arith, ◌≡◌, ◌∷◌, ◌++◌, [], List, map, subst, sym}
 use Rattle.std.specs.Vec.Iter.{into_iter_items}
-use Rattle.std.proofs.lemmas.List.Elements.{All-push}
-use Rattle.account_core.specs.Answers.{IsLegal}
-use Rattle.shared_account.specs.Own.{IsMerged}
-use Rattle.runs_core.proofs.Shifting.{empty_by, empty_rows, none_left, one_shifted}
-use Rattle.runs_core.specs.Closing.{terms_shown}
+use Rattle.std.proofs.lemmas.List.{append-nil, append_assoc}
+use Rattle.shared_account.specs.Closed.{Closed}
+use Rattle.runs_core.proofs.Shifting.{empty_by}
+use Rattle.runs_core.specs.Closing.{AreBooksOf}
 use Rattle.runs_core.proofs.serving.close_each.Goals as goal
 
 pub loop-account-preserved : goal.loop-account-preserved
 loop-account-preserved g c =
     let rows : into_iter_items c.loop-account.rows_left ≡ c.in-Some-next.seats ∷ into_iter_items c.next-in-loop-account.new.self = search rules in
     let before = rw (c.in-Some.ensures.steps.0, rows) at c.loop-account.invariant in
+    let book = c.in_ok-close.field-0 in
+    let done : List Closed → Type 0 = λ later. AreBooksOf (map g.S.Shared.terms c.args.accounts.items) (map (λ row. map g.S.Shared.reads.mine row.items) c.args.rows.items) (c.loop-account.books.items ++ later) in
+    let more = subst (λ seats. (later : List Closed) → AreBooksOf (g.S.Shared.terms c.in-Some.account ∷ map g.S.Shared.terms (into_iter_items c.next.new.self)) (map (λ row. map g.S.Shared.reads.mine row.items) seats) later → done later) rows before.1 in
     rw (c.in_ok-push.ensures.items) (
       before.0.1,
-      one_shifted terms_shown g.S.Shared.terms c.loop-account.books.items c.in_ok-close.field-0 c.in-Some.account (into_iter_items c.next.new.self) _ before.1 c.in_ok-close.ensures.terms,
-      one_shifted (λ book. book.own) (λ row. map g.S.Shared.reads.mine row.items) c.loop-account.books.items c.in_ok-close.field-0 c.in-Some-next.seats (into_iter_items c.next-in-loop-account.new.self) _ before.2 c.in_ok-close.ensures.own,
-      All-push (λ book. IsLegal book.opening book.until book.history) c.loop-account.books.items c.in_ok-close.field-0 before.3 c.in_ok-close.ensures.legal,
-      All-push (λ book. IsMerged book.history book.own) c.loop-account.books.items c.in_ok-close.field-0 before.4 c.in_ok-close.ensures.merged,
-      before.5.1,
+      λ later are. subst (AreBooksOf (map g.S.Shared.terms c.args.accounts.items) (map (λ row. map g.S.Shared.reads.mine row.items) c.args.rows.items))
+          (sym (append_assoc c.loop-account.books.items (book ∷ []) later)) (more (book ∷ later) (c.in_ok-close.ensures.book, are)),
+      before.2.1,
     )
 
-pub returns-clause-own : goal.returns-clause-own
-returns-clause-own g c =
+pub returns-clause-books : goal.returns-clause-books
+returns-clause-books g c =
     let none : into_iter_items c.loop-account.account-iterator ≡ [] = empty_by _ (omega (arith, c.in-None.ensures.steps.0, c.loop-account.account-iterator.rest.ok)) in
     let left = rw (none) at c.loop-account.invariant in
-    none_left (λ book. book.own) (λ row. map g.S.Shared.reads.mine row.items) c.loop-account.books.items (into_iter_items c.loop-account.rows_left) _
-    (empty_rows g.S.Shared.reads.key (λ row. row.items) (into_iter_items c.loop-account.rows_left) left.0) left.2
+    subst (AreBooksOf (map g.S.Shared.terms c.args.accounts.items) (map (λ row. map g.S.Shared.reads.mine row.items) c.args.rows.items))
+    (append-nil c.loop-account.books.items) (left.1 [] tt)

@@ -14,7 +14,7 @@ returns-in_err-finished-clause-fault g c =
 pub returns-clause-left : goal.returns-clause-left
 returns-clause-left g c =
     let read = g.S.Shared.reads in
-    let played = c.in_ok-ran-2.ensures.played in
+    let played = c.in_ok-ran.ensures.played in
     let seats = c.finish.ensures.seats in
     let posts = c.finish.ensures.posts in
     let refusals = c.finish.ensures.refusals in

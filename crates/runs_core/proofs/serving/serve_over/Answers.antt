@@ -35,4 +35,4 @@ returns-clause-run g c =
     (map g.S.Shared.terms c.in_ok-accounts.field-0.accounts.items) c.close_accounts.result
     (sym opened.count ∙ sym c.in_ok-left.ensures.left.handled.count ∙ length-map c.in_ok-left.left.items (λ one. one.posts.items))
     opened.count c.in_ok-left.ensures.left opened.accounts
-    close.terms close.legal close.merged close.served close.handled close.refusals close.lists
+    close.terms close.legal close.owned close.served close.handled close.refusals close.lists

@@ -16,4 +16,4 @@ new-requires c =
     c.push_reserved.ensures.items ∙ (ap (λ xs. xs ++ Some c.new-account.result ∷ []) c.in_ok-slots.ensures.items ∙ ap (λ a. Some a ∷ []) same) in
     let K : List (Option Ledger) → Type 0 = λ xs. Kept start (opening (0 ∷ 0 ∷ 0 ∷ []) xs (first_view start.opening start.until start.limit)) in
     let bounded : start.limit < 2 ^ 32 = search rules in
-    subst K (sym items) (starts start bounded)
+    subst K (sym items) (starts start bounded c.requires.some_seats c.requires.few_seats)

@@ -9,10 +9,5 @@ invariant-loop-number l =
     record {
       table : l.first.table_id ≡ l.initial.first.table_id;
       first : l.first.me ≡ (record (first_view start.opening start.until start.limit) { made = l.number }, []);
-      made : record {
-        table = l.initial.first.table_id;
-        place = record { account = l.account; number = 0; mine = [] };
-        view = record { opening = start.opening; until = start.until; limit = start.limit; history = [] };
-      } ∷ l.made.items
-          ≡ fresh_turn_seats l.initial.first.table_id (record { number = l.account; opening = start.opening; until = start.until; limit = start.limit; seats = l.count }) l.number;
+      made : record { table = l.initial.first.table_id; number = 0; view = start } ∷ l.made.items ≡ fresh_turn_seats l.initial.first.table_id start l.number;
     }

@@ -4,4 +4,4 @@ use Rattle.shared_account.proofs.turn_closing.are_numbered.Given as goal
 
 abbrev pub invariant-loop-at : goal.invariant-loop-at
 invariant-loop-at l =
-    are_numbered 0 (map (λ seat. seat.place.number) l.seats) ≡ are_numbered l.at (map (λ seat. seat.place.number) (drop l.at l.seats))
+    are_numbered 0 (map (λ seat. seat.number) l.seats) ≡ are_numbered l.at (map (λ seat. seat.number) (drop l.at l.seats))

@@ -1,29 +1,41 @@
-use Rattle.std.proofs.Common.{◌≡◌, ℕ, List, map, ap, ◌∙◌, Err, subst, inr, rules}
-use Rattle.std.specs.Prelude.{◌↔◌, false}
-use mathlib.Core.List.{map-map}
-use Rattle.std.proofs.lemmas.Result.{IfOk-weaker}
-use Rattle.shared_account.specs.Closed.{IsMismatch}
-use Rattle.shared_account.specs.Seats.{SeatView, are_all}
-use Rattle.shared_account.specs.TurnViews.{TurnSeatView}
-use Rattle.shared_account.specs.declared.fault.CloseFault.TheVariants as close
+use Rattle.std.proofs.Common.{◌≡◌, List, length, map, sym, ◌∙◌, subst, true, refl, rules}
+use Rattle.std.specs.Prelude.{◌<◌, ◌==◌, All}
+use Rattle.account_core.specs.Events.{EntryData}
+use Rattle.account_core.specs.Ledger.{Ledger}
+use Rattle.shared_account.specs.Closed.{Closed, IsBookOf}
+use Rattle.shared_account.specs.Ended.{HaveEnded}
+use Rattle.shared_account.specs.Prefixes.{IsPrefix}
+use Rattle.shared_account.specs.Seats.{are_all, are_numbered}
+use Rattle.shared_account.specs.TurnViews.{TurnSeatView, own_of}
+use Rattle.shared_account.specs.Views.{unopened}
+use Rattle.shared_account.proofs.Ending.{merged_closed, seen_closed}
+use Rattle.shared_account.proofs.Merging.{first_by}
 use Rattle.shared_account.proofs.turn_closing.close_board.Goals as goal
 
-pub returns-clause-own : goal.returns-clause-own
-returns-clause-own c =
-    let lists = ap (map (λ (p : SeatView). p.mine)) c.in_ok-account.ensures.places ∙ map-map (λ (p : SeatView). p.mine) (λ (s : TurnSeatView). s.place) c.args.seats.items in
-    IfOk-weaker c.close_book.result _ _ (λ book own. own ∙ lists) c.close_book.ensures.own
+pub returns-clause-book : goal.returns-clause-book
+returns-clause-book c =
+    let seats : List TurnSeatView = c.args.seats.items in
+    let history : List EntryData = c.clear.result.history in
+    let told : c.are_all.result ≡ true = grind rules in
+    let whole : c.are_all.result ≡ are_all c.args.count (map (λ (s : TurnSeatView). s.number) seats) =
+    subst (λ (xs : List TurnSeatView). c.are_all.result ≡ are_all c.args.count (map (λ (s : TurnSeatView). s.number) xs)) c.as_slice.ensures.value c.are_all.ensures in
+    let all : are_all c.args.count (map (λ (s : TurnSeatView). s.number) seats) ≡ true = sym whole ∙ told in
+    let numbered = (first_by (length (map (λ (s : TurnSeatView). s.number) seats) == c.args.count) (are_numbered 0 (map (λ (s : TurnSeatView). s.number) seats)) all).1 in
+    let have : HaveEnded history 0 (map (λ (s : TurnSeatView). s.view) seats) = subst (HaveEnded history 0) c.gather-chair.ensures.taken c.clear.ensures.each in
+    let others : All (λ event. event.seat < length (map (λ (s : TurnSeatView). s.view) seats)) history =
+    subst (λ (lasts : List Ledger). All (λ event. event.seat < length lasts) history) c.gather-chair.ensures.taken c.clear.ensures.no_others in
+    subst (IsBookOf _ (map own_of seats)) (sym c.new.ensures) (record {
+      account = refl;
+      opening = c.clear.ensures.opening;
+      until = c.clear.ensures.until;
+      limit = c.clear.ensures.limit;
+      legal = c.clear.ensures.legal;
+      merged = merged_closed history seats numbered have others (record { table = c.args.board.shared.table_id; number = 0; view = unopened });
+    })
 
-pub returns-clause-seats : goal.returns-clause-seats
-returns-clause-seats c =
-    let numbers : map (λ (p : SeatView). p.number) c.in_ok-account.places.items ≡ map (λ (s : TurnSeatView). s.place.number) c.args.seats.items =
-    ap (map (λ (p : SeatView). p.number)) c.in_ok-account.ensures.places ∙ map-map (λ (p : SeatView). p.number) (λ (s : TurnSeatView). s.place) c.args.seats.items in
-    subst (λ (ns : List ℕ). (c.close_book.result ≡ Err close.Seats) ↔ (are_all c.args.count ns ≡ false)) numbers c.close_book.ensures.seats
-
-pub returns-clause-mismatch : goal.returns-clause-mismatch
-returns-clause-mismatch c is =
-    let lists = ap (map (λ (p : SeatView). p.mine)) c.in_ok-account.ensures.places ∙ map-map (λ (p : SeatView). p.mine) (λ (s : TurnSeatView). s.place) c.args.seats.items in
-    inr (subst (IsMismatch c.args.start.opening c.args.start.until c.args.start.limit) lists (record {
-      account = c.in_ok-account.account;
-      legal = search rules;
-      differs = (c.close_book.ensures.mismatch.0 is).1;
-    }))
+pub returns-clause-seen : goal.returns-clause-seen
+returns-clause-seen c =
+    let seats : List TurnSeatView = c.args.seats.items in
+    let history : List EntryData = c.clear.result.history in
+    let have : HaveEnded history 0 (map (λ (s : TurnSeatView). s.view) seats) = subst (HaveEnded history 0) c.gather-chair.ensures.taken c.clear.ensures.each in
+    subst (λ (book : Closed). All (λ (s : TurnSeatView). IsPrefix s.view.history book.history) seats) (sym c.new.ensures) (seen_closed history 0 seats have)

@@ -3,5 +3,5 @@ use Rattle.shared_account.proofs.turn_account.TurnAccount.meet.Goals as goal
 
 pub invariant_of-second : goal.invariant_of-second
 invariant_of-second c =
-    met_sits c.first.inside.chair.me c.second.inside.chair.me c.hear.new.second.me c.compare.new.chair.me c.first.inside.seat c.second.inside.seat _ _ _
-    c.first.invariant c.second.invariant c.hear.ensures.second c.compare.ensures.met c.compare.ensures.hands c.max-second-inside.ensures
+    met_sits c.second.inside.chair.me c.hear.new.second.me c.compare.new.chair.me c.first.inside.chair.me.0 c.second.inside.number
+    c.second.invariant c.hear.ensures.second c.compare.ensures.met c.compare.ensures.hands

@@ -1,0 +1,128 @@
+-- Seats that have ended, in an account that goes on and is closed.
+use Rattle.std.proofs.Common.{◌≡◌, ◌≤◌, ◌<◌, ◌+◌, ℕ, Bool, true, false, List, [], ◌∷◌, ◌++◌, length, map, refl, sym, ap, ◌∙◌, arith, subst, zero, suc}
+use Rattle.std.specs.Prelude.{◌==◌, if◌then◌else◌, All, filter, slice_index_or}
+use Rattle.std.proofs.lemmas.Bool.{and_from, eq-eqb, eqb-true}
+use Rattle.std.proofs.lemmas.List.{get_or-map, length-map}
+use native.Mathlib.Decide.{dec_le}
+use mathlib.Core.Logic.{dite}
+use Rattle.account_core.specs.Events.{EntryData, entry_data}
+use Rattle.account_core.specs.declared.entry.Entry.{Entry}
+use Rattle.account_core.specs.Ledger.{Ledger}
+use Rattle.shared_account.specs.Ended.{HasEnded, HaveEnded}
+use Rattle.shared_account.specs.Own.{IsMerged, own}
+use Rattle.shared_account.specs.Prefixes.{IsPrefix}
+use Rattle.shared_account.specs.Seats.{are_numbered}
+use Rattle.shared_account.specs.TurnViews.{TurnSeatView, own_of}
+use Rattle.shared_account.proofs.Beginnings.{begins_further}
+use Rattle.shared_account.proofs.Merging.{first_by, numbered_at}
+
+-- one more seat has ended
+pub one_ended : (history : List EntryData) (first : ℕ) (lasts : List Ledger) (last : Ledger) → HaveEnded history first lasts
+    → HasEnded history (first + length lasts) last → HaveEnded history first (lasts ++ last ∷ [])
+one_ended history first [] last have has = (subst (λ (n : ℕ). HasEnded history n last) (omega arith) has, tt)
+one_ended history first (other ∷ lasts) last have has =
+    (have.0, one_ended history (first + 1) lasts last have.1 (subst (λ (n : ℕ). HasEnded history n last) (omega arith) has))
+
+-- the history goes on without an entry of theirs
+pub ended_longer : (history later : List EntryData) (first : ℕ) (lasts : List Ledger) → IsPrefix history later
+    → ((number : ℕ) → first ≤ number → number < first + length lasts → own number history ≡ own number later) → HaveEnded history first lasts → HaveEnded later first lasts
+ended_longer history later first [] longer same have = tt
+ended_longer history later first (last ∷ lasts) longer same have = (
+  record { seen = begins_further last.history history later have.0.seen longer; own = have.0.own ∙ same first (omega arith) (omega arith) },
+  ended_longer history later (first + 1) lasts longer (λ n above below. same n (omega (arith, above)) (omega (arith, below))) have.1,
+)
+
+-- the seat at a place among them
+pub ended_at : (history : List EntryData) (first : ℕ) (lasts : List Ledger) (k : ℕ) (d : Ledger) → HaveEnded history first lasts → k < length lasts
+    → HasEnded history (first + k) (slice_index_or lasts k d)
+ended_at history first [] k d have within = absurd (omega (arith, within))
+ended_at history first (last ∷ lasts) zero d have within = subst (λ (n : ℕ). HasEnded history n last) (omega arith) have.0
+ended_at history first (last ∷ lasts) (suc k) d have within =
+    subst (λ (n : ℕ). HasEnded history n (slice_index_or lasts k d)) (omega arith) (ended_at history (first + 1) lasts k d have.1 (omega (arith, within)))
+
+-- ---- numbers without entries
+
+some_own : (here : Bool) (event : EntryData) (more : List EntryData) → here ≡ true → (if here then event ∷ more else more) ≡ [] → ⊥
+some_own true event more is none = cc none
+some_own false event more is none = cc is
+
+none_later : (here : Bool) (event : EntryData) (more : List EntryData) → (if here then event ∷ more else more) ≡ [] → more ≡ []
+none_later true event more none = absurd (cc none)
+none_later false event more none = none
+
+-- where no number from this on has an entry, each entry is of a lower one
+pub all_below : (history : List EntryData) (seats : ℕ) → ((number : ℕ) → seats ≤ number → own number history ≡ []) → All (λ event. event.seat < seats) history
+all_below [] seats none k d within = absurd (omega (arith, within))
+all_below (event ∷ history) seats none zero d within =
+    dite (dec_le seats event.seat)
+    (λ (above : seats ≤ event.seat). absurd (some_own (event.seat == event.seat) event (own event.seat history) (eq-eqb event.seat event.seat refl) (none event.seat above)))
+    (λ (below : seats ≤ event.seat → ⊥). omega (arith, below))
+all_below (event ∷ history) seats none (suc k) d within =
+    all_below history seats (λ n above. none_later (event.seat == n) event (own n history) (none n above)) k d (omega (arith, within))
+
+-- ---- the last seat of all
+
+numbered_first : {T : Type 0} (number : T → ℕ) (first : ℕ) (seats : List T) (last : T) → are_numbered first (map number (seats ++ last ∷ [])) ≡ true
+    → are_numbered first (map number seats) ≡ true
+numbered_first number first [] last are = refl
+numbered_first number first (seat ∷ seats) last are =
+    let parts = first_by (number seat == first) (are_numbered (first + 1) (map number (seats ++ last ∷ []))) are in
+    and_from (number seat == first) (are_numbered (first + 1) (map number seats)) parts.0 (numbered_first number (first + 1) seats last parts.1)
+
+numbered_next : {T : Type 0} (number : T → ℕ) (first : ℕ) (seats : List T) (last : T) → are_numbered first (map number (seats ++ last ∷ [])) ≡ true
+    → number last ≡ first + length seats
+numbered_next number first [] last are =
+    let here : number last ≡ first = eqb-true (number last) first (first_by (number last == first) true are).0 in
+    omega (arith, here)
+numbered_next number first (seat ∷ seats) last are =
+    let parts = first_by (number seat == first) (are_numbered (first + 1) (map number (seats ++ last ∷ []))) are in
+    let rest : number last ≡ first + 1 + length seats = numbered_next number (first + 1) seats last parts.1 in
+    omega (arith, rest)
+
+pub numbered_last : {T : Type 0} (number : T → ℕ) (seats : List T) (last : T) → are_numbered 0 (map number (seats ++ last ∷ [])) ≡ true
+    → (are_numbered 0 (map number seats) ≡ true) × (number last ≡ length seats)
+numbered_last number seats last are = (numbered_first number 0 seats last are, omega (arith, numbered_next number 0 seats last are))
+
+-- ---- what is closed merges the seats' own entries
+
+pub merged_closed : (history : List EntryData) (seats : List TurnSeatView) → are_numbered 0 (map (λ (s : TurnSeatView). s.number) seats) ≡ true
+    → HaveEnded history 0 (map (λ (s : TurnSeatView). s.view) seats) → All (λ event. event.seat < length (map (λ (s : TurnSeatView). s.view) seats)) history
+    → (d : TurnSeatView) → IsMerged history (map own_of seats)
+merged_closed history seats numbered have others d =
+    let views = length-map seats (λ (s : TurnSeatView). s.view) in
+    let lists = length-map seats own_of in
+    record {
+      each = λ k within.
+          let here : k < length seats = omega (arith, within, lists) in
+          let there : k < length (map (λ (s : TurnSeatView). s.view) seats) = omega (arith, here, views) in
+          let seat = slice_index_or seats k d in
+          let number : seat.number ≡ k = omega (arith, numbered_at (λ (s : TurnSeatView). s.number) 0 seats k d numbered here) in
+          let last : HasEnded history k seat.view =
+          subst (HasEnded history k) (get_or-map (λ (s : TurnSeatView). s.view) seats k d d.view here)
+          (subst (λ (n : ℕ). HasEnded history n (slice_index_or (map (λ (s : TurnSeatView). s.view) seats) k d.view)) (omega arith)
+          (ended_at history 0 (map (λ (s : TurnSeatView). s.view) seats) k d.view have there)) in
+          sym last.own ∙ (ap (λ (n : ℕ). own n seat.view.history) (sym number) ∙ sym (get_or-map own_of seats k d [] here));
+      no_others = λ k e within. let less = others k e within in omega (arith, less, views, lists);
+    }
+
+pub seen_closed : (history : List EntryData) (first : ℕ) (seats : List TurnSeatView) → HaveEnded history first (map (λ (s : TurnSeatView). s.view) seats)
+    → All (λ (s : TurnSeatView). IsPrefix s.view.history history) seats
+seen_closed history first [] have k d within = absurd (omega (arith, within))
+seen_closed history first (seat ∷ seats) have zero d within = have.0.seen
+seen_closed history first (seat ∷ seats) have (suc k) d within = seen_closed history (first + 1) seats have.1 k d (omega (arith, within))
+
+-- ---- entries of the code
+
+map_if : (here : Bool) (entry : Entry) (more : List Entry) → map entry_data (if here then entry ∷ more else more) ≡ (if here then entry_data entry ∷ map entry_data more else map entry_data more)
+map_if true entry more = refl
+map_if false entry more = refl
+
+kept_if : (here : Bool) (event : EntryData) (first second : List EntryData) → first ≡ second → (if here then event ∷ first else first) ≡ (if here then event ∷ second else second)
+kept_if true event first second same = ap (λ (h : List EntryData). event ∷ h) same
+kept_if false event first second same = same
+
+pub own_data : (seat : ℕ) (entries : List Entry) → map entry_data (filter (λ (entry : Entry). entry.seat == seat) entries) ≡ own seat (map entry_data entries)
+own_data seat [] = refl
+own_data seat (entry ∷ entries) =
+    map_if (entry.seat == seat) entry (filter (λ (e : Entry). e.seat == seat) entries)
+    ∙ kept_if (entry.seat == seat) (entry_data entry) (map entry_data (filter (λ (e : Entry). e.seat == seat) entries)) (own seat (map entry_data entries)) (own_data seat entries)
