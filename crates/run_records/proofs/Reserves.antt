@@ -19,6 +19,7 @@ use Rattle.run_values.specs.declared.post.Post.{Post}
 use Rattle.runs_core.specs.Entered.{ReservesAreInTheBooks}
 use Rattle.runs_core.specs.Runs.{RunShown}
 use Rattle.shared_account.specs.Closed.{Closed}
+use Rattle.shared_account.specs.Own.{own}
 use Rattle.tariff_core.specs.Routes.{IsPrefixFor}
 use Rattle.workers_core.specs.Laws.{IsOnTerms}
 use Rattle.workers_core.specs.Verdicts.{home_of}
@@ -55,9 +56,9 @@ book_begun reserves run is place d within =
     let shown : RunShown = record { books = run.books; handled = is.handled; refusals = is.refusals } in
     let book : Closed = slice_index_or run.books place d in
     let here = book_of run.setup is.workers run.given is.answers shown is.may_be is.served is.accounts place d within in
-    own_holds (λ (event : EntryData). IfReserves (IsBegun run place) event.asked) book.history book.own (is.served.merged place d within) (λ seat seated.
-    let (there, served) = served_at book.account is.handled book.own seat (is.served.served place d within) seated in
+    own_holds (λ (event : EntryData). IfReserves (IsBegun run place) event.asked) book.history is.workers (is.served.owned place d within) (λ seat seated.
+    let (there, served) = served_at book.account is.workers is.handled book.history seat (is.served.served place d within) seated in
     let posts : List Post = slice_index_or is.handled seat [] in
     let parties : All (λ post. HasItsParties run.given post.body) posts = handled_all (λ body. HasItsParties run.given body) is.workers run.given is.handled seat is.served.shares is.parties there in
     let terms = reserves run.setup run.books is.handled is.refusals seat book.account place book is.served.worked there here in
-    λ k e stands. begun_by run place posts parties (slice_index_or (slice_index_or book.own seat []) k e).asked (terms k e stands))
+    λ k e stands. begun_by run place posts parties (slice_index_or (own seat book.history) k e).asked (terms k e stands))

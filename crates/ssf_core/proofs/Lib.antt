@@ -1,5 +1,6 @@
 pub mod CallLemmas
 pub mod ExpiryLemmas
+pub mod InitialLemmas
 pub mod InputLemmas
 pub mod LawLemmas
 pub mod MeterLemmas

@@ -1,6 +1,6 @@
 -- The laws of traces: what each charging report says, and what never changes.
-use Rattle.std.specs.Prelude.{◌≡◌, ◌+◌, ◌++◌, ◌≤◌, ℕ, Bool, true, Some, List, [], ◌∷◌, ⊤, is_some, All}
-use Rattle.cap_values.specs.declared.message.SsfMsg.TheVariants.{ChargingReport}
+use Rattle.std.specs.Prelude.{◌≡◌, ◌+◌, ◌++◌, ◌≤◌, ℕ, Bool, true, Some, List, [], ◌∷◌, ⊤, is_some, drop, All}
+use Rattle.cap_values.specs.declared.message.SsfMsg.TheVariants.{ChargingReport, InitialDp}
 use Rattle.cap_values.specs.declared.operation.ScfOp.TheVariants.{ApplyCharging}
 use Rattle.tariff_core.specs.Reading.{is_time_info}
 use Rattle.tariff_core.specs.declared.times.TimeInfo.{TimeInfo}
@@ -87,3 +87,12 @@ IsInRange _ = ⊤
 -- so do those of each report that is sent
 abbrev pub ReportsAreInRange : Type 0
 ReportsAreInRange = (config : SsfConfig) (trace : List Happening) → IsTrace config trace → All (λ out. IsInRange out.item) (sent_in trace)
+
+-- an item that is no InitialDP
+abbrev pub IsNoInitialDp : Item → Type 0
+IsNoInitialDp (Msg (InitialDp call calling called)) = ⊥
+IsNoInitialDp _ = ⊤
+
+-- of all that a gsmSSF sends only the first is an InitialDP, if any is
+abbrev pub InitialDpIsFirst : Type 0
+InitialDpIsFirst = (config : SsfConfig) (trace : List Happening) → IsTrace config trace → All (λ out. IsNoInitialDp out.item) (drop 1 (sent_in trace))

@@ -1,6 +1,6 @@
 //! Laws of the traces of a gsmSSF, each the contract of a function that does nothing.
 
-ghost use Rattle.ssf_core.specs.Laws.{EachReportFits, ReportsAreInRange, TheAnswerStays, TheSwitchStays};
+ghost use Rattle.ssf_core.specs.Laws.{EachReportFits, InitialDpIsFirst, ReportsAreInRange, TheAnswerStays, TheSwitchStays};
 
 /// Each charging report is the exact split, at the tariff switch, of what was talked since the
 /// answer, while a period was pending and within the sum of the periods; where the call goes on it
@@ -23,4 +23,9 @@ pub fn the_answer_stays()
 /// The moment of the tariff switch never changes once it has come.
 pub fn the_switch_stays()
     ensures { TheSwitchStays }
+{}
+
+/// Of all that a gsmSSF sends only the first is an InitialDP, if any is: no call has two.
+pub fn initial_dp_is_first()
+    ensures { InitialDpIsFirst }
 {}
