@@ -8,7 +8,7 @@ _prepaid()
         words='price replay run audit quote help --help -h --version -V'
     elif [[ $previous == --default ]]; then
         words='proceed release'
-    elif [[ $previous == --* && $previous != --book && $previous != --calls && $previous != --trace && $previous != --help && $previous != --version ]]; then
+    elif [[ $previous == --* && $previous != --book && $previous != --calls && $previous != --trace && $previous != --long && $previous != --help && $previous != --version ]]; then
         # a number comes next
         words=''
     else
@@ -16,7 +16,7 @@ _prepaid()
             price) words='--fee --before --after --free --help -h' ;;
             replay) words='--opening --limit --help -h' ;;
             run) words='--workers --wanted --least --tssf --tccd --delay --default --book --calls --trace --help -h' ;;
-            audit) words='--help -h' ;;
+            audit) words='--long --help -h' ;;
             quote) words='--called --at --for --credit --help -h' ;;
             help) words='price replay run audit quote help' ;;
             *) words='' ;;

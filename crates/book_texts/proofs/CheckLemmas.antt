@@ -114,20 +114,21 @@ module _ (cmp : ℕ → ℕ → Ordering) (account : ℕ) (told : Told) (check :
 
 -- ---- what a row comes to
 
-pub row_taken : (meaning : Result Books RowKind) (checks : AccountChecks) → Comes None meaning checks → (next : Books) × (meaning ≡ Ok next) × HaveChecks next checks
-row_taken (Ok next) checks are = (next, refl, are)
-row_taken (Err why) checks never = absurd never
+pub row_taken : (before : Books) (meaning : Result Books RowKind) (checks : AccountChecks) → Comes before None meaning checks → (next : Books) × (meaning ≡ Ok next) × HaveChecks next checks
+row_taken before (Ok next) checks are = (next, refl, are)
+row_taken before (Err why) checks never = absurd never
 
-pub row_refused : (meaning : Result Books RowKind) (checks : AccountChecks) (kind : RowKind) → Comes (Some kind) meaning checks → meaning ≡ Err kind
-row_refused (Ok next) checks kind never = absurd never
-row_refused (Err why) checks kind is = ap (λ k. Err k) (sym is)
+pub row_refused : (before : Books) (meaning : Result Books RowKind) (checks : AccountChecks) (kind : RowKind) → Comes before (Some kind) meaning checks → meaning ≡ Err kind
+row_refused before (Ok next) checks kind never = absurd never
+row_refused before (Err why) checks kind is = ap (λ k. Err k) (sym is.0)
 
 -- where the checks of a list or a map are those after a row, and they are in order
-pub list_comes : (refused : Option RowKind) (meaning : Result Books RowKind) (checks : AccountChecks) → ListComes refused meaning (entries_of checks) → IsOrdered checks → Comes refused meaning checks
-list_comes None (Ok books) checks are ordered = (are, ordered)
-list_comes None (Err why) checks are ordered = are
-list_comes (Some kind) (Ok books) checks are ordered = are
-list_comes (Some kind) (Err why) checks are ordered = are
+pub list_comes : (before : Books) (refused : Option RowKind) (meaning : Result Books RowKind) (checks : AccountChecks) → ListComes before refused meaning (entries_of checks) → IsOrdered checks
+    → Comes before refused meaning checks
+list_comes before None (Ok books) checks are ordered = (are, ordered)
+list_comes before None (Err why) checks are ordered = are
+list_comes before (Some kind) (Ok books) checks are ordered = are
+list_comes before (Some kind) (Err why) checks are ordered = (are.0, (are.1, ordered))
 
 -- a row that is as wide as its header has the columns of the header's version
 pub has_columns : (header : ℕ) (fields : Fields) → header < length books_headers → length fields ≡ width_at books_headers header

@@ -99,10 +99,10 @@ same_operation account seat (Settles call number (info.NoSwitch t)) a = refl
 same_operation account seat (Settles call number (info.Switch since interval)) a = refl
 same_operation account seat (Returns call) a = refl
 
-one_row : (number : ℕ) (books next : Books) (fields : Fields) (rest : List Fields) → length fields ≡ 15 → number ≤ 1000001 → row_at version.Three books fields ≡ Ok next
-    → rows_from books_form 2 15 number books (fields ∷ rest) ≡ rows_from books_form 2 15 (number + 1) next rest
+one_row : (most number : ℕ) (books next : Books) (fields : Fields) (rest : List Fields) → length fields ≡ 15 → number ≤ most + 1 → row_at version.Three books fields ≡ Ok next
+    → rows_from (books_form most) 2 15 number books (fields ∷ rest) ≡ rows_from (books_form most) 2 15 (number + 1) next rest
 unfolding rows_from
-one_row number books next fields rest width within is = rw (no_fault 1000000 15 number fields width within, is) refl
+one_row most number books next fields rest width within is = rw (no_fault most 15 number fields width within, is) refl
 
 module _ (reads : DecimalsAreRead) (operations : OperationsAreRead) (replies : RepliesAreRead) where
   number_read : (most number : ℕ) → most < 2 ^ 64 → number ≤ most → number_of most (decimal number) ≡ Ok number
@@ -149,39 +149,39 @@ module _ (reads : DecimalsAreRead) (operations : OperationsAreRead) (replies : R
 
   -- ---- books
 
-  entries_from : (account opening : ℕ) (until : Option ℕ) (front : Books) → account ≤ 4294967295 → IsAbove account front → (history before : List EntryData) (number : ℕ) (rest : List Fields)
-      → All FitsEvent history → number + length history ≤ 1000002
-      → rows_from books_form 2 15 number (front ++ (account, record { opening = opening; until = until; history = before }) ∷ []) (map (entry_fields account) history ++ rest)
-      ≡ rows_from books_form 2 15 (number + length history) (front ++ (account, record { opening = opening; until = until; history = before ++ history }) ∷ []) rest
-  entries_from account opening until front small above [] before number rest fit room = rw (add-zero number, append-nil before) refl
-  entries_from account opening until front small above (event ∷ history) before number rest fit room =
+  entries_from : (most account opening : ℕ) (until : Option ℕ) (front : Books) → account ≤ 4294967295 → IsAbove account front → (history before : List EntryData) (number : ℕ) (rest : List Fields)
+      → All FitsEvent history → number + length history ≤ most + 2
+      → rows_from (books_form most) 2 15 number (front ++ (account, record { opening = opening; until = until; history = before }) ∷ []) (map (entry_fields account) history ++ rest)
+      ≡ rows_from (books_form most) 2 15 (number + length history) (front ++ (account, record { opening = opening; until = until; history = before ++ history }) ∷ []) rest
+  entries_from most account opening until front small above [] before number rest fit room = rw (add-zero number, append-nil before) refl
+  entries_from most account opening until front small above (event ∷ history) before number rest fit room =
       let counted : (number + 1) + length history ≡ number + length (event ∷ history) = omega arith in
-      let more = entries_from account opening until front small above history (before ++ event ∷ []) (number + 1) rest (All-tail FitsEvent event history fit) (omega arith) in
-      one_row number _ _ (entry_fields account event) (map (entry_fields account) history ++ rest) refl (omega arith)
+      let more = entries_from most account opening until front small above history (before ++ event ∷ []) (number + 1) rest (All-tail FitsEvent event history fit) (omega arith) in
+      one_row most number _ _ (entry_fields account event) (map (entry_fields account) history ++ rest) refl (omega arith)
       (entry_at account opening until before event front small (All-head FitsEvent event history fit) above)
       ∙ rw (counted, append_assoc before (event ∷ []) history) at more
 
-  books_from : (books : List Closed) (front : Books) (number : ℕ) → AreAbove books front → IsStrictlySortedBy nat_cmp (map (λ book. book.account) books) → All FitsBook books
-      → number + row_count books ≤ 1000002 → rows_from books_form 2 15 number front (flat_map book_fields books) ≡ Ok (front ++ map told_by books)
+  books_from : (most : ℕ) (books : List Closed) (front : Books) (number : ℕ) → AreAbove books front → IsStrictlySortedBy nat_cmp (map (λ book. book.account) books) → All FitsBook books
+      → number + row_count books ≤ most + 2 → rows_from (books_form most) 2 15 number front (flat_map book_fields books) ≡ Ok (front ++ map told_by books)
   unfolding IsStrictlySortedBy rows_from
-  books_from [] front number above rising fit room = rw (append-nil front) refl
-  books_from (book ∷ books) front number above rising fit room =
+  books_from most [] front number above rising fit room = rw (append-nil front) refl
+  books_from most (book ∷ books) front number above rising fit room =
       let fits : FitsBook book = All-head FitsBook book books fit in
       let rest = flat_map book_fields books in
-      let opened = one_row number front _ (opening_fields book) (map (entry_fields book.account) book.history ++ rest) refl (omega arith) (opening_at book front fits above.0) in
-      let entered = entries_from book.account book.opening book.until front fits.account above.0 book.history [] (number + 1) rest fits.history (omega arith) in
-      let others = books_from books (front ++ told_by book ∷ []) ((number + 1) + length book.history) (all_above book books front above.1 rising.0) rising.1
+      let opened = one_row most number front _ (opening_fields book) (map (entry_fields book.account) book.history ++ rest) refl (omega arith) (opening_at book front fits above.0) in
+      let entered = entries_from most book.account book.opening book.until front fits.account above.0 book.history [] (number + 1) rest fits.history (omega arith) in
+      let others = books_from most books (front ++ told_by book ∷ []) ((number + 1) + length book.history) (all_above book books front above.1 rising.0) rising.1
       (All-tail FitsBook book books fit) (omega arith) in
       opened ∙ entered ∙ rw (append_assoc front (told_by book ∷ []) (map told_by books)) at others
 
-  table_read : (books : List Closed) → ArePrintable books → table_of books_form (table_fields books) ≡ Ok (map told_by books)
+  table_read : (most : ℕ) (books : List Closed) → ArePrintable most books → table_of (books_form most) (table_fields books) ≡ Ok (map told_by books)
   unfolding table_of
-  table_read books are = books_from books [] 2 (none_before books) are.rising are.fit (omega (arith, are.room))
+  table_read most books are = books_from most books [] 2 (none_before books) are.rising are.fit (omega (arith, are.room))
 
   module _ (plain : DecimalsArePlain) (tables : TablesAreRead) where
     pub books_read : BooksAreRead
-    books_read books are =
-        rw (text_lines books, tables (table_fields books) (table_plain plain books are.fit) (unmarked (flat_map book_fields books))) (table_read books are)
+    books_read most books are =
+        rw (text_lines books, tables (table_fields books) (table_plain plain books are.fit) (unmarked (flat_map book_fields books))) (table_read most books are)
 
     -- ---- verdicts
 
@@ -195,6 +195,6 @@ module _ (reads : DecimalsAreRead) (operations : OperationsAreRead) (replies : R
         rw (are.0.0, are.0.1.1 (All-head Legal book books legal), each_passes books verdicts (All-tail Legal book books legal) are.1) refl
 
     pub books_pass : PrintedBooksPass
-    books_pass books audit are legal gives =
-        let is_audit : IsAuditOf (map told_by books) audit = rw (books_read books are) at gives in
+    books_pass most books audit are legal gives =
+        let is_audit : IsAuditOf (map told_by books) audit = rw (books_read most books are) at gives in
         is_audit.told ∙ ap audited (each_passes books is_audit.verdicts legal is_audit.are)

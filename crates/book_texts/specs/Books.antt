@@ -76,10 +76,10 @@ books_header =
 abbrev pub books_headers : List (List (List ℕ))
 books_headers = first_header ∷ second_header ∷ books_header ∷ []
 
--- 1,000,000 rows at most; each says something of an account
-abbrev pub books_form : TableForm Books RowKind RowFault
-books_form = table_form books_headers 1000000 [] (λ header. row_at (version_at header))
+-- at most so many rows; each says something of an account
+abbrev pub books_form : ℕ → TableForm Books RowKind RowFault
+books_form most = table_form books_headers most [] (λ header. row_at (version_at header))
 
--- the books of a table
-abbrev pub books_of : List (List (List ℕ)) → Result Books RowFault
-books_of rows = table_of books_form rows
+-- the books of a table that may have so many rows
+abbrev pub books_of : ℕ → List (List (List ℕ)) → Result Books RowFault
+books_of most rows = table_of (books_form most) rows

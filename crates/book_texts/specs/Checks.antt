@@ -41,19 +41,19 @@ IsOrdered (Mixed map) = ⊤
 abbrev pub HaveChecks : Books → AccountChecks → Type 0
 HaveChecks books checks = AreChecks books (entries_of checks) × IsOrdered checks
 
--- a row is refused where its meaning is that fault; else these are the checks of the books after it
-abbrev pub ListComes : Option RowKind → Result Books RowKind → List (ℕ × HistoryCheck) → Type 0
-ListComes None (Ok books) checks = AreChecks books checks
-ListComes None (Err why) checks = ⊥
-ListComes (Some kind) (Ok books) checks = ⊥
-ListComes (Some kind) (Err why) checks = kind ≡ why
+-- a row is refused where its meaning is that fault, and the checks are still those of the books before it; else they are those of the books after it
+abbrev pub ListComes : Books → Option RowKind → Result Books RowKind → List (ℕ × HistoryCheck) → Type 0
+ListComes before None (Ok books) checks = AreChecks books checks
+ListComes before None (Err why) checks = ⊥
+ListComes before (Some kind) (Ok books) checks = ⊥
+ListComes before (Some kind) (Err why) checks = (kind ≡ why) × AreChecks before checks
 
 -- the same of the checks while a table is read
-abbrev pub Comes : Option RowKind → Result Books RowKind → AccountChecks → Type 0
-Comes None (Ok books) checks = HaveChecks books checks
-Comes None (Err why) checks = ⊥
-Comes (Some kind) (Ok books) checks = ⊥
-Comes (Some kind) (Err why) checks = kind ≡ why
+abbrev pub Comes : Books → Option RowKind → Result Books RowKind → AccountChecks → Type 0
+Comes before None (Ok books) checks = HaveChecks books checks
+Comes before None (Err why) checks = ⊥
+Comes before (Some kind) (Ok books) checks = ⊥
+Comes before (Some kind) (Err why) checks = (kind ≡ why) × HaveChecks before checks
 
 -- an answer is the checks of the table's books, or the table's fault
 abbrev pub GivesChecks : Result (Vec (ℕ × HistoryCheck)) TableFault → Result Books RowFault → Type 0

@@ -16,10 +16,10 @@ BooksHaveOneText = (books : List Closed) (one other : List ℕ) → IsRunText bo
 
 -- the table that is printed of books is read back to the opening and the history of each
 abbrev pub BooksAreRead : Type 0
-BooksAreRead = (books : List Closed) → ArePrintable books → books_of (rows_of (book_text books)) ≡ Ok (map told_by books)
+BooksAreRead = (most : ℕ) (books : List Closed) → ArePrintable most books → books_of most (rows_of (book_text books)) ≡ Ok (map told_by books)
 
 -- where their histories are legal, an audit of that table says yes for each
 abbrev pub PrintedBooksPass : Type 0
 PrintedBooksPass =
-    (books : List Closed) (audit : Audited) → ArePrintable books → All (λ book. IsLegal book.opening book.until book.history) books
-    → GivesAudit (Ok audit) (books_of (rows_of (book_text books))) → audit ≡ audited (map (λ book. (book.account, true)) books)
+    (most : ℕ) (books : List Closed) (audit : Audited) → ArePrintable most books → All (λ book. IsLegal book.opening book.until book.history) books
+    → GivesAudit (Ok audit) (books_of most (rows_of (book_text books))) → audit ≡ audited (map (λ book. (book.account, true)) books)

@@ -7,4 +7,5 @@ pub mod Laws
 pub mod Printable
 pub mod RunTexts
 pub mod SaidOf
+pub mod Sizes
 pub mod Typed

@@ -19,11 +19,11 @@ abbrev pub row_count : List Closed → ℕ
 row_count [] = 0
 row_count (book ∷ books) = 1 + length book.history + row_count books
 
--- books of different accounts, by rising number, whose numbers fit, and that have no more rows than a table may have
-pub record ArePrintable (books : List Closed) : Type 0 where
+-- books of different accounts, by rising number, whose numbers fit, and that have at most so many rows
+pub record ArePrintable (most : ℕ) (books : List Closed) : Type 0 where
   pub rising : IsStrictlySortedBy nat_cmp (map (λ book. book.account) books)
   pub fit : All FitsBook books
-  pub room : row_count books ≤ 1000000
+  pub room : row_count books ≤ most
 
 -- what is told of the account of a book
 abbrev pub told_by : Closed → ℕ × Told

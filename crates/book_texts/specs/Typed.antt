@@ -1,5 +1,5 @@
 -- What is true of the numbers of a book by their types alone.
-use Rattle.std.specs.Prelude.{◌≤◌}
+use Rattle.std.specs.Prelude.{◌≤◌, length}
 use Rattle.std.specs.List.{All}
 use Rattle.account_core.specs.Asked.{Asked, Credits, Reserves, Settles, Returns}
 use Rattle.account_core.specs.Events.{EntryData}
@@ -17,7 +17,8 @@ IsTypedAsked (Returns call) = IsWide call
 abbrev pub IsTypedEntry : EntryData → Type 0
 IsTypedEntry event = IsTypedAsked event.asked
 
--- the number of an account has 32 bits, and each entry is as its types have it
+-- the number of an account has 32 bits, each entry is as its types have it, and the history keeps within its limit
 pub record IsTyped (book : Closed) : Type 0 where
   pub account : book.account ≤ 4294967295
   pub history : All IsTypedEntry book.history
+  pub within_limit : length book.history ≤ book.limit

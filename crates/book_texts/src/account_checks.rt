@@ -32,7 +32,8 @@ impl AccountChecks {
         AccountChecks::Rising(Vec::new(alloc))
     }
 
-    /// Opens an account with this credit and last moment. `Repeated` where it is open.
+    /// Opens an account with this credit and last moment. `Repeated` where it is open, which
+    /// changes nothing. Where memory runs out, checks may be lost.
     pub fn open(
         &mut self,
         alloc: Global,
@@ -43,7 +44,8 @@ impl AccountChecks {
         requires small { opening ≤ MAX_MONEY }
         requires have { (books : Books) × HaveChecks books self.old }
         ensures { IfOk result (λ refused. (books : Books) → HaveChecks books self.old
-            → Comes refused (opened account opening until books (told_of account books)) self.new) }
+            → Comes books refused (opened account opening until books (told_of account books))
+            self.new) }
     {
         let account = u64::from(account);
         let check = HistoryCheck::new(alloc, opening, until);
@@ -63,11 +65,12 @@ impl AccountChecks {
         }
     }
 
-    /// Tells an entry to the check of its account. `Unknown` where it isn't open.
+    /// Tells an entry to the check of its account. `Unknown` where it isn't open. A refused entry
+    /// changes nothing.
     pub fn enter(&mut self, account: u32, entry: Entry) -> Result<Option<RowKind>, AllocError>
         requires { (books : Books) × HaveChecks books self.old }
         ensures { IfOk result (λ refused. (books : Books) → HaveChecks books self.old
-            → Comes refused (entered account (entry_data entry) books (told_of account books))
+            → Comes books refused (entered account (entry_data entry) books (told_of account books))
             self.new) }
     {
         let account = u64::from(account);
@@ -98,7 +101,7 @@ fn enter_list(
     requires rising { AreRising list.old.items }
     requires are { (books : Books) × AreChecks books list.old.items }
     ensures comes { IfOk result (λ refused. (books : Books) → AreChecks books list.old.items
-        → ListComes refused (entered account (entry_data entry) books (told_of account books))
+        → ListComes books refused (entered account (entry_data entry) books (told_of account books))
         list.new.items) }
     ensures rising { OnOk result (AreRising list.new.items) }
 {
@@ -117,7 +120,7 @@ fn enter_map(
 ) -> Result<Option<RowKind>, AllocError>
     requires { (books : Books) × AreChecks books map.old.entries }
     ensures { IfOk result (λ refused. (books : Books) → AreChecks books map.old.entries
-        → ListComes refused (entered account (entry_data entry) books (told_of account books))
+        → ListComes books refused (entered account (entry_data entry) books (told_of account books))
         map.new.entries) }
 {
     let Some(check) = map.get_mut(&account) else {
@@ -135,7 +138,7 @@ fn open_in(
 ) -> Result<Option<RowKind>, AllocError>
     ensures { IfOk result (λ refused. (books : Books) (opening : ℕ) (until : Option ℕ)
         → AreChecks books map.old.entries → IsCheckOf opening until [] check
-        → ListComes refused (opened account opening until books (told_of account books))
+        → ListComes books refused (opened account opening until books (told_of account books))
         map.new.entries) }
 {
     if map.contains_key(&account) {

@@ -4,11 +4,13 @@ ghost use Rattle.std.specs.Prelude.{◌≡◌, ◌++◌, IfOk, IfSome, OnOk, str
 ghost use Rattle.std.specs.Result.{result_map_both};
 ghost use Rattle.book_texts.specs.Audits.{GivesAudit, verdict_line, word_of};
 ghost use Rattle.book_texts.specs.Books.{books_of, Books, row_at};
+ghost use Rattle.book_texts.specs.Sizes.{most_rows};
 ghost use Rattle.book_texts.specs.Checks.{TellsChecks, audited_by, Comes, GivesChecks, HaveChecks};
 ghost use Rattle.book_texts.specs.BookRows.{HasColumns};
 ghost use Rattle.table_core.specs.Rows.{rows_of};
 ghost use Rattle.csv.specs.Records.{fields_of};
 
+use crate::BookSize;
 use crate::account_checks::AccountChecks;
 use crate::book_row::{BookRow, read_row};
 use account_core::HistoryCheck;
@@ -17,9 +19,6 @@ use entry_rows::Version;
 use std::alloc::{AllocError, Global};
 use std::io::Read;
 use table_core::{RowKind, Table, TableFault};
-
-/// The most rows of a table of books, its header not counted.
-const MAX_ROWS: u32 = 1_000_000;
 
 /// What the audit of a table of books says.
 #[derive(Drop)]
@@ -31,19 +30,24 @@ pub struct Audit {
 }
 
 /// Whether the history of each account of a table of books, version 1 to 3, is legal from its
-/// opening.
+/// opening. No row is kept, but a check of each account, with what it knows of each of its calls.
 ///
 /// Rows are judged in order as they are read, a row in this order: `Csv` where it has another
-/// number of fields than the header; `TooManyRows` past 1,000,000 rows; `What` where the word of
-/// its operation or of its reply is another one; `Number` where a field isn't a decimal within its
-/// range; `Empty` where a field that must be empty isn't, as the reply of an opening; `Repeated`
-/// where an account opens again; `Unknown` where no earlier row opens the account of an entry.
-/// `Header` is the fault of row 1.
-pub fn audit_books<I: Read + Drop>(alloc: Global, reader: I) -> Result<Audit, TableFault>
+/// number of fields than the header; `TooManyRows` past as many as a table of this size may have;
+/// `What` where the word of its operation or of its reply is another one; `Number` where a field
+/// isn't a decimal within its range; `Empty` where a field that must be empty isn't, as the reply
+/// of an opening; `Repeated` where an account opens again; `Unknown` where no earlier row opens the
+/// account of an entry. `Header` is the fault of row 1.
+pub fn audit_books<I: Read + Drop>(
+    alloc: Global,
+    reader: I,
+    size: BookSize,
+) -> Result<Audit, TableFault>
     ensures { IfSome (I.remaining reader) (λ text.
-        GivesAudit (result_map_both audited_by (λ fault. fault) result) (books_of (rows_of text))) }
+        GivesAudit (result_map_both audited_by (λ fault. fault) result)
+        (books_of (most_rows size) (rows_of text))) }
 {
-    let checks = check_books(alloc, reader)?;
+    let checks = check_books(alloc, reader, size)?;
     Ok(tell(alloc, checks.as_slice())?)
 }
 
@@ -80,9 +84,10 @@ fn word(legal: bool) -> &'static str
 fn check_books<I: Read + Drop>(
     alloc: Global,
     reader: I,
+    size: BookSize,
 ) -> Result<Vec<(u64, HistoryCheck)>, TableFault>
     ensures { IfSome (I.remaining reader)
-        (λ text. GivesChecks result (books_of (rows_of text))) }
+        (λ text. GivesChecks result (books_of (most_rows size) (rows_of text))) }
 {
     let headers: &[&[&str]] = &[
         &[
@@ -98,7 +103,7 @@ fn check_books<I: Read + Drop>(
             "y1", "y2", "y3",
         ],
     ];
-    let mut table = Table::open(alloc, reader, headers, MAX_ROWS)?;
+    let mut table = Table::open(alloc, reader, headers, size.most_rows())?;
     let mut checks = AccountChecks::new(alloc);
     while table.next_row()? {
         let version = Version::at(table.header());
@@ -120,7 +125,7 @@ fn take_row(
     requires fields { HasColumns version (fields_of row.now) }
     requires have { (books : Books) × HaveChecks books checks.old }
     ensures { IfOk result (λ refused. (books : Books) → HaveChecks books checks.old
-        → Comes refused (row_at version books (fields_of row.now)) checks.new) }
+        → Comes books refused (row_at version books (fields_of row.now)) checks.new) }
 {
     match read_row(row, version) {
         Ok(

@@ -7,9 +7,11 @@ mod audit;
 mod book_row;
 mod laws;
 mod lines;
+mod size;
 mod table;
 
 pub use audit::{Audit, audit_books};
 pub use laws::{books_have_one_text, printed_books_are_read};
 pub use lines::run_lines;
+pub use size::{BookSize, MAX_LONG_ROWS, MAX_ROWS};
 pub use table::book_table;

@@ -13,7 +13,8 @@ use std::alloc::{AllocError, Global};
 
 /// The table of these books, version 3: a header, and for each book, in order, a row of its opening
 /// and a row for each entry of its history. Where there is a table, the calls, the plans and the
-/// other numbers in it that no rule but their type keeps are in the ranges of their types.
+/// other numbers in it that no rule but their type keeps are in the ranges of their types, and no
+/// history has more entries than its limit.
 #[tactic(auto, unfolding(crate::specs::BookTexts::book_text))]
 pub fn book_table(alloc: Global, books: &[Book]) -> Result<String, AllocError>
     ensures text { IfOk result (λ text. string_bytes text ≡ book_text books.now) }

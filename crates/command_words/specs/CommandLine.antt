@@ -49,9 +49,9 @@ output_rules = flag_rule (codes "book") ∷ flag_rule (codes "calls") ∷ flag_r
 unfoldable pub run_app : App
 run_app = with_rules (with_rules (with_rules (with_rules (new_app (codes "run")) service_rules) switch_rules) other_rules) output_rules
 
--- `audit`
+-- `audit [--long]`
 unfoldable pub audit_app : App
-audit_app = new_app (codes "audit")
+audit_app = with_rules (new_app (codes "audit")) (flag_rule (codes "long") ∷ [])
 
 -- `quote --called N --at N [--for N] [--credit N]`
 unfoldable pub quote_app : App

@@ -1,4 +1,5 @@
 pub mod Arguments
+pub mod AuditWords
 pub mod Capped
 pub mod CommandLine
 pub mod Options

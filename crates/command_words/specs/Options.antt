@@ -1,5 +1,6 @@
 -- What the options of `price` and of `replay` say.
-use Rattle.std.specs.Prelude.{ℕ, List, Option, Some, None, codes, if◌then◌else◌, nat_le, option_and_then, option_map, unwrap_or}
+use Rattle.std.specs.Prelude.{ℕ, Bool, false, List, Option, Some, None, codes, if◌then◌else◌, nat_le, option_and_then, option_map, unwrap_or}
+use Rattle.std.specs.Str.{bytes_eq}
 use Rattle.clap.specs.Words.{Row, Text, first_of}
 use Rattle.table_core.specs.Decimals.{decimal_of}
 use Rattle.tariff_core.specs.Rates.{Rates}
@@ -21,6 +22,15 @@ optional_decimal most (Some text) = option_map (λ number. Some number) (decimal
 -- the same of an option that may be left out
 abbrev pub optional_number_in : List Row → Text → ℕ → Option (Option ℕ)
 optional_number_in options name most = optional_decimal most (first_of name options)
+
+-- whether the text of a flag says that it was given
+abbrev pub is_yes : Option Text → Bool
+is_yes None = false
+is_yes (Some text) = bytes_eq text (codes "true")
+
+-- whether a flag was given
+abbrev pub has_flag : List Row → Text → Bool
+has_flag options name = is_yes (first_of name options)
 
 -- the free units of `price`: a day at most, and none where that is left out
 abbrev pub free_in : List Row → Option ℕ

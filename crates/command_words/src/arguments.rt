@@ -4,6 +4,7 @@ ghost use Rattle.std.specs.Prelude.{map};
 ghost use Rattle.clap.specs.Words.{kind_of, subcommand_rows_of};
 ghost use Rattle.command_words.specs.Arguments.{IsRead, IsRefusal, IsRequestOf, wish_in};
 
+use crate::audit_words::book_size;
 use crate::command_line::program_command;
 use crate::fault::WordsFault;
 use crate::options::{price_plan, replay_opening};
@@ -42,7 +43,7 @@ fn asked(matches: &ArgMatches<'_>) -> Result<Request, WordsFault>
             None => Err(WordsFault::Arguments),
         },
         Some(("run", options)) => run_request(options),
-        Some(("audit", _)) => Ok(Request::Audit),
+        Some(("audit", options)) => Ok(Request::Audit(book_size(options))),
         Some(("quote", options)) => match quote_ask(options) {
             Some(ask) => Ok(Request::Quote(ask)),
             None => Err(WordsFault::Arguments),

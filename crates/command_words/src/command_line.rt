@@ -18,7 +18,7 @@ pub(crate) fn program_command<'a>(alloc: Global) -> Result<Command<'a>, AllocErr
         .subcommand(price_command(alloc)?)?
         .subcommand(replay_command(alloc)?)?
         .subcommand(run_command(alloc)?)?
-        .subcommand(audit_command(alloc))?
+        .subcommand(audit_command(alloc)?)?
         .subcommand(quote_command(alloc)?)
 }
 
@@ -84,12 +84,15 @@ fn run_command<'a>(alloc: Global) -> Result<Command<'a>, AllocError>
 }
 
 #[tactic(auto, unfolding(crate::specs::CommandLine::audit_app))]
-fn audit_command<'a>(alloc: Global) -> Command<'a>
-    ensures app { app_of result ≡ audit_app }
-    ensures local { (fields_of result).has_globals ≡ false }
+fn audit_command<'a>(alloc: Global) -> Result<Command<'a>, AllocError>
+    ensures app { IfOk result (λ command. app_of command ≡ audit_app) }
+    ensures local { IfOk result (λ command. (fields_of command).has_globals ≡ false) }
 {
     let about = "Tells of each account of a book whether its history is right";
-    input_command(alloc, "audit", about, "prepaid audit < FILE", help::AUDIT)
+    let usage = "prepaid audit [OPTIONS] < FILE";
+    let command = input_command(alloc, "audit", about, usage, help::AUDIT);
+    let long = "Takes a book of any size, and reads it row by row";
+    add(command, flag(alloc, "long", long))
 }
 
 #[tactic(auto, unfolding(crate::specs::CommandLine::quote_app))]

@@ -1,8 +1,8 @@
 //! What the help of each command says behind its options: an input, the exit statuses, and what
 //! each fault usually means.
 
-/// The day of the program, and the kit that it is proved and built with.
-pub(crate) const VERSION: &str = "2026-11-25 (rattle-kit-13f)";
+/// The day of the program.
+pub(crate) const VERSION: &str = "2026-11-25";
 
 /// Behind the options of `price`.
 pub(crate) const PRICE: &str = "\
@@ -138,6 +138,8 @@ Kinds:
 
 /// Behind the options of `audit`.
 pub(crate) const AUDIT: &str = "\
+A book of more than 16777216 bytes or 1000000 rows is audited with --long. Each book that
+run --book prints passes that.
 Input, a book as run --book prints it, for example:
 
   account,seat,op,call,x1,x2,x3,x4,x5,x6,x7,reply,y1,y2,y3
@@ -154,9 +156,9 @@ Exit status:
 
 A fault is one line on standard error, and then nothing is printed:
   prepaid: arguments
-      audit has no options: mostly a file name (use < FILE)
+      No options of audit: mostly a file name (use < FILE), or an option given twice
   prepaid: input: TooLong
-      More than 16777216 bytes
+      More than 16777216 bytes, without --long
   prepaid: run: Device, OutOfMemory
       Standard input or memory failed
   prepaid: book row N: KIND
@@ -165,7 +167,7 @@ A fault is one line on standard error, and then nothing is printed:
 Kinds:
   Csv          Another number of fields than the header, perhaps an open quote
   Header       Nearly always the separator, or columns that a spreadsheet added
-  TooManyRows  More than 1000000 rows besides the header
+  TooManyRows  More than 1000000 rows besides the header, with --long more than 4294967293
   What         A word that op, reply, x2 of a settle or y2 of a grant never has
   Number       Digits only, within the range: no plus, no point, no space
   Empty        A field has something that the row doesn't take

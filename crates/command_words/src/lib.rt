@@ -2,6 +2,7 @@
 #![tactic(auto)]
 
 mod arguments;
+mod audit_words;
 mod command_line;
 mod fault;
 mod help;

@@ -1,9 +1,9 @@
-//! The options of `price` and of `replay`.
+//! The options of `price` and of `replay`, and what those of all commands are read by.
 
 ghost use Rattle.std.specs.Prelude.{◌≡◌, ◌≤◌, option_map, unwrap_or, IfSome};
 ghost use Rattle.clap.specs.Words.{first_of, found_of, rows_of};
 ghost use Rattle.tariff_core.specs.RatesOf.{rates_of};
-ghost use Rattle.command_words.specs.Options.{number_in, optional_number_in, plan_in, replay_in};
+ghost use Rattle.command_words.specs.Options.{has_flag, number_in, optional_number_in, plan_in, replay_in};
 ghost use Rattle.command_words.specs.Wishes.{Replays};
 
 use crate::request::Opening;
@@ -44,6 +44,16 @@ pub(crate) fn option_text<'a>(options: &ArgMatches<'a>, name: &str) -> Option<&'
         ≡ first_of name.now (rows_of (found_of options.now)) }
 {
     options.get_str(name)
+}
+
+/// Whether a flag was given.
+pub(crate) fn has_flag(options: &ArgMatches<'_>, name: &str) -> bool
+    ensures { result ≡ has_flag (rows_of (found_of options.now)) name.now }
+{
+    match option_text(options, name) {
+        Some(text) => text == "true",
+        None => false,
+    }
 }
 
 /// The number of an option, from 0 to `most`.

@@ -4,6 +4,7 @@ ghost use Rattle.std.specs.Prelude.{◌≤◌, unwrap_or};
 ghost use Rattle.tariff_core.specs.declared.plan.TheConstants.{MAX_MONEY};
 ghost use Rattle.tariff_core.specs.declared.times.TheConstants.{DAY, LAST_MOMENT};
 
+use book_texts::BookSize;
 use cap_values::Number;
 use run_options::RunOptions;
 use tariff_core::{DAY, LAST_MOMENT, MAX_MONEY, Plan};
@@ -21,8 +22,8 @@ pub enum Request {
     Replay(Opening),
     /// A run of a script.
     Run(RunOptions),
-    /// The audit of books.
-    Audit,
+    /// The audit of a table of books of this size at most.
+    Audit(BookSize),
     /// What a call to a number costs.
     Quote(QuoteAsk),
 }

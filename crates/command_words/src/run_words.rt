@@ -4,10 +4,10 @@ ghost use Rattle.std.specs.Prelude.{◌≡◌, ◌<◌, option_map};
 ghost use Rattle.clap.specs.Words.{found_of, rows_of};
 ghost use Rattle.command_words.specs.Arguments.{IsRequestOf};
 ghost use Rattle.command_words.specs.Capped.{capped, capped_ask};
-ghost use Rattle.command_words.specs.RunWords.{ask_in, handling_of, is_yes, number_of, number_or, output_in, output_of, run_in, workers_in};
+ghost use Rattle.command_words.specs.RunWords.{ask_in, handling_of, number_of, number_or, output_in, output_of, run_in, workers_in};
 
 use crate::fault::WordsFault;
-use crate::options::{option_text, optional_number};
+use crate::options::{has_flag, option_text, optional_number};
 use crate::request::Request;
 use clap::ArgMatches;
 use run_options::{RunAsk, RunOptions, RunOutput};
@@ -103,9 +103,9 @@ fn handling(text: Option<&str>) -> Option<DefaultHandling>
 fn output(options: &ArgMatches<'_>) -> Option<RunOutput>
     ensures { result ≡ output_in (rows_of (found_of options.now)) }
 {
-    let book = is_yes(option_text(options, "book"));
-    let calls = is_yes(option_text(options, "calls"));
-    let trace = is_yes(option_text(options, "trace"));
+    let book = has_flag(options, "book");
+    let calls = has_flag(options, "calls");
+    let trace = has_flag(options, "trace");
     output_of(book, calls, trace)
 }
 
@@ -119,15 +119,5 @@ fn output_of(book: bool, calls: bool, trace: bool) -> Option<RunOutput>
         (false, true, false) => Some(RunOutput::Calls),
         (false, false, true) => Some(RunOutput::Trace),
         _ => None,
-    }
-}
-
-/// Whether a flag was given.
-fn is_yes(text: Option<&str>) -> bool
-    ensures { result ≡ is_yes (option_map (λ t. t.now) text.entry) }
-{
-    match text {
-        Some(text) => text == "true",
-        None => false,
     }
 }

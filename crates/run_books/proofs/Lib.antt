@@ -3,3 +3,4 @@ pub mod Listed
 pub mod Openings
 pub mod Posts
 pub mod Printing
+pub mod RowCounts

@@ -17,7 +17,7 @@ use Rattle.run_values.specs.declared.post.Answer.{Answer}
 use Rattle.run_values.specs.declared.directory.OpeningCredit.{OpeningCredit}
 use Rattle.run_values.specs.declared.post.Body.{Body}
 use Rattle.runs_core.specs.Closing.{terms_shown}
-use Rattle.runs_core.specs.Entered.{IsBookOf}
+use Rattle.runs_core.specs.Entered.{IsBookAt}
 use Rattle.runs_core.specs.Runs.{IsRun, RunShown}
 use Rattle.runs_core.specs.Teams.{are_workers, terms_of, terms_with}
 use Rattle.shared_account.specs.Closed.{Closed}
@@ -41,24 +41,24 @@ terms_within limit workers account may_be range =
     let (amount, until) = and_parts (nat_le account.1.amount 1000000000000000) (expires_in_time account.1.until) range in
     record { opening = leb-true account.1.amount 1000000000000000 amount; until = until_in_range account.1.until until; seats = leb-true workers 16 few }
 
-pub record IsOpenedWithin (book : Closed) : Type 0 where
+pub record IsOpenedWithin (workers : ℕ) (book : Closed) : Type 0 where
   pub opening : IsMoney book.opening
   pub until : IfSome book.until IsMoment
-  pub seats : length book.own ≤ 16
+  pub seats : workers ≤ 16
 
 module _ (setup : Setup) (workers : ℕ) (given : List (ℕ × Body)) (answers : List Answer) (shown : RunShown) (may_be : are_workers workers ≡ true) (run : IsRun setup workers given answers shown) (accounts : HasAccounts setup.accounts) where
-  shown_within : All (λ book. AreWithin (terms_shown book)) shown.books
+  shown_within : All (λ book. AreWithin (terms_shown workers book)) shown.books
   shown_within =
       let made : All AreWithin (terms_of setup.limit workers setup.accounts) =
       All-map AreWithin (terms_with setup.limit workers) setup.accounts (λ k d within. terms_within setup.limit workers (slice_index_or setup.accounts k d) may_be (accounts.range k d within)) in
-      all_unmapped AreWithin terms_shown shown.books (All-same AreWithin (map terms_shown shown.books) (terms_of setup.limit workers setup.accounts) run.opened made)
+      all_unmapped AreWithin (terms_shown workers) shown.books (All-same AreWithin (map (terms_shown workers) shown.books) (terms_of setup.limit workers setup.accounts) run.opened made)
 
-  pub opened_within : All IsOpenedWithin shown.books
-  opened_within = λ k d within. let is : AreWithin (terms_shown (slice_index_or shown.books k d)) = shown_within k d within in record { opening = is.opening; until = is.until; seats = is.seats }
+  pub opened_within : All (IsOpenedWithin workers) shown.books
+  opened_within = λ k d within. let is : AreWithin (terms_shown workers (slice_index_or shown.books k d)) = shown_within k d within in record { opening = is.opening; until = is.until; seats = is.seats }
 
   -- ---- the accounts rise
 
-  numbers_shown : (rest : List Closed) → map (λ (terms : Terms). terms.number) (map terms_shown rest) ≡ map (λ (book : Closed). book.account) rest
+  numbers_shown : (rest : List Closed) → map (λ (terms : Terms). terms.number) (map (terms_shown workers) rest) ≡ map (λ (book : Closed). book.account) rest
   numbers_shown [] = refl
   numbers_shown (book ∷ rest) = ap (λ (l : List ℕ). book.account ∷ l) (numbers_shown rest)
 
@@ -74,11 +74,11 @@ module _ (setup : Setup) (workers : ℕ) (given : List (ℕ × Body)) (answers :
 
   -- ---- each book stands at the place of its account
 
-  as_many : length shown.books ≡ length setup.accounts
+  pub as_many : length shown.books ≡ length setup.accounts
   as_many =
       sym (length-map shown.books (λ (book : Closed). book.account)) ∙ ap length accounts_are ∙ length-map setup.accounts (λ (account : ℕ × OpeningCredit). account.0)
 
-  pub book_of : (place : ℕ) (d : Closed) → place < length shown.books → IsBookOf setup shown.books (slice_index_or shown.books place d).account place (slice_index_or shown.books place d)
+  pub book_of : (place : ℕ) (d : Closed) → place < length shown.books → IsBookAt setup shown.books (slice_index_or shown.books place d).account place (slice_index_or shown.books place d)
   book_of place d within =
       let there : place < length setup.accounts = omega (arith, within, as_many) in
       let named = λ (other : ℕ × OpeningCredit).

@@ -18,7 +18,7 @@ books_fit : ReservesAreInTheBooks → EntriesAreInRange → (setup : Setup) (wor
     → All FitsBook books
 books_fit reserves ranges setup workers given books is = λ place d within.
     let shown : RunShown = record { books = books; handled = is.handled; refusals = is.refusals } in
-    let opened : IsOpenedWithin (slice_index_or books place d) = opened_within setup workers given is.answers shown is.may_be is.run is.accounts place d within in
+    let opened : IsOpenedWithin workers (slice_index_or books place d) = opened_within setup workers given is.answers shown is.may_be is.run is.accounts place d within in
     record {
       account = (is.typed place d within).account;
       opening = opened.opening;
@@ -28,13 +28,13 @@ books_fit reserves ranges setup workers given books is = λ place d within.
     }
 
 pub printable : ReservesAreInTheBooks → EntriesAreInRange → RunsArePrintable
-printable reserves ranges setup workers given books is = record {
+printable reserves ranges most setup workers given books is room = record {
   rising = accounts_rise setup workers given is.answers (record { books = books; handled = is.handled; refusals = is.refusals }) is.may_be is.run is.accounts;
   fit = books_fit reserves ranges setup workers given books is;
-  room = is.room;
+  room = room;
 }
 
 pub pass : ReservesAreInTheBooks → EntriesAreInRange → BooksAreRead → PrintedBooksPass → RunsPassTheAudit
-pass reserves ranges read passes setup workers given books is =
-    let prints : ArePrintable books = printable reserves ranges setup workers given books is in
-    record { read = read books prints; verdicts = λ audit gives. passes books audit prints is.run.legal gives }
+pass reserves ranges read passes most setup workers given books is room =
+    let prints : ArePrintable most books = printable reserves ranges most setup workers given books is room in
+    record { read = read most books prints; verdicts = λ audit gives. passes most books audit prints is.run.legal gives }

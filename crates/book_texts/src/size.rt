@@ -1,0 +1,31 @@
+//! How long a table of books may be.
+
+/// The most rows of a short table of books, its header not counted.
+pub const MAX_ROWS: u32 = 1_000_000;
+
+/// The most rows of a long one, its header not counted: as many as a `table_core::Table` takes.
+pub const MAX_LONG_ROWS: u32 = 4_294_967_293;
+
+/// How long a table of books may be that is audited.
+#[derive(Clone, Copy, Debug, PartialEq, Eq)]
+pub enum BookSize {
+    /// At most `MAX_ROWS` rows, 1,000,000.
+    Short,
+    /// At most `MAX_LONG_ROWS` rows, as many as any table may have.
+    Long,
+}
+
+impl BookSize {
+    ghost use Rattle.std.specs.Prelude.{◌≡◌};
+    ghost use Rattle.book_texts.specs.Sizes.{most_rows};
+
+    /// How many rows it may have besides its header.
+    pub fn most_rows(self) -> u32
+        ensures { result ≡ most_rows self }
+    {
+        match self {
+            BookSize::Short => MAX_ROWS,
+            BookSize::Long => MAX_LONG_ROWS,
+        }
+    }
+}

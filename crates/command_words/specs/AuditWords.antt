@@ -1,0 +1,15 @@
+-- What the options of `audit` say.
+use Rattle.std.specs.Prelude.{Bool, true, false, List, codes}
+use Rattle.book_texts.specs.declared.size.BookSize.{BookSize}
+use Rattle.book_texts.specs.declared.size.BookSize.TheVariants as size
+use Rattle.clap.specs.Words.{Row}
+use Rattle.command_words.specs.Options.{has_flag}
+
+-- a long table is taken where that is asked for
+abbrev pub size_of : Bool → BookSize
+size_of true = size.Long
+size_of false = size.Short
+
+-- how long a table the options ask for
+abbrev pub size_in : List Row → BookSize
+size_in options = size_of (has_flag options (codes "long"))
