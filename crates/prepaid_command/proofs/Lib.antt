@@ -1,4 +1,6 @@
+pub mod FrontLemmas
 pub mod InputLemmas
+pub mod KindLemmas
 pub mod Known
 pub mod LineLemmas
 pub mod QuoteLemmas

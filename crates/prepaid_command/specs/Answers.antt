@@ -1,14 +1,16 @@
 -- What the program answers to words and an input.
-use Rattle.std.specs.Prelude.{◌≡◌, ◌⊎◌, ℕ, true, List, MatchResult, Option, Result, Ok, Err, ⊤}
+use Rattle.std.specs.Prelude.{◌≡◌, ◌⊎◌, ◌++◌, ℕ, true, List, [], MatchResult, Option, Result, Ok, Err, ⊤, IfSome, codes}
 use Rattle.std.specs.Io.KnownBytes.{Appends, Keeps}
 use Rattle.std.specs.Result.{result_map_both}
 use Rattle.book_texts.specs.Audits.{Audited, IsAuditOf}
 use Rattle.book_texts.specs.Books.{Books, books_of}
+use Rattle.book_texts.specs.Sizes.{most_rows}
+use Rattle.book_texts.specs.declared.size.BookSize.{BookSize}
 use Rattle.command_words.specs.Arguments.{AsksFor, AsksHelp, AsksInVain, AsksNothing, AsksVersion}
 use Rattle.command_words.specs.QuoteWishes.{QuoteWish}
 use Rattle.command_words.specs.Wishes.{Wish, Audits, Prices, Quotes, Replays, Runs}
 use Rattle.command_words.specs.declared.fault.WordsFault.TheVariants as words_fault
-use Rattle.run_command.specs.Answers.{IsRunAnswer}
+use Rattle.run_command.specs.Answers.{IsRunAnswer, RunSaid}
 use Rattle.run_command.specs.declared.error.RunError.{RunError}
 use Rattle.run_options.specs.declared.options.RunAsk.{RunAsk}
 use Rattle.run_texts.specs.Inputs.{tariff_in}
@@ -17,13 +19,14 @@ use Rattle.table_core.specs.Judging.{after}
 use Rattle.table_core.specs.Rows.{rows_of}
 use Rattle.tariff_core.specs.Bands.{Band}
 use Rattle.tariff_core.specs.Rates.{Rates}
-use Rattle.prepaid_command.specs.Faults.{meaning_in, meaning_of_part, of_run, status_of}
-use Rattle.prepaid_command.specs.Input.{sized}
+use Rattle.prepaid_command.specs.Faults.{line_of, meaning_in, meaning_of_part, of_run, status_of}
+use Rattle.prepaid_command.specs.Fronts.{AppendsFront}
+use Rattle.prepaid_command.specs.Input.{sized, sized_as}
 use Rattle.prepaid_command.specs.PriceLines.{price_lines}
 use Rattle.prepaid_command.specs.Quotes.{IsQuoteText}
 use Rattle.prepaid_command.specs.Replays.{replayed}
 use Rattle.prepaid_command.specs.Reports.{reports_of}
-use Rattle.prepaid_command.specs.Tellings.{Telling, plain, status_of_telling}
+use Rattle.prepaid_command.specs.Tellings.{Telling, plain, status_of_telling, telling_of_run}
 use Rattle.prepaid_command.specs.declared.fault.Fault.{Fault}
 use Rattle.prepaid_command.specs.declared.fault.Fault.TheVariants as fault
 use Rattle.prepaid_command.specs.declared.fault.Part.TheVariants as part
@@ -40,9 +43,9 @@ replay_of_input opening limit input = after (sized input) (λ text.
 
 -- an answer of a run, its fault told as the program's
 pub record IsToldRun (ask : RunAsk) (text : List ℕ) (answer : Result Telling Fault) : Type 0 where
-  pub made : Result (List ℕ) RunError
+  pub made : Result RunSaid RunError
   pub is_made : IsRunAnswer ask text made
-  pub told : answer ≡ result_map_both plain of_run made
+  pub told : answer ≡ result_map_both telling_of_run of_run made
 
 -- what `run` may make of an input. It isn't a function of that: the workers meet at the accounts in any order
 abbrev pub IsRunOfInput : RunAsk → List ℕ → Result Telling Fault → Type 0
@@ -50,7 +53,7 @@ IsRunOfInput ask input answer = MatchResult (sized input) (λ text. IsToldRun as
 
 -- the lines of an audit, which passes where each account's history is legal
 abbrev pub telling_of_audit : Audited → Telling
-telling_of_audit audit = record { text = audit.lines; passes = audit.passes }
+telling_of_audit audit = record { text = audit.lines; passes = audit.passes; refused = [] }
 
 -- an audit of these books is told
 pub record IsToldAudit (books : Books) (answer : Result Telling Fault) : Type 0 where
@@ -58,10 +61,14 @@ pub record IsToldAudit (books : Books) (answer : Result Telling Fault) : Type 0 
   pub is_audit : IsAuditOf books audit
   pub told : answer ≡ Ok (telling_of_audit audit)
 
--- what `audit` makes of an input
-abbrev pub IsAuditOfInput : List ℕ → Result Telling Fault → Type 0
-IsAuditOfInput input answer =
-    MatchResult (after (sized input) (λ text. meaning_in part.Book (books_of (rows_of text)))) (λ books. IsToldAudit books answer) (λ why. answer ≡ Err why)
+-- what `audit` makes of a table of books of this size at most
+abbrev pub IsAuditOfTable : BookSize → List ℕ → Result Telling Fault → Type 0
+IsAuditOfTable size text answer =
+    MatchResult (meaning_in part.Book (books_of (most_rows size) (rows_of text))) (λ books. IsToldAudit books answer) (λ why. answer ≡ Err why)
+
+-- and of an input
+abbrev pub IsAuditOfInput : BookSize → List ℕ → Result Telling Fault → Type 0
+IsAuditOfInput size input answer = MatchResult (sized_as size input) (λ text. IsAuditOfTable size text answer) (λ why. answer ≡ Err why)
 
 -- a quote of this tariff is told
 pub record IsToldQuote (bands : List Band) (wish : QuoteWish) (answer : Result Telling Fault) : Type 0 where
@@ -79,7 +86,7 @@ abbrev pub IsAnswerTo : Wish → List ℕ → Result Telling Fault → Type 0
 IsAnswerTo (Prices plan) input answer = price_of_input plan input ≡ answer
 IsAnswerTo (Replays opening limit) input answer = replay_of_input opening limit input ≡ answer
 IsAnswerTo (Runs ask) input answer = IsRunOfInput ask input answer
-IsAnswerTo Audits input answer = IsAuditOfInput input answer
+IsAnswerTo (Audits size) input answer = IsAuditOfInput size input answer
 IsAnswerTo (Quotes wish) input answer = IsQuoteOfInput wish input answer
 
 -- the words ask for what has this answer
@@ -98,13 +105,36 @@ IsAnswer words input (Err fault.Device) = ⊤
 IsAnswer words input (Err (fault.Run run.OutOfMemory)) = ⊤
 IsAnswer words input (Err why) = IsAnswered words input (Err why)
 
--- an answer was told: a text went to the output whole, at its status, or the output failed, at status 2; for a fault the output stays as it was
-abbrev pub IsTold : Result Telling Fault → ℕ → Option (List ℕ) → Option (List ℕ) → Type 0
-IsTold (Ok telling) status old new = ((status ≡ status_of_telling telling) × Appends old new telling.text) ⊎ (status ≡ 2)
-IsTold (Err fault) status old new = (status ≡ status_of fault) × Keeps old new
+-- what the two writers hold, where that is known
+pub record Written : Type 0 where
+  pub output : Option (List ℕ)
+  pub faults : Option (List ℕ)
 
--- the status and the output tell an answer to the words and the input
-pub record Answers (words : List (List ℕ)) (input : List ℕ) (status : ℕ) (old new : Option (List ℕ)) : Type 0 where
+-- a text went to the output whole, at its status, and behind it the line about refusals to the error writer, or where that failed a front of it
+pub record IsPrinted (telling : Telling) (status : ℕ) (old new : Written) : Type 0 where
+  pub status_is : status ≡ status_of_telling telling
+  pub whole : Appends old.output new.output telling.text
+  pub line : AppendsFront old.faults new.faults telling.refused
+
+-- the output failed, at status 2: a front of the text went to it, and nothing to the error writer
+pub record IsCutOff (telling : Telling) (status : ℕ) (old new : Written) : Type 0 where
+  pub status_is : status ≡ 2
+  pub front : AppendsFront old.output new.output telling.text
+  pub faults : Keeps old.faults new.faults
+
+-- the line of a fault went to the error writer, or where that failed a front of it. The output stays as it was
+pub record IsReported (why : Fault) (status : ℕ) (old new : Written) : Type 0 where
+  pub status_is : status ≡ status_of why
+  pub line : AppendsFront old.faults new.faults (line_of why ++ codes "\n")
+  pub output : Keeps old.output new.output
+
+-- an answer was told
+abbrev pub IsTold : Result Telling Fault → ℕ → Written → Written → Type 0
+IsTold (Ok telling) status old new = IsPrinted telling status old new ⊎ IsCutOff telling status old new
+IsTold (Err why) status old new = IsReported why status old new
+
+-- the status and what was written tell one answer, which is that to the words and the input, where this is known
+pub record Answers (words : List (List ℕ)) (input : Option (List ℕ)) (status : ℕ) (old new : Written) : Type 0 where
   pub answer : Result Telling Fault
-  pub answered : IsAnswer words input answer
+  pub answered : IfSome input (λ text. IsAnswer words text answer)
   pub told : IsTold answer status old new

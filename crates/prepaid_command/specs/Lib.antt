@@ -2,9 +2,11 @@ pub mod Answers
 pub mod AskingOf
 pub mod Asks
 pub mod Faults
+pub mod Fronts
 pub mod Input
 pub mod PriceLines
 pub mod Quotes
+pub mod Refused
 pub mod ReplayLines
 pub mod Replays
 pub mod Reports

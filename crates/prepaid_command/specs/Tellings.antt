@@ -1,15 +1,22 @@
 -- What the program prints, and the status that goes with it.
-use Rattle.std.specs.Prelude.{ℕ, Bool, true, List, string_bytes, if◌then◌else◌}
+use Rattle.std.specs.Prelude.{ℕ, Bool, true, List, [], string_bytes, if◌then◌else◌}
+use Rattle.run_command.specs.Answers.{RunSaid}
+use Rattle.prepaid_command.specs.Refused.{refused_line}
 use Rattle.prepaid_command.specs.declared.answer.Answer.{Answer}
 
--- a text, and whether all is right that was asked about
+-- a text, whether all is right that was asked about, and the line about what a run refused
 pub record Telling : Type 0 where
   pub text : List ℕ
   pub passes : Bool
+  pub refused : List ℕ
 
--- a text that finds nothing wrong
+-- a text that finds nothing wrong, and of no run that refused anything
 abbrev pub plain : List ℕ → Telling
-plain text = record { text = text; passes = true }
+plain text = record { text = text; passes = true; refused = [] }
+
+-- what a run says
+abbrev pub telling_of_run : RunSaid → Telling
+telling_of_run ran = record { text = ran.text; passes = true; refused = refused_line ran.refusals }
 
 -- the status that goes with a text
 abbrev pub status_of_telling : Telling → ℕ
@@ -17,4 +24,4 @@ status_of_telling telling = if telling.passes then 0 else 3
 
 -- what an answer of the code tells
 abbrev pub telling_of : Answer → Telling
-telling_of answer = record { text = string_bytes answer.text; passes = answer.passes }
+telling_of answer = record { text = string_bytes answer.text; passes = answer.passes; refused = refused_line answer.refusals }

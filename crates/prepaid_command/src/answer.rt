@@ -1,5 +1,7 @@
 //! What the program prints.
 
+use run_command::Refusals;
+
 /// A text that answers what was asked, and the exit status that goes with it.
 #[derive(Drop)]
 pub(crate) struct Answer {
@@ -7,17 +9,23 @@ pub(crate) struct Answer {
     pub text: String,
     /// Whether all is right that was asked about; only an audit may find that it isn't.
     pub passes: bool,
+    /// How often the accounts of a run refused what they were asked.
+    pub refusals: Refusals,
 }
 
 impl Answer {
     ghost use Rattle.std.specs.Prelude.{◌≡◌, string_bytes};
     ghost use Rattle.prepaid_command.specs.Tellings.{plain, status_of_telling, telling_of};
 
-    /// A text that finds nothing wrong.
+    /// A text that finds nothing wrong, and of no run that refused anything.
     pub fn plain(text: String) -> Answer
         ensures { telling_of result ≡ plain (string_bytes text) }
     {
-        Answer { text, passes: true }
+        Answer {
+            text,
+            passes: true,
+            refusals: Refusals::none(),
+        }
     }
 
     /// The exit status: 0, or 3 where something isn't right.

@@ -2,6 +2,7 @@
 #![tactic(auto)]
 
 mod answer;
+mod error_lines;
 mod fault;
 mod input;
 mod price_lines;
@@ -9,6 +10,7 @@ mod program;
 mod quoting;
 mod replaying;
 mod tables;
+mod writing;
 
 pub use fault::{Fault, Part};
 pub use input::MAX_INPUT;

@@ -1,24 +1,28 @@
 //! The program, from words and bytes to bytes.
 
-ghost use Rattle.std.specs.Prelude.{◌≡◌, ◌⊎◌, map, IfSome, string_bytes};
-ghost use Rattle.std.specs.Io.KnownBytes.{Appends, Keeps};
+ghost use Rattle.std.specs.Prelude.{◌≡◌, ◌⊎◌, ◌++◌, map, IfSome, codes};
+ghost use Rattle.std.specs.Io.KnownBytes.{Keeps};
 ghost use Rattle.std.specs.Result.{result_map_both};
 ghost use Rattle.tariff_core.specs.RatesOf.{rates_of};
 ghost use Rattle.command_words.specs.QuoteWishes.{wish_of};
 ghost use Rattle.run_options.specs.Options.{ask_of};
-ghost use Rattle.prepaid_command.specs.Answers.{Answers, IsAnswer, IsAuditOfInput, IsQuoteOfInput, IsRunOfInput, price_of_input, replay_of_input};
-ghost use Rattle.prepaid_command.specs.Faults.{Gives, GivesOne};
-ghost use Rattle.prepaid_command.specs.Tellings.{status_of_telling, telling_of};
+ghost use Rattle.prepaid_command.specs.Answers.{Answers, IsAnswer, IsCutOff, IsPrinted, IsAuditOfInput, IsAuditOfTable, IsQuoteOfInput, IsRunOfInput, price_of_input, replay_of_input};
+ghost use Rattle.prepaid_command.specs.Faults.{Gives, GivesOne, line_of, status_of};
+ghost use Rattle.prepaid_command.specs.Fronts.{AppendsFront};
+ghost use Rattle.prepaid_command.specs.Refused.{refused_line};
+ghost use Rattle.prepaid_command.specs.Tellings.{telling_of};
 
 use crate::answer::Answer;
+use crate::error_lines::{fault_line, refused_line};
 use crate::fault::{Fault, Part};
 use crate::input::read_input;
 use crate::price_lines::{print_reports, read_reports};
 use crate::quoting::print_quote;
 use crate::replaying::replay;
-use book_texts::audit_books;
+use crate::writing::write_text;
+use book_texts::{BookSize, audit_books};
 use command_words::{Opening, QuoteAsk, Request, read_words};
-use run_command::run;
+use run_command::{Ran, Refusals, run};
 use run_options::RunOptions;
 use run_texts::read_tariff;
 use std::alloc::Global;
@@ -31,8 +35,10 @@ use tariff_core::Plan;
 /// Runs the program over the words after its name, and gives the exit status: 0 where all of the
 /// answer went to `output`, 3 where this is an audit that found an account's history wrong, 1 for a
 /// fault of the words or the input, 2 where the run failed (want of memory, an input or an output
-/// that failed). A fault goes to `faults` as one line, and then nothing goes to `output`; a failing
-/// `faults` changes no status.
+/// that failed). A fault goes to `faults` as one line, and then nothing goes to `output`. Where the
+/// accounts of a run refused anything, a line about it goes to `faults` behind the answer. Where
+/// `output` failed, what went to it is a front of the answer, and nothing goes to `faults`; a failing
+/// `faults` has a front of the line, and changes no status.
 pub fn command<R, S: AsStr, I: Read + Drop, O: Write, E: Write>(
     rt: &R,
     words: &[S],
@@ -42,17 +48,14 @@ pub fn command<R, S: AsStr, I: Read + Drop, O: Write, E: Write>(
 ) -> u8
 where
     R: AllocGlobal + Wait + Threads + Sync,
-    ensures answers { IfSome (I.remaining input) (λ text.
-        Answers (map S.text words.now) text result (O.contents output.old)
-        (O.contents output.new)) }
+    ensures answers { Answers (map S.text words.now) (I.remaining input) result
+        (record { output = O.contents output.old; faults = E.contents faults.old })
+        (record { output = O.contents output.new; faults = E.contents faults.new }) }
     ensures silent { result ≡ 1 → Keeps (O.contents output.old) (O.contents output.new) }
 {
     match answer(rt, words, input) {
-        Ok(answer) => print(output, &answer),
-        Err(fault) => {
-            let _ = writeln!(faults, "{fault}");
-            fault.status()
-        }
+        Ok(answer) => print(output, faults, &answer),
+        Err(fault) => report(faults, fault),
     }
 }
 
@@ -69,7 +72,7 @@ where
         Request::Price(plan) => price_reports(alloc, &plan, input),
         Request::Replay(account) => replay_operations(alloc, account, input),
         Request::Run(options) => run_script(rt, alloc, &options, input),
-        Request::Audit => audit_input(alloc, input),
+        Request::Audit(size) => audit_input(alloc, size, input),
         Request::Quote(ask) => quote_input(alloc, &ask, input),
     }
 }
@@ -114,19 +117,35 @@ fn run_script<R: Wait + Threads + Sync, I: Read + Drop>(
         (result_map_both telling_of (λ fault. fault) result)) }
 {
     let bytes = read_input(alloc, input)?;
-    Ok(Answer::plain(run(rt, alloc, options, bytes.as_slice())?))
+    let Ran { text, refusals } = run(rt, alloc, options, bytes.as_slice())?;
+    Ok(Answer {
+        text,
+        passes: true,
+        refusals,
+    })
 }
 
-/// The lines of `audit` for the books in the input.
-fn audit_input<I: Read + Drop>(alloc: Global, input: I) -> Result<Answer, Fault>
-    ensures { IfSome (I.remaining input) (λ text.
-        GivesOne (IsAuditOfInput text) (result_map_both telling_of (λ fault. fault) result)) }
+/// The lines of `audit` for the books in the input. A long table is read row by row and never kept.
+fn audit_input<I: Read + Drop>(alloc: Global, size: BookSize, input: I) -> Result<Answer, Fault>
+    ensures { IfSome (I.remaining input) (λ text. GivesOne (IsAuditOfInput size text)
+        (result_map_both telling_of (λ fault. fault) result)) }
 {
-    let bytes = read_input(alloc, input)?;
-    match audit_books(alloc, bytes.as_slice()) {
+    match size {
+        BookSize::Short => audit_table(alloc, size, read_input(alloc, input)?.as_slice()),
+        BookSize::Long => audit_table(alloc, size, input),
+    }
+}
+
+/// The lines of `audit` for a table of books.
+fn audit_table<I: Read + Drop>(alloc: Global, size: BookSize, table: I) -> Result<Answer, Fault>
+    ensures { IfSome (I.remaining table) (λ text. GivesOne (IsAuditOfTable size text)
+        (result_map_both telling_of (λ fault. fault) result)) }
+{
+    match audit_books(alloc, table, size) {
         Ok(audit) => Ok(Answer {
             text: audit.lines,
             passes: audit.passes,
+            refusals: Refusals::none(),
         }),
         Err(fault) => Err(Fault::in_part(Part::Book, fault)),
     }
@@ -146,16 +165,42 @@ fn quote_input<I: Read + Drop>(alloc: Global, ask: &QuoteAsk, input: I) -> Resul
     Ok(Answer::plain(print_quote(alloc, &tariff, ask)?))
 }
 
-/// The status of an answer: its own where the whole text went to the output, 2 where the output
-/// failed.
-fn print<O: Write>(output: &mut O, answer: &Answer) -> u8
-    ensures told { ((result ≡ status_of_telling (telling_of answer.now))
-        × Appends (O.contents output.old) (O.contents output.new) (string_bytes answer.now.text))
-        ⊎ (result ≡ 2) }
+/// The status of an answer: its own where the whole text went to the output, and then the line about
+/// refusals to the error writer; 2 where the output failed.
+fn print<O: Write, E: Write>(output: &mut O, faults: &mut E, answer: &Answer) -> u8
+    ensures told { IsPrinted (telling_of answer.now) result
+        (record { output = O.contents output.old; faults = E.contents faults.old })
+        (record { output = O.contents output.new; faults = E.contents faults.new })
+        ⊎ IsCutOff (telling_of answer.now) result
+        (record { output = O.contents output.old; faults = E.contents faults.old })
+        (record { output = O.contents output.new; faults = E.contents faults.new }) }
 {
-    if output.write_all(answer.text.as_bytes()).is_ok() && output.flush().is_ok() {
+    if write_text(output, answer.text.as_bytes()) && output.flush().is_ok() {
+        tell_refusals(faults, &answer.refusals);
         answer.status()
     } else {
         2
     }
+}
+
+/// Writes the line about refusals, where there are any.
+fn tell_refusals<E: Write>(faults: &mut E, refusals: &Refusals)
+    ensures { AppendsFront (E.contents faults.old) (E.contents faults.new)
+        (refused_line refusals.now) }
+{
+    if let Ok(line) = refused_line(refusals) {
+        write_text(faults, line.as_str().as_bytes());
+    }
+}
+
+/// The status of a fault, whose line goes to the error writer. The line takes no memory.
+fn report<E: Write>(faults: &mut E, fault: Fault) -> u8
+    ensures status { result ≡ status_of fault }
+    ensures line { AppendsFront (E.contents faults.old) (E.contents faults.new)
+        (line_of fault ++ codes "\n") }
+{
+    if let Ok(line) = fault_line(fault) {
+        write_text(faults, line.as_str().as_bytes());
+    }
+    fault.status()
 }

@@ -1,7 +1,8 @@
 //! Audits of books, and the first fault of their table.
 
-use crate::program::{expect, expect_fault};
+use crate::program::{expect, expect_fault, run};
 use std::alloc::{AllocError, Global};
+use std::io::{self, Read};
 use std::process::Abort;
 use std::sync::Wait;
 use std::test::Fail;
@@ -109,7 +110,7 @@ fn table_of(alloc: Global, front: &str, rows: &str) -> Result<String, AllocError
     format!(in alloc; "account,seat,op,call,x1,x2,x3,x4,x5,reply,y1,y2,y3\n{front}{rows}")
 }
 
-/// Compares the audit of a table with these rows.
+/// Compares the audit of a table with these rows, and the long one.
 fn expect_audit<R: Abort + AllocGlobal + Wait + Threads + Sync>(
     rt: &R,
     front: &str,
@@ -117,7 +118,10 @@ fn expect_audit<R: Abort + AllocGlobal + Wait + Threads + Sync>(
     want: (u8, &str),
 ) -> Result<(), Fail> {
     let table = table_of(rt.alloc(), front, rows)?;
-    expect(rt, "audit", table.as_str(), (want.0, want.1, ""))
+    for words in ["audit", "audit --long"] {
+        expect(rt, words, table.as_str(), (want.0, want.1, ""))?;
+    }
+    Ok(())
 }
 
 #[test]
@@ -142,10 +146,66 @@ fn refuses_books(rt: HostRuntime) -> Result<(), Fail> {
     for (rows, fault) in &REFUSED {
         let told = format!(in rt.alloc(); "book {fault}")?;
         let table = table_of(rt.alloc(), OPENING, rows)?;
-        expect_fault(&rt, "audit", table.as_str(), told.as_str())?;
+        for words in ["audit", "audit --long"] {
+            expect_fault(&rt, words, table.as_str(), told.as_str())?;
+        }
     }
     let unopened = table_of(rt.alloc(), "", FIRST)?;
     expect_fault(&rt, "audit", unopened.as_str(), "book row 2: Unknown")?;
     expect_fault(&rt, "audit", OPENING, "book row 1: Header")?;
     expect_fault(&rt, "audit", "", "book row 1: Header")
+}
+
+/// A reader of a front, of some lines so many times, and of a last row.
+#[derive(Drop)]
+struct Lines<'a> {
+    now: &'a [u8],
+    lines: &'a [u8],
+    left: u32,
+    last: &'a [u8],
+}
+
+impl Read for Lines<'_> {
+    fn read(&mut self, buf: &mut [u8]) -> io::Result<usize> {
+        if self.now.is_empty() {
+            self.now = if self.left > 0 { self.lines } else { self.last };
+            if self.left > 0 {
+                self.left -= 1;
+            } else {
+                self.last = b"";
+            }
+        }
+        self.now.read(buf)
+    }
+}
+
+/// Words, and what is said of a book whose last entry, which is wrong, stands behind 17,000,000
+/// empty lines.
+const LONG: [(&str, u8, &str, &str); 2] = [
+    ("audit --long", 3, "account 1 no\n", ""),
+    ("audit", 1, "", "prepaid: input: TooLong\n"),
+];
+
+#[test]
+fn long_audits_take_more_bytes(rt: HostRuntime) -> Result<(), Fail> {
+    let front = table_of(rt.alloc(), OPENING, FIRST)?;
+    let mut lines = String::new(rt.alloc());
+    for _ in 0..17_000 {
+        lines.push('\n')?;
+    }
+    for (words, wanted, text, fault) in LONG {
+        let input = Lines {
+            now: front.as_bytes(),
+            lines: lines.as_bytes(),
+            left: 1_000,
+            last: b"1,0,return,3,,,,,,returned,0,,450\n",
+        };
+        let mut output = Vec::new(rt.alloc());
+        let mut faults = Vec::new(rt.alloc());
+        let status = run(&rt, words, input, &mut output, &mut faults)?;
+        assert_eq!(rt; faults.as_slice(), fault.as_bytes(), "of {words}");
+        assert_eq!(rt; output.as_slice(), text.as_bytes(), "of {words}");
+        assert_eq!(rt; status, wanted, "of {words}");
+    }
+    Ok(())
 }

@@ -115,11 +115,7 @@ fn prints_nothing_of_an_input_that_fails(rt: HostRuntime) -> Result<(), Fail> {
 #[test]
 fn tells_an_output_that_fails_at_once(rt: HostRuntime) -> Result<(), Fail> {
     for &(words, text) in &INPUTS {
-        let mut output = Full {
-            room: 0,
-            taken: 0,
-            flushes: true,
-        };
+        let mut output = Full::new(rt.alloc(), 0);
         let mut faults = Vec::new(rt.alloc());
         let status = run(&rt, words, text.as_bytes(), &mut output, &mut faults)?;
         gives(&rt, &words, &(status, faults.len()), &(2, 0));

@@ -8,7 +8,12 @@ use std::test::Fail;
 const CALL: &str = "0,1,start,491700001,4930,\n100,1,answer,,,\n";
 
 /// The last moment of account 7, more rows of the script, and what is written.
-const PLAYED: [(&str, &str, &str); 5] = [
+const PLAYED: [(&str, &str, &str); 6] = [
+    (
+        "1000000000000",
+        "1000000000000,,recharge,7,1,1000000000000\n",
+        "account 7 opening 1500 available 1 entries 6\ncall 1 account 7 paid 1500 returned\n",
+    ),
     (
         "",
         "",
@@ -89,7 +94,21 @@ const REFUSED: [(&str, &str, &str); 10] = [
 ];
 
 /// Words, operations with moments, and what they are answered.
-const ANSWERED: [(&str, &str, &str); 2] = [
+const ANSWERED: [(&str, &str, &str); 3] = [
+    (
+        "replay --opening 0 --limit 1000000",
+        "0,credit,,999999999999999,1000000000001,,,,,\n\
+         0,reserve,1,1000000000,1000000000,,864000,864000,0,1000000000001\n\
+         0,reserve,2,0,1,,600,50,0,1000000000002\n0,settle,1,0,n,864000,,,,\n0,return,1,,,,,,,\n\
+         0,credit,,1,2000000000000,,,,,\n0,reserve,2,0,1,,600,50,0,2000000000000\n\
+         0,credit,,1,,,,,,\n",
+        "credited available 999999999999999\ngranted 864000 more available 998558999999999\n\
+         denied available 998558999999999\nsettled paid 1441000000000 available 998558999999999\n\
+         returned paid 1441000000000 available 998558999999999\n\
+         credited available 998559000000000\n\
+         granted 600 more available 998558999999999\n\
+         over available 998558999999999\n",
+    ),
     (
         "replay --opening 1499",
         "0,credit,,1,1000,,,,,\n0,reserve,1,50,1000,400,600,50,0,1000\n\
@@ -105,6 +124,14 @@ const ANSWERED: [(&str, &str, &str); 2] = [
         "over available 1000000000000000\ngranted 600 more available 999999999998950\n",
     ),
 ];
+
+/// A book whose account has the latest last moment, and whose reserve comes then.
+const LATEST: &str = "\
+account,seat,op,call,x1,x2,x3,x4,x5,x6,x7,reply,y1,y2,y3
+7,,opening,,2000000000000,2000000000000,,,,,,,,,
+7,1,reserve,1,1000000000,1000000000,,864000,864000,0,2000000000000,granted,864000,more,559000000000
+7,1,settle,1,2,n,864000,,,,,settled,1441000000000,,559000000000
+";
 
 /// Operations that are refused, and the fault.
 const REFUSED_OPERATIONS: [(&str, &str); 7] = [
@@ -170,7 +197,9 @@ fn judges_moments(rt: HostRuntime) -> Result<(), Fail> {
         let table = format!(in rt.alloc(); "{header}\n{rows}")?;
         expect_fault(&rt, "replay --opening 9", table.as_str(), fault)?;
     }
-    expect(&rt, "audit", BOOK, (0, "account 7 yes\n", ""))?;
+    for book in [BOOK, LATEST] {
+        expect(&rt, "audit", book, (0, "account 7 yes\n", ""))?;
+    }
     let columns = "account,seat,op,call,x1,x2,x3,x4,x5,x6,x7,reply,y1,y2,y3";
     for (rows, fault) in REFUSED_BOOKS {
         let book = format!(in rt.alloc(); "{columns}\n{rows}")?;

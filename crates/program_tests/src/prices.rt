@@ -7,7 +7,13 @@ use std::test::Fail;
 const SINGLE: &str = "price --fee 0 --before 1000";
 
 /// Words, reports, and what they cost.
-const PRICED: [(&str, &str, &str); 10] = [
+const PRICED: [(&str, &str, &str); 11] = [
+    (
+        "price --fee 1000000000 --before 1000000000 --after 1000000000",
+        "before,after\n1,0\n1,863999\n",
+        "debit 1001666667 total 1001666667\ndebit 1439998333333 total 1441000000000\n\
+         total 1441000000000\n",
+    ),
     (
         "price --fee 50 --before 1000 --after 400",
         "before,after\n0,0\n1,0\n600,0\n600,300\n",

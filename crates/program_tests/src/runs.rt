@@ -197,7 +197,7 @@ const PLAYED: [(&str, &str, &str, &str, &str); 11] = [
 ];
 
 /// Words, the rows of a script, and the lines: what a run passes over in silence.
-const SILENT: [(&str, &str, &str); 7] = [
+const SILENT: [(&str, &str, &str); 6] = [
     (
         "run",
         "0,1,start,491700009,4930\n10,1,answer,,\n20,1,disconnect,1,\n",
@@ -225,14 +225,32 @@ const SILENT: [(&str, &str, &str); 7] = [
         "account 7 opening 1500 available 800 entries 3\ncall 1 account 7 paid 700 returned\n",
     ),
     (
-        "run",
-        "0,,recharge,7,0\n",
-        "account 7 opening 1500 available 1500 entries 0\n",
-    ),
-    (
         "run --tssf 1",
         CALL,
         "account 7 opening 1500 available 1500 entries 2\ncall 1 account 7 paid 0 returned\n",
+    ),
+];
+
+/// Words and a script in which the account refuses recharges, what is printed, and the line about
+/// them.
+const REFUSING: [(&str, &str, &str, &str); 3] = [
+    (
+        "run",
+        "0,,recharge,7,0\n",
+        "account 7 opening 1500 available 1500 entries 0\n",
+        "prepaid: refused: 1 OutOfRange\n",
+    ),
+    (
+        "run --workers 1",
+        "0,,recharge,7,0\n0,,recharge,7,5\n9,,recharge,7,0\n",
+        "account 7 opening 1500 available 1505 entries 1\n",
+        "prepaid: refused: 2 OutOfRange\n",
+    ),
+    (
+        "run --book",
+        "0,,recharge,7,0\n",
+        "account,seat,op,call,x1,x2,x3,x4,x5,x6,x7,reply,y1,y2,y3\n7,,opening,,1500,,,,,,,,,,\n",
+        "prepaid: refused: 1 OutOfRange\n",
     ),
 ];
 
@@ -343,6 +361,10 @@ fn plays_inputs(rt: HostRuntime) -> Result<(), Fail> {
     for (words, script, output) in SILENT {
         let input = input_of(rt.alloc(), BAND, ACCOUNT, script)?;
         expect(&rt, words, input.as_str(), (0, output, ""))?;
+    }
+    for (words, script, output, line) in REFUSING {
+        let input = input_of(rt.alloc(), BAND, ACCOUNT, script)?;
+        expect(&rt, words, input.as_str(), (0, output, line))?;
     }
     for (tariff, setup, script, fault) in REFUSED {
         let input = input_of(rt.alloc(), tariff, setup, script)?;

@@ -85,7 +85,7 @@ const GOING_ON: [(&str, &str, &str); 10] = [
 ];
 
 /// Words, the rows of the tariff, the setup and the script, and what is said.
-const TRACED: [(&str, &str, &str, &str, &str); 9] = [
+const TRACED: [(&str, &str, &str, &str, &str); 8] = [
     ("run --trace", "", "", "", ""),
     // the tariff switches while the call talks
     (
@@ -150,16 +150,6 @@ const TRACED: [(&str, &str, &str, &str, &str); 9] = [
          0,0,1,service,ReleaseCall,21,,,\n\
          2,1,1,switch,Ended,,,,\n",
     ),
-    // a recharge, and one that the account refuses
-    (
-        "run --trace",
-        BAND,
-        ACCOUNT,
-        "5,,recharge,7,300\n6,,recharge,7,0\n",
-        "5,0,,operator,Recharge,7,300,,\n\
-         6,1,,operator,Recharge,7,0,,\n\
-         6,1,,service,refused,OutOfRange,,,\n",
-    ),
     // two calls of one moment, which two workers serve
     (
         "run --trace",
@@ -192,6 +182,14 @@ const TRACED: [(&str, &str, &str, &str, &str); 9] = [
     ),
 ];
 
+/// A recharge, and one that the account refuses.
+const RECHARGES: &str = "5,,recharge,7,300\n6,,recharge,7,0\n";
+
+/// What is said of them.
+const RECHARGED: &str = "5,0,,operator,Recharge,7,300,,\n\
+                         6,1,,operator,Recharge,7,0,,\n\
+                         6,1,,service,refused,OutOfRange,,,\n";
+
 /// A recharge with a last moment.
 const EXPIRING: &str = "prefix,from,fee,rate\n%%\nkind,key,value\naccount,7,1500\n%%\n\
                         moment,call,what,x,y,z\n5,,recharge,7,300,9000\n";
@@ -217,6 +215,15 @@ fn traces_messages(rt: HostRuntime) -> Result<(), Fail> {
         let output = format!(in rt.alloc(); "{HEADER}{said}")?;
         expect(&rt, words, input.as_str(), (0, output.as_str(), ""))?;
     }
+    let input = input_of(rt.alloc(), BAND, ACCOUNT, RECHARGES)?;
+    let output = format!(in rt.alloc(); "{HEADER}{RECHARGED}")?;
+    let line = "prepaid: refused: 1 OutOfRange\n";
+    expect(
+        &rt,
+        "run --trace",
+        input.as_str(),
+        (0, output.as_str(), line),
+    )?;
     let output = format!(in rt.alloc(); "{HEADER}5,0,,operator,Recharge,7,300,9000,\n")?;
     expect(&rt, "run --trace", EXPIRING, (0, output.as_str(), ""))?;
     for words in TWO_TABLES {

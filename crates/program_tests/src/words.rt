@@ -11,7 +11,7 @@ const CONFIG: &str = "prepaid: input: Config\n";
 const WORKERS: &str = "prepaid: run: Workers\n";
 
 /// Words that are no request. Between two spaces stands an empty word.
-const REFUSED: [&str; 20] = [
+const REFUSED: [&str; 24] = [
     "",
     "prices",
     "price",
@@ -32,6 +32,10 @@ const REFUSED: [&str; 20] = [
     "replay --opening 1000000000000001",
     "replay --opening 1 --limit 2",
     "replay --opening 1 --limit 1000001",
+    "audit --long --long",
+    "audit --long yes",
+    "audit --Long",
+    "audit more",
 ];
 
 /// Words after `run`, the status, and the fault. An empty word stands after a space at the end.
@@ -114,7 +118,7 @@ fn prints_help(rt: HostRuntime) -> Result<(), Fail> {
 
 #[test]
 fn prints_version(rt: HostRuntime) -> Result<(), Fail> {
-    let version = "prepaid 2026-11-25 (rattle-kit-13f)\n";
+    let version = "prepaid 2026-11-25\n";
     for words in ["--version", "-V"] {
         expect(&rt, words, "", (0, version, ""))?;
     }

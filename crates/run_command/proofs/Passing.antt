@@ -1,19 +1,28 @@
 -- The books of a run over an input pass the audit.
-use Rattle.std.proofs.Common.{ℕ, List, sym, subst}
-use Rattle.run_books.specs.Laws.{RunsPassTheAudit}
-use Rattle.run_books.specs.Runs.{HasAccounts}
+use Rattle.std.proofs.Common.{◌≡◌, ◌≤◌, ◌+◌, ◌*◌, ℕ, List, length, sym, subst, arith, ap}
+use Rattle.book_texts.specs.Printable.{row_count}
+use Rattle.book_texts.specs.Sizes.{most_rows}
+use Rattle.book_texts.specs.declared.size.BookSize.TheVariants as size
+use Rattle.run_books.specs.Laws.{RunsHaveFewRows, RunsPassTheAudit}
+use Rattle.run_books.specs.Runs.{HasAccounts, IsRecorded}
 use Rattle.run_command.proofs.Timing.{given_timely, rows_in_time}
 use Rattle.run_command.specs.Laws.{PlayedBooksPass}
+use Rattle.run_values.specs.Setups.{Setup}
 use Rattle.run_values.specs.declared.directory.OpeningCredit.{OpeningCredit}
 use Rattle.runs_core.specs.Hearing.{all_heard}
 use Rattle.ssf_core.specs.Laws.{ReportsAreInRange}
 
-pub played_pass : ReportsAreInRange → RunsPassTheAudit → PlayedBooksPass
-played_pass reports pass ask said given heard books may_be range given_by are typed room =
+-- 1,000 histories of 1,000,000 entries
+fits : (accounts limit rows : ℕ) → accounts ≤ 1000 → limit ≡ 1000000 → rows ≤ accounts * (1 + limit) → rows ≤ 4294967293
+fits accounts limit rows few is within =
+    let all : rows ≤ accounts * 1000001 = rw is at within in omega (arith, all)
+
+pub played_pass : ReportsAreInRange → RunsPassTheAudit → RunsHaveFewRows → PlayedBooksPass
+played_pass reports pass few_rows ask said given heard books may_be range given_by are typed =
     let accounts : List (ℕ × OpeningCredit) = said.setup.accounts in
     let listed = are.of_input.accounts in
     let Has : List (ℕ × OpeningCredit) → Type 0 = λ a. HasAccounts a in
-    pass are.setup ask.workers given books (record {
+    let recorded : IsRecorded are.setup ask.workers given books = record {
       may_be = may_be;
       answers = all_heard heard;
       handled = are.handled;
@@ -22,5 +31,10 @@ played_pass reports pass ask said given heard books may_be range given_by are ty
       accounts = subst Has (sym listed) range.accounts;
       timely = given_timely reports given_by.config ask.delay given_by.rows heard given given_by.play (rows_in_time given_by.rows said.script given_by.says range.recharges);
       typed = typed;
-      room = room;
-    })
+    } in
+    let few : length are.setup.accounts ≤ 1000 = rw listed range.few in
+    let rows : row_count books ≤ 4294967293 = fits (length are.setup.accounts) are.setup.limit (row_count books) few are.of_input.limit (few_rows are.setup ask.workers given books recorded) in
+    record {
+      long = pass 4294967293 are.setup ask.workers given books recorded rows;
+      short = λ room. pass 1000000 are.setup ask.workers given books recorded room;
+    }

@@ -1,19 +1,20 @@
 -- What `run` answers to an input.
-use Rattle.std.specs.Prelude.{◌≡◌, ◌≤◌, ℕ, true, false, List, Result, Ok, Err, ⊤}
+use Rattle.std.specs.Prelude.{◌≡◌, ℕ, true, false, List, Result, Ok, Err, ⊤}
 use Rattle.book_texts.specs.BookTexts.{book_text}
-use Rattle.book_texts.specs.Printable.{row_count}
 use Rattle.book_texts.specs.RunTexts.{IsRunText}
-use Rattle.run_books.specs.Laws.{PassTheAudit}
 use Rattle.call_records.specs.Records.{Run}
 use Rattle.call_records.specs.Tables.{IsCallText}
 use Rattle.run_command.specs.Books.{AreBooksOf}
+use Rattle.run_command.specs.Laws.{CallsHavePaid, PassTheirAudits}
 use Rattle.run_command.specs.Plays.{IsGivenBy}
+use Rattle.run_command.specs.Refused.{refusals_in}
 use Rattle.run_options.specs.declared.options.RunAsk.{RunAsk}
 use Rattle.run_options.specs.declared.options.RunOutput.{RunOutput}
 use Rattle.run_options.specs.declared.options.RunOutput.TheVariants as output
 use Rattle.run_texts.specs.InputFaults.{Refuses}
 use Rattle.run_texts.specs.Inputs.{RunInput, input_of}
 use Rattle.run_command.specs.declared.error.RunError.{RunError}
+use Rattle.run_command.specs.declared.refusals.Refusals.{Refusals}
 use Rattle.run_command.specs.declared.error.RunError.TheVariants as error
 use Rattle.run_trace.specs.Tables.{trace_text}
 use Rattle.runs_core.specs.Hearing.{all_heard}
@@ -32,8 +33,13 @@ IsTextOf output.Book run heard text = text ≡ book_text run.books
 IsTextOf output.Calls run heard text = IsCallText run text
 IsTextOf output.Trace run heard text = text ≡ trace_text run.given heard
 
--- the text is that of the books of a run over the input, as it was asked for, to which the script of the input was played
-pub record IsRunOf (ask : RunAsk) (input : List ℕ) (text : List ℕ) : Type 0 where
+-- what a run says: its text, and how often its accounts refused what they were asked
+pub record RunSaid : Type 0 where
+  pub text : List ℕ
+  pub refusals : Refusals
+
+-- the text is that of the books of a run over the input, as it was asked for, to which the script of the input was played, and the refusals are those of the answers that were heard
+pub record IsRunOf (ask : RunAsk) (input : List ℕ) (ran : RunSaid) : Type 0 where
   pub said : RunInput
   pub read : input_of input ≡ Ok said
   pub workers : are_workers ask.workers ≡ true
@@ -42,9 +48,12 @@ pub record IsRunOf (ask : RunAsk) (input : List ℕ) (text : List ℕ) : Type 0 
   pub given_by : IsGivenBy ask said.script heard given
   pub books : List Closed
   pub are_books : AreBooksOf ask said given heard books
-  pub printed : IsTextOf ask.output (record { setup = are_books.setup; given = given; books = books }) (all_heard heard) text
-  -- an audit of the table of the books says yes for each account, where there is room for all of their rows
-  pub passes : ask.output ≡ output.Book → row_count books ≤ 1000000 → PassTheAudit books
+  pub printed : IsTextOf ask.output (record { setup = are_books.setup; given = given; books = books }) (all_heard heard) ran.text
+  pub refused : ran.refusals ≡ refusals_in (all_heard heard)
+  -- a long audit of the table of the books says yes for each account, and so does a short one where that takes as many rows
+  pub passes : ask.output ≡ output.Book → PassTheirAudits books
+  -- the records of its calls have paid what the calls of its books have, and a call without a route nothing
+  pub paid : CallsHavePaid (record { setup = are_books.setup; given = given; books = books })
 
 -- what can end a run of so many workers: `Workers` where there can't be so many, and only then; no gate closes
 abbrev pub MayEnd : ℕ → RunFault → Type 0
@@ -64,9 +73,9 @@ pub record IsEnded (workers : ℕ) (input : List ℕ) (fault : RunFault) : Type 
   pub read : input_of input ≡ Ok said
   pub may : MayEnd workers fault
 
--- an answer to the input: the text of a run, or the first fault of the input, or else a fault of the run. A failed reader and want of memory may come at any
-abbrev pub IsRunAnswer : RunAsk → List ℕ → Result (List ℕ) RunError → Type 0
-IsRunAnswer ask input (Ok text) = IsRunOf ask input text
+-- an answer to the input: what a run says, or the first fault of the input, or else a fault of the run. A failed reader and want of memory may come at any
+abbrev pub IsRunAnswer : RunAsk → List ℕ → Result RunSaid RunError → Type 0
+IsRunAnswer ask input (Ok ran) = IsRunOf ask input ran
 IsRunAnswer ask input (Err (error.Run run.OutOfMemory)) = ⊤
 IsRunAnswer ask input (Err (error.Run fault)) = IsEnded ask.workers input fault
 IsRunAnswer ask input (Err (error.Input why)) = Refuses why (input_of input)

@@ -1,26 +1,52 @@
--- What an audit says of the books of a run over an input.
-use Rattle.std.specs.Prelude.{◌≡◌, ◌≤◌, ℕ, true, List, All}
+-- What an audit says of the books of a run over an input, and what its calls have paid.
+use Rattle.std.specs.Prelude.{◌≡◌, ◌≤◌, ℕ, true, List, All, length, sum_by}
 use Rattle.book_texts.specs.Printable.{row_count}
+use Rattle.book_texts.specs.Sizes.{most_rows}
 use Rattle.book_texts.specs.Typed.{IsTyped}
+use Rattle.book_texts.specs.declared.size.BookSize.TheVariants as size
 use Rattle.run_books.specs.Laws.{PassTheAudit}
 use Rattle.run_books.specs.Runs.{HasAccounts}
+use Rattle.call_records.specs.Records.{AreRecords, IsRecord, Run}
+use Rattle.call_records.specs.declared.call_record.CallRecord.{CallRecord}
+use Rattle.call_records.specs.declared.outcome.Outcome.TheVariants as outcome
 use Rattle.run_command.specs.Books.{AreBooksOf}
 use Rattle.run_command.specs.Plays.{IsGivenBy}
 use Rattle.run_options.specs.declared.options.RunAsk.{RunAsk}
+use Rattle.run_records.specs.Laws.{paid_by_calls}
 use Rattle.run_texts.specs.Happenings.{is_in_time}
 use Rattle.run_texts.specs.Inputs.{RunInput}
 use Rattle.run_values.specs.declared.post.Answer.{Answer}
 use Rattle.run_values.specs.declared.post.Body.{Body}
+use Rattle.run_values.specs.declared.setup.TheConstants.{MAX_ACCOUNTS}
 use Rattle.runs_core.specs.Teams.{are_workers}
 use Rattle.shared_account.specs.Closed.{Closed}
 
--- an input whose accounts rise, each with an opening in its range, and whose recharges are in time, as those that are read are
+-- an input of at most 1,000 accounts, which rise, each with an opening in its range, and whose recharges are in time, as those that are read are
 pub record IsInRange (said : RunInput) : Type 0 where
   pub accounts : HasAccounts said.setup.accounts
+  pub few : length said.setup.accounts ≤ MAX_ACCOUNTS
   pub recharges : All (λ event. is_in_time event.what ≡ true) said.script
 
--- the table of the books of a run over it passes the audit, where a table has room for it
+-- the table of books passes a long audit, and a short one where that takes as many rows
+pub record PassTheirAudits (books : List Closed) : Type 0 where
+  pub long : PassTheAudit (most_rows size.Long) books
+  pub short : row_count books ≤ most_rows size.Short → PassTheAudit (most_rows size.Short) books
+
+-- so does that of the books of a run over it
 abbrev pub PlayedBooksPass : Type 0
 PlayedBooksPass =
     (ask : RunAsk) (said : RunInput) (given : List (ℕ × Body)) (heard : List (List Answer)) (books : List Closed) → are_workers ask.workers ≡ true → IsInRange said
-    → IsGivenBy ask said.script heard given → AreBooksOf ask said given heard books → All IsTyped books → row_count books ≤ 1000000 → PassTheAudit books
+    → IsGivenBy ask said.script heard given → AreBooksOf ask said given heard books → All IsTyped books → PassTheirAudits books
+
+-- what the records of a run's calls say of what was paid
+pub record CallsHavePaid (run : Run) : Type 0 where
+  -- all together, what the calls of its books have paid
+  pub sums_up : (records : List CallRecord) → AreRecords run records → sum_by (λ call. call.paid) records ≡ sum_by paid_by_calls run.books
+  -- a call to a number without a route, nothing
+  pub unrouted : (call : CallRecord) → IsRecord run call → call.outcome ≡ outcome.NoRoute → call.paid ≡ 0
+
+-- so it is where a script is played
+abbrev pub PlayedCallsHavePaid : Type 0
+PlayedCallsHavePaid =
+    (ask : RunAsk) (said : RunInput) (given : List (ℕ × Body)) (heard : List (List Answer)) (books : List Closed) → are_workers ask.workers ≡ true → HasAccounts said.setup.accounts
+    → IsGivenBy ask said.script heard given → (are : AreBooksOf ask said given heard books) → CallsHavePaid (record { setup = are.setup; given = given; books = books })

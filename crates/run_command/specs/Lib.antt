@@ -4,3 +4,5 @@ pub mod Laws
 pub mod Listening
 pub mod Played
 pub mod Plays
+pub mod RanOf
+pub mod Refused

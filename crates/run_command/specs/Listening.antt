@@ -1,11 +1,13 @@
--- A player that keeps the answers that it hears.
+-- A player that counts the refusals in the answers that it hears, and may keep the answers.
 use Rattle.std.specs.Prelude.{◌≡◌, ◌++◌, true, false, List}
+use Rattle.run_command.specs.Refused.{refusals_in}
 use Rattle.run_command.specs.declared.listening.Listener.{Listener}
 use Rattle.run_values.specs.declared.post.Answer.{Answer}
 use Rattle.script_player.specs.Runs.{Hears}
 
--- a listener hears answers as its player does, and keeps them where it keeps any
+-- a listener hears answers as its player does, keeps them where it keeps any, and counts their refusals
 pub record Listens (before : Listener) (answers : List Answer) (after : Listener) : Type 0 where
   pub plays : before.player.ended ≡ false → Hears before.player answers after.player
   pub keeps : after.keeps ≡ before.keeps
   pub kept : before.keeps ≡ true → after.heard.items ≡ before.heard.items ++ answers
+  pub counted : (heard : List Answer) → before.refusals ≡ refusals_in heard → after.refusals ≡ refusals_in (heard ++ answers)

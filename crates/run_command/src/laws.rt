@@ -1,15 +1,16 @@
 //! What holds of a run, each the contract of a function that does nothing.
 
 ghost use Rattle.std.specs.Prelude.{◌≡◌, ◌++◌, true, List};
-ghost use Rattle.run_command.specs.Laws.{PlayedBooksPass};
+ghost use Rattle.run_command.specs.Laws.{PlayedBooksPass, PlayedCallsHavePaid};
 ghost use Rattle.run_command.specs.Plays.{HearsItsRounds, IsPlayOf};
 ghost use Rattle.run_texts.specs.declared.script.ScriptRow.{ScriptRow};
 ghost use Rattle.run_values.specs.declared.post.Answer.{Answer};
 
 use run_books::runs_pass_the_audit;
+use run_records::{records_sum_up, unrouted_calls_pay_nothing};
 use runs_core::Driver;
 use script_player::ScriptPlayer;
-use ssf_core::reports_are_in_range;
+use ssf_core::{initial_dp_is_first, reports_are_in_range};
 
 /// What a player that has ended has given is the play of its rows by the answers that it has heard.
 pub(crate) fn is_played(player: &ScriptPlayer)
@@ -24,11 +25,21 @@ pub(crate) fn is_played(player: &ScriptPlayer)
     let _ = player.given();
 }
 
-/// The table of the books of a run passes the audit, where a table has room for it: the gsmSSFs
-/// send reports in range alone.
+/// The table of the books of a run passes a long audit: the gsmSSFs send reports in range alone, and
+/// `MAX_ACCOUNTS` histories of `MAX_LIMIT` entries have fewer rows than that takes.
 pub(crate) fn played_books_pass()
     ensures { PlayedBooksPass }
 {
     reports_are_in_range();
     runs_pass_the_audit();
+}
+
+/// The records of the calls of a run have paid, all together, what the calls of its books have, and
+/// a call without a route has paid nothing: the gsmSSF of a call sends one InitialDP.
+pub(crate) fn played_calls_have_paid()
+    ensures { PlayedCallsHavePaid }
+{
+    initial_dp_is_first();
+    records_sum_up();
+    unrouted_calls_pay_nothing();
 }

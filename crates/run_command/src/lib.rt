@@ -5,7 +5,9 @@
 mod error;
 mod laws;
 mod listening;
+mod refusals;
 mod running;
 
 pub use error::RunError;
-pub use running::run;
+pub use refusals::Refusals;
+pub use running::{Ran, run};

@@ -1,7 +1,9 @@
-//! A player that keeps the answers that it hears.
+//! A player that counts the refusals in the answers that it hears, and may keep the answers.
 
 ghost use Rattle.std.specs.Prelude.{◌≡◌, ◌↔◌, ◌++◌, [], IsTrue, OnOk};
+ghost use Rattle.run_command.specs.Refused.{none_refused};
 
+use crate::Refusals;
 use arrayvec::ArrayVec;
 use run_options::RunOutput;
 use run_values::{Answer, Body};
@@ -9,7 +11,8 @@ use runs_core::Driver;
 use script_player::ScriptPlayer;
 use std::alloc::{AllocError, Global};
 
-/// Plays a script, and keeps the answers that it hears where a trace is to be printed of them.
+/// Plays a script, counts the refusals that the answers tell of, and keeps the answers where a trace
+/// is to be printed of them.
 #[derive(Drop)]
 pub(crate) struct Listener {
     /// The player of the script.
@@ -18,19 +21,23 @@ pub(crate) struct Listener {
     pub keeps: bool,
     /// The answers that were kept, in order.
     pub heard: Vec<Answer>,
+    /// The refusals in all answers.
+    pub refusals: Refusals,
 }
 
 impl Listener {
-    /// A player that has kept nothing yet, for a run that prints this.
+    /// A player that has heard nothing yet, for a run that prints this.
     pub(crate) fn new(alloc: Global, player: ScriptPlayer, output: RunOutput) -> Listener
         ensures player { result.player ≡ player }
         ensures keeps { IsTrue result.keeps ↔ (output ≡ RunOutput.Trace) }
         ensures heard { result.heard.items ≡ [] }
+        ensures refusals { result.refusals ≡ none_refused }
     {
         Listener {
             player,
             keeps: matches!(output, RunOutput::Trace),
             heard: Vec::new(alloc),
+            refusals: Refusals::none(),
         }
     }
 }
@@ -67,6 +74,7 @@ impl Driver for Listener {
         if self.keeps {
             keep(&mut self.heard, answers)?;
         }
+        self.refusals.hear(answers);
         self.player.round(answers)
     }
 }

@@ -4,6 +4,7 @@ ghost use Rattle.std.specs.Prelude.{◌≡◌, ◌≤◌, ◌++◌, All, IfOk, O
 ghost use Rattle.std.specs.Result.{result_map_both};
 ghost use Rattle.run_command.specs.Answers.{IsRunAnswer, IsTextOf, MayFail};
 ghost use Rattle.run_command.specs.Played.{run_of, AreOfPlay};
+ghost use Rattle.run_command.specs.RanOf.{said_of};
 ghost use Rattle.book_texts.specs.Typed.{IsTyped};
 ghost use Rattle.run_options.specs.Options.{ask_of};
 ghost use Rattle.run_books.specs.Runs.{HasAccounts};
@@ -14,7 +15,7 @@ ghost use Rattle.run_texts.specs.declared.script.ScriptRow.{ScriptRow};
 ghost use Rattle.run_values.specs.Setups.{IsWithin};
 
 use crate::listening::Listener;
-use crate::{RunError, laws};
+use crate::{Refusals, RunError, laws};
 use account_core::MAX_LIMIT;
 use book_texts::{book_table, run_lines};
 use call_records::{call_table, records};
@@ -30,8 +31,18 @@ use std::sync::Wait;
 use std::thread::Threads;
 use tariff_core::LAST_MOMENT;
 
+/// What a run prints.
+#[derive(Drop)]
+pub struct Ran {
+    /// The text.
+    pub text: String,
+    /// How often its accounts refused what they were asked.
+    pub refusals: Refusals,
+}
+
 /// The text of a run of the input's script: a line for each account and for each of its calls, the
-/// table of their books, the table of the calls, or the trace of what was said.
+/// table of their books, the table of the calls, or the trace of what was said; and the refusals that
+/// the answers of its workers tell of.
 ///
 /// The input is judged first, its parts in order, and its first fault is told. `Workers` where
 /// there can't be so many workers; any other fault of a run comes as `runs_core::serve` has it.
@@ -40,14 +51,18 @@ pub fn run<R: Wait + Threads + Sync>(
     alloc: Global,
     options: &RunOptions,
     input: &[u8],
-) -> Result<String, RunError>
+) -> Result<Ran, RunError>
     ensures { IsRunAnswer (ask_of options.now) input.now
-        (result_map_both string_bytes (λ error. error) result) }
+        (result_map_both said_of (λ error. error) result) }
 {
     let texts = read_texts(alloc, input)?;
     let played = play(rt, alloc, options, texts)?;
     laws::played_books_pass();
-    Ok(print(alloc, options.output, &played)?)
+    laws::played_calls_have_paid();
+    Ok(Ran {
+        text: print(alloc, options.output, &played)?,
+        refusals: played.listener.refusals,
+    })
 }
 
 /// The text of a script that was played.

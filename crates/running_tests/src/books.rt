@@ -140,7 +140,7 @@ fn book_of<R: Abort + Wait>(
     let mut seats = Vec::with_capacity(alloc, 2)?;
     seats.push_reserved(first);
     seats.push_reserved(second);
-    Ok(account.close(alloc, seats)?)
+    Ok(account.close(seats)?)
 }
 
 /// The books of some accounts, in this order.

@@ -5,6 +5,8 @@
 #[cfg(test)]
 mod books;
 #[cfg(test)]
+mod faults;
+#[cfg(test)]
 mod heard;
 #[cfg(test)]
 mod mailboxes;

@@ -90,7 +90,6 @@ fn there_are_1_to_16_workers(rt: HostRuntime) -> Result<(), Fail> {
     assert_eq!(rt; (books.books.len(), books.handled.len()), (2, 16));
     for book in &books.books {
         assert_eq!(rt; (book.opening(), book.history().len()), (1500, 0));
-        assert_eq!(rt; book.own().len(), 16);
     }
     Ok(())
 }

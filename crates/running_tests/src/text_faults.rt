@@ -1,6 +1,7 @@
 //! Each fault of the tables of a setup and of a script.
 
 use crate::setups::list;
+use crate::texts::Failing;
 use run_texts::{read_script, read_setup};
 use run_values::Directory;
 use std::alloc::{AllocError, Global};
@@ -102,21 +103,29 @@ const SCRIPTS: [(&str, Told); 35] = [
     ),
 ];
 
-/// Compares the first fault of a setup.
+/// Compares the first fault of a setup, and that of one whose reader fails behind it.
 fn expect_setup<R: Abort>(rt: &R, alloc: Global, text: &str, told: Told) {
     let fault = told.map(|(row, kind)| TableFault::Row(RowFault { row, kind }));
-    assert_eq!(rt;
-        read_setup(alloc, text.as_bytes()).err(),
-        fault,
-        "of {text:?}"
-    );
+    let bytes = text.as_bytes();
+    assert_eq!(rt; read_setup(alloc, bytes).err(), fault, "of {text:?}");
+    if text.ends_with('\n') {
+        let fault = fault.unwrap_or(TableFault::Device);
+        let failed = read_setup(alloc, Failing { bytes }).err();
+        assert_eq!(rt; failed, Some(fault), "of {text:?} and a failed reader");
+    }
 }
 
-/// Compares the first fault of a script.
+/// Compares the first fault of a script, and that of one whose reader fails behind it.
 fn expect_script<R: Abort>(rt: &R, alloc: Global, directory: &Directory, text: &str, told: Told) {
     let fault = told.map(|(row, kind)| TableFault::Row(RowFault { row, kind }));
-    let read = read_script(alloc, directory, text.as_bytes());
+    let bytes = text.as_bytes();
+    let read = read_script(alloc, directory, bytes);
     assert_eq!(rt; read.err(), fault, "of {text:?}");
+    if text.ends_with('\n') {
+        let fault = fault.unwrap_or(TableFault::Device);
+        let failed = read_script(alloc, directory, Failing { bytes }).err();
+        assert_eq!(rt; failed, Some(fault), "of {text:?} and a failed reader");
+    }
 }
 
 /// A setup with these rows below its header.
@@ -127,7 +136,10 @@ fn setup_of(alloc: Global, rows: &str) -> Result<String, AllocError> {
 #[test]
 fn tells_the_first_fault_of_a_table(rt: HostRuntime) -> Result<(), Fail> {
     for (rows, told) in SETUPS {
-        expect_setup(&rt, rt.alloc(), setup_of(rt.alloc(), rows)?.as_str(), told);
+        let text = setup_of(rt.alloc(), rows)?;
+        expect_setup(&rt, rt.alloc(), text.as_str(), told);
+        let ended = format!(in rt.alloc(); "{text}\n")?;
+        expect_setup(&rt, rt.alloc(), ended.as_str(), told);
     }
     for text in ["", "kind,key\n", "kind,key,Value\n", "account,7,1\n"] {
         expect_setup(&rt, rt.alloc(), text, Some((1, RowKind::Header)));
@@ -136,6 +148,8 @@ fn tells_the_first_fault_of_a_table(rt: HostRuntime) -> Result<(), Fail> {
     for (rows, told) in SCRIPTS {
         let text = format!(in rt.alloc(); "moment,call,what,x,y\n{rows}")?;
         expect_script(&rt, rt.alloc(), &directory, text.as_str(), told);
+        let ended = format!(in rt.alloc(); "{text}\n")?;
+        expect_script(&rt, rt.alloc(), &directory, ended.as_str(), told);
     }
     for text in ["", "moment,call,what,x\n", "moment,call,what,x,Y\n"] {
         expect_script(

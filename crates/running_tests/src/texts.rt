@@ -143,8 +143,8 @@ fn reads_each_word(rt: HostRuntime) -> Result<(), Fail> {
 
 /// A reader that gives some bytes and then fails.
 #[derive(Drop)]
-struct Failing<'a> {
-    bytes: &'a [u8],
+pub(crate) struct Failing<'a> {
+    pub bytes: &'a [u8],
 }
 
 impl Read for Failing<'_> {

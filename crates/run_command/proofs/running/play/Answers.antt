@@ -1,5 +1,5 @@
 use Rattle.std.proofs.Common.{◌∙◌, ◌++◌, List, [], ap, map, refl}
-use Rattle.run_command.proofs.ListenLemmas.{keeps_heard, player_hears}
+use Rattle.run_command.proofs.ListenLemmas.{counts_heard, keeps_heard, player_hears}
 use Rattle.run_command.proofs.PlayLemmas.{given_by, rounds_of}
 use Rattle.run_options.specs.Options.{ask_of}
 use Rattle.run_texts.specs.Views.{with_digits}
@@ -46,4 +46,5 @@ returns-clause-books g c =
       };
       setup = refl;
       kept = λ asked. keeps_heard [] listener ran.heard c.serve.new.driver (c.new-listener.ensures.keeps.1 asked) ran.rounds ∙ ap (λ (l : List Answer). l ++ all_heard ran.heard) c.new-listener.ensures.heard;
+      counted = counts_heard [] listener ran.heard c.serve.new.driver [] c.new-listener.ensures.refusals ran.rounds;
     }

@@ -23,9 +23,12 @@ returns g c =
       books = played.books.items;
       are_books = are.books;
       printed = rw are.setup (text_of_heard _ (run_of played) played.listener.heard.items (all_heard are.heard) _ are.kept c.in_ok-print.ensures.text);
-      passes = λ asked room.
+      refused = are.counted;
+      passes = λ asked.
           let in_time = All-map (λ (event : ScriptEvent). is_in_time event.what ≡ true) script_event c.in_ok-texts.texts.script.items c.in_ok-texts.ensures.in_time in
           c.played_books_pass.ensures (ask_of c.args.options.now) (input_in c.in_ok-texts.texts) played.listener.player.network.given are.heard played.books.items c.in_ok-played.ensures.workers
-          (record { accounts = c.in_ok-played.ensures.accounts; recharges = in_time })
-          are.given_by are.books (c.in_ok-print.ensures.typed asked) room;
+          (record { accounts = c.in_ok-played.ensures.accounts; few = c.in_ok-texts.ensures.within.accounts; recharges = in_time })
+          are.given_by are.books (c.in_ok-print.ensures.typed asked);
+      paid = c.played_calls_have_paid.ensures (ask_of c.args.options.now) (input_in c.in_ok-texts.texts) played.listener.player.network.given are.heard played.books.items
+          c.in_ok-played.ensures.workers c.in_ok-played.ensures.accounts are.given_by are.books;
     }

@@ -1,0 +1,8 @@
+-- What a run of the code says.
+use Rattle.std.specs.Prelude.{string_bytes}
+use Rattle.run_command.specs.Answers.{RunSaid}
+use Rattle.run_command.specs.declared.running.Ran.{Ran}
+
+-- its text and its refusals
+abbrev pub said_of : Ran → RunSaid
+said_of ran = record { text = string_bytes ran.text; refusals = ran.refusals }

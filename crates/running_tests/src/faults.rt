@@ -1,0 +1,44 @@
+//! The names and the numbers of faults.
+
+use run_values::SetupFault;
+use runs_core::RunFault;
+use std::test::Fail;
+use workers_core::WorkerFault;
+
+const SETUP_FAULTS: [(SetupFault, u8, &str); 4] = [
+    (SetupFault::Repeated, 1, "Repeated"),
+    (SetupFault::Unknown, 2, "Unknown"),
+    (SetupFault::OutOfRange, 3, "OutOfRange"),
+    (SetupFault::OutOfMemory, 4, "OutOfMemory"),
+];
+
+const WORKER_FAULTS: [(WorkerFault, u8, &str); 2] = [
+    (WorkerFault::OutOfMemory, 1, "OutOfMemory"),
+    (WorkerFault::GateClosed, 2, "GateClosed"),
+];
+
+const RUN_FAULTS: [(RunFault, u8, &str); 6] = [
+    (RunFault::OutOfMemory, 1, "OutOfMemory"),
+    (RunFault::Workers, 2, "Workers"),
+    (RunFault::GateClosed, 3, "GateClosed"),
+    (RunFault::Mismatch, 4, "Mismatch"),
+    (RunFault::Channel, 5, "Channel"),
+    (RunFault::Thread, 6, "Thread"),
+];
+
+#[test]
+fn faults_have_names_and_numbers(rt: HostRuntime) -> Result<(), Fail> {
+    for (fault, number, name) in SETUP_FAULTS {
+        assert_eq!(rt; fault as u8, number);
+        assert_eq!(rt; format!(in rt.alloc(); "{fault}")?.as_str(), name);
+    }
+    for (fault, number, name) in WORKER_FAULTS {
+        assert_eq!(rt; fault as u8, number);
+        assert_eq!(rt; format!(in rt.alloc(); "{fault}")?.as_str(), name);
+    }
+    for (fault, number, name) in RUN_FAULTS {
+        assert_eq!(rt; fault as u8, number);
+        assert_eq!(rt; format!(in rt.alloc(); "{fault}")?.as_str(), name);
+    }
+    Ok(())
+}
