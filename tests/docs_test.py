@@ -5,7 +5,8 @@ A block ```console has commands, a line `$ WORDS` each, and below each what it p
 for each page, which has `bin/prepaid` and `examples`, and what they print, errors too, must be what stands there, byte
 for byte. A command that wants a program that isn't here is passed over, and told; with --all that is a failure. Of
 `cd crates/NAME && rt run` the text is compared with crates/NAME/stdout, since the gate compares the program with that.
-Without a PAGE these are README.md and docs/*.md.
+In a table with the columns Command and Audit each command makes a book: its audit says yes for each account, or for one
+of them no, as the table says, with the status that goes with it. Without a PAGE these are README.md and docs/*.md.
 """
 import argparse
 import glob
@@ -33,6 +34,29 @@ def blocks(page):
         elif inside:
             found[-1][2].append(line + "\n")
     return [(number, words, "".join(told)) for number, words, told in found]
+
+
+def altered_books(page):
+    """The commands of a page's tables that make a book, each with the number of its line and the word of its audit."""
+    found, inside = [], False
+    with open(page, encoding="utf-8") as it:
+        for number, line in enumerate(it, 1):
+            cells = [cell.strip() for cell in re.split(r"(?<!\\)\|", line)[1:-1]]
+            if cells[-2:] == ["Command", "Audit"]:
+                inside = True
+            elif not cells:
+                inside = False
+            elif inside and not line.startswith("|---"):
+                found.append((number, cells[-2].strip("`").replace("\\|", "|"), cells[-1]))
+    return found
+
+
+def audit_word(words, folder):
+    """What the audit of the book that a command makes says: yes, no, or what else comes of it."""
+    ran = subprocess.run(["bash", "-c", f"set -o pipefail; {words} | bin/prepaid audit"], cwd=folder, text=True, capture_output=True)
+    refused = [line for line in ran.stdout.splitlines() if not line.endswith(" yes")]
+    said = {(0, 0): "yes", (3, 1): "no"}.get((ran.returncode, len(refused)))
+    return said if ran.stdout and not ran.stderr and said else f"status {ran.returncode}: {refused} {ran.stderr}"
 
 
 def lacks(words):
@@ -68,6 +92,12 @@ def try_page(page, program, takes_all):
             if said != told:
                 failed += 1
                 print(f"{page}:{number}: {words}\nprints\n{said}where the page has\n{told}")
+        for number, words, told in altered_books(page):
+            said = audit_word(words, folder)
+            ran += 1
+            if said != told:
+                failed += 1
+                print(f"{page}:{number}: {words}\nan audit says {said} where the page has {told}")
     return ran, passed, failed
 
 

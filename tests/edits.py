@@ -1,7 +1,7 @@
 #!/usr/bin/env python3
 """Tries the edits of crates/NAME/edits: wrong bodies that the prover must refuse.
 
-usage: tests/edits.py [--root FOLDER] [--lanes N] [--pages] [NAME..]
+usage: tests/edits.py [--root FOLDER] [--lanes N] [--pages] [CRATE [EDIT..]]..
 
 An edit has the form of those in must-fail/, which the gate tries one by one. Here one check tries
 many: it changes different functions of a copy of the crate at once. The prover judges each function
@@ -10,7 +10,8 @@ an error of its own in its proof files. It isn't refused by what a caller of it 
 function itself waits for another that isn't proved, nor where a proof file only lacks a name. What
 a check leaves undecided is tried in the next one, and at last alone.
 
-With --pages those of must-fail/ are tried too, and what refuses each edit is written to docs/edits/NAME.md.
+With --pages those of must-fail/ are tried too, and what refuses each edit is written to docs/edits/NAME.md. Names of edits
+behind a crate, those of must-fail/ among them, are tried alone.
 
 The checks go over what `rt check` keeps in out/. The last line is 'N refused, M not refused', and
 the names of the M stand above it. The status is 0 where M is 0.
@@ -111,6 +112,10 @@ def read_edit(path, texts):
                 olds.append(text.removeprefix(" "))
             elif word == "new":
                 news.append(text.removeprefix(" "))
+            elif line:
+                edit.fault = f"a line begins with none of file:, old: and new: {line}"
+    if edit.fault:
+        return edit
     if not edit.changes:
         edit.fault = "it has no 'old:' and 'new:' pair"
     elif edit.apply(texts) is None:
@@ -169,7 +174,7 @@ class Verdicts:
 class Crate:
     """A crate with its edits, in a copy of it and of the crates below, over what its checks keep."""
 
-    def __init__(self, root, name, room, folders):
+    def __init__(self, root, name, room, folders, only=()):
         self.name, self.folder, self.room = name, f"{root}/crates/{name}", room
         self.texts = {}
         for part in PARTS:
@@ -181,6 +186,7 @@ class Crate:
         self.table = [it for file, text in self.texts.items() if file.startswith("src/") for it in functions_of(file, text)]
         paths = [f"{it.path}/{name}" for it in os.scandir(self.folder) if it.name in folders for name in os.listdir(it.path)]
         self.edits = [read_edit(it, self.texts) for it in sorted(paths, key=os.path.basename) if it.endswith(".edit")]
+        self.edits = [it for it in self.edits if not only or it.name in only]
         self.functions = {it.name: it.functions(self.texts, self.table) for it in self.edits if not it.fault}
         self.checks = 0
 
@@ -306,12 +312,12 @@ def page(crate, given):
     return head + "| Edit | Changes | Refused by |\n|---|---|---|\n" + "".join(rows)
 
 
-def try_crate(root, name, listed, pages):
-    """Tries a crate's edits, and returns how many were refused and the names of the others."""
+def try_crate(root, name, listed, pages, only):
+    """Tries a crate's edits, all or these alone, and returns how many were refused and the names of the others."""
     start = time.monotonic()
     with tempfile.TemporaryDirectory(prefix="edits-") as room:
         lay(root, name, listed, room)
-        crate = Crate(root, name, room, ("edits", "must-fail") if pages else ("edits",))
+        crate = Crate(root, name, room, ("edits", "must-fail") if pages or only else ("edits",), only)
         given = crate.tried()
     if pages:
         os.makedirs(f"{root}/docs/edits", exist_ok=True)
@@ -325,6 +331,20 @@ def try_crate(root, name, listed, pages):
     return len(refused), [f"{name}/{it}" for it in sorted(given) if not given[it][0]]
 
 
+def chosen(words, listed, root):
+    """Returns the crates that the words name, each with its edits that they name behind it."""
+    crates = {}
+    for word in words:
+        if word in listed:
+            name = word
+            crates[name] = []
+        elif crates and any(os.path.isfile(f"{root}/crates/{name}/{it}/{word}.edit") for it in ("edits", "must-fail")):
+            crates[name].append(word)
+        else:
+            sys.exit(f"edits: {word} is no crate of crates.txt" + (f", and no edit of {name}" if crates else ""))
+    return crates
+
+
 def main():
     asked = argparse.ArgumentParser(description=__doc__, formatter_class=argparse.RawDescriptionHelpFormatter)
     asked.add_argument("--root", default=os.path.dirname(os.path.dirname(os.path.abspath(__file__))))
@@ -333,17 +353,17 @@ def main():
     asked.add_argument("names", nargs="*")
     words = asked.parse_args()
     listed = lists(words.root)
-    unknown = [it for it in words.names if it not in listed]
-    if unknown:
-        sys.exit(f"edits: crates.txt names no crate {unknown[0]}")
-    names = [it for it in listed if os.path.isdir(f"{words.root}/crates/{it}/edits") and (not words.names or it in words.names)]
+    only = chosen(words.names, listed, words.root)
+    if words.pages and any(only.values()):
+        sys.exit("edits: --pages takes no names of edits")
+    names = [it for it in listed if os.path.isdir(f"{words.root}/crates/{it}/edits") and (not only or it in only)]
     # each crate must be proved as it is, and its check brings out/ up to date, the crates below included
     for it in names:
         ran = rt_check(f"{words.root}/crates/{it}")
         if ran.returncode:
             sys.exit(f"{ran.stdout}edits: {it} isn't proved as it is")
     with ThreadPoolExecutor(words.lanes) as pool:
-        tried = list(pool.map(lambda it: try_crate(words.root, it, listed, words.pages), names))
+        tried = list(pool.map(lambda it: try_crate(words.root, it, listed, words.pages, only.get(it, ())), names))
     refused, others = sum(it for it, _ in tried), [it for _, names in tried for it in names]
     for it in others:
         print(f"not refused: {it}")

@@ -2,9 +2,9 @@
 """Holds the words together: the man page, the completions and the help against docs/FORMATS.md.
 
 tests/words_test.py [--program FILE] compares commands, options, ranges, what is left out, and the lines and kinds of
-faults, and runs the examples of the man page. It tries each number at the ends of its range, one past them and far above
-them, and each option that may be left out beside what it is then. The version that is printed is the day of the
-changelog's newest section, with the kit that the README names.
+faults, how each command is called, and runs the examples of the man page. It tries each number at the ends of its range,
+one past them and far above them, with the status and the line of its fault, and each option that may be left out beside
+what it is then. The version that is printed is the day of the changelog's newest section.
 """
 import argparse
 import os
@@ -68,12 +68,13 @@ def tables_of(text):
 
 
 def said_in_formats(text):
-    """Commands with their options, (range, left out) of each option that takes a value, and lines and kinds of faults."""
+    """Commands with their options, (range, left out) of each option that takes a value, the lines of faults with the
+    status of each, and the kinds of faults."""
     tables = tables_of(text)
     commands, values = {"help": set()}, {}
     for name, options, *_ in tables["Command"]:
         name, found = name.strip("`"), re.findall(r"(--[a-z]+) [A-Z]+", options)
-        commands[name] = set(found) | HELP
+        commands[name] = set(found) | set(re.findall(r"\[(--[a-z]+)\]", options)) | HELP
         for option in found:
             behind = options[options.index(option) :]
             values[name, option] = re.search(r"\d+ to (\d+\^)?\d+", behind)[0], None
@@ -86,8 +87,8 @@ def said_in_formats(text):
         commands["run"].add(option)
         if takes:
             values["run", option] = allowed.replace("`", ""), left.strip("`")
-    lines = {it for row in tables["Line"] if row[0] != "none" for it in fault_lines(row[0])}
-    lines |= {f"prepaid: run: {it}" for row in tables["Line"] for it in re.findall(r"`(\w+)` is a name too", row[2])}
+    lines = {it: int(row[1]) for row in tables["Line"] if row[0] != "none" for it in fault_lines(row[0])}
+    lines |= {f"prepaid: run: {it}": int(row[1]) for row in tables["Line"] for it in re.findall(r"`(\w+)` is a name too", row[2])}
     kinds = {row[0].strip("`") for row in tables["KIND"]}
     return commands, values, lines, kinds
 
@@ -122,6 +123,19 @@ def entries_of(text):
         elif entries and not (at and lines[at - 1] == ".TP"):
             entries[-1][3] += plain(line) + " "
     return entries
+
+
+def usages_in_man(text):
+    """How each command is called: the lines of the synopsis, each ended by the name of its input."""
+    lines = text.split(".SH SYNOPSIS\n")[1].split(".SH")[0].split(".br\n")
+    usages = [" ".join(" ".join(map(plain, it.strip().split("\n"))).split()) for it in lines]
+    return {it.split()[1]: re.sub(r"< [A-Z]+$", "< FILE", it) for it in usages}
+
+
+def usages_in_help(program, names):
+    """The same, as the help of each command says it."""
+    told = {it: subprocess.run([program, "help", it], capture_output=True, text=True, check=True).stdout for it in names}
+    return {it: re.sub(r"<(\w+)>", r"\1", re.search(r"^Usage: (.*)$", text, re.M)[1]) for it, text in told.items()}
 
 
 def said_in_man(text):
@@ -223,7 +237,8 @@ def ranges_in_formats(text, values):
     few, many = re.search(r"a table at most (\d+) rows besides its header, a script and a book (\d+)", text).groups()
     accounts = re.search(r"also the (\d+)st account", text)[1]
     wanted = {(name, "TooManyRows"): [few] for name in ("price", "replay", "quote")}
-    wanted |= {("audit", "TooManyRows"): [many], ("run", "TooManyRows"): [few, many, accounts]}
+    long = re.search(r"`audit --long` reads .* of at most (\d+) rows", text)[1]
+    wanted |= {("audit", "TooManyRows"): [many, long], ("run", "TooManyRows"): [few, many, accounts]}
     wanted |= {(it, "TooLong"): re.findall(r"input has at most (\d+) bytes", text) for it in (*NEEDS, "audit")}
     for name in ("run", "quote"):
         wanted |= {(name, kind): [it] for kind, it in zip(("Digits", "From", "Money", "Free"), numbers_of(rows["tariff"]))}
@@ -240,6 +255,22 @@ def ranges_in_formats(text, values):
     return wanted
 
 
+def long_books(program):
+    """How `audit --long` judges a book of more rows and bytes than `audit` takes: a full account refuses money in each row."""
+    wrong, row = [], "1,0,credit,,1,,,,,over,,,1000000000000000\n"
+    header = "account,seat,op,call,x1,x2,x3,x4,x5,reply,y1,y2,y3\n1,,opening,,1000000000000000,,,,,,,,\n"
+    book = header + row * 1_000_001
+    for words, text, wanted in [
+        (["--long"], book, (0, "account 1 yes\n", "")),
+        (["--long"], book + row.replace("1000000000000000", "999999999999999"), (3, "account 1 no\n", "")),
+        ([], book, (1, "", "prepaid: input: TooLong\n")),
+    ]:
+        ran = subprocess.run([program, "audit", *words], input=text, capture_output=True, text=True)
+        if (ran.returncode, ran.stdout, ran.stderr) != wanted:
+            wrong.append(f"audit {' '.join(words)} of {len(text)} bytes: {ran.returncode} {ran.stdout!r} {ran.stderr!r} in place of {wanted}")
+    return wrong
+
+
 def continued(line):
     """A line of a fault, and those whose last words stand behind it."""
     first, *more = line.split(", ")
@@ -247,13 +278,11 @@ def continued(line):
 
 
 def version_faults(program):
-    """How the version that is printed differs from the changelog's newest day and from the kit that the README names."""
+    """How the version that is printed differs from the changelog's newest day."""
     told = subprocess.run([program, "--version"], capture_output=True, text=True, check=True).stdout
     with open("CHANGELOG.md") as file:
         day = re.search(r"^## (\S+)$", file.read(), re.M)[1]
-    with open("README.md") as file:
-        kit = re.search(r"`(rattle-kit-\S+) logic", file.read())[1]
-    wanted = f"prepaid {day} ({kit})\n"
+    wanted = f"prepaid {day}\n"
     return [] if told == wanted else [f"version: {told!r} in place of {wanted!r}"]
 
 
@@ -277,18 +306,18 @@ def ends_of(allowed, defaults):
 
 
 def refusal(name, option, value, allowed, defaults):
-    """The line of the fault that a number of an option has by the formats, or nothing where it is in range."""
+    """The fault that a number of an option has by the formats, or nothing where it is in range."""
     least, most = ends_of(allowed, defaults)
     if least <= value <= most:
         return ""
     # a decimal has at most 20 digits; how many workers may be asked for stands first in their range
     asked = re.match(r"\d+ to (\d+);", allowed)
     if name != "run" or value >= 10**20 or asked and value > int(asked[1]):
-        return "prepaid: arguments\n"
-    return "prepaid: run: Workers\n" if asked else "prepaid: input: Config\n"
+        return "prepaid: arguments"
+    return "prepaid: run: Workers" if asked else "prepaid: input: Config"
 
 
-def range_faults(program, values):
+def range_faults(program, values, lines):
     """Where the program takes other numbers than the formats say, or takes an option that is left out for another."""
     faults, defaults = [], {it: left for it, (_, left) in values.items() if left}
     for (name, option), (allowed, _) in values.items():
@@ -301,9 +330,10 @@ def range_faults(program, values):
         for value in tried:
             word = "4" * value if option == "--called" else str(value)
             status, _, fault = answer(program, name, [], NEEDS[name][1], option, word)
-            wanted = refusal(name, option, value, allowed, defaults)
-            if (status != 0, fault) != (wanted != "", wanted):
-                faults.append(f"{name} {option} {word}: status {status} {fault!r} in place of {wanted!r}")
+            refused = refusal(name, option, value, allowed, defaults)
+            wanted = (lines[refused], refused + "\n") if refused else (0, "")
+            if (status, fault) != wanted:
+                faults.append(f"{name} {option} {word}: {(status, fault)} in place of {wanted}")
     # how many workers there are, and what becomes of a call without orders, change no answer
     tried = {(name, option) for name, option, *_ in LEFT_OUT} | {("run", "--workers"), ("run", "--default")}
     faults += [f"{it}: not tried" for it in defaults if it not in tried]
@@ -339,7 +369,7 @@ def main():
     of_bash, of_zsh = said_in_bash("completions/prepaid.bash", set(commands)), said_in_zsh("completions/_prepaid")
     defaults = {it: left for it, (_, left) in values.items() if left}
     words = {("run", "--default"): values["run", "--default"][0]}
-    faults = version_faults(program) + range_faults(program, values)
+    faults = version_faults(program) + range_faults(program, values, lines) + long_books(program)
 
     def same(where, what, found, wanted):
         if found != wanted:
@@ -350,12 +380,14 @@ def main():
 
     same("man page", "options", of_man[0], commands)
     same("man page", "ranges and what is left out", of_man[1], values)
-    same("man page", "lines of faults", of_man[2], lines)
+    same("man page", "lines of faults", of_man[2], set(lines))
     same("man page", "kinds of faults", of_man[3], kinds)
     limits = set(re.findall(r"\d+", manual.split(".SH LIMITS")[1].split(".SH")[0]))
     same("man page", "limits", limits, limits & set(re.findall(r"\d+", formats)))
     same("help", "options", {**of_help[0], "help": set()}, commands)
-    same("help", "lines of faults", of_help[2], lines)
+    same("help", "lines of faults", of_help[2], set(lines))
+    usages = usages_in_man(manual)
+    same("help", "usage", usages_in_help(program, set(usages) - {"help"}), {it: usages[it] for it in usages if it != "help"})
     same("help", "kinds of faults", of_help[3], kinds - OF_RUN)
     same("help", "left out", of_help[1], {it: defaults[it] for it in defaults if it[0] == "run" or it in of_help[1]})
     same("help", "ranges", ranges_in_help(program), ranges_in_formats(formats, values))

@@ -20,20 +20,24 @@ from .tables import (
 MAX_INPUT = 16_777_216
 # What `run` may print in place of its lines.
 TABLES = ("--book", "--calls", "--trace")
+# Options without a value.
+FLAGS = (*TABLES, "--long")
+# How many rows a book may have, and a long one.
+MOST_ROWS, MOST_LONG_ROWS = 1_000_000, 4_294_967_293
 # More entries than an input has room for.
 NO_LIMIT = 2**32
 ARGUMENTS = Fault("prepaid: arguments")
 TAKEN = {
     "price": {"--fee", "--before", "--after", "--free"},
     "replay": {"--opening", "--limit"},
-    "audit": set(),
+    "audit": {"--long"},
     "quote": {"--called", "--at", "--for", "--credit"},
     "run": {"--workers", "--wanted", "--least", "--tssf", "--tccd", "--delay", "--default", *TABLES},
 }
 
 
 def command(words, text, book=None):
-    """Returns status, output, the fault's line, and whether no other output is right as well."""
+    """Returns status, output, the line on standard error, and whether no other output is right as well."""
     try:
         if not words or words[0] not in TAKEN:
             raise ARGUMENTS
@@ -42,9 +46,9 @@ def command(words, text, book=None):
             run = do_run(given, text, book)
             table = next((it for it in TABLES if it in given), None)
             text = {None: run.lines, "--book": run.book, "--calls": run.calls, "--trace": run.trace}[table]()
-            return 0, text, "", not run.is_contended
+            return 0, text, run.refusals(), not run.is_contended
         if words[0] == "audit":
-            return *do_audit(text), "", True
+            return *do_audit(given, text), "", True
         return 0, {"price": do_price, "replay": do_replay, "quote": do_quote}[words[0]](given, text), "", True
     except Fault as fault:
         return fault.status, "", fault.line + "\n", True
@@ -54,9 +58,9 @@ def options_in(name, words):
     given, left = {}, list(words)
     while left:
         word = left.pop(0)
-        if word not in TAKEN[name] or word in given or word not in TABLES and not left:
+        if word not in TAKEN[name] or word in given or word not in FLAGS and not left:
             raise ARGUMENTS
-        given[word] = True if word in TABLES else left.pop(0)
+        given[word] = True if word in FLAGS else left.pop(0)
     if sum(it in given for it in TABLES) > 1:
         raise ARGUMENTS
     return given
@@ -138,10 +142,11 @@ def told(reply):
     return f"{kind} available {available}\n"
 
 
-def do_audit(text):
+def do_audit(given, text):
     """Whether each account's entries are those of an account: their operations are taken, and answered so."""
+    book = read_book(text, MOST_LONG_ROWS) if "--long" in given else read_book(whole(text), MOST_ROWS)
     lines, status = [], 0
-    for number, (opening, until, entries) in sorted(read_book(whole(text)).items()):
+    for number, (opening, until, entries) in sorted(book.items()):
         account = Account(opening, until, NO_LIMIT)
         legal = all(account.apply(seat, op) == reply for seat, op, reply in entries)
         status = status if legal else 3

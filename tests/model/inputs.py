@@ -2,7 +2,7 @@
 import random
 
 from .account import DAY, MAX_MONEY
-from .command import TABLES, command
+from .command import FLAGS, TABLES, command
 from .tables import BOOK, OPS, SCRIPT, SETUP, TARIFF
 
 # Fields that are wrong in most places, and right at an end of a range in some.
@@ -73,19 +73,20 @@ def quotes(it):
 
 def operations(it):
     opening = it.choice([0, 1500, it.randrange(10_000), MAX_MONEY, MAX_MONEY - it.randrange(2000)])
-    words = ["replay", "--opening", opening] + (["--limit", it.randrange(3, 12)] if it.random() < 0.5 else [])
+    words = ["replay", "--opening", opening] + (["--limit", it.choice([3, it.randrange(3, 12), it.randrange(3, 12), 10**6])] if it.random() < 0.5 else [])
     header = it.choice(OPS)
     rows, more = [header], len(header) - len(OPS[0])
-    plans = [(it.randrange(100), rate(it), it.choice(["", rate(it)]), free_units(it)) for _ in range(2)]
+    first = it.choice([0, 0, 10**12, 2 * 10**12 - 11])
+    plans = [(it.choice([it.randrange(100), it.randrange(100), 10**9]), rate(it), it.choice(["", rate(it)]), free_units(it)) for _ in range(2)]
     for _ in range(it.randrange(25)):
         seat, call = it.choice([0, 1, 15]), it.choice([1, 1, 2, 3, 2**64 - 1])
         what = it.choice(["credit", "reserve", "reserve", "settle", "settle", "return"])
         time = it.choice([0, 100, 300, 600, 601, it.randrange(1300), DAY])
         if what == "credit":
-            x = "", it.choice([0, 1, 600, it.randrange(3000), MAX_MONEY]), *[it.choice(["", "", 0, 5, 10])][: more == 2]
+            x = "", it.choice([0, 1, 600, it.randrange(3000), MAX_MONEY]), *[it.choice(["", "", *(first + at for at in (0, 5, 10))])][: more == 2]
         elif what == "reserve":
             *rates, free = it.choice(plans)
-            x = call, *rates, it.choice([0, 1, 600, it.randrange(700), DAY]), it.choice([0, 1, 50, DAY]), *[free, it.choice([0, 4, 5, 6, 11])][:more]
+            x = call, *rates, it.choice([0, 1, 600, it.randrange(700), DAY]), it.choice([0, 1, 50, DAY]), *[free, first + it.choice([0, 4, 5, 6, 11])][:more]
         elif what == "settle" and it.random() < 0.5:
             x = call, it.randrange(9), "n", time
         elif what == "settle":
@@ -118,7 +119,8 @@ def runs(it, few=False):
     table_of = it.choices(["--book", "--calls", "--trace", ""], [1, 1, 1, 1] if given["workers"] == 1 else [8, 1, 1, 1])[0]
     words += [table_of] if table_of else []
     first, starts = tariff(it)
-    base = max(0, it.choice([0, 1, 3]) * DAY + it.choice(starts) - it.choice([0, 5, 10, 100, 305]))
+    # the last of these days is the last but one before the last moment
+    base = max(0, it.choice([0, 0, 1, 3, 10**12 // DAY - 1]) * DAY + it.choice(starts) - it.choice([0, 5, 10, 100, 305]))
     second, accounts, subscribers = setup(it, base, wanted)
     third = script(it, given, base, accounts, subscribers)
     return words, first + b"%%\n" + second + b"%%\n" + third
@@ -130,7 +132,7 @@ def tariff(it):
     for prefix in it.sample(PREFIXES, it.randrange(1, 4)):
         for start in sorted({0, *(it.randrange(1440) for _ in range(it.choice([0, 0, 1, 2])))}):
             free = free_units(it) if it.random() < 0.98 else DAY + 1
-            row = prefix, f"{start // 60:02}:{start % 60:02}", it.choice([0, 50, it.randrange(300)]), rate(it), free
+            row = prefix, f"{start // 60:02}:{start % 60:02}", it.choice([0, 50, it.randrange(300), it.randrange(300), 10**9]), rate(it), free
             rows.append(row[: len(header)])
             starts.append(start * 600)
     return table(rows), starts
@@ -213,13 +215,13 @@ def books(it):
         order = [row[0] for row in rows[1:]]
         it.shuffle(order)
         rows[1:] = [left[account].pop(0) for account in order]
-    return ["audit"], table(rows)
+    return ["audit", *it.choices([[], ["--long"]], [3, 1])[0]], table(rows)
 
 
 def altered(it, field):
     """Another text for a field of a book: mostly one that it might have had."""
     if field.isdigit() and it.random() < 0.8:
-        return str(it.choice([int(field) + 1, max(0, int(field) - 1), int(field) + 50, it.randrange(700), 0, DAY, DAY + 1, MAX_MONEY, MAX_MONEY + 1]))
+        return str(it.choice([int(field) + 1, max(0, int(field) - 1), int(field) + 50, it.randrange(700), 0, DAY, DAY + 1, 10**12 + 1, 2 * 10**12, MAX_MONEY, MAX_MONEY + 1]))
     for words in (["last", "more"], ["n", "s"], OPERATIONS, REPLIES):
         if field in words and it.random() < 0.8:
             return it.choice(words)
@@ -229,7 +231,7 @@ def altered(it, field):
 def other_words(it, words):
     """Words with another value of an option, an option too many, or one too few."""
     words = list(words)
-    options = [at for at, word in enumerate(words) if word.startswith("--") and word not in TABLES]
+    options = [at for at, word in enumerate(words) if word.startswith("--") and word not in FLAGS]
     what = it.choice(["value", "value", "value", "value", "twice", "less", "unknown", "none", "more"])
     if what == "value" and words[0] == "run" and it.random() < 0.7:
         name = it.choice(["workers", "wanted", "least", "tssf", "tccd", "delay", "default"])
@@ -249,7 +251,7 @@ def other_words(it, words):
     elif what == "none":
         words = []
     elif what == "more":
-        words.append(it.choice(TABLES))
+        words.append(it.choice(FLAGS))
     return words
 
 

@@ -1,4 +1,5 @@
 """A run: the play of a script over accounts, round by round."""
+import collections
 import dataclasses
 
 from . import calls, trace
@@ -7,6 +8,8 @@ from .service import is_stray, talk
 from .switch import Refused, Switch
 from .tables import Fault, route
 
+# The faults of an account, in the order in which it judges them.
+FAULTS = ("GateClosed", "OutOfRange", "NotOpen", "CallUsed", "HistoryFull", "OutOfMemory")
 HEADER = "account,seat,op,call,x1,x2,x3,x4,x5,x6,x7,reply,y1,y2,y3"
 
 
@@ -57,7 +60,7 @@ class Run:
         self.switches, self.talks, self.deliveries, self.number = {}, {}, [], 0
         self.told, self.traced = {}, []
         # whether workers met at an account in one round, so that the order of their operations is open
-        self.is_contended, self.met = False, {}
+        self.is_contended, self.met, self.refused = False, {}, collections.Counter()
         self.orders = None if book is None else {it: [] for it in accounts}
         for line in book.splitlines()[1:] if book else []:
             account, seat, *fields = line.split(",")
@@ -96,6 +99,7 @@ class Run:
             if call is not None:
                 calls.hear(self.told, now, call, message)
         answers = self.answered(now, posts)
+        self.refused.update(it.refused for it in answers.values() if it.refused)
         for (call, message), (number, answer) in zip(posts, sorted(answers.items())):
             self.deliveries += [(now + self.options.delay, call, op) for op in answer.ops]
             self.traced += trace.rows(now, number, call, message, answer)
@@ -183,6 +187,11 @@ class Run:
             return
         self.talks[call] = dialogue, account, turn[0]
         answer.ops = turn[1]
+
+    def refusals(self):
+        """The line about how many messages and recharges an account refused, and why."""
+        kinds = [f"{self.refused[it]} {it}" for it in FAULTS if self.refused[it]]
+        return f"prepaid: refused: {', '.join(kinds)}\n" if kinds else ""
 
     def lines(self):
         rows = [f"account {number} opening {it.opening} available {it.available()} entries {len(it.entries)}" for number, it in self.accounts.items()]

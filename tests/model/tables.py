@@ -156,10 +156,10 @@ def answer(reply, y):
     return word in ("settled", "forfeit", "returned"), [paid, available], y[1:2], (word, paid, available)
 
 
-def read_book(text):
+def read_book(text, most):
     """The opening of each account, its last moment, and its entries as (seat, operation, reply)."""
     books = {}
-    for _, fields, fail in rows_of("book", text, BOOK, 1_000_000):
+    for _, fields, fail in rows_of("book", text, BOOK, most):
         account, seat, op, call, *x = fields[:-4]
         reply, *y = fields[-4:]
         number = decimal(account, 2**32 - 1)
