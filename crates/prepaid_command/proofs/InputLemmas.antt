@@ -1,11 +1,12 @@
 -- An input of which one byte more than the most was asked for.
-use Rattle.std.proofs.Common.{◌≡◌, ℕ, ◌<◌, ◌≤◌, List, [], ◌++◌, length, min, take, Option, Some, None, ap, ◌∙◌, arith, length-take}
-use Rattle.std.specs.Prelude.{IfSome, Result, Ok, Err, option_map}
+use Rattle.std.proofs.Common.{◌≡◌, ℕ, Bool, true, false, ◌<◌, ◌≤◌, List, [], ◌++◌, length, min, take, Option, Some, None, ap, ◌∙◌, arith, length-take}
+use Rattle.std.specs.Prelude.{IfSome, Result, Ok, Err, option_map, if◌then◌else◌}
+use Rattle.std.specs.declared.io.ErrorKind.{ErrorKind}
 use Rattle.std.proofs.lemmas.Bool.Decides.{nat_tests}
 use Rattle.std.proofs.lemmas.List.{take_all}
 use Rattle.runs_core.specs.declared.run_fault.RunFault.TheVariants as run
 use Rattle.prepaid_command.specs.Faults.{MayAlwaysCome, Refuses}
-use Rattle.prepaid_command.specs.Input.{sized}
+use Rattle.prepaid_command.specs.Input.{failed_input, is_out_of_memory, sized}
 use Rattle.prepaid_command.specs.declared.fault.Fault.{Fault}
 use Rattle.prepaid_command.specs.declared.fault.Fault.TheVariants as fault
 
@@ -42,3 +43,11 @@ run_fault (fault.Run run.GateClosed) meaning is = absurd is
 run_fault (fault.Run run.Mismatch) meaning is = absurd is
 run_fault (fault.Run run.Channel) meaning is = absurd is
 run_fault (fault.Run run.Thread) meaning is = absurd is
+
+either_may_come : (is : Bool) → MayAlwaysCome (if is then fault.Run run.OutOfMemory else fault.Device)
+either_may_come true = tt
+either_may_come false = tt
+
+-- what tells that an input failed may come at any input
+pub failed_may_come : (why : ErrorKind) (told : Fault) → told ≡ failed_input why → MayAlwaysCome told
+failed_may_come why told is = rw is (either_may_come (is_out_of_memory why))

@@ -1,8 +1,9 @@
 //! Standard input, read whole.
 
-ghost use Rattle.std.specs.Prelude.{IfSome};
-ghost use Rattle.prepaid_command.specs.Faults.{Gives, MayAlwaysCome};
-ghost use Rattle.prepaid_command.specs.Input.{sized};
+ghost use Rattle.std.specs.Prelude.{◌≡◌, IfSome};
+ghost use Rattle.std.specs.IoError.{error_kind};
+ghost use Rattle.prepaid_command.specs.Faults.{Gives};
+ghost use Rattle.prepaid_command.specs.Input.{failed_input, sized};
 
 use crate::Fault;
 use runs_core::RunFault;
@@ -26,12 +27,12 @@ pub fn read_input<I: Read + Drop>(alloc: Global, input: I) -> Result<Vec<u8>, Fa
     }
 }
 
+/// The fault of an input that failed.
 fn fault_of(error: &Error) -> Fault
-    ensures { MayAlwaysCome result }
+    ensures exact { result ≡ failed_input (error_kind error.now) }
 {
-    if error.kind() == ErrorKind::OutOfMemory {
-        Fault::Run(RunFault::OutOfMemory)
-    } else {
-        Fault::Device
+    match error.kind() {
+        ErrorKind::OutOfMemory => Fault::Run(RunFault::OutOfMemory),
+        _ => Fault::Device,
     }
 }

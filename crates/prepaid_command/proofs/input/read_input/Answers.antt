@@ -1,5 +1,6 @@
 use Rattle.std.proofs.Common.{◌≡◌, arith}
-use Rattle.prepaid_command.proofs.InputLemmas.{fits, run_fault}
+use Rattle.std.specs.IoError.{error_kind}
+use Rattle.prepaid_command.proofs.InputLemmas.{failed_may_come, fits, run_fault}
 use Rattle.prepaid_command.proofs.Known.{if_known}
 use Rattle.prepaid_command.specs.Faults.{Refuses}
 use Rattle.prepaid_command.specs.Input.{sized}
@@ -14,4 +15,4 @@ returns-in-Ok-2 g c =
 
 pub returns-in-Err : goal.returns-in-Err
 returns-in-Err g c = if_known (g.I.Read.remaining c.args.input) (λ text. Refuses c.fault_of.result (sized text)) (λ text known.
-    run_fault c.fault_of.result (sized text) c.fault_of.ensures)
+    run_fault c.fault_of.result (sized text) (failed_may_come (error_kind c.in-Err.error) c.fault_of.result c.fault_of.ensures.exact))
