@@ -11,6 +11,8 @@ mod calls;
 #[cfg(test)]
 mod devices;
 #[cfg(test)]
+mod free_units;
+#[cfg(test)]
 mod last_moments;
 #[cfg(test)]
 mod lengths;
