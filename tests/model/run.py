@@ -68,7 +68,7 @@ class Run:
                 self.orders[int(account)].append((seat, ",".join(fields[:9])))
 
     def play(self, script):
-        rows = list(script)
+        rows = collections.deque(script)
         while True:
             dues = [it.next_due() for it in self.switches.values()]
             moments = [rows[0][0]] if rows else []
@@ -84,7 +84,7 @@ class Run:
             _, call, op = self.deliveries.pop(0)
             self.give(call, posts, lambda switch: switch.operation(now, op))
         while rows and rows[0][0] == now:
-            _, call, word, *rest = rows.pop(0)
+            _, call, word, *rest = rows.popleft()
             if word == "start":
                 self.switches[call] = Switch(self.options.tssf, self.options.tccd, self.options.releases, [])
                 self.give(call, posts, lambda switch: switch.trigger(now, *rest))
