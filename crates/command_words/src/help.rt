@@ -96,6 +96,11 @@ Exit status:
   1  the words or the input are refused
   2  the run failed; without a line, the output failed
 
+Behind the answer, with status 0, a line on standard error may say what accounts refused:
+  prepaid: refused: 2 HistoryFull, 1 OutOfMemory
+      How many messages and recharges met a refusal, and why. OutOfRange: mostly a recharge
+      of 0. HistoryFull: an account has 1000000 entries
+
 A fault is one line on standard error, and then nothing is printed:
   prepaid: arguments
       No options of run: mostly a file name (use < FILE), an option given twice, a unit such
