@@ -4,4 +4,5 @@ pub mod Phases
 pub mod Runs
 pub mod ServiceArms
 pub mod Table
+pub mod Talks
 pub mod Views

@@ -2,7 +2,9 @@
 
 ghost use Rattle.std.specs.Prelude.{◌≡◌, ◌+◌, ◌<◌, ◌≤◌, Ok, Err, IfOk, IfErr};
 ghost use Rattle.std.specs.Option.{ForSome};
+ghost use Rattle.cap_values.specs.Orders.{orders_of};
 ghost use Rattle.dialogue_core.specs.Table.{on_begin, on_reply, seconds_to, on_message, on_refusal, ending, give_back, going_on, reported, running, active_reply, are_units, first_reply, last_reply, more_reply, reserve, return_reply, sequel};
+ghost use Rattle.dialogue_core.specs.Talks.{after_got, asks_after, asks_left, sent_by};
 ghost use Rattle.dialogue_core.specs.Views.{Follows, phase_at, phase_of, says_of, conditions_of, sequel_of};
 ghost use Rattle.dialogue_core.specs.Phases.{Asks};
 
@@ -29,6 +31,18 @@ pub enum Turn {
     Send(ArrayVec<ScfOp, 4>),
     /// The dialogue is over.
     Done,
+}
+
+impl Turn {
+    /// The operations that it sends: none but where it is `Send`.
+    pub fn into_operations(self) -> ArrayVec<ScfOp, 4>
+        ensures { orders_of result.items ≡ sent_by (says_of self) }
+    {
+        match self {
+            Turn::Send(ops) => ops,
+            _ => ArrayVec::new(),
+        }
+    }
 }
 
 impl Dialogue {
@@ -104,6 +118,20 @@ impl Dialogue {
         let (turn, state) = on_refusal(self.state)?;
         self.state = state;
         Ok(turn)
+    }
+
+    /// Takes what its ask got, the account's reply or its refusal, and gives its next turn: `Done`
+    /// where what it got has no place. Fewer asks are left then.
+    #[tactic(auto, using(crate::proofs::Asking::got_by, crate::proofs::Asking::fewer_said))]
+    pub fn hear(&mut self, got: Result<Reply, AccountFault>) -> Turn
+        ensures says { after_got (phase_of self.old) got ≡ (says_of result, phase_of self.new) }
+        ensures fewer { asks_left (says_of result) (phase_of self.new)
+            ≤ asks_after (phase_of self.old) }
+    {
+        match got {
+            Ok(reply) => self.answer(reply).unwrap_or(Turn::Done),
+            Err(fault) => self.refused(fault).unwrap_or(Turn::Done),
+        }
     }
 }
 

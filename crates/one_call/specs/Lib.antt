@@ -6,4 +6,3 @@ pub mod Scripts
 pub mod Starts
 pub mod Steps
 pub mod Tallies
-pub mod Turns

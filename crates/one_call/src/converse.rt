@@ -5,7 +5,6 @@ ghost use Rattle.cap_values.specs.Orders.{Paid, orders_of, paid_by};
 ghost use Rattle.dialogue_core.specs.Views.{phase_of, says_of};
 ghost use Rattle.ssf_core.specs.Meters.{Meter};
 ghost use Rattle.one_call.specs.Covered.{IsAtRest, IsReady};
-ghost use Rattle.one_call.specs.Turns.{sent_by};
 
 use crate::ask::ask;
 use crate::tally::Tally;
@@ -35,15 +34,5 @@ pub(crate) fn converse<P: Port>(
     while let Turn::Ask(op) = turn {
         turn = ask(port, dialogue, tally, op);
     }
-    sent(turn)
-}
-
-/// The operations that a turn sends.
-fn sent(turn: Turn) -> ArrayVec<ScfOp, 4>
-    ensures { result.items ≡ sent_by turn }
-{
-    match turn {
-        Turn::Send(ops) => ops,
-        _ => ArrayVec::new(),
-    }
+    turn.into_operations()
 }

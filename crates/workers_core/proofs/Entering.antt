@@ -18,9 +18,10 @@ use Rattle.workers_core.specs.Chains.{AreHandled, at_first}
 use Rattle.workers_core.specs.Handled.{Holding, IsDone, IsTalked, AnswerView}
 use Rattle.workers_core.specs.Laws.{RechargesAreEntered, accepted_of, credited_by}
 use Rattle.run_values.specs.Openings.{no_credit}
-use Rattle.workers_core.specs.Served.{Money, credited_in, credits_of}
+use Rattle.workers_core.specs.Served.{credited_in, credits_of}
 use Rattle.run_values.specs.Setups.{Setup, place_of}
-use Rattle.workers_core.specs.Talks.{Got, entries_of, entry_of, last_fault}
+use Rattle.dialogue_core.specs.Talks.{Got}
+use Rattle.workers_core.specs.Talks.{entries_of, entry_of, last_fault}
 use Rattle.workers_core.specs.Verdicts.{Verdict, Strays, Rejects, Recharges, Begins, GoesOn, recharged, verdict_on}
 use Rattle.workers_core.specs.Workers.{IsSound}
 use Rattle.run_values.specs.declared.directory.OpeningCredit.{OpeningCredit}

@@ -22,7 +22,8 @@ use Rattle.workers_core.specs.Handled.{Holding, IsDone, IsRecharged, IsTalked, I
 use Rattle.workers_core.specs.Served.{IsPart, Money, Report, begun_by, begun_of, recharged_in, reported_in, settles_of}
 use Rattle.run_values.specs.Openings.{no_credit}
 use Rattle.run_values.specs.Setups.{Setup, account_of, place_of}
-use Rattle.workers_core.specs.Talks.{Got, entries_of, entry_of}
+use Rattle.dialogue_core.specs.Talks.{Got}
+use Rattle.workers_core.specs.Talks.{entries_of, entry_of}
 use Rattle.workers_core.specs.Verdicts.{DialogueAt, Verdict, Strays, Rejects, Recharges, Begins, GoesOn, begins, fresh, goes_on, home_of, recharged, spoken, strays, verdict, verdict_on}
 use Rattle.workers_core.specs.Workers.{IsAbout, IsOwn, IsSound, standing_of}
 use Rattle.workers_core.specs.declared.worker.Case.{Case}

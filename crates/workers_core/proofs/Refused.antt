@@ -10,7 +10,8 @@ use Rattle.workers_core.specs.Cases.{IsCase, IsRefusedCase, IsToldOf}
 use Rattle.workers_core.specs.Refusals.{HasRefusedAt, IsRefusalOf, IsRefusedAsk, IsRefusedPost, IsRefusedTalk, MayHaveRefused, Refusing}
 use Rattle.run_values.specs.Setups.{Setup}
 use Rattle.run_values.specs.declared.post.Post.{Post}
-use Rattle.workers_core.specs.Talks.{Got, talked}
+use Rattle.dialogue_core.specs.Talks.{Got}
+use Rattle.workers_core.specs.Talks.{talked}
 use Rattle.workers_core.specs.Verdicts.{DialogueAt, Verdict, Strays, Rejects, Recharges, Begins, GoesOn, verdict}
 use Rattle.workers_core.specs.declared.worker.Case.{Case}
 use Rattle.workers_core.specs.declared.worker.Case.TheVariants as case

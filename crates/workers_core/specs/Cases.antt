@@ -16,7 +16,8 @@ use Rattle.tariff_core.specs.declared.route.Route.{Route}
 use Rattle.workers_core.specs.Handled.{Holding, IsRecharged, IsTalked, IsUnasked, AnswerView}
 use Rattle.workers_core.specs.Refusals.{IsRefusedAsk, IsRefusedTalk, Refusing}
 use Rattle.run_values.specs.Setups.{Setup}
-use Rattle.workers_core.specs.Talks.{Got, after_got, entry_of}
+use Rattle.dialogue_core.specs.Talks.{Got, after_got}
+use Rattle.workers_core.specs.Talks.{entry_of}
 use Rattle.workers_core.specs.Verdicts.{DialogueAt, IsRouted, Verdict, Strays, Rejects, Recharges, Begins, GoesOn}
 use Rattle.workers_core.specs.Workers.{standing_of}
 use Rattle.workers_core.specs.declared.worker.Case.{Case}

@@ -11,7 +11,8 @@ use Rattle.dialogue_core.specs.Table.{on_begin}
 use Rattle.tariff_core.specs.declared.route.Route.{Route}
 use Rattle.run_values.specs.Setups.{Setup}
 use Rattle.workers_core.specs.Refusals.{IsRefusalOf}
-use Rattle.workers_core.specs.Talks.{AllAsk, Got, entries_of, entry_of, is_ask, last_fault, sent_by, talked}
+use Rattle.dialogue_core.specs.Talks.{Got, sent_by}
+use Rattle.workers_core.specs.Talks.{AllAsk, entries_of, entry_of, is_ask, last_fault, talked}
 use Rattle.workers_core.specs.Verdicts.{DialogueAt, IsRouted, Verdict, Strays, Rejects, Recharges, Begins, GoesOn, verdict}
 use Rattle.run_values.specs.declared.post.Answer.{Answer}
 use Rattle.run_values.specs.declared.post.Post.{Post}

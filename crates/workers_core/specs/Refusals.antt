@@ -11,7 +11,8 @@ use Rattle.shared_account.specs.Kinds.{IsFaultOf}
 use Rattle.tariff_core.specs.declared.route.Route.{Route}
 use Rattle.run_values.specs.Setups.{Setup}
 use Rattle.run_values.specs.declared.post.Post.{Post}
-use Rattle.workers_core.specs.Talks.{Got, talked}
+use Rattle.dialogue_core.specs.Talks.{Got}
+use Rattle.workers_core.specs.Talks.{talked}
 use Rattle.workers_core.specs.Verdicts.{DialogueAt, IsRouted, Verdict, Strays, Rejects, Recharges, Begins, GoesOn, verdict}
 
 -- which faults an account has given to what it was asked

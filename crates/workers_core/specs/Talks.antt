@@ -1,26 +1,11 @@
 -- The talk of a dialogue with its account: what is asked, what each ask gets, and what is entered.
-use Rattle.std.specs.Prelude.{◌≡◌, ◌++◌, ℕ, Bool, true, false, Option, Some, None, Result, Ok, Err, List, [], ◌∷◌}
+use Rattle.std.specs.Prelude.{◌≡◌, ◌++◌, ℕ, Bool, true, false, Option, Some, None, Ok, Err, List, [], ◌∷◌}
 use Rattle.account_core.specs.Events.{EntryData}
 use Rattle.account_core.specs.Ledger.{event_by}
-use Rattle.account_core.specs.declared.entry.Reply.{Reply}
 use Rattle.account_core.specs.declared.fault.AccountFault.{AccountFault}
 use Rattle.cap_values.specs.Orders.{Order}
 use Rattle.dialogue_core.specs.Phases.{Phase, Says, Asks, Sends, Finished}
-use Rattle.dialogue_core.specs.Table.{Step, on_reply, on_refusal}
-
--- what an ask gets: the account's reply, or its refusal
-abbrev pub Got : Type 0
-Got = Result Reply AccountFault
-
--- a dialogue that has no place for what it is handed stays where it is, and says no more
-abbrev pub or_done : Phase → Step → Says × Phase
-or_done phase (Ok next) = next
-or_done phase (Err fault) = (Finished, phase)
-
--- what the dialogue says to what its ask got, and where it stands then: by the table of the service
-abbrev pub after_got : Phase → Got → Says × Phase
-after_got phase (Ok reply) = or_done phase (on_reply phase reply)
-after_got phase (Err fault) = or_done phase (on_refusal phase)
+use Rattle.dialogue_core.specs.Talks.{Got, after_got, sent_by}
 
 -- what the dialogue says, and where it stands, once its asks got these, the newest first
 abbrev pub talked : Says × Phase → List Got → Says × Phase
@@ -55,12 +40,6 @@ is_ask Finished = false
 abbrev pub AllAsk : Says × Phase → List Got → Type 0
 AllAsk first [] = Unit {0}
 AllAsk first (got ∷ earlier) = (is_ask (talked first earlier).0 ≡ true) × AllAsk first earlier
-
--- the operations that are sent
-abbrev pub sent_by : Says → List Order
-sent_by (Asks asked) = []
-sent_by (Sends orders) = orders
-sent_by Finished = []
 
 -- a talk from what is said first until no ask is left: where the dialogue stands then, what it sends, what the seat has entered, and why
 -- the account refused an ask last, if it did

@@ -1,6 +1,6 @@
 //! What is done about a post, in each case.
 
-ghost use Rattle.std.specs.Prelude.{◌≡◌, ◌≢◌, ◌==◌, ◌∷◌, ◌<◌, if◌then◌else◌, [], ℕ, None, Some, true, false, length, map, IfErr, IfOk, IfSome, IsSome, OnOk};
+ghost use Rattle.std.specs.Prelude.{◌≡◌, ◌≢◌, ◌==◌, ◌∷◌, ◌<◌, ◌≤◌, if◌then◌else◌, [], ℕ, None, Some, true, false, length, map, IfErr, IfOk, IfSome, IsSome, OnOk};
 ghost use Rattle.std.specs.BTreeMap.{is_at};
 ghost use Rattle.std.specs.Map.{lookup};
 ghost use Rattle.std.specs.Ordering.{nat_cmp};
@@ -8,14 +8,15 @@ ghost use Rattle.workers_core.specs.Cases.{HasRoom, IsActed, IsCredited, IsRefus
 ghost use Rattle.workers_core.specs.Handled.{IsRecharged, IsTalked, answer_view};
 ghost use Rattle.workers_core.specs.Refusals.{HasRefusedAt, IsRefusedAsk, IsRefusedTalk};
 ghost use Rattle.workers_core.specs.Workers.{standing_of, standings_in};
-ghost use Rattle.workers_core.specs.Talks.{IsTalk, after_got, sent_by};
+ghost use Rattle.dialogue_core.specs.Talks.{asks_after, asks_left};
+ghost use Rattle.workers_core.specs.Talks.{IsTalk};
 ghost use Rattle.account_core.specs.Events.{asked_of};
 ghost use Rattle.cap_values.specs.Orders.{Release, orders_of};
 ghost use Rattle.dialogue_core.specs.Views.{phase_of, says_of};
 
 use crate::WorkerFault;
 use crate::worker::{Case, Talk};
-use account_core::{AccountFault, Op, Reply};
+use account_core::{AccountFault, Op};
 use arrayvec::ArrayVec;
 use cap_values::{Cause, ScfOp};
 use dialogue_core::{Dialogue, Turn};
@@ -229,7 +230,7 @@ fn converse<S: Shared, R: Wait, G: Gate>(
         turn = ask(rt, gate, account, seat, dialogue, &mut refused, op)?;
     }
     Ok(TalkEnd {
-        ops: sent(turn),
+        ops: turn.into_operations(),
         refused,
     })
 }
@@ -251,6 +252,8 @@ fn ask<S: Shared, R: Wait, G: Gate>(
     ensures asked { IfOk result (λ turn. IsAsked (S.reads.number seat.old) (asked_of op)
         (S.reads.mine seat.old) (S.reads.mine seat.new)
         (phase_of dialogue.old) (phase_of dialogue.new) (says_of turn) refused.old refused.new) }
+    ensures fewer { IfOk result (λ turn.
+        asks_left (says_of turn) (phase_of dialogue.new) ≤ asks_after (phase_of dialogue.old)) }
     ensures told { IfOk result (λ _.
         IsToldOf (S.refuses account.now) (asked_of op) refused.old refused.new) }
     ensures fault { IfErr result (λ fault. fault ≡ WorkerFault.GateClosed) }
@@ -261,28 +264,8 @@ fn ask<S: Shared, R: Wait, G: Gate>(
         Err(AccountFault::GateClosed) => Err(WorkerFault::GateClosed),
         Err(fault) => {
             *refused = Some(fault);
-            Ok(go_on(dialogue, Err(fault)))
+            Ok(dialogue.hear(Err(fault)))
         }
-        Ok(reply) => Ok(go_on(dialogue, Ok(reply))),
-    }
-}
-
-/// Hands what an ask got to the dialogue. What has no place there ends its turns.
-fn go_on(dialogue: &mut Dialogue, got: Result<Reply, AccountFault>) -> Turn
-    ensures { after_got (phase_of dialogue.old) got ≡ (says_of result, phase_of dialogue.new) }
-{
-    match got {
-        Ok(reply) => dialogue.answer(reply).unwrap_or(Turn::Done),
-        Err(fault) => dialogue.refused(fault).unwrap_or(Turn::Done),
-    }
-}
-
-/// The operations that a turn sends.
-fn sent(turn: Turn) -> ArrayVec<ScfOp, 4>
-    ensures { orders_of result.items ≡ sent_by (says_of turn) }
-{
-    match turn {
-        Turn::Send(ops) => ops,
-        _ => ArrayVec::new(),
+        Ok(reply) => Ok(dialogue.hear(Ok(reply))),
     }
 }

@@ -2,7 +2,7 @@ use Rattle.std.proofs.Common.{◌≡◌, ℕ, List}
 use Rattle.cap_values.specs.Orders.{Paid}
 use Rattle.dialogue_core.specs.Views.{phase_of, says_of}
 use Rattle.ssf_core.specs.Meters.{Meter}
-use Rattle.one_call.specs.Asks.{asks_left}
+use Rattle.dialogue_core.specs.Talks.{asks_left}
 use Rattle.one_call.specs.Covered.{IsReady}
 use Rattle.one_call.proofs.converse.converse.Given as goal
 

@@ -2,16 +2,13 @@ use Rattle.std.proofs.Common.{arith, ◌∙◌}
 use Rattle.account_core.specs.Events.{asked_of}
 use Rattle.dialogue_core.specs.Views.{phase_of, says_of}
 use Rattle.workers_core.proofs.Refused.{told_more}
-use Rattle.workers_core.proofs.Talking.{fewer_asked, so_asked}
+use Rattle.workers_core.proofs.Talking.{so_asked}
 use Rattle.workers_core.proofs.acting.converse.Goals as goal
 
 pub loop-turn-smaller : goal.loop-turn-smaller
 loop-turn-smaller g c =
     rw c.in-Ask.is
-    (let fewer =
-    fewer_asked (g.S.Shared.reads.number c.loop-turn.seat) (asked_of c.in-Ask.op) (g.S.Shared.reads.mine c.loop-turn.seat) (g.S.Shared.reads.mine c.ask.new.seat)
-    (phase_of c.loop-turn.dialogue) (phase_of c.ask.new.dialogue) (says_of c.in_ok-turn.turn) c.loop-turn.refused c.ask.new.refused c.in_ok-turn.ensures.asked in
-    omega (arith, fewer))
+    (omega (arith, c.in_ok-turn.ensures.fewer))
 
 pub loop-turn-preserved : goal.loop-turn-preserved
 loop-turn-preserved g c = record {

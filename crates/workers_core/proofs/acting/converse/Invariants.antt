@@ -2,7 +2,8 @@ use Rattle.std.proofs.Common.{◌≡◌}
 use Rattle.std.specs.Prelude.{IfSome}
 use Rattle.dialogue_core.specs.Views.{phase_of, says_of}
 use Rattle.workers_core.specs.Refusals.{IsRefusedTalk}
-use Rattle.workers_core.proofs.Talking.{IsSoFar, asks_left}
+use Rattle.dialogue_core.specs.Talks.{asks_left}
+use Rattle.workers_core.proofs.Talking.{IsSoFar}
 use Rattle.workers_core.proofs.acting.converse.Given as goal
 
 abbrev pub invariant-loop-turn : goal.invariant-loop-turn
