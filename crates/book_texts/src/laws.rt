@@ -18,8 +18,8 @@ pub fn books_have_one_text()
 
 /// The table that `book_table` prints is read back to the openings and the histories of its books,
 /// and an audit of it says yes for each account: for books by rising account, whose histories are
-/// legal, whose numbers are in the ranges of their columns, and that have no more rows than the table
-/// may have.
+/// legal, whose numbers are in the ranges of their columns, and that have no more rows than the
+/// table may have.
 pub fn printed_books_are_read()
     ensures read { BooksAreRead }
     ensures pass { PrintedBooksPass }

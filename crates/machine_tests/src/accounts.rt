@@ -6,7 +6,8 @@ use crate::looking::gives;
 use account_core::{Account, AccountPort, Entry, Op, Port, Reply};
 use std::process::Abort;
 
-/// Looks at the last entry of an account, at the credit that is left, and at what its call has paid.
+/// Looks at the last entry of an account, at the credit that is left, and at what its call has
+/// paid.
 fn enters(rt: &impl Abort, name: &str, account: &Account, entry: Entry) {
     gives(
         rt,

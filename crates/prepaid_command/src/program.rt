@@ -37,8 +37,8 @@ use tariff_core::Plan;
 /// fault of the words or the input, 2 where the run failed (want of memory, an input or an output
 /// that failed). A fault goes to `faults` as one line, and then nothing goes to `output`. Where the
 /// accounts of a run refused anything, a line about it goes to `faults` behind the answer. Where
-/// `output` failed, what went to it is a front of the answer, and nothing goes to `faults`; a failing
-/// `faults` has a front of the line, and changes no status.
+/// `output` failed, what went to it is a front of the answer, and nothing goes to `faults`; a
+/// failing `faults` has a front of the line, and changes no status.
 pub fn command<R, S: AsStr, I: Read + Drop, O: Write, E: Write>(
     rt: &R,
     words: &[S],
@@ -165,8 +165,8 @@ fn quote_input<I: Read + Drop>(alloc: Global, ask: &QuoteAsk, input: I) -> Resul
     Ok(Answer::plain(print_quote(alloc, &tariff, ask)?))
 }
 
-/// The status of an answer: its own where the whole text went to the output, and then the line about
-/// refusals to the error writer; 2 where the output failed.
+/// The status of an answer: its own where the whole text went to the output, and then the line
+/// about refusals to the error writer; 2 where the output failed.
 fn print<O: Write, E: Write>(output: &mut O, faults: &mut E, answer: &Answer) -> u8
     ensures told { IsPrinted (telling_of answer.now) result
         (record { output = O.contents output.old; faults = E.contents faults.old })

@@ -4,8 +4,8 @@ ghost use Rattle.prepaid_command.specs.Fronts.{Writes};
 
 use std::io::{ErrorKind, Write};
 
-/// Writes a text, and answers whether the writer took all of it. Where it didn't, it failed, and what
-/// it took before is a front of the text.
+/// Writes a text, and answers whether the writer took all of it. Where it didn't, it failed, and
+/// what it took before is a front of the text.
 pub(crate) fn write_text<W: Write>(writer: &mut W, text: &[u8]) -> bool
     ensures { Writes (W.contents writer.old) (W.contents writer.new) text.now result }
 {

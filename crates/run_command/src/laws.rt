@@ -25,8 +25,8 @@ pub(crate) fn is_played(player: &ScriptPlayer)
     let _ = player.given();
 }
 
-/// The table of the books of a run passes a long audit: the gsmSSFs send reports in range alone, and
-/// `MAX_ACCOUNTS` histories of `MAX_LIMIT` entries have fewer rows than that takes.
+/// The table of the books of a run passes a long audit: the gsmSSFs send reports in range alone,
+/// and `MAX_ACCOUNTS` histories of `MAX_LIMIT` entries have fewer rows than that takes.
 pub(crate) fn played_books_pass()
     ensures { PlayedBooksPass }
 {

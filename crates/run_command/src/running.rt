@@ -41,8 +41,8 @@ pub struct Ran {
 }
 
 /// The text of a run of the input's script: a line for each account and for each of its calls, the
-/// table of their books, the table of the calls, or the trace of what was said; and the refusals that
-/// the answers of its workers tell of.
+/// table of their books, the table of the calls, or the trace of what was said; and the refusals
+/// that the answers of its workers tell of.
 ///
 /// The input is judged first, its parts in order, and its first fault is told. `Workers` where
 /// there can't be so many workers; any other fault of a run comes as `runs_core::serve` has it.
