@@ -14,4 +14,5 @@ pub mod Roominess
 pub mod Rosters
 pub mod Seated
 pub mod Seating
+pub mod Seeing
 pub mod Turning

@@ -5,8 +5,10 @@ pub mod Kinds
 pub mod Own
 pub mod Plays
 pub mod Prefixes
+pub mod Refusals
 pub mod Room
 pub mod Seats
+pub mod Seen
 pub mod Sitting
 pub mod Terms
 pub mod TurnViews

@@ -21,20 +21,25 @@ use tariff_core::MAX_MONEY;
 /// Nothing but a call shows that, so whoever is generic over the form can't tell of a refusal that
 /// no account gave.
 ///
+/// And it says what a seat knows of the account (`was`), and what a book shows of it later
+/// (`stood`): when a seat's own entries were these, the account was this. A fault comes with such
+/// an account, which refuses just that operation with just that fault.
+///
 /// What a form tells of a seat is `reads`: the key of its account, its number and its own entries.
 /// A seat is of the account whose key it has: the account's number, or whatever else a form tells
 /// its seats by.
 pub trait Shared: Sync + Drop {
-    ghost use Rattle.std.specs.Prelude.{◌≡◌, ◌≤◌, ◌↔◌, ◌⊎◌, ◌++◌, ◌∷◌, [], true, false, map, reverse, All, OnErr, IfOk, IfErr};
+    ghost use Rattle.std.specs.Prelude.{◌≡◌, ◌≤◌, ◌↔◌, ◌⊎◌, ◌++◌, ◌∷◌, ℕ, List, [], true, false, map, reverse, All, OnErr, IfOk, IfErr};
     ghost use Rattle.std.specs.Coded.{Coded};
-    ghost use Rattle.account_core.specs.Asked.{Asked};
-    ghost use Rattle.account_core.specs.Events.{asked_of};
-    ghost use Rattle.account_core.specs.Ledger.{event_by};
+    ghost use Rattle.account_core.specs.Asked.{Asked, call_of};
+    ghost use Rattle.account_core.specs.Events.{EntryData, asked_of};
+    ghost use Rattle.account_core.specs.Ledger.{Ledger, event_by};
     ghost use Rattle.account_core.specs.Places.{IsClosing};
     ghost use Rattle.account_core.specs.declared.fault.AccountFault.{AccountFault};
     ghost use Rattle.account_core.specs.declared.fault.AccountFault.TheVariants as out;
-    ghost use Rattle.shared_account.specs.Closed.{IsBookOf};
+    ghost use Rattle.shared_account.specs.Closed.{Closed, IsBookOf};
     ghost use Rattle.shared_account.specs.Kinds.{IsFaultOf, IsReplyTo, IsReturn};
+    ghost use Rattle.shared_account.specs.Refusals.{IsAlone, IsRefusedAt};
     ghost use Rattle.shared_account.specs.Seats.{Reads, are_all};
     ghost use Rattle.shared_account.specs.Terms.{Terms};
     ghost use Rattle.shared_account.specs.declared.fault.CloseFault.TheVariants as close;
@@ -53,6 +58,10 @@ pub trait Shared: Sync + Drop {
     ghost reads: { Reads Key Self.Seat };
 
     ghost refuses: { Self → Asked → AccountFault → Type 0 };
+
+    ghost was: { Self.Seat → List EntryData → Ledger → Type 0 };
+
+    ghost stood: { Closed → ℕ → List EntryData → Ledger → Type 0 };
 
     /// An account with this number, an opening credit of 0 to `MAX_MONEY`, a last moment, if it has
     /// one, an empty history and the number of entries that this may grow to; and its seats, 1 to
@@ -85,8 +94,12 @@ pub trait Shared: Sync + Drop {
 
     /// Asks the account from one of its seats, once it is this call's turn. A fault makes no entry.
     /// `GateClosed` comes first, where the gate, asked while the account is held, answers false;
-    /// then the faults of `Account::apply`. A Return of a call that this seat's own entries show
-    /// granted and not returned is refused by nothing but `NotOpen` and `GateClosed`.
+    /// then the faults of `Account::apply`, for an account that the seat then knows. What the seat
+    /// knew it still knows.
+    ///
+    /// Where a call is the seat's alone, the gate alone refuses what closes the call by the seat's
+    /// own entries: its Return, and its first Settle since its last grant. A Return of a call that
+    /// these show granted and not returned is refused by nothing but `NotOpen` and `GateClosed`.
     fn call<R: Wait, G: Gate>(
         &self,
         rt: &R,
@@ -102,6 +115,13 @@ pub trait Shared: Sync + Drop {
         ensures kind { IfOk result (λ reply. IsReplyTo (asked_of op) reply) }
         ensures kept { OnErr result (reads.mine seat.new ≡ reads.mine seat.old) }
         ensures refused { IfErr result (λ fault. refuses self.now (asked_of op) fault) }
+        ensures refused_at { IfErr result (λ fault. (fault ≡ out.GateClosed)
+            ⊎ IsRefusedAt (was seat.new) (reads.mine seat.old) (asked_of op) fault) }
+        ensures was { (mine : List EntryData) (account : Ledger)
+            → was seat.old mine account → was seat.new mine account }
+        ensures closing { IsAlone (was seat.new) (call_of (asked_of op))
+            → IsClosing (reverse (reads.mine seat.old)) (asked_of op)
+            → IfErr result (λ fault. fault ≡ out.GateClosed) }
         ensures fault { IfErr result (λ fault. IsFaultOf (asked_of op) fault) }
         ensures gate { result ≡ Err out.GateClosed → G.may_shut gate.now }
         ensures returning { IsReturn (asked_of op)
@@ -109,11 +129,14 @@ pub trait Shared: Sync + Drop {
             → IfErr result (λ fault. (fault ≡ out.NotOpen) ⊎ (fault ≡ out.GateClosed)) };
 
     /// Ends the sharing: the account's book, where all of its seats are handed in, in the order of
-    /// their numbers.
+    /// their numbers. The book shows all that a seat knew of the account.
     fn close(self, seats: Vec<Self::Seat>) -> Result<Book, CloseFault>
         requires { All (λ seat. reads.key seat ≡ key self) seats.items }
         ensures book { IfOk result (λ book.
             IsBookOf (terms self) (map reads.mine seats.items) book) }
+        ensures was { IfOk result (λ book. All
+            (λ seat. (mine : List EntryData) (account : Ledger) → was seat mine account
+            → stood book (reads.number seat) mine account) seats.items) }
         ensures seats { (result ≡ Err close.Seats)
             ↔ (are_all (terms self).seats (map reads.number seats.items) ≡ false) };
 }

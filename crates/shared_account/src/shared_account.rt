@@ -1,11 +1,12 @@
 //! The account under its lock.
 
-ghost use Rattle.std.specs.Prelude.{◌≡◌, ◌≢◌, ◌≤◌, ◌↔◌, ◌⊎◌, ◌++◌, ◌∷◌, [], false, map, reverse, All, OnErr, IfOk, IfErr};
+ghost use Rattle.std.specs.Prelude.{◌≡◌, ◌≢◌, ◌≤◌, ◌↔◌, ◌⊎◌, ◌++◌, ◌∷◌, List, [], false, map, reverse, All, OnErr, IfOk, IfErr};
 ghost use Rattle.shared_account.specs.Closed.{IsBookOf};
-ghost use Rattle.shared_account.specs.Kinds.{IsFaultOf, IsRefused, IsReplyTo, IsReturn};
+ghost use Rattle.shared_account.specs.Kinds.{IsFaultOf, IsReplyTo, IsReturn};
+ghost use Rattle.shared_account.specs.Refusals.{IsRefusedAt};
 ghost use Rattle.shared_account.specs.Seats.{are_all, fresh_seats};
-ghost use Rattle.account_core.specs.Events.{asked_of};
-ghost use Rattle.account_core.specs.Ledger.{event_by};
+ghost use Rattle.account_core.specs.Events.{EntryData, asked_of};
+ghost use Rattle.account_core.specs.Ledger.{Ledger, event_by};
 ghost use Rattle.account_core.specs.Places.{IsClosing};
 ghost use Rattle.shared_account.specs.declared.fault.CloseFault.TheVariants as close;
 
@@ -108,7 +109,8 @@ impl SharedAccount {
         }) }
         ensures kind { IfOk result (λ reply. IsReplyTo (asked_of op) reply) }
         ensures kept { OnErr result (seat.new ≡ seat.old) }
-        ensures refused { IfErr result (λ fault. IsRefused (asked_of op) fault) }
+        ensures refused { IfErr result (λ fault. (fault ≡ AccountFault.GateClosed)
+            ⊎ IsRefusedAt (λ _ _. Unit {0}) seat.old.mine (asked_of op) fault) }
         ensures fault { IfErr result (λ fault. IsFaultOf (asked_of op) fault) }
         ensures gate { result ≡ Err AccountFault.GateClosed → G.may_shut gate.now }
         ensures returning { IsReturn (asked_of op) → IsClosing (reverse seat.old.mine) (asked_of op)
@@ -119,6 +121,8 @@ impl SharedAccount {
         if !gate.inside(self.number) {
             return Err(AccountFault::GateClosed);
         }
+        // A history is legal, so what refuses is an account that might be there.
+        let _ = account.history();
         seat.apply_to(&mut account, op)
     }
 
@@ -181,6 +185,10 @@ impl Shared for SharedAccount {
 
     ghost refuses = { λ _ asked fault. IsRefused asked fault };
 
+    ghost was = { λ _ _ _. Unit {0} };
+
+    ghost stood = { λ _ _ _ _. Unit {0} };
+
     fn new<R>(
         rt: &R,
         alloc: Global,
@@ -207,6 +215,8 @@ impl Shared for SharedAccount {
         requires { All (λ seat. seat.account ≡ self.number) seats.items }
         ensures book { IfOk result (λ book.
             IsBookOf self (map (λ seat. seat.mine) seats.items) book) }
+        ensures was { IfOk result (λ book. All (λ seat. (mine : List EntryData)
+            (account : Ledger) → Unit {0} → Unit {0}) seats.items) }
         ensures seats { (result ≡ Err close.Seats)
             ↔ (are_all self.seats (map (λ seat. seat.number) seats.items) ≡ false) }
     {

@@ -1,6 +1,6 @@
 //! The account that is handed on by turns.
 
-ghost use Rattle.std.specs.Prelude.{◌≡◌, ◌≤◌, ◌↔◌, ◌⊎◌, ◌++◌, ◌∷◌, [], Some, false, map, reverse, All, MatchResult, OnErr, IfOk, IfErr};
+ghost use Rattle.std.specs.Prelude.{◌≡◌, ◌≤◌, ◌↔◌, ◌⊎◌, ◌++◌, ◌∷◌, List, [], Some, false, map, reverse, All, MatchResult, OnErr, IfOk, IfErr};
 ghost use Rattle.shared_account.specs.Closed.{IsBookOf};
 ghost use Rattle.shared_account.specs.Seats.{are_all};
 ghost use Rattle.shared_account.specs.Plays.{with_entry};
@@ -9,8 +9,8 @@ ghost use Rattle.shared_account.specs.TurnViews.{IsSameSeat, fresh_turn_seats, o
 ghost use Rattle.shared_account.specs.Sitting.{IsAt};
 ghost use Rattle.shared_account.specs.Views.{IsServing, seeing};
 ghost use Rattle.account_core.specs.Answers.{IsLegal};
-ghost use Rattle.account_core.specs.Events.{asked_of};
-ghost use Rattle.account_core.specs.Ledger.{IsRefusal, event_by};
+ghost use Rattle.account_core.specs.Events.{EntryData, asked_of};
+ghost use Rattle.account_core.specs.Ledger.{IsRefusal, Ledger, event_by};
 ghost use Rattle.account_core.specs.Places.{IsClosing};
 ghost use Rattle.shared_account.specs.declared.fault.CloseFault.TheVariants as close;
 
@@ -224,6 +224,7 @@ fn enter<G: Gate>(
 
 impl Shared for TurnAccount {
     ghost use Rattle.shared_account.specs.Kinds.{IsRefused};
+    ghost use Rattle.shared_account.specs.Seen.{HasSeen, StoodIn};
     ghost use Rattle.atomic_table.specs.Seated.{TableId, table_id_coded};
 
     type Seat = TurnSeat;
@@ -243,6 +244,10 @@ impl Shared for TurnAccount {
     } };
 
     ghost refuses = { λ _ asked fault. IsRefused asked fault };
+
+    ghost was = { HasSeen };
+
+    ghost stood = { StoodIn };
 
     fn new<R>(
         rt: &R,
@@ -269,6 +274,9 @@ impl Shared for TurnAccount {
     fn close(self, seats: Vec<TurnSeat>) -> Result<Book, CloseFault>
         requires { All (λ seat. seat.table ≡ self.table) seats.items }
         ensures book { IfOk result (λ book. IsBookOf self.terms (map own_of seats.items) book) }
+        ensures was { IfOk result (λ book. All
+            (λ seat. (mine : List EntryData) (account : Ledger) → HasSeen seat mine account
+            → StoodIn book seat.number mine account) seats.items) }
         ensures seats { (result ≡ Err close.Seats)
             ↔ (are_all self.terms.seats (map (λ seat. seat.number) seats.items) ≡ false) }
     {

@@ -1,5 +1,8 @@
 use Rattle.account_core.specs.Events.{asked_of}
 use Rattle.shared_account.proofs.Calls.{ends_kindly}
+use Rattle.account_core.specs.Ledger.{event_by}
+use Rattle.shared_account.specs.TurnViews.{own_of}
+use Rattle.shared_account.proofs.Seeing.{closes_alone}
 use Rattle.shared_account.proofs.Refusing.{refusals_by, refusals_kind, returned_by}
 use Rattle.shared_account.proofs.turn_account.TurnAccountShared.call.Goals as goal
 
@@ -14,3 +17,7 @@ returns-clause-fault g c = refusals_kind c.call.new.seat.view (asked_of c.args.o
 
 pub returns-clause-returning : goal.returns-clause-returning
 returns-clause-returning g c return closing = returned_by c.call.new.seat.view (asked_of c.args.op) c.call.result c.call.ensures.refused c.call.ensures.closing return
+
+pub returns-clause-closing : goal.returns-clause-closing
+returns-clause-closing g c alone closes =
+    closes_alone c.call.new.seat (own_of c.args.seat.now) (event_by c.args.seat.now.number (asked_of c.args.op)) (asked_of c.args.op) c.call.result c.call.ensures.own c.call.ensures.closing alone closes

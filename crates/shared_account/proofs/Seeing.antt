@@ -1,0 +1,64 @@
+-- What seats know of their accounts, and calls that are one seat's alone.
+use Rattle.std.proofs.Common.{◌≡◌, ℕ, Bool, true, false, None, List, [], ◌∷◌, ◌++◌, Result, Ok, Err, refl, sym, ap, ◌∙◌, subst}
+use Rattle.std.specs.Prelude.{◌==◌, if◌then◌else◌, reverse, All, IfErr, MatchResult}
+use Rattle.std.proofs.lemmas.Bool.{eq-eqb}
+use Rattle.std.proofs.lemmas.List.Elements.{All-head, All-tail}
+use Rattle.account_core.specs.Asked.{Asked, Returns, call_of}
+use Rattle.account_core.specs.Events.{EntryData}
+use Rattle.account_core.specs.Ledger.{event_by}
+use Rattle.account_core.specs.Places.{IsClosing}
+use Rattle.account_core.specs.declared.entry.Reply.{Reply}
+use Rattle.account_core.specs.declared.entry.Reply.TheVariants as reply
+use Rattle.account_core.specs.declared.fault.AccountFault.{AccountFault}
+use Rattle.account_core.specs.declared.fault.AccountFault.TheVariants as fault
+use Rattle.shared_account.specs.Own.{is_of, of_call, own}
+use Rattle.shared_account.specs.Refusals.{IsAlone}
+use Rattle.shared_account.specs.Seen.{CallsOfOneSeatAreAlone, HasSeen}
+use Rattle.shared_account.specs.TurnViews.{TurnSeatView, own_of}
+use Rattle.shared_account.proofs.Beginnings.{begins_itself}
+use Rattle.shared_account.proofs.Owning.{closing_alike}
+
+-- what closes a call that is the seat's alone, by its own entries, closes it in the account that it has seen
+pub closes_alone : (seat : TurnSeatView) (mine : List EntryData) (entry : Reply → EntryData) (asked : Asked) (told : Result Reply AccountFault)
+    → MatchResult told (λ reply. own_of seat ≡ mine ++ entry reply ∷ []) (λ _. own_of seat ≡ mine)
+    → (IsClosing (reverse seat.view.history) asked → IfErr told (λ why. why ≡ fault.GateClosed)) → IsAlone (HasSeen seat) (call_of asked) → IsClosing (reverse mine) asked
+    → IfErr told (λ why. why ≡ fault.GateClosed)
+closes_alone seat mine entry asked (Ok reply) own closing alone closes = tt
+closes_alone seat mine entry asked (Err why) own closing alone closes =
+    let seen : HasSeen seat mine seat.view = record { opening = refl; until = refl; limit = refl; begins = begins_itself seat.view.history; own = own } in
+    closing (closing_alike mine seat.view.history asked closes (sym (alone mine seat.view seen)))
+
+-- ---- where any account may be there, no call is a seat's alone
+
+abbrev return_of : ℕ → EntryData
+return_of call = event_by 0 (Returns call) (reply.Returned 0 0)
+
+not_none : {X : Type 0} (here : Bool) (x : X) → here ≡ true → (if here then x ∷ [] else []) ≡ [] → ⊥
+not_none true x is none = cc none
+not_none false x is none = cc is
+
+pub none_alone : (call : ℕ) → IsAlone (λ _ _. Unit {0}) call → ⊥
+none_alone call alone =
+    not_none (call == call) (return_of call) (eq-eqb call call refl) (alone [] (record { opening = 0; until = None; limit = 0; history = return_of call ∷ [] }) tt)
+
+-- ---- a call whose entries are by one seat
+
+its_own : (of here : Bool) (event : EntryData) (call : ℕ) (all mine : List EntryData) → is_of call event.asked ≡ of → (of ≡ true → here ≡ true) → of_call call all ≡ of_call call mine
+    → (if of then event ∷ of_call call all else of_call call all) ≡ of_call call (if here then event ∷ mine else mine)
+its_own of true event call all mine is here same =
+    ap (λ (h : List EntryData). if of then event ∷ h else h) same ∙ ap (λ (b : Bool). if b then event ∷ of_call call mine else of_call call mine) (sym is)
+its_own true false event call all mine is here same = absurd (cc (here refl))
+its_own false false event call all mine is here same = same
+
+by_seat : (seat call : ℕ) (begun rest : List EntryData) → All (λ event. is_of call event.asked ≡ true → event.seat ≡ seat) (begun ++ rest)
+    → of_call call begun ≡ of_call call (own seat begun)
+by_seat seat call [] rest all = refl
+by_seat seat call (event ∷ begun) rest all =
+    let By : EntryData → Type 0 = λ event. is_of call event.asked ≡ true → event.seat ≡ seat in
+    its_own (is_of call event.asked) (event.seat == seat) event call begun (own seat begun) refl (λ is. eq-eqb event.seat seat (All-head By event (begun ++ rest) all is))
+    (by_seat seat call begun rest (All-tail By event (begun ++ rest) all))
+
+pub one_seat_is_alone : CallsOfOneSeatAreAlone
+one_seat_is_alone book seat call by_it mine account stood =
+    let By : EntryData → Type 0 = λ event. is_of call event.asked ≡ true → event.seat ≡ seat in
+    by_seat seat call account.history stood.begins.rest (subst (All By) stood.begins.is by_it) ∙ ap (of_call call) stood.own

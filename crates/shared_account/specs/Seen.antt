@@ -1,0 +1,30 @@
+-- What the seats of a turn account have seen, and where a book shows it.
+use Rattle.std.specs.Prelude.{◌≡◌, ℕ, List, true, All}
+use Rattle.account_core.specs.Events.{EntryData}
+use Rattle.account_core.specs.Ledger.{Ledger}
+use Rattle.shared_account.specs.Closed.{Closed}
+use Rattle.shared_account.specs.Own.{is_of, own}
+use Rattle.shared_account.specs.Prefixes.{IsPrefix}
+use Rattle.shared_account.specs.Refusals.{IsAlone}
+use Rattle.shared_account.specs.TurnViews.{TurnSeatView}
+
+-- when the seat's own entries were these, the account was this: it was opened as the seat's view says, and its history begins what the seat has seen
+pub record HasSeen (seat : TurnSeatView) (mine : List EntryData) (account : Ledger) : Type 0 where
+  pub opening : account.opening ≡ seat.view.opening
+  pub until : account.until ≡ seat.view.until
+  pub limit : account.limit ≡ seat.view.limit
+  pub begins : IsPrefix account.history seat.view.history
+  pub own : own seat.number account.history ≡ mine
+
+-- the account of a book was this when the own entries of the seat with this number were these
+pub record StoodIn (book : Closed) (seat : ℕ) (mine : List EntryData) (account : Ledger) : Type 0 where
+  pub begins : IsPrefix account.history book.history
+  pub own : own seat account.history ≡ mine
+
+-- each entry of a call in a book is by this seat
+abbrev pub IsBySeat : Closed → ℕ → ℕ → Type 0
+IsBySeat book seat call = All (λ event. is_of call event.asked ≡ true → event.seat ≡ seat) book.history
+
+-- a call whose entries in a book are all by one seat was that seat's alone
+abbrev pub CallsOfOneSeatAreAlone : Type 0
+CallsOfOneSeatAreAlone = (book : Closed) (seat call : ℕ) → IsBySeat book seat call → IsAlone (StoodIn book seat) call
