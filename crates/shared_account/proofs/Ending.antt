@@ -17,28 +17,35 @@ use Rattle.shared_account.proofs.Beginnings.{begins_further}
 use Rattle.shared_account.proofs.Merging.{first_by, numbered_at}
 
 -- one more seat has ended
-pub one_ended : (history : List EntryData) (first : ℕ) (lasts : List Ledger) (last : Ledger) → HaveEnded history first lasts
-    → HasEnded history (first + length lasts) last → HaveEnded history first (lasts ++ last ∷ [])
-one_ended history first [] last have has = (subst (λ (n : ℕ). HasEnded history n last) (omega arith) has, tt)
-one_ended history first (other ∷ lasts) last have has =
-    (have.0, one_ended history (first + 1) lasts last have.1 (subst (λ (n : ℕ). HasEnded history n last) (omega arith) has))
+pub one_ended : (account : Ledger) (first : ℕ) (lasts : List Ledger) (last : Ledger) → HaveEnded account first lasts
+    → HasEnded account (first + length lasts) last → HaveEnded account first (lasts ++ last ∷ [])
+one_ended account first [] last have has = (subst (λ (n : ℕ). HasEnded account n last) (omega arith) has, tt)
+one_ended account first (other ∷ lasts) last have has =
+    (have.0, one_ended account (first + 1) lasts last have.1 (subst (λ (n : ℕ). HasEnded account n last) (omega arith) has))
 
--- the history goes on without an entry of theirs
-pub ended_longer : (history later : List EntryData) (first : ℕ) (lasts : List Ledger) → IsPrefix history later
-    → ((number : ℕ) → first ≤ number → number < first + length lasts → own number history ≡ own number later) → HaveEnded history first lasts → HaveEnded later first lasts
-ended_longer history later first [] longer same have = tt
-ended_longer history later first (last ∷ lasts) longer same have = (
-  record { seen = begins_further last.history history later have.0.seen longer; own = have.0.own ∙ same first (omega arith) (omega arith) },
-  ended_longer history later (first + 1) lasts longer (λ n above below. same n (omega (arith, above)) (omega (arith, below))) have.1,
+-- the account goes on without an entry of theirs
+pub ended_longer : (account : Ledger) (history : List EntryData) (first : ℕ) (lasts : List Ledger) → IsPrefix account.history history
+    → ((number : ℕ) → first ≤ number → number < first + length lasts → own number account.history ≡ own number history) → HaveEnded account first lasts
+    → HaveEnded (record account { history = history }) first lasts
+ended_longer account history first [] longer same have = tt
+ended_longer account history first (last ∷ lasts) longer same have = (
+  record {
+    opening = have.0.opening;
+    until = have.0.until;
+    limit = have.0.limit;
+    seen = begins_further last.history account.history history have.0.seen longer;
+    own = have.0.own ∙ same first (omega arith) (omega arith);
+  },
+  ended_longer account history (first + 1) lasts longer (λ n above below. same n (omega (arith, above)) (omega (arith, below))) have.1,
 )
 
 -- the seat at a place among them
-pub ended_at : (history : List EntryData) (first : ℕ) (lasts : List Ledger) (k : ℕ) (d : Ledger) → HaveEnded history first lasts → k < length lasts
-    → HasEnded history (first + k) (slice_index_or lasts k d)
-ended_at history first [] k d have within = absurd (omega (arith, within))
-ended_at history first (last ∷ lasts) zero d have within = subst (λ (n : ℕ). HasEnded history n last) (omega arith) have.0
-ended_at history first (last ∷ lasts) (suc k) d have within =
-    subst (λ (n : ℕ). HasEnded history n (slice_index_or lasts k d)) (omega arith) (ended_at history (first + 1) lasts k d have.1 (omega (arith, within)))
+pub ended_at : (account : Ledger) (first : ℕ) (lasts : List Ledger) (k : ℕ) (d : Ledger) → HaveEnded account first lasts → k < length lasts
+    → HasEnded account (first + k) (slice_index_or lasts k d)
+ended_at account first [] k d have within = absurd (omega (arith, within))
+ended_at account first (last ∷ lasts) zero d have within = subst (λ (n : ℕ). HasEnded account n last) (omega arith) have.0
+ended_at account first (last ∷ lasts) (suc k) d have within =
+    subst (λ (n : ℕ). HasEnded account n (slice_index_or lasts k d)) (omega arith) (ended_at account (first + 1) lasts k d have.1 (omega (arith, within)))
 
 -- ---- numbers without entries
 
@@ -85,10 +92,10 @@ numbered_last number seats last are = (numbered_first number 0 seats last are, o
 
 -- ---- what is closed merges the seats' own entries
 
-pub merged_closed : (history : List EntryData) (seats : List TurnSeatView) → are_numbered 0 (map (λ (s : TurnSeatView). s.number) seats) ≡ true
-    → HaveEnded history 0 (map (λ (s : TurnSeatView). s.view) seats) → All (λ event. event.seat < length (map (λ (s : TurnSeatView). s.view) seats)) history
-    → (d : TurnSeatView) → IsMerged history (map own_of seats)
-merged_closed history seats numbered have others d =
+pub merged_closed : (account : Ledger) (seats : List TurnSeatView) → are_numbered 0 (map (λ (s : TurnSeatView). s.number) seats) ≡ true
+    → HaveEnded account 0 (map (λ (s : TurnSeatView). s.view) seats) → All (λ event. event.seat < length (map (λ (s : TurnSeatView). s.view) seats)) account.history
+    → (d : TurnSeatView) → IsMerged account.history (map own_of seats)
+merged_closed account seats numbered have others d =
     let views = length-map seats (λ (s : TurnSeatView). s.view) in
     let lists = length-map seats own_of in
     record {
@@ -97,19 +104,20 @@ merged_closed history seats numbered have others d =
           let there : k < length (map (λ (s : TurnSeatView). s.view) seats) = omega (arith, here, views) in
           let seat = slice_index_or seats k d in
           let number : seat.number ≡ k = omega (arith, numbered_at (λ (s : TurnSeatView). s.number) 0 seats k d numbered here) in
-          let last : HasEnded history k seat.view =
-          subst (HasEnded history k) (get_or-map (λ (s : TurnSeatView). s.view) seats k d d.view here)
-          (subst (λ (n : ℕ). HasEnded history n (slice_index_or (map (λ (s : TurnSeatView). s.view) seats) k d.view)) (omega arith)
-          (ended_at history 0 (map (λ (s : TurnSeatView). s.view) seats) k d.view have there)) in
+          let last : HasEnded account k seat.view =
+          subst (HasEnded account k) (get_or-map (λ (s : TurnSeatView). s.view) seats k d d.view here)
+          (subst (λ (n : ℕ). HasEnded account n (slice_index_or (map (λ (s : TurnSeatView). s.view) seats) k d.view)) (omega arith)
+          (ended_at account 0 (map (λ (s : TurnSeatView). s.view) seats) k d.view have there)) in
           sym last.own ∙ (ap (λ (n : ℕ). own n seat.view.history) (sym number) ∙ sym (get_or-map own_of seats k d [] here));
       no_others = λ k e within. let less = others k e within in omega (arith, less, views, lists);
     }
 
-pub seen_closed : (history : List EntryData) (first : ℕ) (seats : List TurnSeatView) → HaveEnded history first (map (λ (s : TurnSeatView). s.view) seats)
-    → All (λ (s : TurnSeatView). IsPrefix s.view.history history) seats
-seen_closed history first [] have k d within = absurd (omega (arith, within))
-seen_closed history first (seat ∷ seats) have zero d within = have.0.seen
-seen_closed history first (seat ∷ seats) have (suc k) d within = seen_closed history (first + 1) seats have.1 k d (omega (arith, within))
+-- what is so of each seat that has ended is so of all of these
+pub each_closed : (P : Ledger → Type 0) (account : Ledger) → ((number : ℕ) (last : Ledger) → HasEnded account number last → P last)
+    → (first : ℕ) (seats : List TurnSeatView) → HaveEnded account first (map (λ (s : TurnSeatView). s.view) seats) → All (λ (s : TurnSeatView). P s.view) seats
+each_closed P account each first [] have k d within = absurd (omega (arith, within))
+each_closed P account each first (seat ∷ seats) have zero d within = each first seat.view have.0
+each_closed P account each first (seat ∷ seats) have (suc k) d within = each_closed P account each (first + 1) seats have.1 k d (omega (arith, within))
 
 -- ---- entries of the code
 

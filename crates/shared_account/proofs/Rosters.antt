@@ -39,7 +39,7 @@ views_grow P views w mine others at v e =
     ⊎_elim (λ (t : get_elem? views at ≡ some v). others at v t) (λ (t : (at ≡ length views) × (w ≡ v)). subst (P at) t.1 (mine at)) (at_end views w v at e)
 
 pub knows_again : (now after : BoardState) (at : ℕ) (v : View) → Knows now at v → IsPrefix v.seen.history after.account.history → IsPrefix v.heard.history after.account.history
-    → HaveEnded after.account.history 0 v.ended → now.gone ≤ after.gone
+    → HaveEnded after.account 0 v.ended → now.gone ≤ after.gone
     → (IsSeat v.stage → IsNumbered now v → IsNumbered after v) → ((t : ℕ) → ticket_of v.stage ≡ Some t → IsOut now t → IsOut after t)
     → ((t : ℕ) → v.stage ≡ Serves t → HasTurn now at v t → HasTurn after at v t) → Knows after at v
 knows_again now after at v knows seen heard ended gone numbered out turn = record {

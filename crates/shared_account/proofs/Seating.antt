@@ -159,12 +159,17 @@ module _ (start : Start) where
         first = n.first;
         own = n.own;
       } in
-      let last : HasEnded now.account.history (length v.ended) w.seen =
-      record { seen = other_knew.seen; own = subst (λ (n : ℕ). own n w.seen.history ≡ own n now.account.history) is_next other_seated.own } in
+      let last : HasEnded now.account (length v.ended) w.seen = record {
+        opening = other_seated.opening;
+        until = other_seated.until;
+        limit = other_seated.limit;
+        seen = other_knew.seen;
+        own = subst (λ (n : ℕ). own n w.seen.history ≡ own n now.account.history) is_next other_seated.own;
+      } in
       let mine : Knows after id both = record {
         seen = knew.seen;
         heard = knew.heard;
-        ended = one_ended now.account.history 0 v.ended w.seen knew.ended (subst (λ (n : ℕ). HasEnded now.account.history n w.seen) (omega arith) last);
+        ended = one_ended now.account 0 v.ended w.seen knew.ended (subst (λ (n : ℕ). HasEnded now.account n w.seen) (omega arith) last);
         gone = omega (arith, length-append v.ended (w.seen ∷ []), knew.gone);
         seated = λ seat.
             let n = numbered v seated ((kept.apart other id w v differs before there).numbers other_seat seat) in
@@ -251,8 +256,13 @@ module _ (start : Start) where
       let seated = knew.seated (subst IsSeat (sym idle) tt) in
       let home : s.homes ≡ some (Some now.account) ∷ [] = alone s kept id v there idle is_next is_last now.holder kept.lies in
       let found : get_elem? slots 0 ≡ some (Some now.account) = final.4 0 (Some now.account) (ap (λ hs. get_elem? hs 0) home) in
-      let last : HasEnded now.account.history (length v.ended) v.seen =
-      record { seen = knew.seen; own = subst (λ (n : ℕ). own n v.seen.history ≡ own n now.account.history) is_next seated.own } in
+      let last : HasEnded now.account (length v.ended) v.seen = record {
+        opening = seated.opening;
+        until = seated.until;
+        limit = seated.limit;
+        seen = knew.seen;
+        own = subst (λ (n : ℕ). own n v.seen.history ≡ own n now.account.history) is_next seated.own;
+      } in
       let count : length (v.ended ++ v.seen ∷ []) ≡ start.seats = omega (arith, length-append v.ended (v.seen ∷ []), is_last) in (
         now.account,
         some-injective left (Some now.account) (sym left_is ∙ found),
@@ -262,7 +272,7 @@ module _ (start : Start) where
           limit = kept.past.limit;
           legal = kept.past.legal;
           short = kept.past.short;
-          each = one_ended now.account.history 0 v.ended v.seen knew.ended (subst (λ (n : ℕ). HasEnded now.account.history n v.seen) (omega arith) last);
+          each = one_ended now.account 0 v.ended v.seen knew.ended (subst (λ (n : ℕ). HasEnded now.account n v.seen) (omega arith) last);
           no_others = all_below now.account.history (length (v.ended ++ v.seen ∷ [])) (λ n above. kept.past.unmade n (omega (arith, above, count, kept.past.few)));
         },
       )

@@ -196,8 +196,9 @@ module _ (start : Start) where
       let short : length account.history ≤ m.0.seen.limit = omega (arith, short_with m.0.seen event admitted share, sum) in
       let others_own : (n : ℕ) → event.seat ≢ n → own n now.account.history ≡ own n account.history = λ n ne.
       ap (λ (a : Ledger). own n a.history) was ∙ sym (own_other n m.0.seen.history event ne) in
-      let ended_still : (at : ℕ) (u : View) → Knows now at u → HaveEnded account.history 0 u.ended = λ at u know.
-      ended_longer now.account.history account.history 0 u.ended longer (λ n first last. others_own n (λ e. omega (arith, e, its, seated.gone, know.gone, last))) know.ended in (
+      let ended_still : (at : ℕ) (u : View) → Knows now at u → HaveEnded account 0 u.ended = λ at u know.
+      subst (λ (a : Ledger). HaveEnded (record a { history = account.history }) 0 u.ended) was
+      (ended_longer now.account account.history 0 u.ended longer (λ n first last. others_own n (λ e. omega (arith, e, its, seated.gone, know.gone, last))) know.ended) in (
         w,
         keeps,
         tt,

@@ -16,8 +16,17 @@ pub record HasSeen (seat : TurnSeatView) (mine : List EntryData) (account : Ledg
   pub begins : IsPrefix account.history seat.view.history
   pub own : own seat.number account.history ≡ mine
 
--- the account of a book was this when the own entries of the seat with this number were these
+-- a book is of an account that was opened as this one was
+pub record IsOpenedAs (account : Ledger) (book : Closed) : Type 0 where
+  pub opening : book.opening ≡ account.opening
+  pub until : book.until ≡ account.until
+  pub limit : book.limit ≡ account.limit
+
+-- the account of a book was this when the own entries of the seat with this number were these: it was opened as the book says, and its history begins the book's
 pub record StoodIn (book : Closed) (seat : ℕ) (mine : List EntryData) (account : Ledger) : Type 0 where
+  pub opening : account.opening ≡ book.opening
+  pub until : account.until ≡ book.until
+  pub limit : account.limit ≡ book.limit
   pub begins : IsPrefix account.history book.history
   pub own : own seat account.history ≡ mine
 

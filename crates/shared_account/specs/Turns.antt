@@ -72,7 +72,7 @@ pub record HasTurn (now : BoardState) (at : ℕ) (view : View) (ticket : ℕ) : 
 pub record Knows (now : BoardState) (at : ℕ) (view : View) : Type 0 where
   pub seen : IsPrefix view.seen.history now.account.history
   pub heard : IsPrefix view.heard.history now.account.history
-  pub ended : HaveEnded now.account.history 0 view.ended
+  pub ended : HaveEnded now.account 0 view.ended
   pub gone : length view.ended ≤ now.gone
   pub seated : IsSeat view.stage → IsNumbered now view
   pub ticket : (ticket : ℕ) → ticket_of view.stage ≡ Some ticket → IsOut now ticket

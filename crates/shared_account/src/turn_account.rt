@@ -3,6 +3,7 @@
 ghost use Rattle.std.specs.Prelude.{◌≡◌, ◌≤◌, ◌↔◌, ◌⊎◌, ◌++◌, ◌∷◌, List, [], Some, false, map, reverse, All, MatchResult, OnErr, IfOk, IfErr};
 ghost use Rattle.shared_account.specs.Closed.{IsBookOf};
 ghost use Rattle.shared_account.specs.Seats.{are_all};
+ghost use Rattle.shared_account.specs.Seen.{IsOpenedAs};
 ghost use Rattle.shared_account.specs.Plays.{with_entry};
 ghost use Rattle.shared_account.specs.Prefixes.{EndsWith, IsPrefix};
 ghost use Rattle.shared_account.specs.TurnViews.{IsSameSeat, fresh_turn_seats, own_of, unused};
@@ -168,7 +169,8 @@ impl TurnAccount {
     }
 
     /// Ends the sharing: the account's book, where all of its seats are handed in, in the order of
-    /// their numbers. Its history begins with all that any of them has seen.
+    /// their numbers. Its history begins with all that any of them has seen, and it was opened as
+    /// each of them has seen it.
     ///
     /// It takes no memory and compares nothing: the fault is `Seats`.
     pub fn close(self, seats: Vec<TurnSeat>) -> Result<Book, CloseFault>
@@ -176,6 +178,7 @@ impl TurnAccount {
         ensures book { IfOk result (λ book. IsBookOf self.terms (map own_of seats.items) book) }
         ensures seen { IfOk result (λ book.
             All (λ seat. IsPrefix seat.view.history book.history) seats.items) }
+        ensures opened { IfOk result (λ book. All (λ seat. IsOpenedAs seat.view book) seats.items) }
         ensures fault { IfErr result (λ fault. fault ≡ close.Seats) }
         ensures seats { (result ≡ Err close.Seats)
             ↔ (are_all self.terms.seats (map (λ seat. seat.number) seats.items) ≡ false) }

@@ -5,6 +5,7 @@ ghost use Rattle.shared_account.specs.Closed.{IsBookOf};
 ghost use Rattle.shared_account.specs.Ended.{IsClosedAs};
 ghost use Rattle.shared_account.specs.Prefixes.{IsPrefix};
 ghost use Rattle.shared_account.specs.Seats.{are_all, are_numbered};
+ghost use Rattle.shared_account.specs.Seen.{IsOpenedAs};
 ghost use Rattle.shared_account.specs.Sitting.{IsAt, IsBoard};
 ghost use Rattle.shared_account.specs.TurnViews.{own_of};
 ghost use Rattle.shared_account.specs.declared.board.Stage.TheVariants.{Idles};
@@ -33,6 +34,7 @@ pub(crate) fn close_board(
     } (map own_of seats.items) book) }
     ensures seen { IfOk result (λ book.
         All (λ seat. IsPrefix seat.view.history book.history) seats.items) }
+    ensures opened { IfOk result (λ book. All (λ seat. IsOpenedAs seat.view book) seats.items) }
     ensures fault { IfErr result (λ fault. fault ≡ close.Seats) }
     ensures seats { (result ≡ Err close.Seats)
         ↔ (are_all count (map (λ seat. seat.number) seats.items) ≡ false) }
