@@ -121,7 +121,7 @@ impl SharedAccount {
         if !gate.inside(self.number) {
             return Err(AccountFault::GateClosed);
         }
-        // A history is legal, so what refuses is an account that might be there.
+        // For the proof alone: the account that refuses has a legal history.
         let _ = account.history();
         seat.apply_to(&mut account, op)
     }

@@ -1,20 +1,25 @@
 -- What acting on a case does to the seats and the dialogues.
-use Rattle.std.proofs.Common.{◌≡◌, ◌<◌, ◌++◌, ◌∙◌, ℕ, Bool, true, false, Option, Some, Result, Ok, Err, List, [], length, map, refl, sym, ap, OnOk, get_or}
+use Rattle.std.proofs.Common.{◌≡◌, ◌≢◌, ◌<◌, ◌++◌, ◌∙◌, ℕ, Bool, true, false, Option, Some, Result, Ok, Err, List, [], length, map, refl, sym, ap, subst, OnOk, get_or}
 use Rattle.std.specs.Prelude.{◌==◌, if◌then◌else◌, option_map, slice_set, slice_index_or}
 use Rattle.std.specs.BTreeMap.{is_at}
 use Rattle.std.specs.Map.{lookup}
 use Rattle.std.specs.Ordering.{nat_cmp}
 use Rattle.std.proofs.Math.Seq.{map-set_same}
-use Rattle.std.proofs.lemmas.List.{get_or-map, length-map, map-set}
+use Rattle.std.proofs.lemmas.List.{get_or-map, get_or-set_other, get_or-set_same, get_or_default, length-map, length-set, map-set}
+use mathlib.Core.Logic.{dite}
+use native.Mathlib.Decide.{ℕ_discrete}
 use Rattle.account_core.specs.Asked.{Credits}
 use Rattle.account_core.specs.Events.{EntryData}
+use Rattle.account_core.specs.Ledger.{Ledger}
+use Rattle.shared_account.specs.Refusals.{Knowing}
 use Rattle.account_core.specs.declared.fault.AccountFault.{AccountFault}
 use Rattle.cap_values.specs.Orders.{Order}
 use Rattle.dialogue_core.specs.Phases.{Phase, Says, Asks}
 use Rattle.workers_core.proofs.Talking.{fault_after}
 use Rattle.workers_core.specs.Cases.{IsCredited}
 use Rattle.workers_core.specs.Handled.{IsRecharged, IsTalked, StandsNow, AnswerView, grown}
-use Rattle.workers_core.specs.Talks.{IsTalk, entries_of, entry_of}
+use Rattle.workers_core.specs.Refusals.{WasAt}
+use Rattle.workers_core.specs.Talks.{AreRight, IsRight, IsTalk, Showing, entries_of, entry_of}
 use Rattle.workers_core.specs.Verdicts.{DialogueAt}
 use Rattle.workers_core.specs.Workers.{standing_of, standings_in}
 use Rattle.workers_core.specs.declared.worker.Talk.{Talk}
@@ -59,37 +64,77 @@ pub stands_now : (old new : List (ℕ × Talk)) (call : ℕ) (talk : Talk) → (
     → StandsNow call (standing_of talk) (standings_in old) (standings_in new)
 stands_now old new call talk kept other = ap (option_map standing_of) (kept other) ∙ mapped (other == call) talk (lookup (is_at (nat_cmp other)) old)
 
+-- ---- what is known at each place
+
+pub was_there : {T : Type 0} (Was : T → Knowing) (seats : List T) (place : ℕ) (after : T) → place < length seats
+    → (mine : List EntryData) (account : Ledger) → Was after mine account → WasAt Was (slice_set seats place after) place mine account
+was_there Was seats place after within mine account was = record {
+  seat = after;
+  within = subst (λ (n : ℕ). place < n) (sym (length-set seats place after)) within;
+  seat_is = sym (get_or-set_same seats place after after within);
+  was = was;
+}
+
+pub was_at : {T : Type 0} (Was : T → Knowing) (seats : List T) (place : ℕ) (before after : T) → place < length seats → before ≡ get_or seats place before
+    → ((mine : List EntryData) (account : Ledger) → Was before mine account → Was after mine account)
+    → (other : ℕ) (mine : List EntryData) (account : Ledger) → WasAt Was seats other mine account → WasAt Was (slice_set seats place after) other mine account
+was_at Was seats place before after within is still other mine account known =
+    dite (ℕ_discrete other place)
+    (λ (here : other ≡ place).
+    let same : known.seat ≡ before = known.seat_is ∙ ap (λ (n : ℕ). get_or seats n known.seat) here ∙ get_or_default seats place known.seat before within ∙ sym is in
+    let there : WasAt Was (slice_set seats place after) place mine account =
+    was_there Was seats place after within mine account (still mine account (subst (λ (t : _). Was t mine account) same known.was)) in
+    subst (λ (n : ℕ). WasAt Was (slice_set seats place after) n mine account) (sym here) there)
+    (λ (apart : other ≢ place). record {
+      seat = known.seat;
+      within = subst (λ (n : ℕ). other < n) (sym (length-set seats place after)) known.within;
+      seat_is = known.seat_is ∙ sym (get_or-set_other seats place other after known.seat apart);
+      was = known.was;
+    })
+
 -- ---- what is done
 
-pub recharged_by : (numbers : List ℕ) (place amount : ℕ) (until : Option ℕ) (seat : ℕ) (lists grew : List (List EntryData)) (talks : ℕ → Option DialogueAt) (before after : List EntryData) (told : AnswerView)
-    → IsCredited seat (Credits amount until) before after told → seat ≡ slice_index_or numbers place 0
-    → ((entries : List EntryData) → after ≡ before ++ entries → grew ≡ grown lists place entries)
-    → IsRecharged numbers place amount until (record { lists = lists; talks = talks }) (record { lists = grew; talks = talks }) told
-recharged_by numbers place amount until seat lists grew talks before after told is number grows = record {
-  got = is.got;
-  orders = is.orders;
-  stray = is.stray;
-  refused = is.refuses ∙ fault_after [] is.got;
-  lists = rw (← number) (grows (entry_of seat (Asks (Credits amount until)) is.got) is.enters);
-  talks = λ call. refl;
-}
+pub mine_at : {T : Type 0} (mine_of : T → List EntryData) (seats : List T) (place : ℕ) (seat : T) → place < length seats → seat ≡ get_or seats place seat
+    → mine_of seat ≡ slice_index_or (map mine_of seats) place []
+mine_at mine_of seats place seat within is = ap mine_of is ∙ sym (get_or-map mine_of seats place seat [] within)
 
-pub talked_by : (numbers : List ℕ) (call place seat : ℕ) (first : Says × Phase) (phase : Phase) (lists grew : List (List EntryData)) (talks now : ℕ → Option DialogueAt)
+pub recharged_by : (Shows : Showing) (numbers : List ℕ) (place amount : ℕ) (until : Option ℕ) (seat : ℕ) (lists grew : List (List EntryData)) (talks : ℕ → Option DialogueAt) (before after : List EntryData) (told : AnswerView)
+    → IsCredited Shows seat (Credits amount until) before after told → seat ≡ slice_index_or numbers place 0 → before ≡ slice_index_or lists place []
+    → ((entries : List EntryData) → after ≡ before ++ entries → grew ≡ grown lists place entries)
+    → (done : IsRecharged numbers place amount until (record { lists = lists; talks = talks }) (record { lists = grew; talks = talks }) told)
+    × IsRight Shows (slice_index_or lists place []) (Asks (Credits amount until)) done.got
+recharged_by Shows numbers place amount until seat lists grew talks before after told is number mine grows = (
+  record {
+    got = is.got;
+    orders = is.orders;
+    stray = is.stray;
+    refused = is.refuses ∙ fault_after [] is.got;
+    lists = rw (← number) (grows (entry_of seat (Asks (Credits amount until)) is.got) is.enters);
+    talks = λ call. refl;
+  },
+  subst (λ (m : List EntryData). IsRight Shows m (Asks (Credits amount until)) is.got) mine is.right,
+)
+
+pub talked_by : (Shows : Showing) (numbers : List ℕ) (call place seat : ℕ) (first : Says × Phase) (phase : Phase) (lists grew : List (List EntryData)) (talks now : ℕ → Option DialogueAt)
     (before after : List EntryData) (orders : List Order) (refused : Option AccountFault) (told : AnswerView)
-    → IsTalk seat first before after phase orders refused → seat ≡ slice_index_or numbers place 0
+    → IsTalk Shows seat first before after phase orders refused → seat ≡ slice_index_or numbers place 0 → before ≡ slice_index_or lists place []
     → ((entries : List EntryData) → after ≡ before ++ entries → grew ≡ grown lists place entries)
     → StandsNow call (record { phase = phase; place = place }) talks now → told.orders ≡ orders → told.stray ≡ false → told.refused ≡ refused
-    → IsTalked numbers call place first (record { lists = lists; talks = talks }) (record { lists = grew; talks = now }) told
-talked_by numbers call place seat first phase lists grew talks now before after orders refused told is number grows stands ordered stray why = record {
-  gots = is.gots;
-  asked = is.asked;
-  last = is.last;
-  phase = phase;
-  talk = is.talks;
-  rests = is.rests;
-  orders = ordered ∙ is.sends;
-  stray = stray;
-  refused = why ∙ is.refuses;
-  lists = rw (← number) (grows (entries_of seat first is.gots) is.enters);
-  talks = stands;
-}
+    → (done : IsTalked numbers call place first (record { lists = lists; talks = talks }) (record { lists = grew; talks = now }) told)
+    × AreRight Shows (slice_index_or numbers place 0) first (slice_index_or lists place []) done.gots
+talked_by Shows numbers call place seat first phase lists grew talks now before after orders refused told is number mine grows stands ordered stray why = (
+  record {
+    gots = is.gots;
+    asked = is.asked;
+    last = is.last;
+    phase = phase;
+    talk = is.talks;
+    rests = is.rests;
+    orders = ordered ∙ is.sends;
+    stray = stray;
+    refused = why ∙ is.refuses;
+    lists = rw (← number) (grows (entries_of seat first is.gots) is.enters);
+    talks = stands;
+  },
+  subst (λ (at : ℕ × List EntryData). AreRight Shows at.0 first at.1 is.gots) (λ i. (number i, mine i)) is.right,
+)

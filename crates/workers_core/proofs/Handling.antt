@@ -17,13 +17,13 @@ use Rattle.dialogue_core.specs.Table.{Step, on_begin, on_message}
 use Rattle.dialogue_core.specs.Views.{phase_of, says_of}
 use Rattle.workers_core.proofs.Abouts.{SaysOf, TakesTo, begun_about, begun_says, begun_settles, settled_by, takes_told, talk_credits, talk_held, talk_settles, talked_about}
 use Rattle.workers_core.proofs.Parts.{IsEntered, all_served_grown, all_served_more, begun_more, part_through}
-use Rattle.workers_core.specs.Cases.{IsActed, IsCase, IsWithin, with_room}
-use Rattle.workers_core.specs.Handled.{Holding, IsDone, IsRecharged, IsTalked, IsUnasked, Stay, AnswerView}
+use Rattle.workers_core.specs.Cases.{IsCase, IsRightlyActed, IsWithin, with_room}
+use Rattle.workers_core.specs.Handled.{AreRefusedRightly, Holding, IsDone, IsRecharged, IsTalked, IsUnasked, Stay, AnswerView}
 use Rattle.workers_core.specs.Served.{IsPart, Money, Report, begun_by, begun_of, recharged_in, reported_in, settles_of}
 use Rattle.run_values.specs.Openings.{no_credit}
 use Rattle.run_values.specs.Setups.{Setup, account_of, place_of}
 use Rattle.dialogue_core.specs.Talks.{Got}
-use Rattle.workers_core.specs.Talks.{entries_of, entry_of}
+use Rattle.workers_core.specs.Talks.{AreRight, Showing, entries_of, entry_of}
 use Rattle.workers_core.specs.Verdicts.{DialogueAt, Verdict, Strays, Rejects, Recharges, Begins, GoesOn, begins, fresh, goes_on, home_of, recharged, spoken, strays, verdict, verdict_on}
 use Rattle.workers_core.specs.Workers.{IsAbout, IsOwn, IsSound, standing_of}
 use Rattle.workers_core.specs.declared.worker.Case.{Case}
@@ -154,7 +154,7 @@ unasked_past : (orders : List _) (stray : Bool) (lists : List (List EntryData)) 
 unasked_past orders stray lists talks between new t same is =
     record { orders_are = is.orders_are; stray_is = is.stray_is; refused = is.refused; lists = is.lists; talks = λ call. is.talks call ∙ same call }
 
-talked_past : (numbers : List ℕ) (call place : ℕ) (first : Says × Phase) (standing : DialogueAt) (lists : List (List EntryData)) (talks between : ℕ → Option DialogueAt) (new : Holding) (t : AnswerView)
+abbrev talked_past : (numbers : List ℕ) (call place : ℕ) (first : Says × Phase) (standing : DialogueAt) (lists : List (List EntryData)) (talks between : ℕ → Option DialogueAt) (new : Holding) (t : AnswerView)
     → ((other : ℕ) → between other ≡ (if other == call then Some standing else talks other))
     → IsTalked numbers call place first (record { lists = lists; talks = between }) new t → IsTalked numbers call place first (record { lists = lists; talks = talks }) new t
 talked_past numbers call place first standing lists talks between new t same is = record {
@@ -173,26 +173,42 @@ talked_past numbers call place first standing lists talks between new t same is 
       ∙ both_so (other == call) (Some (record { phase = is.phase; place = place })) (Some standing) (talks other);
 }
 
-pub done_by : (setup : Setup) (numbers : List ℕ) (at : ℕ) (v : Verdict) (case : Case) (lists : List (List EntryData)) (talks between : ℕ → Option DialogueAt) (new : Holding) (t : AnswerView)
-    → IsCase setup at v case → ((call : ℕ) → between call ≡ with_room case talks call) → IsActed numbers case (record { lists = lists; talks = between }) new t
-    → IsDone setup numbers at v (record { lists = lists; talks = talks }) new t
-done_by setup numbers at v case.Stray lists talks between new t is room acted = rw is (unasked_past [] true lists talks between new t room acted)
-done_by setup numbers at v case.Rejected lists talks between new t is room acted = rw is (unasked_past (Release 21 ∷ []) false lists talks between new t room acted)
-done_by setup numbers at v (case.Recharge place amount until) lists talks between new t is room acted =
-    rw is
-    (record {
-      got = acted.got;
-      orders = acted.orders;
-      stray = acted.stray;
-      refused = acted.refused;
-      lists = acted.lists;
-      talks = λ call. acted.talks call ∙ room call;
-    })
-done_by setup numbers at v (case.Talk call talk turn) lists talks between new t is room acted =
-    let past = talked_past numbers call talk.place (says_of turn, phase_of talk.dialogue) (standing_of talk) lists talks between new t room acted in
+-- and that each refusal was right
+abbrev IsDoneRightly : (Shows : ℕ → Showing) (setup : Setup) (numbers : List ℕ) (at : ℕ) (old new : Holding) (t : AnswerView) → Verdict → Type 0
+IsDoneRightly Shows setup numbers at old new t v = (done : IsDone setup numbers at v old new t) × AreRefusedRightly Shows setup numbers at v old new t done
+
+pub done_by : (Shows : ℕ → Showing) (setup : Setup) (numbers : List ℕ) (at : ℕ) (v : Verdict) (case : Case) (lists : List (List EntryData)) (talks between : ℕ → Option DialogueAt) (new : Holding) (t : AnswerView)
+    → IsCase setup at v case → ((call : ℕ) → between call ≡ with_room case talks call) → IsRightlyActed Shows numbers case (record { lists = lists; talks = between }) new t
+    → (done : IsDone setup numbers at v (record { lists = lists; talks = talks }) new t)
+    × AreRefusedRightly Shows setup numbers at v (record { lists = lists; talks = talks }) new t done
+done_by Shows setup numbers at v case.Stray lists talks between new t is room so =
+    subst (IsDoneRightly Shows setup numbers at (record { lists = lists; talks = talks }) new t) (sym is) (unasked_past [] true lists talks between new t room so.acted, tt)
+done_by Shows setup numbers at v case.Rejected lists talks between new t is room so =
+    subst (IsDoneRightly Shows setup numbers at (record { lists = lists; talks = talks }) new t) (sym is) (unasked_past (Release 21 ∷ []) false lists talks between new t room so.acted, tt)
+done_by Shows setup numbers at v (case.Recharge place amount until) lists talks between new t is room so =
+    subst (IsDoneRightly Shows setup numbers at (record { lists = lists; talks = talks }) new t) (sym is) (
+      record {
+        got = so.acted.got;
+        orders = so.acted.orders;
+        stray = so.acted.stray;
+        refused = so.acted.refused;
+        lists = so.acted.lists;
+        talks = λ call. so.acted.talks call ∙ room call;
+      },
+      so.right,
+    )
+done_by Shows setup numbers at v (case.Talk call talk turn) lists talks between new t is room so =
+    let old : Holding = record { lists = lists; talks = talks } in
+    let number : ℕ = slice_index_or numbers talk.place 0 in
+    let mine : List EntryData = slice_index_or lists talk.place [] in
+    let T : Says × Phase → Type 0 = λ first. (done : IsTalked numbers call talk.place first old new t) × AreRight (Shows talk.place) number first mine done.gots in
+    let past : T (says_of turn, phase_of talk.dialogue) =
+    (talked_past numbers call talk.place (says_of turn, phase_of talk.dialogue) (standing_of talk) lists talks between new t room so.acted, so.right) in
     elim is [
-      | inl goes ↦ rw goes past
-      | inr first ↦ rw first.is (record { route = first.route; routed = first.routed; talked = rw first.begins past })
+      | inl goes ↦ subst (IsDoneRightly Shows setup numbers at old new t) (sym goes) past
+      | inr first ↦
+          (let begun : T (on_begin call at setup.service.wanted setup.service.least first.route) = subst T (sym first.begins) past in
+          subst (IsDoneRightly Shows setup numbers at old new t) (sym first.is) (record { route = first.route; routed = first.routed; talked = begun.0 }, begun.1))
     ]
 
 -- ---- what follows for the clauses of their own

@@ -1,9 +1,10 @@
 -- A refusal that is told is one that an account gave.
-use Rattle.std.proofs.Common.{◌≡◌, ◌<◌, ℕ, Option, Some, None, List, inl, inr, ap, sym, subst, length}
+use Rattle.std.proofs.Common.{◌≡◌, ◌≢◌, ◌⊎◌, ◌<◌, ℕ, Option, Some, None, List, inl, inr, ap, sym, subst, length}
 use Rattle.std.specs.Prelude.{IfSome, slice_index_or}
 use Rattle.account_core.specs.Asked.{Asked}
 use Rattle.account_core.specs.Events.{EntryData}
 use Rattle.account_core.specs.declared.fault.AccountFault.{AccountFault}
+use Rattle.account_core.specs.declared.fault.AccountFault.TheVariants as fault
 use Rattle.dialogue_core.specs.Phases.{Phase, Says, Asks}
 use Rattle.workers_core.proofs.Talking.{IsSoFar}
 use Rattle.workers_core.specs.Cases.{IsCase, IsRefusedCase, IsToldOf}
@@ -11,10 +12,15 @@ use Rattle.workers_core.specs.Refusals.{HasRefusedAt, IsRefusalOf, IsRefusedAsk,
 use Rattle.run_values.specs.Setups.{Setup}
 use Rattle.run_values.specs.declared.post.Post.{Post}
 use Rattle.dialogue_core.specs.Talks.{Got}
-use Rattle.workers_core.specs.Talks.{talked}
+use Rattle.workers_core.specs.Talks.{Showing, talked}
 use Rattle.workers_core.specs.Verdicts.{DialogueAt, Verdict, Strays, Rejects, Recharges, Begins, GoesOn, verdict}
 use Rattle.workers_core.specs.declared.worker.Case.{Case}
 use Rattle.workers_core.specs.declared.worker.Case.TheVariants as case
+
+-- a fault that isn't a closed gate is the account's
+pub not_gate : {P : Type 0} (why : AccountFault) → (why ≡ fault.GateClosed) ⊎ P → why ≢ fault.GateClosed → P
+not_gate why (inl shut) other = absurd (other shut)
+not_gate why (inr is) other = is
 
 -- ---- in a talk
 
@@ -23,11 +29,11 @@ of_ask : (Refuses : Refusing) (first : Says × Phase) (earlier : List Got) (aske
 of_ask Refuses first earlier asked None pending refused = tt
 of_ask Refuses first earlier asked (Some fault) pending refused = record { earlier = earlier; asked = asked; pending = pending; refused = refused }
 
-pub told_more : (Refuses : Refusing) (seat : ℕ) (first : Says × Phase) (before between : List EntryData) (asked : Asked) (from : Phase) (old new : Option AccountFault)
-    → IsSoFar seat first before between (Asks asked, from) old → IsToldOf Refuses asked old new → IfSome old (IsRefusedTalk Refuses first) → IfSome new (IsRefusedTalk Refuses first)
-told_more Refuses seat first before between asked from old new so (inl same) was =
+pub told_more : (Shows : Showing) (Refuses : Refusing) (seat : ℕ) (first : Says × Phase) (before between : List EntryData) (asked : Asked) (from : Phase) (old new : Option AccountFault)
+    → IsSoFar Shows seat first before between (Asks asked, from) old → IsToldOf Refuses asked old new → IfSome old (IsRefusedTalk Refuses first) → IfSome new (IsRefusedTalk Refuses first)
+told_more Shows Refuses seat first before between asked from old new so (inl same) was =
     let P : Option AccountFault → Type 0 = λ told. IfSome told (IsRefusedTalk Refuses first) in subst P (sym same) was
-told_more Refuses seat first before between asked from old new so (inr gave) was =
+told_more Shows Refuses seat first before between asked from old new so (inr gave) was =
     of_ask Refuses first so.gots asked new (ap (λ (p : Says × Phase). p.0) so.talks) gave
 
 -- ---- at a place

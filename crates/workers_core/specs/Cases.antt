@@ -1,5 +1,5 @@
 -- The case of a post, as the code has it, and what acting on it does.
-use Rattle.std.specs.Prelude.{◌≡◌, ◌==◌, ◌<◌, ◌++◌, ◌⊎◌, ℕ, true, false, Option, Some, None, Ok, Err, List, [], ◌∷◌, IfSome, IsSome, if◌then◌else◌}
+use Rattle.std.specs.Prelude.{◌≡◌, ◌==◌, ◌<◌, ◌++◌, ◌⊎◌, ℕ, true, false, Option, Some, None, Ok, Err, List, [], ◌∷◌, IfSome, IsSome, if◌then◌else◌, slice_index_or}
 use Rattle.std.specs.BTreeMap.{is_at}
 use Rattle.std.specs.Map.{lookup}
 use Rattle.std.specs.Ordering.{nat_cmp}
@@ -17,7 +17,7 @@ use Rattle.workers_core.specs.Handled.{Holding, IsRecharged, IsTalked, IsUnasked
 use Rattle.workers_core.specs.Refusals.{IsRefusedAsk, IsRefusedTalk, Refusing}
 use Rattle.run_values.specs.Setups.{Setup}
 use Rattle.dialogue_core.specs.Talks.{Got, after_got}
-use Rattle.workers_core.specs.Talks.{entry_of}
+use Rattle.workers_core.specs.Talks.{AreRight, IsRight, Showing, entry_of}
 use Rattle.workers_core.specs.Verdicts.{DialogueAt, IsRouted, Verdict, Strays, Rejects, Recharges, Begins, GoesOn}
 use Rattle.workers_core.specs.Workers.{standing_of}
 use Rattle.workers_core.specs.declared.worker.Case.{Case}
@@ -73,20 +73,36 @@ abbrev pub or_fault : Option AccountFault → Got → Option AccountFault
 or_fault refused (Ok reply) = refused
 or_fault refused (Err fault) = Some fault
 
--- an account was asked once, from a seat: what it got was entered, and the dialogue went on by it
-pub record IsAsked (seat : ℕ) (asked : Asked) (before after : List EntryData) (from to : Phase) (said : Says) (old new : Option AccountFault) : Type 0 where
+-- all that was got in a case is right
+abbrev pub AreRightIn : (Shows : ℕ → Showing) (numbers : List ℕ) (case : Case) (old new : Holding) (told : AnswerView) → IsActed numbers case old new told → Type 0
+AreRightIn Shows numbers case.Stray old new told acted = Unit {0}
+AreRightIn Shows numbers case.Rejected old new told acted = Unit {0}
+AreRightIn Shows numbers (case.Recharge place amount until) old new told acted =
+    IsRight (Shows place) (slice_index_or old.lists place []) (Asks (Credits amount until)) acted.got
+AreRightIn Shows numbers (case.Talk call talk turn) old new told acted =
+    AreRight (Shows talk.place) (slice_index_or numbers talk.place 0) (says_of turn, phase_of talk.dialogue) (slice_index_or old.lists talk.place []) acted.gots
+
+-- what is done in a case, and that each refusal there was right
+pub record IsRightlyActed (Shows : ℕ → Showing) (numbers : List ℕ) (case : Case) (old new : Holding) (told : AnswerView) : Type 0 where
+  pub acted : IsActed numbers case old new told
+  pub right : AreRightIn Shows numbers case old new told acted
+
+-- an account was asked once, from a seat: what it got was entered and is right, and the dialogue went on by it
+pub record IsAsked (Shows : Showing) (seat : ℕ) (asked : Asked) (before after : List EntryData) (from to : Phase) (said : Says) (old new : Option AccountFault) : Type 0 where
   pub got : Got
   pub enters : after ≡ before ++ entry_of seat (Asks asked) got
   pub says : after_got from got ≡ (said, to)
   pub refuses : new ≡ or_fault old got
+  pub right : IsRight Shows before (Asks asked) got
 
--- an account was asked for a Credit
-pub record IsCredited (seat : ℕ) (asked : Asked) (before after : List EntryData) (told : AnswerView) : Type 0 where
+-- an account was asked for a Credit, and what it got is right
+pub record IsCredited (Shows : Showing) (seat : ℕ) (asked : Asked) (before after : List EntryData) (told : AnswerView) : Type 0 where
   pub got : Got
   pub enters : after ≡ before ++ entry_of seat (Asks asked) got
   pub orders : told.orders ≡ []
   pub stray : told.stray ≡ false
   pub refuses : told.refused ≡ or_fault None got
+  pub right : IsRight Shows before (Asks asked) got
 
 -- a post was refused with a fault, by its case: the account at the case's place has given that fault to what was asked
 abbrev pub IsRefusedCase : (ℕ → Refusing) → Case → AccountFault → Type 0

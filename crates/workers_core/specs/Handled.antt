@@ -12,7 +12,7 @@ use Rattle.tariff_core.specs.declared.route.Route.{Route}
 use Rattle.run_values.specs.Setups.{Setup}
 use Rattle.workers_core.specs.Refusals.{IsRefusalOf}
 use Rattle.dialogue_core.specs.Talks.{Got, sent_by}
-use Rattle.workers_core.specs.Talks.{AllAsk, entries_of, entry_of, is_ask, last_fault, talked}
+use Rattle.workers_core.specs.Talks.{AllAsk, AreRight, IsRight, Showing, entries_of, entry_of, is_ask, last_fault, talked}
 use Rattle.workers_core.specs.Verdicts.{DialogueAt, IsRouted, Verdict, Strays, Rejects, Recharges, Begins, GoesOn, verdict}
 use Rattle.run_values.specs.declared.post.Answer.{Answer}
 use Rattle.run_values.specs.declared.post.Post.{Post}
@@ -95,3 +95,20 @@ pub record IsHandled (setup : Setup) (numbers : List ℕ) (post : Post) (old new
   pub number : told.number ≡ post.number
   pub done : IsDone setup numbers post.at (verdict setup old.talks post) old new told
   pub kind : IfSome told.refused (IsRefusalOf setup old.talks post)
+
+-- each ask that was refused for a post was refused rightly, by the verdict on the post: in its place, and at the seat's own entries then
+abbrev pub AreRefusedRightly : (Shows : ℕ → Showing) (setup : Setup) (numbers : List ℕ) (at : ℕ) (v : Verdict) (old new : Holding) (told : AnswerView) → IsDone setup numbers at v old new told → Type 0
+AreRefusedRightly Shows setup numbers at Strays old new told done = Unit {0}
+AreRefusedRightly Shows setup numbers at Rejects old new told done = Unit {0}
+AreRefusedRightly Shows setup numbers at (Recharges place amount until) old new told done =
+    IsRight (Shows place) (slice_index_or old.lists place []) (Asks (Credits amount until)) done.got
+AreRefusedRightly Shows setup numbers at (Begins call place called) old new told done =
+    AreRight (Shows place) (slice_index_or numbers place 0) (on_begin call at setup.service.wanted setup.service.least done.route) (slice_index_or old.lists place [])
+    done.talked.gots
+AreRefusedRightly Shows setup numbers at (GoesOn call place said phase) old new told done =
+    AreRight (Shows place) (slice_index_or numbers place 0) (said, phase) (slice_index_or old.lists place []) done.gots
+
+-- a post is handled, and each ask that was refused for it was refused rightly
+pub record IsRightlyHandled (Shows : ℕ → Showing) (setup : Setup) (numbers : List ℕ) (post : Post) (old new : Holding) (told : AnswerView) : Type 0 where
+  pub handled : IsHandled setup numbers post old new told
+  pub right : AreRefusedRightly Shows setup numbers post.at (verdict setup old.talks post) old new told handled.done

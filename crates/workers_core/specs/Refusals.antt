@@ -1,6 +1,8 @@
 -- The refusals that a worker tells of: each is one that an account has given it.
 use Rattle.std.specs.Prelude.{◌≡◌, ◌≢◌, ◌<◌, ℕ, Option, List, length, slice_index_or}
 use Rattle.account_core.specs.Asked.{Asked, Credits}
+use Rattle.account_core.specs.Events.{EntryData}
+use Rattle.account_core.specs.Ledger.{Ledger}
 use Rattle.account_core.specs.declared.fault.AccountFault.{AccountFault}
 use Rattle.account_core.specs.declared.fault.AccountFault.TheVariants as fault
 use Rattle.cap_values.specs.NumberDigits.{digits_of}
@@ -8,11 +10,12 @@ use Rattle.cap_values.specs.declared.number.Number.{Number}
 use Rattle.dialogue_core.specs.Phases.{Phase, Says, Asks}
 use Rattle.dialogue_core.specs.Table.{on_begin}
 use Rattle.shared_account.specs.Kinds.{IsFaultOf}
+use Rattle.shared_account.specs.Refusals.{IsRefusedAt, Knowing}
 use Rattle.tariff_core.specs.declared.route.Route.{Route}
 use Rattle.run_values.specs.Setups.{Setup}
 use Rattle.run_values.specs.declared.post.Post.{Post}
 use Rattle.dialogue_core.specs.Talks.{Got}
-use Rattle.workers_core.specs.Talks.{talked}
+use Rattle.workers_core.specs.Talks.{Showing, talked}
 use Rattle.workers_core.specs.Verdicts.{DialogueAt, IsRouted, Verdict, Strays, Rejects, Recharges, Begins, GoesOn, verdict}
 
 -- which faults an account has given to what it was asked
@@ -62,3 +65,16 @@ MayHaveRefused asked fault = Unit {0}
 -- a fault that an ask for a post may have got from an account, by the verdict on the post: it is of a kind that the ask has, and no closed gate
 abbrev pub IsRefusalOf : Setup → (ℕ → Option DialogueAt) → Post → AccountFault → Type 0
 IsRefusalOf setup talks post = IsRefusedPost (λ place. MayHaveRefused) setup post.at (verdict setup talks post)
+
+-- ---- with the account that gave a refusal
+
+-- what the seat at a place knows of its account
+pub record WasAt {T : Type 0} (Was : T → Knowing) (seats : List T) (place : ℕ) (mine : List EntryData) (account : Ledger) : Type 0 where
+  pub seat : T
+  pub within : place < length seats
+  pub seat_is : seat ≡ slice_index_or seats place seat
+  pub was : Was seat mine account
+
+-- what shows a refusal at a place: an account that the seat there knows has refused the ask with just that fault
+abbrev pub RefusesAt : {T : Type 0} → (T → Knowing) → List T → ℕ → Showing
+RefusesAt Was seats place = IsRefusedAt (WasAt Was seats place)

@@ -1,5 +1,6 @@
 -- The talk of a dialogue with its account: what is asked, what each ask gets, and what is entered.
 use Rattle.std.specs.Prelude.{◌≡◌, ◌++◌, ℕ, Bool, true, false, Option, Some, None, Ok, Err, List, [], ◌∷◌}
+use Rattle.account_core.specs.Asked.{Asked}
 use Rattle.account_core.specs.Events.{EntryData}
 use Rattle.account_core.specs.Ledger.{event_by}
 use Rattle.account_core.specs.declared.fault.AccountFault.{AccountFault}
@@ -41,9 +42,26 @@ abbrev pub AllAsk : Says × Phase → List Got → Type 0
 AllAsk first [] = Unit {0}
 AllAsk first (got ∷ earlier) = (is_ask (talked first earlier).0 ≡ true) × AllAsk first earlier
 
--- a talk from what is said first until no ask is left: where the dialogue stands then, what it sends, what the seat has entered, and why
--- the account refused an ask last, if it did
-pub record IsTalk (seat : ℕ) (first : Says × Phase) (before after : List EntryData) (phase : Phase) (orders : List Order) (refused : Option AccountFault) : Type 0 where
+-- what shows that an ask got a fault of its account when the seat's own entries were these
+abbrev pub Showing : Type 1
+Showing = List EntryData → Asked → AccountFault → Type 0
+
+-- what was got for what was said is right, where the seat's own entries were these: a fault is shown to be the account's
+abbrev pub IsRight : Showing → List EntryData → Says → Got → Type 0
+IsRight Shows mine (Asks asked) (Ok reply) = Unit {0}
+IsRight Shows mine (Asks asked) (Err fault) = Shows mine asked fault
+IsRight Shows mine (Sends orders) got = Unit {0}
+IsRight Shows mine Finished got = Unit {0}
+
+-- all that was got in a talk is right, each in its place: there the seat had what it had before the talk, and what the asks had entered until then
+abbrev pub AreRight : Showing → ℕ → Says × Phase → List EntryData → List Got → Type 0
+AreRight Shows seat first before [] = Unit {0}
+AreRight Shows seat first before (got ∷ earlier) =
+    IsRight Shows (before ++ entries_of seat first earlier) (talked first earlier).0 got × AreRight Shows seat first before earlier
+
+-- a talk from what is said first until no ask is left: where the dialogue stands then, what it sends, what the seat has entered, why
+-- the account refused an ask last, if it did, and that each refusal was right
+pub record IsTalk (Shows : Showing) (seat : ℕ) (first : Says × Phase) (before after : List EntryData) (phase : Phase) (orders : List Order) (refused : Option AccountFault) : Type 0 where
   pub gots : List Got
   pub asked : AllAsk first gots
   pub last : Says
@@ -52,3 +70,4 @@ pub record IsTalk (seat : ℕ) (first : Says × Phase) (before after : List Entr
   pub sends : orders ≡ sent_by last
   pub enters : after ≡ before ++ entries_of seat first gots
   pub refuses : refused ≡ last_fault gots
+  pub right : AreRight Shows seat first before gots

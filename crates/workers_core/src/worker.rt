@@ -1,9 +1,11 @@
 //! A worker: it handles the posts of its calls and the recharges of its accounts.
 
-ghost use Rattle.std.specs.Prelude.{◌≡◌, ◌++◌, ◌∷◌, ◌≤◌, ◌<◌, [], ℕ, None, Option, true, map, All, IfErr, IfOk, IfSome, OnOk, IfNone, length};
+ghost use Rattle.std.specs.Prelude.{◌≡◌, ◌++◌, ◌∷◌, ◌≤◌, ◌<◌, [], ℕ, List, None, Option, true, map, All, IfErr, IfOk, IfSome, OnOk, IfNone, length};
 ghost use Rattle.std.specs.Map.{keys_of};
-ghost use Rattle.workers_core.specs.Handled.{IsHandled, IsRecharged, answer_view};
-ghost use Rattle.workers_core.specs.Refusals.{HasRefusedAt, IsRefusedPost};
+ghost use Rattle.account_core.specs.Events.{EntryData};
+ghost use Rattle.account_core.specs.Ledger.{Ledger};
+ghost use Rattle.workers_core.specs.Handled.{IsHandled, IsRecharged, IsRightlyHandled, answer_view};
+ghost use Rattle.workers_core.specs.Refusals.{HasRefusedAt, IsRefusedPost, RefusesAt, WasAt};
 ghost use Rattle.workers_core.specs.Served.{AreServed};
 ghost use Rattle.workers_core.specs.Verdicts.{Recharges, Rejects, strays, verdict, fresh, goes_on, home_of, recharged};
 ghost use Rattle.workers_core.specs.Workers.{IsReady, accounts_of, holding, number_by, number_of, posts_of, seats_of, setup_of, talks_of, standings_in};
@@ -77,7 +79,9 @@ impl<'s, S: Shared> Worker<'s, S> {
     /// subscriber's is answered by ReleaseCall(21), and no account is asked. Else the dialogue of
     /// the call talks with its account until it sends operations or is done, or the account is
     /// recharged. A refusal that the answer tells is one that this account gave to what it was
-    /// asked for the post, so never `GateClosed`.
+    /// asked for the post, so never `GateClosed`. Each ask that was refused, told or not, was
+    /// refused by an account that the seat there knows, as it was at the entries that the seat had
+    /// then.
     ///
     /// `OutOfMemory` comes before any account is asked; `GateClosed` where a gate is closed. After
     /// either the worker isn't used again.
@@ -92,6 +96,13 @@ impl<'s, S: Shared> Worker<'s, S> {
         ensures handled { IfOk result (λ answer. IsHandled (setup_of self.old) (map
             S.reads.number (seats_of self.old)) post
             (holding S.reads.mine self.old) (holding S.reads.mine self.new) (answer_view answer)) }
+        ensures right { IfOk result (λ answer. IsRightlyHandled
+            (RefusesAt S.was (seats_of self.new)) (setup_of self.old)
+            (map S.reads.number (seats_of self.old)) post
+            (holding S.reads.mine self.old) (holding S.reads.mine self.new) (answer_view answer)) }
+        ensures was { OnOk result ((place : ℕ) (mine : List EntryData) (account : Ledger)
+            → WasAt S.was (seats_of self.old) place mine account
+            → WasAt S.was (seats_of self.new) place mine account) }
         ensures refused { IfOk result (λ answer. IfSome answer.refused
             (IsRefusedPost (HasRefusedAt S.refuses (accounts_of self.old)) (setup_of self.old)
             post.at (verdict (setup_of self.old) (talks_of self.old) post))) }

@@ -1,11 +1,17 @@
-use Rattle.std.proofs.Common.{◌<◌, length, refl, map}
+use Rattle.std.proofs.Common.{◌<◌, [], length, refl, map}
 use Rattle.std.proofs.lemmas.Result.{IfOk-weaker}
+use Rattle.account_core.specs.Asked.{Credits}
 use Rattle.cap_values.specs.Orders.{orders_of}
+use Rattle.dialogue_core.specs.Phases.{Asks}
 use Rattle.dialogue_core.specs.Views.{phase_of, says_of}
 use Rattle.workers_core.specs.Handled.{answer_view}
 use Rattle.workers_core.specs.Workers.{standings_in}
-use Rattle.workers_core.proofs.Doings.{as_many, grown_at, numbered_at, on_ok, own_account, recharged_by, same_seats, stands_now, talked_by}
+use Rattle.workers_core.proofs.Doings.{as_many, grown_at, mine_at, numbered_at, on_ok, own_account, recharged_by, same_seats, stands_now, talked_by, was_at, was_there}
 use Rattle.workers_core.proofs.Refused.{ask_there, talk_there}
+use Rattle.workers_core.proofs.Talking.{right_known, rights_known}
+use Rattle.workers_core.specs.Refusals.{WasAt}
+use Rattle.shared_account.specs.Refusals.{IsRefusedAt}
+use Rattle.std.specs.Prelude.{slice_index_or, slice_set}
 use Rattle.workers_core.proofs.acting.act.Goals as goal
 
 pub recharge-requires-after_bounds : goal.recharge-requires-after_bounds
@@ -34,10 +40,19 @@ returns-in-Recharge-clause-acted g c =
     (IfOk-weaker c.recharge.result _ _ (λ answer is.
     let there : c.in-Recharge.place < length c.args.seats.now.items =
     rw (as_many g.S.Shared.reads.key g.S.Shared.key c.args.seats.now.items c.args.accounts.now c.requires.keys) (rw c.in-Recharge.is at c.requires.within) in
-    recharged_by (map g.S.Shared.reads.number c.args.seats.now.items) c.in-Recharge.place c.in-Recharge.amount c.in-Recharge.until (g.S.Shared.reads.number c.index_mut.result.now) _ _ (standings_in c.args.talks.now)
+    let so =
+    recharged_by (IsRefusedAt (g.S.Shared.was c.recharge.new.seat)) (map g.S.Shared.reads.number c.args.seats.now.items) c.in-Recharge.place c.in-Recharge.amount c.in-Recharge.until (g.S.Shared.reads.number c.index_mut.result.now) _ _ (standings_in c.args.talks.now)
     (g.S.Shared.reads.mine c.index_mut.result.now) (g.S.Shared.reads.mine c.recharge.new.seat) (answer_view answer) is
     (numbered_at g.S.Shared.reads.number c.args.seats.now.items c.in-Recharge.place c.index_mut.result.now there c.index_mut.ensures.value)
-    (λ entries. grown_at g.S.Shared.reads.mine c.args.seats.now.items c.in-Recharge.place c.index_mut.result.now c.recharge.new.seat entries there c.index_mut.ensures.value))
+    (mine_at g.S.Shared.reads.mine c.args.seats.now.items c.in-Recharge.place c.index_mut.result.now there c.index_mut.ensures.value)
+    (λ entries. grown_at g.S.Shared.reads.mine c.args.seats.now.items c.in-Recharge.place c.index_mut.result.now c.recharge.new.seat entries there c.index_mut.ensures.value) in
+    record {
+      acted = so.0;
+      right =
+          right_known (g.S.Shared.was c.recharge.new.seat) (WasAt g.S.Shared.was (slice_set c.args.seats.now.items c.in-Recharge.place c.recharge.new.seat) c.in-Recharge.place)
+          (was_there g.S.Shared.was c.args.seats.now.items c.in-Recharge.place c.recharge.new.seat there)
+          (slice_index_or (map g.S.Shared.reads.mine c.args.seats.now.items) c.in-Recharge.place []) (Asks (Credits c.in-Recharge.amount c.in-Recharge.until)) so.0.got so.1;
+    })
     c.recharge.ensures.credited)
 
 pub returns-in_ok-said-in-Talk-clause-same_keys : goal.returns-in_ok-said-in-Talk-clause-same_keys
@@ -54,14 +69,35 @@ returns-in_ok-said-in-Talk-clause-acted g c =
     rw c.in-Talk.is
     (let there : c.in-Talk.talk.place < length c.args.seats.now.items =
     rw (as_many g.S.Shared.reads.key g.S.Shared.key c.args.seats.now.items c.args.accounts.now c.requires.keys) (rw c.in-Talk.is at c.requires.within) in
-    talked_by (map g.S.Shared.reads.number c.args.seats.now.items) c.in-Talk.call c.in-Talk.talk.place (g.S.Shared.reads.number c.index_mut-in-Talk.result.now)
+    let so =
+    talked_by (IsRefusedAt (g.S.Shared.was c.converse.new.seat)) (map g.S.Shared.reads.number c.args.seats.now.items) c.in-Talk.call c.in-Talk.talk.place (g.S.Shared.reads.number c.index_mut-in-Talk.result.now)
     (says_of c.in-Talk.turn, phase_of c.in-Talk.talk.dialogue) (phase_of c.converse.new.dialogue) _ _ (standings_in c.args.talks.now) (standings_in c.keep.new.talks)
     (g.S.Shared.reads.mine c.index_mut-in-Talk.result.now) (g.S.Shared.reads.mine c.converse.new.seat) (orders_of c.in_ok-said-in-Talk.said.ops.items) c.in_ok-said-in-Talk.said.refused _
     c.in_ok-said-in-Talk.ensures.talk
     (numbered_at g.S.Shared.reads.number c.args.seats.now.items c.in-Talk.talk.place c.index_mut-in-Talk.result.now there c.index_mut-in-Talk.ensures.value)
+    (mine_at g.S.Shared.reads.mine c.args.seats.now.items c.in-Talk.talk.place c.index_mut-in-Talk.result.now there c.index_mut-in-Talk.ensures.value)
     (λ entries. grown_at g.S.Shared.reads.mine c.args.seats.now.items c.in-Talk.talk.place c.index_mut-in-Talk.result.now c.converse.new.seat entries there c.index_mut-in-Talk.ensures.value)
     (stands_now c.args.talks.now c.keep.new.talks c.in-Talk.call (record { dialogue = c.converse.new.dialogue; place = c.in-Talk.talk.place }) c.keep.ensures)
-    refl refl refl)
+    refl refl refl in
+    record {
+      acted = so.0;
+      right =
+          rights_known (g.S.Shared.was c.converse.new.seat) (WasAt g.S.Shared.was (slice_set c.args.seats.now.items c.in-Talk.talk.place c.converse.new.seat) c.in-Talk.talk.place)
+          (was_there g.S.Shared.was c.args.seats.now.items c.in-Talk.talk.place c.converse.new.seat there) _ _ _ _ so.1;
+    })
+
+pub returns-in-Recharge-clause-was : goal.returns-in-Recharge-clause-was
+returns-in-Recharge-clause-was g c =
+    let there : c.in-Recharge.place < length c.args.seats.now.items =
+    rw (as_many g.S.Shared.reads.key g.S.Shared.key c.args.seats.now.items c.args.accounts.now c.requires.keys) (rw c.in-Recharge.is at c.requires.within) in
+    on_ok c.recharge.result _
+    (was_at g.S.Shared.was c.args.seats.now.items c.in-Recharge.place c.index_mut.result.now c.recharge.new.seat there c.index_mut.ensures.value c.recharge.ensures.was)
+
+pub returns-in_ok-said-in-Talk-clause-was : goal.returns-in_ok-said-in-Talk-clause-was
+returns-in_ok-said-in-Talk-clause-was g c =
+    let there : c.in-Talk.talk.place < length c.args.seats.now.items =
+    rw (as_many g.S.Shared.reads.key g.S.Shared.key c.args.seats.now.items c.args.accounts.now c.requires.keys) (rw c.in-Talk.is at c.requires.within) in
+    was_at g.S.Shared.was c.args.seats.now.items c.in-Talk.talk.place c.index_mut-in-Talk.result.now c.converse.new.seat there c.index_mut-in-Talk.ensures.value c.in_ok-said-in-Talk.ensures.was
 
 pub returns-in-Recharge-clause-refused : goal.returns-in-Recharge-clause-refused
 returns-in-Recharge-clause-refused g c =

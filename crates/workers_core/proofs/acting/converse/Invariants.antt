@@ -1,5 +1,8 @@
 use Rattle.std.proofs.Common.{◌≡◌}
-use Rattle.std.specs.Prelude.{IfSome}
+use Rattle.std.specs.Prelude.{IfSome, List}
+use Rattle.account_core.specs.Events.{EntryData}
+use Rattle.account_core.specs.Ledger.{Ledger}
+use Rattle.shared_account.specs.Refusals.{IsRefusedAt}
 use Rattle.dialogue_core.specs.Views.{phase_of, says_of}
 use Rattle.workers_core.specs.Refusals.{IsRefusedTalk}
 use Rattle.dialogue_core.specs.Talks.{asks_left}
@@ -10,7 +13,8 @@ abbrev pub invariant-loop-turn : goal.invariant-loop-turn
 invariant-loop-turn g l = record {
   same_key : g.S.Shared.reads.key l.seat ≡ g.S.Shared.reads.key l.initial.seat;
   same_number : g.S.Shared.reads.number l.seat ≡ g.S.Shared.reads.number l.initial.seat;
-  so_far : IsSoFar (g.S.Shared.reads.number l.initial.seat) (says_of l.initial.turn, phase_of l.initial.dialogue) (g.S.Shared.reads.mine l.initial.seat) (g.S.Shared.reads.mine l.seat)
+  was : (mine : List EntryData) (ledger : Ledger) → g.S.Shared.was l.initial.seat mine ledger → g.S.Shared.was l.seat mine ledger;
+  so_far : IsSoFar (IsRefusedAt (g.S.Shared.was l.seat)) (g.S.Shared.reads.number l.initial.seat) (says_of l.initial.turn, phase_of l.initial.dialogue) (g.S.Shared.reads.mine l.initial.seat) (g.S.Shared.reads.mine l.seat)
       (says_of l.turn, phase_of l.dialogue) l.refused;
   told : IfSome l.refused (IsRefusedTalk (g.S.Shared.refuses l.account) (says_of l.initial.turn, phase_of l.initial.dialogue));
 }

@@ -1,7 +1,7 @@
 use Rattle.std.proofs.Common.{◌≡◌, ◌∙◌, ℕ, List, All, length, map, ap, sym, subst}
 use Rattle.std.proofs.lemmas.List.{length-map}
 use Rattle.workers_core.specs.Handled.{answer_view}
-use Rattle.workers_core.specs.Refusals.{HasRefusedAt}
+use Rattle.workers_core.specs.Refusals.{HasRefusedAt, RefusesAt}
 use Rattle.workers_core.specs.Verdicts.{verdict}
 use Rattle.workers_core.specs.Workers.{holding, number_by, standings_in}
 use Rattle.workers_core.proofs.Handling.{case_within, done_by, recharged_so, rejected_so, sound_after, stray_is, stray_lists}
@@ -14,18 +14,29 @@ returns-clause-refused g c =
     post_refused (HasRefusedAt g.S.Shared.refuses c.args.self.now.accounts.now) c.args.self.now.setup.now c.args.post.at
     (verdict c.args.self.now.setup.now (standings_in c.args.self.now.talks) c.args.post) c.judge-case.result c.in_ok-answer.answer.refused c.judge-case.ensures c.in_ok-answer.ensures.refused
 
+rightly : goal.returns-clause-right
+rightly g c =
+    let so =
+    done_by (RefusesAt g.S.Shared.was c.act.new.seats.items) c.args.self.now.setup.now (map g.S.Shared.reads.number c.args.self.now.seats.items) c.args.post.at
+    (verdict c.args.self.now.setup.now (standings_in c.args.self.now.talks) c.args.post) c.judge-case.result (map g.S.Shared.reads.mine c.args.self.now.seats.items)
+    (standings_in c.args.self.now.talks) (standings_in c.make_room.new.talks) _ (answer_view c.in_ok-answer.answer) c.judge-case.ensures c.in_ok-make_room.ensures.others
+    c.in_ok-answer.ensures.acted in
+    record {
+      handled = record {
+        number = c.in_ok-answer.ensures.number;
+        done = so.0;
+        kind =
+            kind_told (HasRefusedAt g.S.Shared.refuses c.args.self.now.accounts.now) c.args.self.now.setup.now (standings_in c.args.self.now.talks) c.args.post
+            c.in_ok-answer.answer.refused (returns-clause-refused g c);
+      };
+      right = so.1;
+    }
+
+pub returns-clause-right : goal.returns-clause-right
+returns-clause-right g c = rightly g c
+
 done : goal.returns-clause-handled
-done g c = record {
-  number = c.in_ok-answer.ensures.number;
-  done =
-      done_by c.args.self.now.setup.now (map g.S.Shared.reads.number c.args.self.now.seats.items) c.args.post.at
-      (verdict c.args.self.now.setup.now (standings_in c.args.self.now.talks) c.args.post) c.judge-case.result (map g.S.Shared.reads.mine c.args.self.now.seats.items)
-      (standings_in c.args.self.now.talks) (standings_in c.make_room.new.talks) _ (answer_view c.in_ok-answer.answer) c.judge-case.ensures c.in_ok-make_room.ensures.others
-      c.in_ok-answer.ensures.acted;
-  kind =
-      kind_told (HasRefusedAt g.S.Shared.refuses c.args.self.now.accounts.now) c.args.self.now.setup.now (standings_in c.args.self.now.talks) c.args.post
-      c.in_ok-answer.answer.refused (returns-clause-refused g c);
-}
+done g c = (rightly g c).handled
 
 pub act-requires-clause-within : goal.act-requires-clause-within
 act-requires-clause-within g c κs within =
