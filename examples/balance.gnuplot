@@ -5,4 +5,4 @@ set xlabel "hour"
 set ylabel "available"
 set yrange [0:*]
 set key off
-plot "balance.txt" with steps linewidth 2
+plot "balance.txt" with points pointtype 7 pointsize 0.7
