@@ -12,7 +12,7 @@ cd "$(dirname "$0")/.."
 calls=crates/refused_growths/out/refused_growths
 prepaid=crates/prepaid/out/prepaid
 commands='command/help command/price command/replay command/run command/run_book command/run_calls
-    command/run_trace command/audit command/audit_altered'
+    command/run_trace command/audit command/audit_long command/audit_altered'
 
 # The words of a command and its input, what it prints, and its status.
 words_of() {
@@ -24,6 +24,7 @@ words_of() {
         command/run_book) echo 'run --book' ;;
         command/run_calls) echo 'run --calls' ;;
         command/run_trace) echo 'run --trace' ;;
+        command/audit_long) echo 'audit --long' ;;
         command/audit*) echo 'audit' ;;
     esac
 }
@@ -34,7 +35,7 @@ input_of() {
         command/price) echo examples/reports.csv ;;
         command/replay) echo examples/ops.csv ;;
         command/run*) echo examples/call.txt ;;
-        command/audit) echo "$work/book" ;;
+        command/audit | command/audit_long) echo "$work/book" ;;
         command/audit_altered) echo examples/altered_book.csv ;;
     esac
 }
@@ -80,7 +81,7 @@ answer_of() {
             echo '400,3,1,service,Continue,,,,'
             echo '402,4,1,switch,Ended,,,,'
             ;;
-        command/audit) echo 'account 7 yes' ;;
+        command/audit | command/audit_long) echo 'account 7 yes' ;;
         command/audit_altered)
             echo 'account 7 no'
             echo 'account 8 yes'
