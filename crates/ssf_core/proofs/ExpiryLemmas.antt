@@ -1,19 +1,15 @@
 -- An expiry is the table's, and the trace goes on by it.
-use Rattle.std.proofs.Common.{◌≡◌, ◌+◌, ◌≤◌, ◌++◌, ℕ, Bool, true, false, Option, Some, None, List, [], ◌∷◌, length, refl, sym, ap, ◌∙◌, append_assoc, length-append, arith, unwrap_or}
+use Rattle.std.proofs.Common.{◌≡◌, ◌+◌, ◌≤◌, ◌++◌, ℕ, Some, List, [], ◌∷◌, refl, sym, ap, ◌∙◌, append_assoc, arith}
 use Rattle.ssf_core.specs.Happenings.{Happening, Expired, sent_at, sent_in}
-use Rattle.ssf_core.specs.Moves.{Move, defaulted, expired, period_over, report_of, send_all}
-use Rattle.ssf_core.specs.Quantities.{pending}
 use Rattle.ssf_core.specs.Running.{HasRun}
 use Rattle.ssf_core.specs.Stages.{IsChargingTimely, IsSwitchTimely, IsTimely, due_by, next_of, stage_due, switch_due_of, tccd_due_of, tcp_due_of}
-use Rattle.ssf_core.specs.Stands.{ActiveMatches, StageMatches, StageStands, phase_of, running}
-use Rattle.ssf_core.specs.Table.{Effect, on_expiry, on_period_end, on_tssf, report}
+use Rattle.ssf_core.specs.Stands.{StageMatches, StageStands, phase_of, running}
+use Rattle.ssf_core.specs.Steps.{Expires}
+use Rattle.ssf_core.specs.Table.{on_expiry}
 use Rattle.ssf_core.specs.Traces.{MayFollow, due, due_in, period_due, phase_after}
-use Rattle.ssf_core.specs.declared.config.DefaultHandling.{DefaultHandling}
-use Rattle.ssf_core.specs.declared.config.DefaultHandling.TheVariants as handling
 use Rattle.ssf_core.specs.declared.config.SsfConfig.{SsfConfig}
 use Rattle.ssf_core.specs.declared.item.Item.{Item}
 use Rattle.ssf_core.specs.declared.item.Out.{Out}
-use Rattle.ssf_core.specs.declared.stage.Active.{Active}
 use Rattle.ssf_core.specs.declared.stage.Charging.{Charging}
 use Rattle.ssf_core.specs.declared.stage.Charging.TheVariants as charging
 use Rattle.ssf_core.specs.declared.stage.Stage.{Stage}
@@ -23,24 +19,11 @@ use Rattle.ssf_core.specs.declared.stage.Switch.TheVariants as switch
 use Rattle.ssf_core.specs.declared.timers.Expiry.{Expiry}
 use Rattle.ssf_core.specs.declared.timers.Timer.{Timer}
 use Rattle.ssf_core.specs.declared.timers.Timer.TheVariants.{Tsw, Tcp, Tccd, Tssf}
-use Rattle.ssf_core.proofs.TimerLemmas.{Leaves, due_by-some, later_than, leaves, next_first, next_sound, timely_later}
+use Rattle.ssf_core.proofs.TimerLemmas.{due_by-some, later_than, next_first, next_sound, timely_later}
 
 append-none : (outs : List Out) → outs ≡ outs ++ []
 append-none [] = refl
 append-none (o ∷ outs) = ap (λ (l : List Out). o ∷ l) (append-none outs)
-
--- items that are sent one by one stand behind what was sent
-pub send_all-append : (outs : List Out) (now : ℕ) (items : List Item) → send_all outs now items ≡ outs ++ sent_at now items
-send_all-append outs now [] = append-none outs
-send_all-append outs now (item ∷ items) =
-    send_all-append (outs ++ record { at = now; item = item } ∷ []) now items ∙ append_assoc outs (record { at = now; item = item } ∷ []) (sent_at now items)
-
-pub length-send_all : (outs : List Out) (now : ℕ) (items : List Item) → length (send_all outs now items) ≡ length outs + length items
-length-send_all outs now [] = omega arith
-length-send_all outs now (item ∷ items) =
-    let step = length-send_all (outs ++ record { at = now; item = item } ∷ []) now items in
-    let one = length-append outs (record { at = now; item = item } ∷ []) in
-    omega (arith, step, one)
 
 switch_timely_due : (now : ℕ) (w : Switch) (d : ℕ) → IsSwitchTimely now w → switch_due_of w ≡ Some d → now ≤ d
 switch_timely_due now switch.Unset d timely due = absurd (cc)
@@ -115,93 +98,6 @@ due_in-stage config t stage.Ended Tcp m = refl
 due_in-stage config t stage.Ended Tccd m = refl
 due_in-stage config t stage.Ended Tssf m = refl
 
--- an expiry has the table's effect, and the stage after it matches
-pub record Expires (config : SsfConfig) (t : List Happening) (d : ℕ) (timer : Timer) (effect : Effect) (move : Move) : Type 0 where
-  pub same_sent : effect.sent ≡ move.sent
-  pub same_next : effect.next ≡ phase_of move.stage
-  pub matches : (items : List Item) → StageMatches config move.stage (record { at = d; what = Expired timer; sent = items } ∷ t)
-
--- the report of an active call is the trace's
-pub report-active : (tccd : ℕ) (active : Active) (t : List Happening) (now : ℕ) (goes_on : Bool) → ActiveMatches tccd active t → report t now goes_on ≡ report_of active now goes_on
-report-active tccd active t now goes_on m = rw (m.same_answer, m.same_switch) refl
-
-period_expires : (config : SsfConfig) (t : List Happening) (active : Active) (d : ℕ) (ch : Charging) (wish : Option Bool) → pending t ≡ wish → wish ≡ running ch
-    → ActiveMatches config.tccd active t → tcp_due_of (active.answered + active.granted) ch ≡ Some d
-    → Expires config t d Tcp (on_period_end t d (unwrap_or wish false)) (period_over config.tccd active d ch)
-period_expires config t active d charging.Off wish is same m due = absurd (cc)
-period_expires config t active d (charging.Running true) None is same m due = absurd (cc)
-period_expires config t active d (charging.Running true) (Some true) is same m due = record {
-  same_sent = rw (report-active config.tccd active t d false m) refl;
-  same_next = refl;
-  matches = λ items. tt;
-}
-period_expires config t active d (charging.Running true) (Some false) is same m due = absurd (cc)
-period_expires config t active d (charging.Running false) None is same m due = absurd (cc)
-period_expires config t active d (charging.Running false) (Some true) is same m due = absurd (cc)
-period_expires config t active d (charging.Running false) (Some false) is same m due = record {
-  same_sent = rw (report-active config.tccd active t d true m) refl;
-  same_next = refl;
-  matches = λ items. record {
-    same_modes = m.same_modes;
-    same_wish = refl;
-    same_sum = m.same_sum;
-    same_wait = refl;
-    same_answer = m.same_answer;
-    same_switch = m.same_switch;
-    same_awaited = m.same_awaited;
-  };
-}
-period_expires config t active d (charging.Over moment) wish is same m due = absurd (cc)
-
-default_expires : (config : SsfConfig) (t : List Happening) (d : ℕ) (default : DefaultHandling) → Expires config t d Tssf (on_tssf default) (defaulted default)
-default_expires config t d handling.Proceed = record { same_sent = refl; same_next = refl; matches = λ items. tt }
-default_expires config t d handling.Release = record { same_sent = refl; same_next = refl; matches = λ items. tt }
-
-pub expires : (config : SsfConfig) (t : List Happening) (s : Stage) (d : ℕ) (timer : Timer) → StageMatches config s t → stage_due s timer ≡ Some d
-    → Expires config t d timer (on_expiry config.default_handling t (phase_of s) d timer) (expired config s d timer)
-expires config t stage.Unused d timer m due = absurd (cc)
-expires config t stage.Requested d timer m due = absurd (cc)
-expires config t (stage.Initial setup moment) d Tsw m due = record {
-  same_sent = refl;
-  same_next = refl;
-  matches = λ items. (
-    record { same_modes = m.0.same_modes; same_wish = m.0.same_wish; same_sum = m.0.same_sum; no_end = m.0.no_end; same_switch = refl; same_awaited = refl },
-    m.1,
-  );
-}
-expires config t (stage.Initial setup moment) d Tcp m due = absurd (cc)
-expires config t (stage.Initial setup moment) d Tccd m due = absurd (cc)
-expires config t (stage.Initial setup moment) d Tssf m due = default_expires config t d config.default_handling
-expires config t (stage.Setup setup) d Tsw m due = record {
-  same_sent = refl;
-  same_next = refl;
-  matches = λ items. record { same_modes = m.same_modes; same_wish = m.same_wish; same_sum = m.same_sum; no_end = m.no_end; same_switch = refl; same_awaited = refl };
-}
-expires config t (stage.Setup setup) d Tcp m due = absurd (cc)
-expires config t (stage.Setup setup) d Tccd m due = absurd (cc)
-expires config t (stage.Setup setup) d Tssf m due = absurd (cc)
-expires config t (stage.Active active) d Tsw m due = record {
-  same_sent = refl;
-  same_next = refl;
-  matches = λ items. record {
-    same_modes = m.same_modes;
-    same_wish = m.same_wish;
-    same_sum = m.same_sum;
-    same_wait = m.same_wait;
-    same_answer = m.same_answer;
-    same_switch = refl;
-    same_awaited = refl;
-  };
-}
-expires config t (stage.Active active) d Tcp m due = period_expires config t active d active.charging (pending t) refl m.same_wish m due
-expires config t (stage.Active active) d Tccd m due = record { same_sent = refl; same_next = refl; matches = λ items. tt }
-expires config t (stage.Active active) d Tssf m due = absurd (cc)
-expires config t (stage.Down moment) d Tsw m due = absurd (cc)
-expires config t (stage.Down moment) d Tcp m due = absurd (cc)
-expires config t (stage.Down moment) d Tccd m due = absurd (cc)
-expires config t (stage.Down moment) d Tssf m due = default_expires config t d config.default_handling
-expires config t stage.Ended d timer m due = absurd (cc)
-
 -- a timer is due when the stage that stands for the trace says
 pub due-stage : (config : SsfConfig) (last : ℕ) (s : Stage) (t : List Happening) (timer : Timer) → StageStands config last s t → due config t timer ≡ stage_due s timer
 due-stage config last s t timer st = ap (λ p. due_in config t p timer) st.phase ∙ due_in-stage config t s timer st.data'
@@ -214,13 +110,12 @@ next_happening config t e = record {
   sent = (on_expiry config.default_handling t (phase_after config t) e.due e.timer).sent;
 }
 
-stands_expired : (config : SsfConfig) (clock : ℕ) (s : Stage) (t : List Happening) (e : Expiry) → StageStands config clock s t → IsTimely clock s → next_of s ≡ Some e
-    → StageStands config e.due (expired config s e.due e.timer).stage (next_happening config t e ∷ t)
-stands_expired config clock s t e st timely next =
+stands_expired : (config : SsfConfig) (clock : ℕ) (s to : Stage) (t : List Happening) (e : Expiry) (before outs : List Out) → StageStands config clock s t → IsTimely clock s → next_of s ≡ Some e
+    → Expires config s e.due e.timer to before outs → StageStands config e.due to (next_happening config t e ∷ t)
+stands_expired config clock s to t e before outs st timely next expires =
     let is_due = next_sound s e next in
     let behind = st.behind in
     let le = timely_due clock s e.timer e.due timely is_due in
-    let effect = expires config t s e.due e.timer st.data' is_due in
     let follows : MayFollow config t (next_happening config t e) = record {
       in_order = omega arith;
       none_missed = λ timer d is. next_first s e next timer d (sym (due-stage config clock s t timer st) ∙ is);
@@ -228,29 +123,28 @@ stands_expired config clock s t e st timely next =
     } in
     record {
       is_trace = (st.is_trace, follows);
-      phase = ap (λ p. (on_expiry config.default_handling t p e.due e.timer).next) st.phase ∙ effect.same_next;
-      data' = effect.matches (next_happening config t e).sent;
+      phase = ap (λ p. (on_expiry config.default_handling t p e.due e.timer).next) st.phase ∙ (expires t st.data').phase;
+      data' = (expires t st.data').data' (next_happening config t e).sent;
       behind = omega arith;
     }
 
 -- one expiry more
-pub runs_more : (config : SsfConfig) (t : List Happening) (clock : ℕ) (s : Stage) (sent : List Out) (e : Expiry) → IsTimely clock s → next_of s ≡ Some e
-    → HasRun config t clock s sent → HasRun config t e.due (expired config s e.due e.timer).stage (send_all sent e.due (expired config s e.due e.timer).sent)
-runs_more config t clock s sent e timely next run =
+pub runs_more : (config : SsfConfig) (t : List Happening) (clock : ℕ) (s to : Stage) (sent outs : List Out) (e : Expiry) → IsTimely clock s → next_of s ≡ Some e
+    → Expires config s e.due e.timer to sent outs → HasRun config t clock s sent → HasRun config t e.due to outs
+runs_more config t clock s to sent outs e timely next expires run =
     let trace = run.fired ++ t in
     let st = run.stands in
-    let same : (next_happening config trace e).sent ≡ (expired config s e.due e.timer).sent =
-    ap (λ p. (on_expiry config.default_handling trace p e.due e.timer).sent) st.phase ∙ (expires config trace s e.due e.timer st.data' (next_sound s e next)).same_sent in
-    let items = (expired config s e.due e.timer).sent in
+    let effect = on_expiry config.default_handling trace (phase_of s) e.due e.timer in
+    let same : (next_happening config trace e).sent ≡ effect.sent = ap (λ p. (on_expiry config.default_handling trace p e.due e.timer).sent) st.phase in
     record {
       fired = next_happening config trace e ∷ run.fired;
       expiries = (run.expiries, tt);
-      stands = stands_expired config clock s trace e st timely next;
+      stands = stands_expired config clock s to trace e sent outs st timely next expires;
       sends =
           ap (λ (outs : List Out). outs ++ sent_at e.due (next_happening config trace e).sent) run.sends
           ∙ ap (λ (l : List Item). (sent_in t ++ sent) ++ sent_at e.due l) same
-          ∙ append_assoc (sent_in t) sent (sent_at e.due items)
-          ∙ ap (λ (outs : List Out). sent_in t ++ outs) (sym (send_all-append sent e.due items));
+          ∙ append_assoc (sent_in t) sent (sent_at e.due effect.sent)
+          ∙ ap (λ (outs : List Out). sent_in t ++ outs) (sym (expires trace st.data').sends);
     }
 
 -- nothing has run yet
@@ -269,21 +163,21 @@ runs_later config t clock now s sent le run =
       sends = run.sends;
     }
 
--- the facts of one expiry in a run of timers: it isn't behind the clock, it is due by now, and what it leaves
-pub record Fires (config : SsfConfig) (clock now : ℕ) (s : Stage) (e : Expiry) : Type 0 where
+-- the facts of one expiry in a run of timers: it isn't behind the clock, and it is due, by now
+pub record Fires (clock now : ℕ) (s : Stage) (e : Expiry) : Type 0 where
   pub is_next : next_of s ≡ Some e
   pub by_now : e.due ≤ now
-  pub left : Leaves e.due s (expired config s e.due e.timer)
+  pub timely : IsTimely e.due s
+  pub is_due : stage_due s e.timer ≡ Some e.due
 
-pub fires : (config : SsfConfig) (clock now : ℕ) (s : Stage) (e : Expiry) → IsTimely clock s → due_by now (next_of s) ≡ Some e → Fires config clock now s e
-fires config clock now s e timely is =
+pub fires : (clock now : ℕ) (s : Stage) (e : Expiry) → IsTimely clock s → due_by now (next_of s) ≡ Some e → Fires clock now s e
+fires clock now s e timely is =
     let (next, by_now) = due_by-some now (next_of s) e is in
     let is_due = next_sound s e next in
     let le = timely_due clock s e.timer e.due timely is_due in
-    let then = timely_later clock e.due s timely le (λ timer d due. later_than e timer d (next_first s e next timer d due)) in
-    record { is_next = next; by_now = by_now; left = leaves config s e.due e.timer then is_due }
-
--- what is sent fits
-pub room-send_all : (outs : List Out) (now : ℕ) (items : List Item) (before after : ℕ) → length items + after ≤ before → length outs + before ≤ 3
-    → length (send_all outs now items) + after ≤ 3
-room-send_all outs now items before after left room = let len = length-send_all outs now items in omega (arith, len)
+    record {
+      is_next = next;
+      by_now = by_now;
+      timely = timely_later clock e.due s timely le (λ timer d due. later_than e timer d (next_first s e next timer d due));
+      is_due = is_due;
+    }

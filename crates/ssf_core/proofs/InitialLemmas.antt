@@ -19,7 +19,7 @@ use Rattle.ssf_core.specs.Laws.{InitialDpIsFirst, IsNoInitialDp}
 use Rattle.ssf_core.specs.Phases.{Phase, Unused, Requested, Initial, Setup, Active, Down, Ended}
 use Rattle.ssf_core.specs.Quantities.{answered, granted, mode_at, pending, period_end}
 use Rattle.ssf_core.specs.Table.{Effect, after, any_watched, by_mode, ends, first_period, further_period, goes, is_fitting, last_report, notified, on_abandon, on_answer, on_apply_charging, on_continue, on_disconnect, on_event, on_expiry, on_failure, on_input, on_invoke, on_operation, on_period_end, on_release_call, on_request_report, on_trigger, on_tssf, report}
-use Rattle.ssf_core.specs.Traces.{HasEffect, IsTrace, due, due_in, next_in, next_phase, phase_after}
+use Rattle.ssf_core.specs.Traces.{HasEffect, IsTrace, due_in, next_phase, phase_after}
 use Rattle.ssf_core.specs.declared.item.BcsmEvent.{BcsmEvent}
 use Rattle.ssf_core.specs.declared.item.BcsmEvent.TheVariants as met
 use Rattle.ssf_core.specs.declared.config.DefaultHandling.{DefaultHandling}

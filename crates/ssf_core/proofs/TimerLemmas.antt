@@ -1,15 +1,10 @@
 -- The next expiry, and what it leaves.
-use Rattle.std.proofs.Common.{◌≡◌, ◌+◌, ◌<◌, ◌≤◌, ℕ, Bool, true, false, Option, Some, None, [], ◌⊎◌, inl, inr, length, refl, subst, arith}
+use Rattle.std.proofs.Common.{◌≡◌, ◌+◌, ◌<◌, ◌≤◌, ℕ, Bool, true, false, Option, Some, None, ◌⊎◌, inl, inr, refl, subst, arith}
 use Rattle.std.proofs.lemmas.Bool.Decides.{nat_tests}
 use Rattle.std.proofs.lemmas.Bool.{cases_lt}
 use Rattle.std.specs.Prelude.{if◌then◌else◌, nat_lt, nat_le}
-use Rattle.ssf_core.specs.Moves.{Move, defaulted, expired, period_over}
-use Rattle.ssf_core.specs.Stages.{IsActiveTimely, IsChargingTimely, IsQuiet, IsSwitchTimely, IsTimely, due_by, expiries_left, expiry_of, items_after_period, items_left, next_of, sooner_of, stage_due, switch_due_of, switches_left, tccd_due_of, tcp_due_of}
+use Rattle.ssf_core.specs.Stages.{IsChargingTimely, IsQuiet, IsSwitchTimely, IsTimely, due_by, expiry_of, items_after_period, items_left, next_of, sooner_of, stage_due, switch_due_of, tccd_due_of, tcp_due_of}
 use Rattle.ssf_core.specs.Traces.{rank}
-use Rattle.ssf_core.specs.declared.config.DefaultHandling.{DefaultHandling}
-use Rattle.ssf_core.specs.declared.config.DefaultHandling.TheVariants as handling
-use Rattle.ssf_core.specs.declared.config.SsfConfig.{SsfConfig}
-use Rattle.ssf_core.specs.declared.stage.Active.{Active}
 use Rattle.ssf_core.specs.declared.stage.Charging.{Charging}
 use Rattle.ssf_core.specs.declared.stage.Charging.TheVariants as charging
 use Rattle.ssf_core.specs.declared.stage.Stage.{Stage}
@@ -168,73 +163,6 @@ timely_later clock now (stage.Active active) timely le all = record {
 }
 timely_later clock now (stage.Down m) timely le all = all Tssf m refl
 timely_later clock now stage.Ended timely le all = tt
-
--- what an expiry leaves: a timely stage, fewer items and fewer expiries to come, and no report before the rest
-pub record Leaves (d : ℕ) (s : Stage) (move : Move) : Type 0 where
-  pub timely : IsTimely d move.stage
-  pub room : length move.sent + items_left move.stage ≤ items_left s
-  pub fewer : expiries_left move.stage < expiries_left s
-  pub none_first : move.first ≡ []
-
-one_switch : (w : Switch) (d : ℕ) → switch_due_of w ≡ Some d → switches_left w ≡ 1
-one_switch switch.Unset d due = absurd (cc)
-one_switch (switch.Due m) d due = refl
-one_switch (switch.Passed m) d due = absurd (cc)
-
-leaves_period : (tccd : ℕ) (active : Active) (d : ℕ) (ch : Charging) → active.charging ≡ ch → IsActiveTimely d active → tcp_due_of (active.answered + active.granted) ch ≡ Some d
-    → Leaves d (stage.Active active) (period_over tccd active d ch)
-leaves_period tccd active d charging.Off is timely due = absurd (cc)
-leaves_period tccd active d (charging.Running true) is timely due = record {
-  timely = tt;
-  room = rw is (omega arith);
-  fewer = rw is (omega arith);
-  none_first = refl;
-}
-leaves_period tccd active d (charging.Running false) is timely due = record {
-  timely = record { answered = timely.answered; granted = timely.granted; charging = omega arith; switch = timely.switch };
-  room = rw is (omega arith);
-  fewer = rw is (omega arith);
-  none_first = refl;
-}
-leaves_period tccd active d (charging.Over m) is timely due = absurd (cc)
-
-leaves_over : (active : Active) (d : ℕ) (ch : Charging) → active.charging ≡ ch → tccd_due_of ch ≡ Some d → (2 ≤ items_left (stage.Active active)) × (0 < expiries_left (stage.Active active))
-leaves_over active d charging.Off is due = absurd (cc)
-leaves_over active d (charging.Running release) is due = absurd (cc)
-leaves_over active d (charging.Over m) is due = (rw is (omega arith), rw is (omega arith))
-
-leaves_default : (d : ℕ) (s : Stage) (default : DefaultHandling) → items_left s ≡ 2 → 0 < expiries_left s → Leaves d s (defaulted default)
-leaves_default d s handling.Proceed two some = record { timely = tt; room = omega arith; fewer = omega arith; none_first = refl }
-leaves_default d s handling.Release two some = record { timely = tt; room = omega arith; fewer = omega arith; none_first = refl }
-
-pub leaves : (config : SsfConfig) (s : Stage) (d : ℕ) (timer : Timer) → IsTimely d s → stage_due s timer ≡ Some d → Leaves d s (expired config s d timer)
-leaves config stage.Unused d timer timely due = absurd (cc)
-leaves config stage.Requested d timer timely due = absurd (cc)
-leaves config (stage.Initial setup m) d Tsw timely due = let one = one_switch setup.switch d due in
-    record { timely = (timely.0, omega arith); room = omega arith; fewer = omega arith; none_first = refl }
-leaves config (stage.Initial setup m) d Tcp timely due = absurd (cc)
-leaves config (stage.Initial setup m) d Tccd timely due = absurd (cc)
-leaves config (stage.Initial setup m) d Tssf timely due = leaves_default d (stage.Initial setup m) config.default_handling refl (omega arith)
-leaves config (stage.Setup setup) d Tsw timely due = let one = one_switch setup.switch d due in
-    record { timely = omega arith; room = omega arith; fewer = omega arith; none_first = refl }
-leaves config (stage.Setup setup) d Tcp timely due = absurd (cc)
-leaves config (stage.Setup setup) d Tccd timely due = absurd (cc)
-leaves config (stage.Setup setup) d Tssf timely due = absurd (cc)
-leaves config (stage.Active active) d Tsw timely due = let one = one_switch active.switch d due in record {
-  timely = record { answered = timely.answered; granted = timely.granted; charging = timely.charging; switch = omega arith };
-  room = omega arith;
-  fewer = omega arith;
-  none_first = refl;
-}
-leaves config (stage.Active active) d Tcp timely due = leaves_period config.tccd active d active.charging refl timely due
-leaves config (stage.Active active) d Tccd timely due = let left = leaves_over active d active.charging refl due in
-    record { timely = tt; room = left.0; fewer = left.1; none_first = refl }
-leaves config (stage.Active active) d Tssf timely due = absurd (cc)
-leaves config (stage.Down m) d Tsw timely due = absurd (cc)
-leaves config (stage.Down m) d Tcp timely due = absurd (cc)
-leaves config (stage.Down m) d Tccd timely due = absurd (cc)
-leaves config (stage.Down m) d Tssf timely due = leaves_default d (stage.Down m) config.default_handling refl (omega arith)
-leaves config stage.Ended d timer timely due = absurd (cc)
 
 period_few : (ch : Charging) → items_after_period ch ≤ 3
 period_few charging.Off = omega arith

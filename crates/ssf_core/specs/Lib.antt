@@ -7,12 +7,12 @@ pub mod Laws
 pub mod Meters
 pub mod Modes
 pub mod Moments
-pub mod Moves
 pub mod Phases
 pub mod Quantities
 pub mod Running
 pub mod Split
 pub mod Stages
 pub mod Stands
+pub mod Steps
 pub mod Table
 pub mod Traces

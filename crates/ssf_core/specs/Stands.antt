@@ -6,7 +6,6 @@ use Rattle.cap_values.specs.declared.charge.Charge.{Charge}
 use Rattle.cap_values.specs.declared.mode.Mode.{Mode}
 use Rattle.ssf_core.specs.Happenings.{Happening}
 use Rattle.ssf_core.specs.Modes.{modes_at}
-use Rattle.ssf_core.specs.Moves.{period_of}
 use Rattle.ssf_core.specs.Phases.{Phase, Unused, Requested, Initial, Setup, Active, Down, Ended}
 use Rattle.ssf_core.specs.Quantities.{answered, granted, last_input, last_moment, mode_at, pending, period_end, switch_due, switched}
 use Rattle.ssf_core.specs.Stages.{blank, passed, switch_due_of, tccd_due_of}
@@ -33,6 +32,11 @@ phase_of stage.Ended = Ended
 abbrev pub release_of : Option Charge → Option Bool
 release_of None = None
 release_of (Some charge) = Some charge.release
+
+-- the units of the period that was ordered, none where there is no order
+abbrev pub period_of : Option Charge → ℕ
+period_of None = 0
+period_of (Some charge) = charge.period
 
 -- whether the period that runs ends the call, where one runs
 abbrev pub running : Charging → Option Bool

@@ -1,16 +1,26 @@
 //! The events of the call, in the order of the table.
 
-ghost use Rattle.std.specs.Prelude.{◌≡◌, ◌+◌, ◌≤◌};
+ghost use Rattle.std.specs.Prelude.{◌≡◌, ◌+◌, ◌++◌, ◌≤◌, ◌∷◌, ℕ, List, None};
+ghost use Rattle.std.specs.Result.{result_unwrap_or};
 ghost use Rattle.arrayvec.specs.ArrayVec.{array_vec_len};
-ghost use Rattle.ssf_core.specs.Moves.{abandoned, answered_setup, answered_stage, charging_of, disconnected, failed, gave_up, met_event, outs_of, period_of, send_move, stage_of};
-ghost use Rattle.ssf_core.specs.Stages.{IsTimely};
+ghost use Rattle.ssf_core.specs.Happenings.{Happening, Took, sent_at};
+ghost use Rattle.ssf_core.specs.Quantities.{mode_at};
+ghost use Rattle.ssf_core.specs.Stages.{IsActiveTimely, IsSwitchTimely, IsTimely, tccd_due_of};
+ghost use Rattle.ssf_core.specs.Stands.{ActiveMatches, SetupMatches, StageMatches, period_of, phase_of, release_of, running};
+ghost use Rattle.ssf_core.specs.Steps.{IsTaken, TakesInput};
+ghost use Rattle.ssf_core.specs.Table.{ends, notified, on_failure};
+ghost use Rattle.ssf_core.specs.declared.config.SsfConfig.{SsfConfig as Config};
+ghost use Rattle.ssf_core.specs.declared.item.Item.{Item};
+ghost use Rattle.ssf_core.specs.declared.ssf.Input.{Input};
+ghost use Rattle.ssf_core.specs.declared.ssf.Input.TheVariants as taken;
+ghost use Rattle.cap_values.specs.declared.event.Event.TheVariants as event;
 
 use crate::sending::{by_mode, end, notify, send_last_report};
 use crate::stage::{Active, Charging, Setup, Stage, mode_of};
 use crate::{BcsmEvent, Moment, Out, SsfConfig, SsfFault};
 use arrayvec::ArrayVec;
 use cap_values::{Charge, Event, Leg, Mode, Point};
-use tariff_core::HORIZON;
+use tariff_core::{DAY, HORIZON};
 
 /// Takes an event.
 pub(crate) fn meet(
@@ -23,9 +33,9 @@ pub(crate) fn meet(
     requires moment { now ≤ HORIZON }
     requires room { array_vec_len sent.old ≤ 5 }
     requires timely { IsTimely now stage }
-    ensures stage { result ≡ stage_of (met_event config.now.tssf stage now event) }
-    ensures items { sent.new.items ≡ outs_of sent.old.items now
-        (met_event config.now.tssf stage now event) }
+    ensures takes { TakesInput config.now stage now (taken.Meet event) result
+        sent.old.items sent.new.items }
+    ensures timely { IsTimely now (result_unwrap_or result stage) }
 {
     match event {
         BcsmEvent::RouteSelectFailure => {
@@ -57,9 +67,11 @@ pub(crate) fn meet(
 
 /// Answer: the call is active; reported where its mode is NotifyAndContinue.
 fn answer(stage: Stage, sent: &mut ArrayVec<Out, 8>, now: Moment) -> Result<Stage, SsfFault>
-    requires { array_vec_len sent.old ≤ 5 }
-    ensures stage { result ≡ stage_of (answered_stage stage now) }
-    ensures items { sent.new.items ≡ outs_of sent.old.items now (answered_stage stage now) }
+    requires room { array_vec_len sent.old ≤ 5 }
+    requires timely { IsTimely now stage }
+    ensures takes { (config : Config) → TakesInput config stage now
+        (taken.Meet BcsmEvent.Answer) result sent.old.items sent.new.items }
+    ensures timely { IsTimely now (result_unwrap_or result stage) }
 {
     let Stage::Setup(setup) = stage else {
         return Err(SsfFault::NoSuchEvent);
@@ -74,7 +86,11 @@ fn answer(stage: Stage, sent: &mut ArrayVec<Out, 8>, now: Moment) -> Result<Stag
 }
 
 fn answered(setup: Setup, now: Moment) -> Active
-    ensures { result ≡ answered_setup setup now }
+    requires { IsSwitchTimely now setup.switch }
+    ensures matches { (tccd : ℕ) (t : List Happening) (items : List Item) → SetupMatches setup t
+        → ActiveMatches tccd result
+        (record { at = now; what = Took (taken.Meet BcsmEvent.Answer); sent = items } ∷ t) }
+    ensures timely { IsActiveTimely now result }
 {
     Active {
         modes: setup.modes,
@@ -86,7 +102,8 @@ fn answered(setup: Setup, now: Moment) -> Active
 }
 
 fn period_of(charge: Option<Charge>) -> u32
-    ensures { result ≡ period_of charge }
+    ensures units { result ≡ period_of charge }
+    ensures within_day { result ≤ DAY }
 {
     match charge {
         Some(charge) => charge.period,
@@ -95,7 +112,8 @@ fn period_of(charge: Option<Charge>) -> u32
 }
 
 fn charging_of(charge: Option<Charge>) -> Charging
-    ensures { result ≡ charging_of charge }
+    ensures wish { running result ≡ release_of charge }
+    ensures no_wait { tccd_due_of result ≡ None }
 {
     match charge {
         Some(charge) => Charging::Running {
@@ -116,9 +134,11 @@ fn fail(
 ) -> Result<Stage, SsfFault>
     requires moment { now ≤ HORIZON }
     requires room { array_vec_len sent.old ≤ 5 }
-    ensures stage { result ≡ stage_of (failed config.now.tssf stage now event point) }
-    ensures items { sent.new.items ≡ outs_of sent.old.items now
-        (failed config.now.tssf stage now event point) }
+    requires timely { IsTimely now stage }
+    ensures takes { (t : List Happening) (input : Input) → StageMatches config.now stage t
+        → IsTaken config.now t now input (on_failure event (mode_at t point) (phase_of stage))
+        result sent.old.items sent.new.items }
+    ensures timely { IsTimely now (result_unwrap_or result stage) }
 {
     let Stage::Setup(setup) = stage else {
         return Err(SsfFault::NoSuchEvent);
@@ -128,9 +148,11 @@ fn fail(
 
 /// Abandon: reported where its mode is NotifyAndContinue; ends.
 fn abandon(stage: Stage, sent: &mut ArrayVec<Out, 8>, now: Moment) -> Result<Stage, SsfFault>
-    requires { array_vec_len sent.old ≤ 5 }
-    ensures stage { result ≡ stage_of (abandoned stage) }
-    ensures items { sent.new.items ≡ outs_of sent.old.items now (abandoned stage) }
+    requires room { array_vec_len sent.old ≤ 5 }
+    requires timely { IsTimely now stage }
+    ensures takes { (config : Config) → TakesInput config stage now
+        (taken.Meet BcsmEvent.Abandon) result sent.old.items sent.new.items }
+    ensures timely { IsTimely now (result_unwrap_or result stage) }
 {
     match stage {
         Stage::Initial { setup, .. } => Ok(give_up(
@@ -148,7 +170,8 @@ fn abandon(stage: Stage, sent: &mut ArrayVec<Out, 8>, now: Moment) -> Result<Sta
 fn give_up(sent: &mut ArrayVec<Out, 8>, now: Moment, mode: Mode) -> Stage
     requires { array_vec_len sent.old ≤ 5 }
     ensures stage { result ≡ Stage.Ended }
-    ensures items { sent.new.items ≡ send_move sent.old.items now (gave_up mode) }
+    ensures items { sent.new.items ≡ sent.old.items
+        ++ sent_at now (ends (notified event.Abandon mode)).sent }
 {
     notify(sent, now, Event::Abandon, mode);
     end(sent, now)
@@ -165,9 +188,9 @@ fn disconnect(
     requires moment { now ≤ HORIZON }
     requires room { array_vec_len sent.old ≤ 5 }
     requires timely { IsTimely now stage }
-    ensures stage { result ≡ stage_of (disconnected config.now.tssf stage now leg) }
-    ensures items { sent.new.items ≡ outs_of sent.old.items now
-        (disconnected config.now.tssf stage now leg) }
+    ensures takes { TakesInput config.now stage now (taken.Meet (BcsmEvent.Disconnect leg)) result
+        sent.old.items sent.new.items }
+    ensures timely { IsTimely now (result_unwrap_or result stage) }
 {
     let Stage::Active(active) = stage else {
         return Err(SsfFault::NoSuchEvent);

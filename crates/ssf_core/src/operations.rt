@@ -1,11 +1,14 @@
 //! The operations of the service, in the order of the table.
 
-ghost use Rattle.std.specs.Prelude.{◌≡◌, ◌+◌, ◌≤◌, ◌||◌, is_some};
+ghost use Rattle.std.specs.Prelude.{◌≡◌, ◌+◌, ◌≤◌, ℕ, List, Ok, Err, Some, None, IsSome};
+ghost use Rattle.std.specs.Result.{result_unwrap_or};
 ghost use Rattle.arrayvec.specs.ArrayVec.{array_vec_len};
-ghost use Rattle.ssf_core.specs.Moves.{charged, charged_active, charged_setup, operated, outs_of, proceeded, released, requested, resumed, send_move, stage_of};
-ghost use Rattle.ssf_core.specs.Stages.{IsTimely};
-ghost use Rattle.ssf_core.specs.Table.{any_watched, is_fitting};
-ghost use Rattle.ssf_core.specs.Modes.{modes_at};
+ghost use Rattle.ssf_core.specs.Stages.{IsActiveTimely, IsSwitchTimely, IsTimely, started, tccd_due_of};
+ghost use Rattle.ssf_core.specs.Steps.{TakesInput};
+ghost use Rattle.ssf_core.specs.Table.{is_fitting};
+ghost use Rattle.ssf_core.specs.declared.config.SsfConfig.{SsfConfig as Config};
+ghost use Rattle.ssf_core.specs.declared.item.Out.{Out as Sent};
+ghost use Rattle.ssf_core.specs.declared.ssf.Input.TheVariants as taken;
 
 use crate::sending::{clear, proceed, send, send_last_report};
 use crate::stage::{Active, Charging, Setup, Stage, armed, started, watch_any};
@@ -25,9 +28,9 @@ pub(crate) fn operate(
     requires moment { now ≤ HORIZON }
     requires room { array_vec_len sent.old ≤ 5 }
     requires timely { IsTimely now stage }
-    ensures stage { result ≡ stage_of (operated config.now.tssf stage now op) }
-    ensures items { sent.new.items ≡ outs_of sent.old.items now
-        (operated config.now.tssf stage now op) }
+    ensures takes { TakesInput config.now stage now (taken.Operate op) result
+        sent.old.items sent.new.items }
+    ensures timely { IsTimely now (result_unwrap_or result stage) }
 {
     match op {
         ScfOp::RequestReport(arms) => request_report(config, stage, now, &arms),
@@ -44,8 +47,11 @@ fn request_report(
     now: Moment,
     arms: &Arms,
 ) -> Result<Stage, SsfFault>
-    requires { now ≤ HORIZON }
-    ensures { result ≡ requested config.now.tssf stage now arms.now }
+    requires moment { now ≤ HORIZON }
+    requires timely { IsTimely now stage }
+    ensures takes { (sent : List Sent) → TakesInput config.now stage now
+        (taken.Operate (ScfOp.RequestReport arms.now)) result sent sent }
+    ensures timely { IsTimely now (result_unwrap_or result stage) }
 {
     match stage {
         Stage::Initial { mut setup, .. } => {
@@ -81,7 +87,9 @@ fn apply_charging(
 ) -> Result<Stage, SsfFault>
     requires moment { now ≤ HORIZON }
     requires timely { IsTimely now stage }
-    ensures { result ≡ charged config.now.tssf stage now charge }
+    ensures takes { (sent : List Sent) → TakesInput config.now stage now
+        (taken.Operate (ScfOp.ApplyCharging charge)) result sent sent }
+    ensures timely { IsTimely now (result_unwrap_or result stage) }
 {
     match stage {
         Stage::Initial { setup, .. } => Ok(Stage::Initial {
@@ -89,7 +97,7 @@ fn apply_charging(
             due: now + u64::from(config.tssf),
         }),
         Stage::Setup(setup) => Ok(Stage::Setup(charge_setup(setup, now, charge)?)),
-        Stage::Active(active) => Ok(Stage::Active(charge_active(active, now, charge)?)),
+        Stage::Active(active) => charge_active(active, now, charge),
         Stage::Unused | Stage::Requested | Stage::Down { .. } | Stage::Ended => {
             Err(SsfFault::UnexpectedComponentSequence)
         }
@@ -99,7 +107,11 @@ fn apply_charging(
 /// A first period, where none is pending.
 fn charge_setup(setup: Setup, now: Moment, charge: Charge) -> Result<Setup, SsfFault>
     requires { now ≤ HORIZON }
-    ensures { result ≡ charged_setup setup.charge setup now charge }
+    ensures pending { IsSome setup.charge → result ≡ Err SsfFault.UnexpectedComponentSequence }
+    ensures charged { setup.charge ≡ None → result ≡ Ok (record setup {
+      charge = Some charge;
+      switch = started setup.switch now charge.switch;
+    }) }
 {
     match setup.charge {
         None => Ok(Setup {
@@ -112,12 +124,12 @@ fn charge_setup(setup: Setup, now: Moment, charge: Charge) -> Result<Setup, SsfF
 }
 
 /// A further period, while Tccd runs: it begins where the last one ended.
-fn charge_active(active: Active, now: Moment, charge: Charge) -> Result<Active, SsfFault>
+fn charge_active(active: Active, now: Moment, charge: Charge) -> Result<Stage, SsfFault>
     requires moment { now ≤ HORIZON }
-    requires answered { active.answered ≤ now }
-    requires granted { active.granted ≤ DAY }
-    ensures { result ≡ charged_active active.charging
-        (is_fitting active.answered active.granted charge.period now) active now charge }
+    requires timely { IsActiveTimely now active }
+    ensures takes { (config : Config) (sent : List Sent) → TakesInput config (Stage.Active active)
+        now (taken.Operate (ScfOp.ApplyCharging charge)) result sent sent }
+    ensures timely { IsTimely now (result_unwrap_or result (Stage.Active active)) }
 {
     match active.charging {
         Charging::Over { .. } => lengthened(active, now, charge),
@@ -125,17 +137,18 @@ fn charge_active(active: Active, now: Moment, charge: Charge) -> Result<Active, 
     }
 }
 
-fn lengthened(active: Active, now: Moment, charge: Charge) -> Result<Active, SsfFault>
+fn lengthened(active: Active, now: Moment, charge: Charge) -> Result<Stage, SsfFault>
     requires moment { now ≤ HORIZON }
-    requires answered { active.answered ≤ now }
-    requires granted { active.granted ≤ DAY }
-    ensures { result ≡ charged_active (Charging.Over 0)
-        (is_fitting active.answered active.granted charge.period now) active now charge }
+    requires timely { IsActiveTimely now active }
+    requires over { IsSome (tccd_due_of active.charging) }
+    ensures takes { (config : Config) (sent : List Sent) → TakesInput config (Stage.Active active)
+        now (taken.Operate (ScfOp.ApplyCharging charge)) result sent sent }
+    ensures timely { IsTimely now (result_unwrap_or result (Stage.Active active)) }
 {
     if !fits(&active, now, charge.period) {
         return Err(SsfFault::ParameterOutOfRange);
     }
-    Ok(Active {
+    Ok(Stage::Active(Active {
         modes: active.modes,
         answered: active.answered,
         granted: active.granted + charge.period,
@@ -143,7 +156,7 @@ fn lengthened(active: Active, now: Moment, charge: Charge) -> Result<Active, Ssf
             release: charge.release,
         },
         switch: started(active.switch, now, charge.switch),
-    })
+    }))
 }
 
 /// Whether a further period keeps within a day in all and ends in the future.
@@ -159,9 +172,11 @@ fn fits(active: &Active, now: Moment, period: u32) -> bool
 
 /// Continue: the call proceeds, monitored where a point is watched or a period is pending.
 fn resume(stage: Stage, sent: &mut ArrayVec<Out, 8>, now: Moment) -> Result<Stage, SsfFault>
-    requires { array_vec_len sent.old ≤ 5 }
-    ensures stage { result ≡ stage_of (resumed stage) }
-    ensures items { sent.new.items ≡ outs_of sent.old.items now (resumed stage) }
+    requires room { array_vec_len sent.old ≤ 5 }
+    requires timely { IsTimely now stage }
+    ensures takes { (config : Config) → TakesInput config stage now
+        (taken.Operate ScfOp.Continue) result sent.old.items sent.new.items }
+    ensures timely { IsTimely now (result_unwrap_or result stage) }
 {
     match stage {
         Stage::Initial { setup, .. } => Ok(go_on(setup, sent, now)),
@@ -173,11 +188,11 @@ fn resume(stage: Stage, sent: &mut ArrayVec<Out, 8>, now: Moment) -> Result<Stag
 }
 
 fn go_on(setup: Setup, sent: &mut ArrayVec<Out, 8>, now: Moment) -> Stage
-    requires { array_vec_len sent.old ≤ 5 }
-    ensures stage { result ≡
-        (proceeded (any_watched (modes_at setup.modes) || is_some setup.charge) setup).stage }
-    ensures items { sent.new.items ≡ send_move sent.old.items now
-        (proceeded (any_watched (modes_at setup.modes) || is_some setup.charge) setup) }
+    requires room { array_vec_len sent.old ≤ 5 }
+    requires timely { IsSwitchTimely now setup.switch }
+    ensures takes { (config : Config) (due : ℕ) → TakesInput config (Stage.Initial setup due) now
+        (taken.Operate ScfOp.Continue) (Ok result) sent.old.items sent.new.items }
+    ensures timely { IsTimely now result }
 {
     if watch_any(&setup.modes) || setup.charge.is_some() {
         send(sent, now, Item::Proceed);
@@ -195,8 +210,9 @@ fn release_call(
 ) -> Result<Stage, SsfFault>
     requires room { array_vec_len sent.old ≤ 5 }
     requires timely { IsTimely now stage }
-    ensures stage { result ≡ stage_of (released stage now cause) }
-    ensures items { sent.new.items ≡ outs_of sent.old.items now (released stage now cause) }
+    ensures takes { (config : Config) → TakesInput config stage now
+        (taken.Operate (ScfOp.ReleaseCall cause)) result sent.old.items sent.new.items }
+    ensures timely { IsTimely now (result_unwrap_or result stage) }
 {
     match stage {
         Stage::Initial { .. } | Stage::Setup(_) | Stage::Down { .. } => Ok(clear(sent, now, cause)),

@@ -1,12 +1,14 @@
 //! What is sent, put at the end of a step.
 
-ghost use Rattle.std.specs.Prelude.{◌≡◌, ◌+◌, ◌<◌, ◌≤◌, ◌∷◌, ◌-◌, []};
-ghost use Rattle.ssf_core.specs.Moves.{met_by, send_all, send_move, last_report_of, report_of};
-ghost use Rattle.ssf_core.specs.Table.{notified};
+ghost use Rattle.std.specs.Prelude.{◌≡◌, ◌+◌, ◌++◌, ◌<◌, ◌≤◌, ◌∷◌, ◌-◌, [], ℕ, List};
+ghost use Rattle.ssf_core.specs.Happenings.{Happening, Took, sent_at};
+ghost use Rattle.ssf_core.specs.Table.{by_mode, ends, event_report, last_report, notified, report};
 ghost use Rattle.ssf_core.specs.Split.{split};
-ghost use Rattle.ssf_core.specs.Stages.{IsActiveTimely, IsSwitchTimely, passed};
+ghost use Rattle.ssf_core.specs.Stages.{IsActiveTimely, IsSwitchTimely, IsTimely, passed};
+ghost use Rattle.ssf_core.specs.Stands.{ActiveMatches};
+ghost use Rattle.ssf_core.specs.Steps.{Follows};
+ghost use Rattle.ssf_core.specs.declared.ssf.Input.{Input};
 ghost use Rattle.arrayvec.specs.ArrayVec.{array_vec_len};
-ghost use Rattle.cap_values.specs.declared.message.SsfMsg.TheVariants as message;
 ghost use Rattle.ssf_core.specs.declared.item.Item.TheVariants as item;
 
 use crate::stage::{Active, Charging, Stage, Switch};
@@ -18,7 +20,7 @@ use tariff_core::{DAY, HORIZON, TimeInfo};
 /// Sends an item as of a moment.
 pub(crate) fn send(sent: &mut ArrayVec<Out, 8>, now: Moment, item: Item)
     requires { array_vec_len sent.old < 8 }
-    ensures items { sent.new.items ≡ send_all sent.old.items now (item ∷ []) }
+    ensures items { sent.new.items ≡ sent.old.items ++ sent_at now (item ∷ []) }
     ensures room { array_vec_len sent.new ≡ array_vec_len sent.old + 1 }
 {
     sent.push(Out { at: now, item });
@@ -28,7 +30,7 @@ pub(crate) fn send(sent: &mut ArrayVec<Out, 8>, now: Moment, item: Item)
 pub(crate) fn end(sent: &mut ArrayVec<Out, 8>, now: Moment) -> Stage
     requires { array_vec_len sent.old < 8 }
     ensures stage { result ≡ Stage.Ended }
-    ensures items { sent.new.items ≡ send_all sent.old.items now (item.Msg message.Ended ∷ []) }
+    ensures items { sent.new.items ≡ sent.old.items ++ sent_at now (ends []).sent }
     ensures room { array_vec_len sent.new ≡ array_vec_len sent.old + 1 }
 {
     send(sent, now, Item::Msg(SsfMsg::Ended));
@@ -39,8 +41,8 @@ pub(crate) fn end(sent: &mut ArrayVec<Out, 8>, now: Moment) -> Stage
 pub(crate) fn clear(sent: &mut ArrayVec<Out, 8>, now: Moment, cause: Cause) -> Stage
     requires { array_vec_len sent.old ≤ 6 }
     ensures stage { result ≡ Stage.Ended }
-    ensures items { sent.new.items ≡ send_all sent.old.items now
-        (item.Clear cause ∷ item.Msg message.Ended ∷ []) }
+    ensures items { sent.new.items ≡ sent.old.items
+        ++ sent_at now (ends (item.Clear cause ∷ [])).sent }
     ensures room { array_vec_len sent.new ≡ array_vec_len sent.old + 2 }
 {
     send(sent, now, Item::Clear(cause));
@@ -51,8 +53,8 @@ pub(crate) fn clear(sent: &mut ArrayVec<Out, 8>, now: Moment, cause: Cause) -> S
 pub(crate) fn proceed(sent: &mut ArrayVec<Out, 8>, now: Moment) -> Stage
     requires { array_vec_len sent.old ≤ 6 }
     ensures stage { result ≡ Stage.Ended }
-    ensures items { sent.new.items ≡ send_all sent.old.items now
-        (item.Proceed ∷ item.Msg message.Ended ∷ []) }
+    ensures items { sent.new.items ≡ sent.old.items
+        ++ sent_at now (ends (item.Proceed ∷ [])).sent }
     ensures room { array_vec_len sent.new ≡ array_vec_len sent.old + 2 }
 {
     send(sent, now, Item::Proceed);
@@ -62,8 +64,8 @@ pub(crate) fn proceed(sent: &mut ArrayVec<Out, 8>, now: Moment) -> Stage
 /// Reports an event.
 fn tell(sent: &mut ArrayVec<Out, 8>, now: Moment, event: Event, leg: Option<Leg>, mode: Mode)
     requires { array_vec_len sent.old < 8 }
-    ensures items { sent.new.items ≡ send_all sent.old.items now
-        (item.Msg (message.EventReport event leg mode) ∷ []) }
+    ensures items { sent.new.items ≡ sent.old.items
+        ++ sent_at now (event_report event leg mode) }
     ensures room { array_vec_len sent.new ≡ array_vec_len sent.old + 1 }
 {
     send(
@@ -76,7 +78,7 @@ fn tell(sent: &mut ArrayVec<Out, 8>, now: Moment, event: Event, leg: Option<Leg>
 /// Reports an event where its mode is NotifyAndContinue.
 pub(crate) fn notify(sent: &mut ArrayVec<Out, 8>, now: Moment, event: Event, mode: Mode)
     requires { array_vec_len sent.old < 8 }
-    ensures items { sent.new.items ≡ send_all sent.old.items now (notified event mode) }
+    ensures items { sent.new.items ≡ sent.old.items ++ sent_at now (notified event mode) }
     ensures room { array_vec_len sent.new ≤ array_vec_len sent.old + 1 }
 {
     match mode {
@@ -97,9 +99,9 @@ pub(crate) fn by_mode(
 ) -> Stage
     requires moment { now ≤ HORIZON }
     requires room { array_vec_len sent.old ≤ 6 }
-    ensures stage { result ≡ (met_by config.now.tssf now event leg mode).stage }
-    ensures items { sent.new.items ≡ send_all sent.old.items now
-        (met_by config.now.tssf now event leg mode).sent }
+    ensures follows { (t : List Happening) (input : Input) → Follows config.now t now (Took input)
+        (by_mode event leg mode) result sent.old.items sent.new.items }
+    ensures timely { IsTimely now result }
     ensures room { array_vec_len sent.new ≤ array_vec_len sent.old + 2 }
 {
     match mode {
@@ -156,7 +158,8 @@ fn switched_times(answered: Moment, switch: Moment, now: Moment) -> TimeInfo
 pub(crate) fn report(active: &Active, now: Moment, goes_on: bool) -> Item
     requires timely { IsActiveTimely now active.now }
     requires within { now ≤ active.now.answered + active.now.granted }
-    ensures { result ≡ report_of active.now now goes_on }
+    ensures { (tccd : ℕ) (t : List Happening) → ActiveMatches tccd active.now t
+        → result ≡ report t now goes_on }
 {
     Item::Msg(SsfMsg::ChargingReport {
         active: goes_on,
@@ -168,7 +171,8 @@ pub(crate) fn report(active: &Active, now: Moment, goes_on: bool) -> Item
 pub(crate) fn send_last_report(sent: &mut ArrayVec<Out, 8>, now: Moment, active: &Active)
     requires room { array_vec_len sent.old < 8 }
     requires timely { IsActiveTimely now active.now }
-    ensures items { sent.new.items ≡ send_all sent.old.items now (last_report_of active.now now) }
+    ensures items { (tccd : ℕ) (t : List Happening) → ActiveMatches tccd active.now t
+        → sent.new.items ≡ sent.old.items ++ sent_at now (last_report t now) }
     ensures room { array_vec_len sent.new ≤ array_vec_len sent.old + 1 }
 {
     match active.charging {

@@ -1,8 +1,12 @@
 //! The gsmSSF of one call.
 
-ghost use Rattle.std.specs.Prelude.{◌≡◌, ◌≤◌};
-ghost use Rattle.ssf_core.specs.Moves.{invoked, move_of, outs_of, stage_of, triggered};
+ghost use Rattle.std.specs.Prelude.{◌≡◌, ◌≤◌, ℕ, List};
+ghost use Rattle.std.specs.Result.{result_unwrap_or};
 ghost use Rattle.ssf_core.specs.Stages.{IsTimely};
+ghost use Rattle.ssf_core.specs.Steps.{TakesInput};
+ghost use Rattle.ssf_core.specs.declared.config.SsfConfig.{SsfConfig as Config};
+ghost use Rattle.ssf_core.specs.declared.item.Out.{Out as Sent};
+ghost use Rattle.ssf_core.specs.declared.ssf.Input.TheVariants as taken;
 ghost use Rattle.arrayvec.specs.ArrayVec.{array_vec_len};
 
 use crate::events::meet;
@@ -226,9 +230,8 @@ fn take(
     requires moment { now ≤ HORIZON }
     requires room { array_vec_len sent.old ≤ 5 }
     requires timely { IsTimely now stage }
-    ensures stage { result ≡ stage_of (move_of config.now.tssf stage now input) }
-    ensures items { sent.new.items ≡ outs_of sent.old.items now
-        (move_of config.now.tssf stage now input) }
+    ensures takes { TakesInput config.now stage now input result sent.old.items sent.new.items }
+    ensures timely { IsTimely now (result_unwrap_or result stage) }
 {
     match input {
         Input::Invoke => invoke(stage),
@@ -244,7 +247,10 @@ fn take(
 
 /// Invoke: where it was never invoked.
 fn invoke(stage: Stage) -> Result<Stage, SsfFault>
-    ensures { result ≡ stage_of (invoked stage) }
+    ensures takes { (config : Config) (now : ℕ) (sent : List Sent)
+        → TakesInput config stage now taken.Invoke result sent sent }
+    ensures timely { (now : ℕ) → IsTimely now stage
+        → IsTimely now (result_unwrap_or result stage) }
 {
     match stage {
         Stage::Unused => Ok(Stage::Requested),
@@ -264,9 +270,10 @@ fn trigger(
 ) -> Result<Stage, SsfFault>
     requires moment { now ≤ HORIZON }
     requires room { array_vec_len sent.old ≤ 5 }
-    ensures stage { result ≡ stage_of (triggered config.now.tssf stage now call calling called) }
-    ensures items { sent.new.items ≡ outs_of sent.old.items now
-        (triggered config.now.tssf stage now call calling called) }
+    requires timely { IsTimely now stage }
+    ensures takes { TakesInput config.now stage now (taken.Trigger call calling called) result
+        sent.old.items sent.new.items }
+    ensures timely { IsTimely now (result_unwrap_or result stage) }
 {
     let Stage::Requested = stage else {
         return Err(SsfFault::UnexpectedComponentSequence);

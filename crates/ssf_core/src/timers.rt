@@ -1,10 +1,13 @@
 //! The timers, run up to a moment.
 
-ghost use Rattle.std.specs.Prelude.{◌≡◌, ◌≤◌, ◌+◌, [], List, Some};
-ghost use Rattle.ssf_core.specs.Happenings.{Happening};
+ghost use Rattle.std.specs.Prelude.{◌≡◌, ◌≤◌, ◌<◌, ◌+◌, ◌++◌, [], List, Some};
+ghost use Rattle.ssf_core.specs.Happenings.{Happening, sent_at};
 ghost use Rattle.ssf_core.specs.Running.{Runs};
-ghost use Rattle.ssf_core.specs.Stages.{IsQuiet, IsTimely, IsActiveTimely, IsBounded, due_by, expiry_of, moment_of, next_of, sooner_of, stage_due, switch_due_of, tccd_due_of, tcp_due_of};
-ghost use Rattle.ssf_core.specs.Moves.{defaulted, expired, period_over, period_over_in, send_all, switched_stage};
+ghost use Rattle.ssf_core.specs.Stages.{IsQuiet, IsTimely, IsActiveTimely, IsBounded, due_by, expiries_left, expiry_of, items_left, moment_of, next_of, sooner_of, stage_due, switch_due_of, tccd_due_of, tcp_due_of};
+ghost use Rattle.ssf_core.specs.Steps.{Expires};
+ghost use Rattle.ssf_core.specs.Table.{on_tssf};
+ghost use Rattle.ssf_core.specs.declared.config.SsfConfig.{SsfConfig as Config};
+ghost use Rattle.ssf_core.specs.declared.item.Out.{Out as Sent};
 ghost use Rattle.arrayvec.specs.ArrayVec.{array_vec_len};
 
 use crate::sending::{clear, proceed, report, send};
@@ -210,9 +213,13 @@ fn expire(config: &SsfConfig, stage: Stage, sent: &mut ArrayVec<Out, 8>, expiry:
     requires moment { expiry.due ≤ HORIZON }
     requires room { array_vec_len sent.old ≤ 5 }
     requires timely { IsTimely expiry.due stage }
-    ensures stage { result ≡ (expired config.now stage expiry.due expiry.timer).stage }
-    ensures items { sent.new.items ≡ send_all sent.old.items expiry.due
-        (expired config.now stage expiry.due expiry.timer).sent }
+    requires due { stage_due stage expiry.timer ≡ Some expiry.due }
+    ensures expires { Expires config.now stage expiry.due expiry.timer result
+        sent.old.items sent.new.items }
+    ensures timely { IsTimely expiry.due result }
+    ensures fewer { expiries_left result < expiries_left stage }
+    ensures room { array_vec_len sent.new + items_left result
+        ≤ array_vec_len sent.old + items_left stage }
 {
     match expiry.timer {
         Timer::Tsw => switch_over(stage, expiry.due),
@@ -224,7 +231,13 @@ fn expire(config: &SsfConfig, stage: Stage, sent: &mut ArrayVec<Out, 8>, expiry:
 
 /// Tsw: the switch came.
 fn switch_over(stage: Stage, now: Moment) -> Stage
-    ensures { result ≡ switched_stage stage now }
+    requires timely { IsTimely now stage }
+    requires due { stage_due stage Timer.Tsw ≡ Some now }
+    ensures expires { (config : Config) (sent : List Sent)
+        → Expires config stage now Timer.Tsw result sent sent }
+    ensures timely { IsTimely now result }
+    ensures fewer { expiries_left result < expiries_left stage }
+    ensures room { items_left result ≤ items_left stage }
 {
     match stage {
         Stage::Initial { mut setup, due } => {
@@ -249,9 +262,13 @@ fn end_period(config: &SsfConfig, stage: Stage, sent: &mut ArrayVec<Out, 8>, now
     requires moment { now ≤ HORIZON }
     requires room { array_vec_len sent.old ≤ 5 }
     requires timely { IsTimely now stage }
-    ensures stage { result ≡ (period_over_in config.now.tccd stage now).stage }
-    ensures items { sent.new.items ≡ send_all sent.old.items now
-        (period_over_in config.now.tccd stage now).sent }
+    requires due { stage_due stage Timer.Tcp ≡ Some now }
+    ensures expires { Expires config.now stage now Timer.Tcp result
+        sent.old.items sent.new.items }
+    ensures timely { IsTimely now result }
+    ensures fewer { expiries_left result < expiries_left stage }
+    ensures room { array_vec_len sent.new + items_left result
+        ≤ array_vec_len sent.old + items_left stage }
 {
     match stage {
         Stage::Active(active) => end_active_period(config, active, sent, now),
@@ -268,9 +285,13 @@ fn end_active_period(
     requires moment { now ≤ HORIZON }
     requires room { array_vec_len sent.old ≤ 5 }
     requires timely { IsActiveTimely now active }
-    ensures stage { result ≡ (period_over config.now.tccd active now active.charging).stage }
-    ensures items { sent.new.items ≡ send_all sent.old.items now
-        (period_over config.now.tccd active now active.charging).sent }
+    requires due { stage_due (Stage.Active active) Timer.Tcp ≡ Some now }
+    ensures expires { Expires config.now (Stage.Active active) now Timer.Tcp result
+        sent.old.items sent.new.items }
+    ensures timely { IsTimely now result }
+    ensures fewer { expiries_left result < expiries_left (Stage.Active active) }
+    ensures room { array_vec_len sent.new + items_left result
+        ≤ array_vec_len sent.old + items_left (Stage.Active active) }
 {
     let Charging::Running { release } = active.charging else {
         return Stage::Active(active);
@@ -288,9 +309,10 @@ fn end_active_period(
 /// Tssf: the default handling.
 fn handle_by_default(config: &SsfConfig, sent: &mut ArrayVec<Out, 8>, now: Moment) -> Stage
     requires { array_vec_len sent.old ≤ 5 }
-    ensures stage { result ≡ (defaulted config.now.default_handling).stage }
-    ensures items { sent.new.items ≡ send_all sent.old.items now
-        (defaulted config.now.default_handling).sent }
+    ensures stage { result ≡ Stage.Ended }
+    ensures items { sent.new.items ≡ sent.old.items
+        ++ sent_at now (on_tssf config.now.default_handling).sent }
+    ensures room { array_vec_len sent.new ≡ array_vec_len sent.old + 2 }
 {
     match config.default_handling {
         DefaultHandling::Proceed => proceed(sent, now),

@@ -1,6 +1,5 @@
-use Rattle.std.proofs.Common.{◌<◌, ◌∙◌, sym, subst, arith, ap}
-use Rattle.ssf_core.specs.Stages.{expiries_left, items_left}
-use Rattle.ssf_core.proofs.ExpiryLemmas.{fires, room-send_all, runs_later, runs_more, runs_none}
+use Rattle.std.proofs.Common.{◌∙◌, sym, arith}
+use Rattle.ssf_core.proofs.ExpiryLemmas.{fires, runs_later, runs_more, runs_none}
 use Rattle.ssf_core.proofs.TimerLemmas.{few_left, quiet_by, timely_later}
 use Rattle.ssf_core.proofs.timers.run_timers.Goals as goal
 
@@ -13,25 +12,26 @@ loop-expiry-init c = record {
   traced = λ t stands. rw c.requires.empty (runs_none c.args.config.now t c.args.last c.args.stage stands);
 }
 
-pub loop-expiry-smaller : goal.loop-expiry-smaller
-loop-expiry-smaller c =
-    let fire = fires c.args.config.now c.loop-expiry.invariant.clock c.args.now c.loop-expiry.stage c.in-Some.expiry c.loop-expiry.invariant.timely (sym c.in-Some.ensures) in
-    subst (λ n. n < expiries_left c.loop-expiry.stage) (sym (ap expiries_left c.expire-stage.ensures.stage)) fire.left.fewer
+pub expire-stage-requires-clause-timely : goal.expire-stage-requires-clause-timely
+expire-stage-requires-clause-timely c = (fires c.loop-expiry.invariant.clock c.args.now c.loop-expiry.stage c.in-Some.expiry c.loop-expiry.invariant.timely (sym c.in-Some.ensures)).timely
+
+pub expire-stage-requires-clause-due : goal.expire-stage-requires-clause-due
+expire-stage-requires-clause-due c = (fires c.loop-expiry.invariant.clock c.args.now c.loop-expiry.stage c.in-Some.expiry c.loop-expiry.invariant.timely (sym c.in-Some.ensures)).is_due
 
 pub loop-expiry-preserved : goal.loop-expiry-preserved
 loop-expiry-preserved c =
     let s = c.loop-expiry.stage in
     let e = c.in-Some.expiry in
     let invariant = c.loop-expiry.invariant in
-    let fire = fires c.args.config.now invariant.clock c.args.now s e invariant.timely (sym c.in-Some.ensures) in
+    let fire = fires invariant.clock c.args.now s e invariant.timely (sym c.in-Some.ensures) in
     record {
       clock = e.due;
       behind = fire.by_now;
-      timely = rw c.expire-stage.ensures.stage fire.left.timely;
-      room = rw (c.expire-stage.ensures.stage, c.expire-stage.ensures.items)
-          (room-send_all c.loop-expiry.sent.items e.due _ (items_left s) _ fire.left.room invariant.room);
-      traced = λ t stands. rw (c.expire-stage.ensures.stage, c.expire-stage.ensures.items)
-          (runs_more c.args.config.now t invariant.clock s c.loop-expiry.sent.items e invariant.timely fire.is_next (invariant.traced t stands));
+      timely = c.expire-stage.ensures.timely;
+      room = let left = c.expire-stage.ensures.room in let before = invariant.room in omega arith;
+      traced = λ t stands.
+          runs_more c.args.config.now t invariant.clock s c.expire-stage.result c.loop-expiry.sent.items c.expire-stage.new.sent.items e invariant.timely fire.is_next
+          c.expire-stage.ensures.expires (invariant.traced t stands);
     }
 
 pub returns-clause-quiet : goal.returns-clause-quiet
