@@ -16,7 +16,7 @@ use table_core::{RowKind, field, is_blank, number};
 use tariff_core::{LAST_MOMENT, MAX_MONEY};
 
 /// The number of an account: a decimal of 32 bits.
-pub(crate) fn account(row: &ByteRecord, place: usize) -> Result<u32, RowKind>
+pub fn account(row: &ByteRecord, place: usize) -> Result<u32, RowKind>
     requires { place < length (fields_of row.now) }
     ensures { result ≡ account_in (fields_of row.now) place }
 {
@@ -24,7 +24,7 @@ pub(crate) fn account(row: &ByteRecord, place: usize) -> Result<u32, RowKind>
 }
 
 /// An amount of money: a decimal of 0 to `MAX_MONEY`.
-pub(crate) fn amount(row: &ByteRecord, place: usize) -> Result<u64, RowKind>
+pub fn amount(row: &ByteRecord, place: usize) -> Result<u64, RowKind>
     requires { place < length (fields_of row.now) }
     ensures value { result ≡ amount_in (fields_of row.now) place }
     ensures within { IfOk result (λ amount. amount ≤ MAX_MONEY) }
@@ -34,7 +34,7 @@ pub(crate) fn amount(row: &ByteRecord, place: usize) -> Result<u64, RowKind>
 
 /// The last moment in the field at `place`: 0 to `LAST_MOMENT`, or none where the field is left
 /// out.
-pub(crate) fn until(row: &ByteRecord, place: usize) -> Result<Option<Moment>, RowKind>
+pub fn until(row: &ByteRecord, place: usize) -> Result<Option<Moment>, RowKind>
     ensures value { result ≡ until_in (fields_of row.now) place }
     ensures within { IfOk result (λ until. expires_in_time until ≡ true) }
 {
@@ -52,7 +52,7 @@ pub(crate) fn is_left_out(row: &ByteRecord, place: usize) -> bool
 }
 
 /// The number of a party.
-pub(crate) fn party(row: &ByteRecord, place: usize) -> Result<Number, RowKind>
+pub fn party(row: &ByteRecord, place: usize) -> Result<Number, RowKind>
     requires { place < length (fields_of row.now) }
     ensures { result_map_both digits_of (λ kind. kind) result ≡ party_in (fields_of row.now) place }
 {

@@ -8,6 +8,7 @@ mod input_fault;
 mod script;
 mod setup;
 
+pub use fields::{account, amount, party, until};
 pub use input::{Parts, RunTexts, divide, read_tariff, read_texts};
 pub use input_fault::InputFault;
 pub use script::{Happening, ScriptRow, read_script};

@@ -15,4 +15,4 @@ pub use fields::{
     are_digits, decimal, field, is_blank, is_decimal, is_word, number, optional, write_digits,
 };
 pub use printed::{printed_decimals_are_read, printed_tables_are_read};
-pub use table::Table;
+pub use table::{Rows, Table};

@@ -179,7 +179,7 @@ fn is_header(names: &[&str], row: &ByteRecord) -> bool
 
 /// The rows of a CSV text, each read into the same record. A row is what `csv` gives as a record:
 /// empty lines are none, a byte order mark at the start is passed over, and the fields are bytes.
-pub(crate) struct Rows<R> {
+pub struct Rows<R> {
     reader: Reader<R>,
     row: ByteRecord,
 }
