@@ -9,6 +9,8 @@ mod faults;
 #[cfg(test)]
 mod heard;
 #[cfg(test)]
+mod lines;
+#[cfg(test)]
 mod mailboxes;
 #[cfg(test)]
 mod meeting;

@@ -1,0 +1,2 @@
+mod PostColumns
+mod PostLines

@@ -1,0 +1,14 @@
+//! What is printed is read back: a law, the contract of a function that does nothing else.
+
+ghost use Rattle.message_rows.specs.Laws.{PostsAreRead};
+
+use table_core::{printed_decimals_are_read, printed_tables_are_read};
+
+/// The row that a trace prints of a message of a switch, or of a recharge, is read as that message,
+/// with its number.
+pub fn printed_posts_are_read()
+    ensures { PostsAreRead }
+{
+    printed_decimals_are_read();
+    printed_tables_are_read();
+}

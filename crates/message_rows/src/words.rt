@@ -1,0 +1,128 @@
+//! The words of a message row, each matched once.
+
+ghost use Rattle.std.specs.Prelude.{◌≡◌, ◌<◌, length};
+ghost use Rattle.csv.specs.Records.{fields_of};
+ghost use Rattle.message_rows.specs.Messages.{event_in, mode_in, state_in, switch_word_in, switched_in, word_in};
+
+use cap_values::{Event, Mode};
+use csv::ByteRecord;
+use table_core::{RowKind, is_word};
+
+/// What a message row is about, with all that its words say.
+#[derive(Clone, Copy, Debug)]
+pub(crate) enum Word {
+    /// A call asks for the service.
+    InitialDp,
+    /// An event of a call, and how it was watched.
+    EventReport(Event, Mode),
+    /// The times of a call: whether it goes on, and whether they know of a tariff switch.
+    ChargingReport(bool, bool),
+    /// A call's dialogue has ended.
+    Ended,
+    /// An account is recharged.
+    Recharge,
+}
+
+/// The word of a row; else `What`.
+pub(crate) fn read_word(row: &ByteRecord) -> Result<Word, RowKind>
+    requires { 8 < length (fields_of row.now) }
+    ensures { result ≡ word_in (fields_of row.now) }
+{
+    if is_word(row, 3, "switch") {
+        read_switch_word(row)
+    } else if is_word(row, 3, "operator") && is_word(row, 4, "Recharge") {
+        Ok(Word::Recharge)
+    } else {
+        Err(RowKind::What)
+    }
+}
+
+/// The word of a row of the switch.
+fn read_switch_word(row: &ByteRecord) -> Result<Word, RowKind>
+    requires { 8 < length (fields_of row.now) }
+    ensures { result ≡ switch_word_in (fields_of row.now) }
+{
+    if is_word(row, 4, "InitialDP") {
+        Ok(Word::InitialDp)
+    } else if is_word(row, 4, "EventReportBCSM") {
+        let event = read_event(row)?;
+        let mode = read_mode(row)?;
+        Ok(Word::EventReport(event, mode))
+    } else if is_word(row, 4, "ApplyChargingReport") {
+        let active = read_state(row)?;
+        let switched = read_switched(row)?;
+        Ok(Word::ChargingReport(active, switched))
+    } else if is_word(row, 4, "Ended") {
+        Ok(Word::Ended)
+    } else {
+        Err(RowKind::What)
+    }
+}
+
+/// The event of a report.
+fn read_event(row: &ByteRecord) -> Result<Event, RowKind>
+    requires { 8 < length (fields_of row.now) }
+    ensures { result ≡ event_in (fields_of row.now) }
+{
+    if is_word(row, 5, "collectedInfo") {
+        Ok(Event::CollectedInfo)
+    } else if is_word(row, 5, "routeSelectFailure") {
+        Ok(Event::RouteSelectFailure)
+    } else if is_word(row, 5, "busy") {
+        Ok(Event::CalledPartyBusy)
+    } else if is_word(row, 5, "noAnswer") {
+        Ok(Event::NoAnswer)
+    } else if is_word(row, 5, "answer") {
+        Ok(Event::Answer)
+    } else if is_word(row, 5, "disconnect") {
+        Ok(Event::Disconnect)
+    } else if is_word(row, 5, "abandon") {
+        Ok(Event::Abandon)
+    } else {
+        Err(RowKind::What)
+    }
+}
+
+/// How the event of a report was watched.
+fn read_mode(row: &ByteRecord) -> Result<Mode, RowKind>
+    requires { 8 < length (fields_of row.now) }
+    ensures { result ≡ mode_in (fields_of row.now) }
+{
+    if is_word(row, 7, "interrupted") {
+        Ok(Mode::Interrupted)
+    } else if is_word(row, 7, "notify") {
+        Ok(Mode::NotifyAndContinue)
+    } else if is_word(row, 7, "transparent") {
+        Ok(Mode::Transparent)
+    } else {
+        Err(RowKind::What)
+    }
+}
+
+/// Whether the call of a charging report goes on.
+fn read_state(row: &ByteRecord) -> Result<bool, RowKind>
+    requires { 8 < length (fields_of row.now) }
+    ensures { result ≡ state_in (fields_of row.now) }
+{
+    if is_word(row, 5, "active") {
+        Ok(true)
+    } else if is_word(row, 5, "inactive") {
+        Ok(false)
+    } else {
+        Err(RowKind::What)
+    }
+}
+
+/// Whether the times of a charging report know of a tariff switch.
+fn read_switched(row: &ByteRecord) -> Result<bool, RowKind>
+    requires { 8 < length (fields_of row.now) }
+    ensures { result ≡ switched_in (fields_of row.now) }
+{
+    if is_word(row, 6, "n") {
+        Ok(false)
+    } else if is_word(row, 6, "s") {
+        Ok(true)
+    } else {
+        Err(RowKind::What)
+    }
+}
