@@ -4,7 +4,7 @@ PREFIX ?= /usr/local
 JOBS ?= $(shell nproc)
 SOURCES := crates.txt $(shell find crates -path '*/out' -prune -o -name '*.rt' -print -o -name '*.antt' -print)
 
-.PHONY: all run test edits install bench recipes
+.PHONY: all quick run test edits install bench recipes
 
 # Proves and builds bin/prepaid.
 all: bin/prepaid
@@ -15,14 +15,16 @@ bin/prepaid: $(SOURCES)
 	mkdir -p bin
 	cp crates/prepaid/out/prepaid $@
 
+# Builds bin/prepaid-unproved, a native program without its proofs, which says so in --version.
+quick: bin/prepaid-unproved
+
+bin/prepaid-unproved: $(SOURCES) tests/quick.py
+	@echo 'Building bin/prepaid-unproved, without proofs: some two minutes.' >&2
+	@tests/quick.py $@
+
 # Plays an evening of calls: by bin/prepaid, or, before that is built, by the program without its proofs.
-run: $(wildcard bin/prepaid)
-ifeq ($(wildcard bin/prepaid),)
-	@echo 'This program is unproved: rt try compiles it, in a minute or two. make proves and builds bin/prepaid.' >&2
-	@cd crates/prepaid && rt try -- run < ../../examples/evening.txt
-else
-	bin/prepaid run < examples/evening.txt
-endif
+run: $(if $(wildcard bin/prepaid),,quick)
+	@$(or $(wildcard bin/prepaid),bin/prepaid-unproved) run < examples/evening.txt
 
 # Proves everything from nothing, tries the edits that must fail, and runs the tests and the programs;
 # then holds the words of the man page and the completions against the formats, runs the commands of the
