@@ -12,8 +12,10 @@ mod fault;
 mod laws;
 mod operations;
 mod state;
+mod talk;
 
 pub use config::ServiceConfig;
 pub use dialogue::{Dialogue, Turn};
 pub use fault::DialogueFault;
 pub use laws::{honest_replies_are_expected, one_return_if_granted, one_settle_a_grant};
+pub use talk::{Asker, converse};

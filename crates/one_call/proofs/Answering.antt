@@ -1,5 +1,5 @@
 -- The port answers, and the dialogue goes on.
-use Rattle.std.proofs.Common.{refl, subst, ◌≡◌, ℕ, Option, Some, Result, Ok, Err, List, ap, ◌∙◌}
+use Rattle.std.proofs.Common.{refl, ◌≡◌, ◌++◌, ℕ, false, Option, Some, Result, Ok, Err, List, [], ◌∷◌, ap, ◌∙◌, append-nil}
 use Rattle.std.specs.Prelude.{IfSome}
 use Rattle.account_core.specs.Asked.{Asked, IsOfCall}
 use Rattle.account_core.specs.Known.{CallFacts, deed, deed_of, known_after}
@@ -7,13 +7,13 @@ use Rattle.account_core.specs.Ledger.{event_by}
 use Rattle.account_core.specs.Standing.{Moves}
 use Rattle.account_core.specs.declared.entry.Reply.{Reply}
 use Rattle.account_core.specs.declared.fault.AccountFault.{AccountFault}
-use Rattle.cap_values.specs.Orders.{Paid}
-use Rattle.dialogue_core.specs.Phases.{Phase, Says, Asks}
+use Rattle.cap_values.specs.Orders.{Order, Paid, paid_by}
+use Rattle.dialogue_core.specs.Phases.{Phase, Says, Asks, Sends, Finished}
 use Rattle.dialogue_core.specs.Table.{Step, on_reply, on_refusal}
-use Rattle.dialogue_core.specs.Talks.{after_got, or_done}
+use Rattle.dialogue_core.specs.Talks.{AreGot, Gets, Got, IsTalkedOut, after_got, is_ask, or_done, sent_by, talked}
 use Rattle.ssf_core.specs.Meters.{Meter}
 use Rattle.one_call.specs.Asks.{IsAsked}
-use Rattle.one_call.specs.Covered.{Fits, IsReady}
+use Rattle.one_call.specs.Covered.{Fits, IsAtRest, IsReady}
 use Rattle.one_call.specs.Tallies.{with_answer}
 use Rattle.one_call.specs.declared.tally.Tally.{Tally}
 use Rattle.one_call.proofs.Asking.{FitsThen, answered_fits, deed_is, its_call, no_forfeit, of_call, refused_fits}
@@ -47,12 +47,6 @@ ready_by call meter queued before after phase asked (Err fault) moves ready =
       fits = fits_done call meter queued ready.kept phase (on_refusal phase) (refused_fits call meter queued ready.kept phase asked ready.fits);
     }
 
-pub asked_ready : (call : ℕ) (meter : Meter) (queued : List Paid) (before after : ℕ → Option CallFacts) (asked : Asked) (old new : Tally) (from to : Phase) (said : Says)
-    → IsAsked before after asked old new from to said → IsReady call meter queued (before call) from (Asks asked) → IsReady call meter queued (after call) to said
-asked_ready call meter queued before after asked old new from to said is ready =
-    let P : (Says × Phase) → Type 0 = λ p. IsReady call meter queued (after call) p.1 p.0 in
-    subst P is.says (ready_by call meter queued (before call) (after call) from asked is.answer (is.moves call) ready)
-
 -- ---- no forfeit
 
 none_by : (call : ℕ) (meter : Meter) (queued : List Paid) (before after : Option CallFacts) (phase : Phase) (asked : Asked) (answer : Result Reply AccountFault) (tally : Tally)
@@ -63,7 +57,39 @@ none_by call meter queued before after phase asked (Ok reply) tally moves ready 
     no_forfeit call meter queued ready.kept phase asked reply tally ready.fits (moved.1 (of_call call meter queued ready.kept phase asked ready.fits)).1
 none_by call meter queued before after phase asked (Err fault) tally moves ready = refl
 
-pub asked_kept : (call : ℕ) (meter : Meter) (queued : List Paid) (before after : ℕ → Option CallFacts) (asked : Asked) (old new : Tally) (from to : Phase) (said : Says)
-    → IsAsked before after asked old new from to said → IsReady call meter queued (before call) from (Asks asked) → new.forfeits ≡ old.forfeits
-asked_kept call meter queued before after asked old new from to said is ready =
-    ap (λ (t : Tally). t.forfeits) is.counts ∙ none_by call meter queued (before call) (after call) from asked is.answer old (is.moves call) ready
+-- ---- a talk
+
+-- a port of a talk is ready for what is said, and none of its answers was a forfeit
+record IsSoFar {P : Type 0} (state : P → ℕ → Option CallFacts) (call : ℕ) (meter : Meter) (queued : List Paid) (from now : Tally × P) (next : Says × Phase) : Type 0 where
+  ready : IsReady call meter queued (state now.1 call) next.1 next.0
+  kept : now.0.forfeits ≡ from.0.forfeits
+
+so_asked : {P : Type 0} (state : P → ℕ → Option CallFacts) (call : ℕ) (meter : Meter) (queued : List Paid) (from between to : Tally × P) (said : Says) (phase : Phase) (got : Got)
+    → Gets (IsAsked state) between said got to → IsSoFar state call meter queued from between (said, phase) → IsSoFar state call meter queued from to (after_got phase got)
+so_asked state call meter queued from between to (Asks asked) phase got is so = record {
+  ready = ready_by call meter queued (state between.1 call) (state to.1 call) phase asked got (is.moves call) so.ready;
+  kept = ap (λ (t : Tally). t.forfeits) is.counts ∙ none_by call meter queued (state between.1 call) (state to.1 call) phase asked got between.0 (is.moves call) so.ready ∙ so.kept;
+}
+so_asked state call meter queued from between to (Sends orders) phase got is so = absurd is
+so_asked state call meter queued from between to Finished phase got is so = absurd is
+
+so_far : {P : Type 0} (state : P → ℕ → Option CallFacts) (call : ℕ) (meter : Meter) (queued : List Paid) (first : Says × Phase) (from : Tally × P) (gots : List Got) (to : Tally × P)
+    → AreGot (IsAsked state) first from gots to → IsReady call meter queued (state from.1 call) first.1 first.0 → IsSoFar state call meter queued from to (talked first gots)
+so_far state call meter queued first from [] to is ready = rw is (record { ready = ready; kept = refl })
+so_far state call meter queued first from (got ∷ earlier) to is ready =
+    let (between, before, gets) = is in
+    so_asked state call meter queued from between to (talked first earlier).0 (talked first earlier).1 got gets (so_far state call meter queued first from earlier between before ready)
+
+rests_then : (call : ℕ) (meter : Meter) (queued : List Paid) (standing : Option CallFacts) (phase : Phase) (last : Says) → is_ask last ≡ false → IsReady call meter queued standing phase last
+    → IsAtRest call meter (queued ++ paid_by (sent_by last)) standing phase
+rests_then call meter queued standing phase (Asks asked) rests ready = absurd (cc)
+rests_then call meter queued standing phase (Sends orders) rests ready = record { kept = ready.kept; stands = ready.stands; fits = ready.fits }
+rests_then call meter queued standing phase Finished rests ready = record { kept = ready.kept; stands = ready.stands; fits = rw (append-nil queued) ready.fits }
+
+-- a talk that began ready has no forfeit, and ends at rest
+pub talked_out : {P : Type 0} (state : P → ℕ → Option CallFacts) (call : ℕ) (meter : Meter) (queued : List Paid) (first : Says × Phase) (from to : Tally × P) (phase : Phase) (orders : List Order)
+    → IsTalkedOut (IsAsked state) first from to phase orders → IsReady call meter queued (state from.1 call) first.1 first.0
+    → (to.0.forfeits ≡ from.0.forfeits) × IsAtRest call meter (queued ++ paid_by orders) (state to.1 call) phase
+talked_out state call meter queued first from to phase orders talk ready =
+    let so = rw talk.talks at (so_far state call meter queued first from talk.gots to talk.are_got ready) in
+    (so.kept, rw talk.sends (rests_then call meter queued (state to.1 call) phase talk.last talk.rests so.ready))

@@ -3,14 +3,11 @@ use Rattle.std.specs.Prelude.{◌≡◌, ℕ, Option, IfSome}
 use Rattle.account_core.specs.Asked.{Asked}
 use Rattle.account_core.specs.Known.{CallFacts}
 use Rattle.account_core.specs.Standing.{Moves}
-use Rattle.dialogue_core.specs.Phases.{Phase, Says}
-use Rattle.dialogue_core.specs.Talks.{Got, after_got}
+use Rattle.dialogue_core.specs.Talks.{Got}
 use Rattle.one_call.specs.Tallies.{with_answer}
 use Rattle.one_call.specs.declared.tally.Tally.{Tally}
 
--- the port was asked once: it moved what it keeps of each call, its answer was counted, and the dialogue went on by it
-pub record IsAsked (before after : ℕ → Option CallFacts) (asked : Asked) (old new : Tally) (from to : Phase) (said : Says) : Type 0 where
-  pub answer : Got
-  pub moves : (call : ℕ) → IfSome (before call) (λ kept. Moves call kept asked answer (after call))
-  pub counts : new ≡ with_answer old answer
-  pub says : after_got from answer ≡ (said, to)
+-- the port was asked once: it moved what it keeps of each call, and its answer was counted
+pub record IsAsked {P : Type 0} (state : P → ℕ → Option CallFacts) (before : Tally × P) (asked : Asked) (answer : Got) (after : Tally × P) : Type 0 where
+  pub moves : (call : ℕ) → IfSome (state before.1 call) (λ kept. Moves call kept asked answer (state after.1 call))
+  pub counts : after.0 ≡ with_answer before.0 answer

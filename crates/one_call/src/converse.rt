@@ -6,12 +6,31 @@ ghost use Rattle.dialogue_core.specs.Views.{phase_of, says_of};
 ghost use Rattle.ssf_core.specs.Meters.{Meter};
 ghost use Rattle.one_call.specs.Covered.{IsAtRest, IsReady};
 
-use crate::ask::ask;
 use crate::tally::Tally;
-use account_core::Port;
+use account_core::{AccountFault, Op, Port, Reply};
 use arrayvec::ArrayVec;
 use cap_values::ScfOp;
-use dialogue_core::{Dialogue, Turn};
+use dialogue_core::{Asker, Dialogue, Turn};
+use std::convert::Infallible;
+
+impl<P: Port> Asker<P> for Tally {
+    ghost use Rattle.one_call.specs.Asks.{IsAsked};
+
+    type End = Infallible;
+
+    ghost may_ask = { λ _. Unit {0} };
+
+    ghost does = { IsAsked P.state };
+
+    ghost ends = { λ _ _ _ _. ⊥ };
+
+    /// Asks the port, and counts its answer.
+    fn ask(&mut self, port: &mut P, op: Op) -> Result<Result<Reply, AccountFault>, Infallible> {
+        let answer = port.ask(op);
+        *self = self.with_answer(&answer);
+        Ok(answer)
+    }
+}
 
 /// Puts each ask of the service to the port at once, and gives the operations that it sends then.
 pub(crate) fn converse<P: Port>(
@@ -30,9 +49,8 @@ pub(crate) fn converse<P: Port>(
         → IsAtRest call meter (queued ++ paid_by (orders_of result.items))
         (P.state port.new call) (phase_of dialogue.new) }
 {
-    let mut turn = turn;
-    while let Turn::Ask(op) = turn {
-        turn = ask(port, dialogue, tally, op);
+    match dialogue_core::converse(tally, port, dialogue, turn) {
+        Ok(ops) => ops,
+        Err(never) => match never {},
     }
-    turn.into_operations()
 }

@@ -2,7 +2,6 @@
 //! gsmSSF and the service, to the account that pays for it.
 #![tactic(auto)]
 
-mod ask;
 mod call_end;
 mod converse;
 mod driving;
