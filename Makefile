@@ -1,8 +1,8 @@
 # The three commands of the README are `make run`, `make` and `make test`.
 SHELL := bash
 PREFIX ?= /usr/local
-# How many processors the proof of one crate may take.
-JOBS ?= 2
+# How many processors the proof of one crate may take: all, or two where crates are proved side by side.
+JOBS = $(if $(filter -j% --jobserver%,$(MAKEFLAGS)),2,$(shell nproc))
 SOURCES := crates.txt $(shell find crates -path '*/out' -prune -o -name '*.rt' -print -o -name '*.antt' -print)
 
 .PHONY: all quick run test edits install bench recipes
@@ -19,7 +19,7 @@ files = $(shell find crates/$(1)/src crates/$(1)/specs crates/$(1)/proofs -type 
 # A crate is proved once those are that it uses.
 define library
 out/proved/$(1): $(call files,$(1)) $(addprefix out/proved/,$(call used,$(1)))
-	cd crates/$(1) && rt lib --jobs $(JOBS)
+	cd crates/$(1) && rt lib --jobs $$(JOBS)
 	@mkdir -p out/proved
 	@touch $$@
 endef
