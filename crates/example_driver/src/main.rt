@@ -25,9 +25,9 @@ fn main(rt: HostRuntime) -> Result<()> {
     let calling = Number::new("491700001")?;
     let setup = set_up(alloc, calling)?;
     let mut switch = Switch::new(alloc, 1, calling, Number::new("4930")?);
-    let run = serve(&rt, alloc, &setup, &mut switch, 1, &OpenGate)?;
+    let books = serve(&rt, alloc, &setup, &mut switch, 1, &OpenGate)?;
     print!(&rt; "{}", switch.log())?;
-    print!(&rt; "{}", run_lines(alloc, run.books.as_slice())?)?;
+    print!(&rt; "{}", run_lines(alloc, books.as_slice())?)?;
     Ok(())
 }
 

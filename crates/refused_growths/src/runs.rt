@@ -11,10 +11,10 @@ use account_core::{AccountFault, Entry, Reply};
 use cap_values::SsfMsg;
 use run_texts::read_script;
 use run_values::{Answer, Body, Directory};
-use runs_core::{Books, Driver, serve};
+use runs_core::{Driver, handled, serve};
 use script_player::ScriptPlayer;
 use shared_account::OpenGate;
-use std::alloc::Global;
+use std::alloc::{AllocError, Global};
 use std::sync::Wait;
 use std::thread::Threads;
 
@@ -56,30 +56,57 @@ fn player(alloc: Global) -> Result<ScriptPlayer, Outcome>
 /// Serves the script by two workers.
 pub(crate) fn serves<R: Wait + Threads + Sync>(rt: &R, alloc: Global) -> Course {
     let setup = set_up(alloc)?;
-    let mut player = player(alloc)?;
-    let Books {
-        books,
-        handled,
-        refusals,
-    } = serve(rt, alloc, &setup, &mut player, 2, &OpenGate)?;
+    let mut hearing = Hearing {
+        player: player(alloc)?,
+        refused: None,
+    };
+    let books = serve(rt, alloc, &setup, &mut hearing, 2, &OpenGate)?;
     let mut posts = 0usize;
-    for one in &handled {
+    for one in &handled(alloc, 2, hearing.given())? {
         posts = posts.saturating_add(one.len());
     }
-    expect(posts == player.given().len())?;
+    expect(posts == hearing.given().len())?;
     match books.as_slice() {
-        [book] => outcome_of(book.history(), refused_in(&refusals)),
+        [book] => outcome_of(book.history(), hearing.refused),
         _ => Err(Outcome::Wrong),
     }
 }
 
-/// The first refusal in the books of a run.
-fn refused_in(refusals: &[Vec<Option<AccountFault>>]) -> Option<AccountFault> {
-    for one in refusals {
-        for refusal in one {
-            if refusal.is_some() {
-                return *refusal;
-            }
+/// Plays the script, and keeps the first refusal that an answer tells.
+#[derive(Drop)]
+struct Hearing {
+    player: ScriptPlayer,
+    refused: Option<AccountFault>,
+}
+
+impl Driver for Hearing {
+    ghost given = { λ hearing. hearing.player.network.given };
+
+    ghost ended = { λ hearing. hearing.player.ended };
+
+    ghost Plan = { Unit {0} };
+
+    ghost plan = { λ _. tt };
+
+    fn given(&self) -> &[(u64, Body)] {
+        self.player.given()
+    }
+
+    fn ended(&self) -> bool {
+        self.player.ended()
+    }
+
+    fn round(&mut self, answers: &[Answer]) -> Result<bool, AllocError> {
+        self.refused = self.refused.or(refused_in(answers));
+        self.player.round(answers)
+    }
+}
+
+/// The first refusal that answers tell.
+fn refused_in(answers: &[Answer]) -> Option<AccountFault> {
+    for answer in answers {
+        if answer.refused.is_some() {
+            return answer.refused;
         }
     }
     None

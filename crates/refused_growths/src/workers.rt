@@ -179,12 +179,8 @@ fn handle<R: Wait>(rt: &R, worker: &mut Worker<'_, SharedAccount>, number: u64, 
     }
 }
 
-/// Handles posts up to one at which a call is released, and tells how many it has handled.
-fn handle_rows<R: Wait>(
-    rt: &R,
-    worker: &mut Worker<'_, SharedAccount>,
-    rows: &[Row],
-) -> Result<(usize, Outcome), Outcome>
+/// Handles posts up to one at which a call is released.
+fn handle_rows<R: Wait>(rt: &R, worker: &mut Worker<'_, SharedAccount>, rows: &[Row]) -> Course
     requires { IsReady (λ account. account.number) (λ account. account.number)
         seat_reads worker.old }
     ensures { OnOk result (IsReady (λ account. account.number) (λ account. account.number)
@@ -196,11 +192,11 @@ fn handle_rows<R: Wait>(
         let handled = handle(rt, worker, number, *row)?;
         number = number.saturating_add(1);
         if is_released(handled, row) {
-            return Ok((number as usize, handled));
+            return Ok(handled);
         }
         outcome = worse_of(outcome, handled);
     }
-    Ok((rows.len(), outcome))
+    Ok(outcome)
 }
 
 /// Whether a call was released at a post.
@@ -208,7 +204,7 @@ fn is_released(handled: Outcome, row: &Row) -> bool {
     handled == Outcome::Refused && matches!(row.refused, Some(Says::Releases))
 }
 
-/// Handles posts by one worker, and is handed back all that it has handled.
+/// Handles posts by one worker, and is handed back its seat.
 fn handle_all<R: Wait>(rt: &R, alloc: Global, rows: &[Row]) -> Course {
     let setup = set_up(alloc)?;
     if !has_seven(&setup) {
@@ -217,9 +213,8 @@ fn handle_all<R: Wait>(rt: &R, alloc: Global, rows: &[Row]) -> Course {
     let (account, seats) = account_seven(rt, alloc)?;
     let accounts = [account];
     let mut worker = Worker::new(alloc, 1, &setup, &accounts, seats)?;
-    let (handled, outcome) = handle_rows(rt, &mut worker, rows)?;
-    let (seats, posts) = worker.finish();
-    expect(seats.len() == 1 && posts.len() == handled)?;
+    let outcome = handle_rows(rt, &mut worker, rows)?;
+    expect(worker.finish().len() == 1)?;
     Ok(outcome)
 }
 

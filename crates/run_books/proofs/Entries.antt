@@ -1,5 +1,5 @@
 -- Each entry of a book of a run fits its columns.
-use Rattle.std.proofs.Common.{◌≡◌, ◌<◌, ℕ, true, List, [], length, refl, arith, All}
+use Rattle.std.proofs.Common.{◌≡◌, ◌<◌, ℕ, true, List, length, refl, arith, All}
 use Rattle.std.specs.Prelude.{◌==◌, ◌&&◌, nat_le, slice_index_or}
 use Rattle.std.proofs.lemmas.Bool.{and_parts, eq-eqb, leb-true}
 use Rattle.account_core.specs.Asked.{Asked, Credits, Reserves, Settles, Returns, is_in_range}
@@ -9,15 +9,16 @@ use Rattle.book_texts.specs.Typed.{IsTyped, IsTypedAsked}
 use Rattle.entry_rows.specs.Fits.{FitsAsked, FitsEvent}
 use Rattle.run_books.proofs.Listed.{all_passing}
 use Rattle.run_books.proofs.Openings.{IsOpenedWithin}
-use Rattle.run_books.proofs.Posts.{IsTimelyAsked, handled_all, mine_timely, served_at}
+use Rattle.run_books.proofs.Posts.{IsTimelyAsked, handled_all, mine_timely}
 use Rattle.run_books.specs.Timely.{AreTimely, IsTimely}
 use Rattle.run_values.specs.Setups.{Setup}
 use Rattle.run_values.specs.declared.post.Answer.{Answer}
 use Rattle.run_values.specs.declared.post.Body.{Body}
-use Rattle.runs_core.specs.Entered.{IsBookAt, ReservesAreInTheBooks}
-use Rattle.runs_core.specs.Runs.{IsRun, RunShown}
+use Rattle.runs_core.specs.Entered.{IsBookAt, ReservesAreInTheBooks, RunEntriesAreServed}
+use Rattle.runs_core.specs.Runs.{IsRun}
 use Rattle.shared_account.specs.Closed.{Closed}
 use Rattle.shared_account.specs.Own.{own}
+use Rattle.shared_account.specs.Refusals.{Knowing}
 
 -- ---- an operation, by its ranges, its types and its times
 
@@ -40,22 +41,22 @@ own_holds P history workers owned each = λ k d within.
 
 -- ---- the entries of a book
 
-module _ (reserves : ReservesAreInTheBooks) (ranges : EntriesAreInRange) (setup : Setup) (workers : ℕ) (given : List (ℕ × Body)) (answers : List Answer) (shown : RunShown)
-    (run : IsRun setup workers given answers shown) (timely : AreTimely given) where
-  history_timely : (place : ℕ) (d : Closed) → place < length shown.books → IsBookAt setup shown.books (slice_index_or shown.books place d).account place (slice_index_or shown.books place d)
-      → All (λ event. IsTimelyAsked event.asked) (slice_index_or shown.books place d).history
+module _ (Stood : Closed → ℕ → Knowing) (serves : RunEntriesAreServed Stood) (reserves : ReservesAreInTheBooks Stood) (ranges : EntriesAreInRange) (setup : Setup) (workers : ℕ) (given : List (ℕ × Body)) (answers : List Answer)
+    (books : List Closed) (run : IsRun Stood setup workers given answers books) (timely : AreTimely given) where
+  history_timely : (place : ℕ) (d : Closed) → place < length books → IsBookAt setup books (slice_index_or books place d).account place (slice_index_or books place d)
+      → All (λ event. IsTimelyAsked event.asked) (slice_index_or books place d).history
   history_timely place d within is =
-      let book : Closed = slice_index_or shown.books place d in
+      let book : Closed = slice_index_or books place d in
       own_holds (λ (event : EntryData). IsTimelyAsked event.asked) book.history workers (run.owned place d within) (λ seat here.
-      let (there, served) = served_at book.account workers shown.handled book.history seat (run.served place d within) here in
-      mine_timely setup place book.account (slice_index_or shown.handled seat []) (own seat book.history) served
-      (handled_all IsTimely workers given shown.handled seat run.shares timely there)
-      (reserves setup shown.books shown.handled shown.refusals seat book.account place book run.worked there is))
+      let its = run.answered seat here in
+      mine_timely setup place book.account its.posts (own seat book.history) (serves setup workers given answers books seat book.account place book its is)
+      (handled_all IsTimely workers given seat its.posts its.share timely)
+      (reserves setup workers given answers books seat book.account place book its is))
 
-  pub history_fits : (place : ℕ) (d : Closed) → place < length shown.books → IsBookAt setup shown.books (slice_index_or shown.books place d).account place (slice_index_or shown.books place d)
-      → IsOpenedWithin workers (slice_index_or shown.books place d) → IsTyped (slice_index_or shown.books place d) → All FitsEvent (slice_index_or shown.books place d).history
+  pub history_fits : (place : ℕ) (d : Closed) → place < length books → IsBookAt setup books (slice_index_or books place d).account place (slice_index_or books place d)
+      → IsOpenedWithin workers (slice_index_or books place d) → IsTyped (slice_index_or books place d) → All FitsEvent (slice_index_or books place d).history
   history_fits place d within is opened typed =
-      let book : Closed = slice_index_or shown.books place d in
+      let book : Closed = slice_index_or books place d in
       let in_range : All IsInRange book.history = ranges book.opening book.until book.history opened.opening (run.legal place d within) in
       let on_time = history_timely place d within is in
       λ k e here. record {

@@ -13,12 +13,9 @@ use Rattle.run_books.specs.Runs.{HasAccounts}
 use Rattle.run_values.proofs.Placing.{first_at}
 use Rattle.run_values.specs.Openings.{expires_in_time, is_in_range}
 use Rattle.run_values.specs.Setups.{Setup}
-use Rattle.run_values.specs.declared.post.Answer.{Answer}
 use Rattle.run_values.specs.declared.directory.OpeningCredit.{OpeningCredit}
-use Rattle.run_values.specs.declared.post.Body.{Body}
 use Rattle.runs_core.specs.Closing.{terms_shown}
 use Rattle.runs_core.specs.Entered.{IsBookAt}
-use Rattle.runs_core.specs.Runs.{IsRun, RunShown}
 use Rattle.runs_core.specs.Teams.{are_workers, terms_of, terms_with}
 use Rattle.shared_account.specs.Closed.{Closed}
 use Rattle.shared_account.specs.Terms.{Terms}
@@ -46,15 +43,16 @@ pub record IsOpenedWithin (workers : ℕ) (book : Closed) : Type 0 where
   pub until : IfSome book.until IsMoment
   pub seats : workers ≤ 16
 
-module _ (setup : Setup) (workers : ℕ) (given : List (ℕ × Body)) (answers : List Answer) (shown : RunShown) (may_be : are_workers workers ≡ true) (run : IsRun setup workers given answers shown) (accounts : HasAccounts setup.accounts) where
-  shown_within : All (λ book. AreWithin (terms_shown workers book)) shown.books
+module _ (setup : Setup) (workers : ℕ) (books : List Closed) (may_be : are_workers workers ≡ true) (opened : map (terms_shown workers) books ≡ terms_of setup.limit workers setup.accounts)
+    (accounts : HasAccounts setup.accounts) where
+  shown_within : All (λ book. AreWithin (terms_shown workers book)) books
   shown_within =
       let made : All AreWithin (terms_of setup.limit workers setup.accounts) =
       All-map AreWithin (terms_with setup.limit workers) setup.accounts (λ k d within. terms_within setup.limit workers (slice_index_or setup.accounts k d) may_be (accounts.range k d within)) in
-      all_unmapped AreWithin (terms_shown workers) shown.books (All-same AreWithin (map (terms_shown workers) shown.books) (terms_of setup.limit workers setup.accounts) run.opened made)
+      all_unmapped AreWithin (terms_shown workers) books (All-same AreWithin (map (terms_shown workers) books) (terms_of setup.limit workers setup.accounts) opened made)
 
-  pub opened_within : All (IsOpenedWithin workers) shown.books
-  opened_within = λ k d within. let is : AreWithin (terms_shown workers (slice_index_or shown.books k d)) = shown_within k d within in record { opening = is.opening; until = is.until; seats = is.seats }
+  pub opened_within : All (IsOpenedWithin workers) books
+  opened_within = λ k d within. let is : AreWithin (terms_shown workers (slice_index_or books k d)) = shown_within k d within in record { opening = is.opening; until = is.until; seats = is.seats }
 
   -- ---- the accounts rise
 
@@ -66,27 +64,27 @@ module _ (setup : Setup) (workers : ℕ) (given : List (ℕ × Body)) (answers :
   numbers_made [] = refl
   numbers_made (account ∷ rest) = ap (λ (l : List ℕ). account.0 ∷ l) (numbers_made rest)
 
-  pub accounts_are : map (λ (book : Closed). book.account) shown.books ≡ keys_of setup.accounts
-  accounts_are = sym (numbers_shown shown.books) ∙ ap (map (λ (terms : Terms). terms.number)) run.opened ∙ numbers_made setup.accounts
+  pub accounts_are : map (λ (book : Closed). book.account) books ≡ keys_of setup.accounts
+  accounts_are = sym (numbers_shown books) ∙ ap (map (λ (terms : Terms). terms.number)) opened ∙ numbers_made setup.accounts
 
-  pub accounts_rise : IsStrictlySortedBy nat_cmp (map (λ (book : Closed). book.account) shown.books)
+  pub accounts_rise : IsStrictlySortedBy nat_cmp (map (λ (book : Closed). book.account) books)
   accounts_rise = let P : List ℕ → Type 0 = λ l. IsStrictlySortedBy nat_cmp l in subst P (sym accounts_are) accounts.ordered
 
   -- ---- each book stands at the place of its account
 
-  pub as_many : length shown.books ≡ length setup.accounts
+  pub as_many : length books ≡ length setup.accounts
   as_many =
-      sym (length-map shown.books (λ (book : Closed). book.account)) ∙ ap length accounts_are ∙ length-map setup.accounts (λ (account : ℕ × OpeningCredit). account.0)
+      sym (length-map books (λ (book : Closed). book.account)) ∙ ap length accounts_are ∙ length-map setup.accounts (λ (account : ℕ × OpeningCredit). account.0)
 
-  pub book_of : (place : ℕ) (d : Closed) → place < length shown.books → IsBookAt setup shown.books (slice_index_or shown.books place d).account place (slice_index_or shown.books place d)
+  pub book_of : (place : ℕ) (d : Closed) → place < length books → IsBookAt setup books (slice_index_or books place d).account place (slice_index_or books place d)
   book_of place d within =
       let there : place < length setup.accounts = omega (arith, within, as_many) in
       let named = λ (other : ℕ × OpeningCredit).
       sym (get_or-map (λ (account : ℕ × OpeningCredit). account.0) setup.accounts place other 0 there)
       ∙ ap (λ (l : List ℕ). slice_index_or l place 0) (sym accounts_are)
-      ∙ get_or-map (λ (book : Closed). book.account) shown.books place d 0 within in
+      ∙ get_or-map (λ (book : Closed). book.account) books place d 0 within in
       record {
-        place_is = first_at setup.accounts (slice_index_or shown.books place d).account place accounts.ordered there named;
+        place_is = first_at setup.accounts (slice_index_or books place d).account place accounts.ordered there named;
         within = within;
-        book_is = get_or_default shown.books place (slice_index_or shown.books place d) d within;
+        book_is = get_or_default books place (slice_index_or books place d) d within;
       }

@@ -1,5 +1,5 @@
 -- What the workers of a run handle is as what its driver gives, as timely too, and so is what they settle and credit.
-use Rattle.std.proofs.Common.{◌≡◌, ◌<◌, ◌+◌, ℕ, zero, suc, Bool, true, false, Option, List, [], ◌∷◌, length, map, arith, subst, All}
+use Rattle.std.proofs.Common.{◌≡◌, ◌+◌, ℕ, Bool, true, false, Option, List, [], ◌∷◌, map, arith, All}
 use Rattle.std.specs.Prelude.{◌==◌, if◌then◌else◌, slice_index_or, IfSome}
 use Rattle.std.proofs.lemmas.List.Elements.{All-cons, All-filter, All-head, All-nil, All-same, All-tail}
 use Rattle.account_core.specs.Asked.{Asked, Credits, Reserves, Settles, Returns}
@@ -13,9 +13,7 @@ use Rattle.run_values.specs.Setups.{Setup}
 use Rattle.run_values.specs.declared.post.Body.{Body}
 use Rattle.run_values.specs.declared.post.Body.TheVariants.{Ssf, Recharge}
 use Rattle.run_values.specs.declared.post.Post.{Post}
-use Rattle.runs_core.specs.Closing.{AreServedBy, own_lists}
-use Rattle.runs_core.specs.Shares.{HaveHandled, Item, item_at, item_of, numbered, share, worker_of}
-use Rattle.shared_account.specs.Own.{own}
+use Rattle.runs_core.specs.Shares.{Item, item_at, item_of, numbered, share, worker_of}
 use Rattle.workers_core.specs.Laws.{IsOnTerms}
 use Rattle.workers_core.specs.Served.{IsServed, Money, Report, credited_in, credits_of, recharged_in, recharges_of, report_in, reported_in, reports_of, settled_in, settles_of}
 
@@ -28,13 +26,12 @@ numbered_all P first (next ∷ given) all =
     (numbered_all P (first + 1) given (All-tail (λ (item : ℕ × Body). P item.1) next given all))
 
 -- what holds of all that was given holds of what a worker handles
-pub handled_all : (P : Body → Type 0) (workers : ℕ) (given : List (ℕ × Body)) (handled : List (List Post)) (worker : ℕ) → HaveHandled workers given handled → All (λ item. P item.1) given
-    → worker < length handled → All (λ post. P post.body) (slice_index_or handled worker [])
-handled_all P workers given handled worker have all within =
+pub handled_all : (P : Body → Type 0) (workers : ℕ) (given : List (ℕ × Body)) (worker : ℕ) (posts : List Post) → map item_of posts ≡ share workers given worker → All (λ item. P item.1) given
+    → All (λ post. P post.body) posts
+handled_all P workers given worker posts is all =
     let Q : Item → Type 0 = λ item. P item.body in
-    let posts : List Post = slice_index_or handled worker [] in
     let shared : All Q (share workers given worker) = All-filter (λ (item : Item). worker_of workers item.body == worker) Q (numbered 0 given) (numbered_all P 0 given all) in
-    all_unmapped Q item_of posts (All-same Q (map item_of posts) (share workers given worker) (have.each worker (omega (arith, have.count, within))) shared)
+    all_unmapped Q item_of posts (All-same Q (map item_of posts) (share workers given worker) is shared)
 
 -- ---- the reports and the recharges among posts
 
@@ -92,22 +89,3 @@ mine_timely setup place account posts mine served timely on_terms =
     let settled = all_pieces IsTimelyReport (λ (event : EntryData). settled_in event.asked) mine (all_part IsTimelyReport (settles_of mine) (reports_of posts) served.settles reported) in
     let credited = all_pieces IsTimelyMoney (λ (event : EntryData). credited_in event.asked) mine (all_part IsTimelyMoney (credits_of mine) (recharges_of account posts) served.credits recharged) in
     λ k d within. asked_timely setup place posts (slice_index_or mine k d).asked (settled k d within) (credited k d within) (on_terms k d within)
-
--- ---- each worker's own entries
-
-served_from : (account first workers : ℕ) (handled : List (List Post)) (history : List EntryData) (worker : ℕ) → AreServedBy account handled (own_lists first workers history) → worker < workers
-    → (worker < length handled) × IsServed account (slice_index_or handled worker []) (own (first + worker) history)
-served_from account first zero handled history worker served within = absurd (omega (arith, within))
-served_from account first (suc workers) [] history worker served within = absurd served
-served_from account first (suc workers) (posts ∷ handled) history zero served within =
-    let here : first ≡ first + 0 = omega arith in (omega arith, subst (λ (n : ℕ). IsServed account posts (own n history)) here served.0)
-served_from account first (suc workers) (posts ∷ handled) history (suc worker) served within =
-    let later : first + 1 + worker ≡ first + suc worker = omega arith in
-    let (there, is) = served_from account (first + 1) workers handled history worker served.1 (omega (arith, within)) in
-    (omega (arith, there), subst (λ (n : ℕ). IsServed account (slice_index_or handled worker []) (own n history)) later is)
-
-pub served_at : (account workers : ℕ) (handled : List (List Post)) (history : List EntryData) (worker : ℕ) → AreServedBy account handled (own_lists 0 workers history) → worker < workers
-    → (worker < length handled) × IsServed account (slice_index_or handled worker []) (own worker history)
-served_at account workers handled history worker served within =
-    let here : 0 + worker ≡ worker = omega arith in
-    subst (λ (n : ℕ). (worker < length handled) × IsServed account (slice_index_or handled worker []) (own n history)) here (served_from account 0 workers handled history worker served within)

@@ -1,20 +1,15 @@
 -- The books of a run have no more rows than the accounts and the limit of its setup allow.
-use Rattle.std.proofs.Common.{◌≡◌, ◌<◌, ◌≤◌, ◌+◌, ◌*◌, ◌∙◌, ℕ, List, [], ◌∷◌, length, map, refl, ap, subst, arith, All}
-use Rattle.std.specs.Prelude.{slice_index_or}
+use Rattle.std.proofs.Common.{◌≡◌, ◌≤◌, ◌+◌, ◌*◌, ℕ, List, [], ◌∷◌, length, map, refl, arith, All}
 use Rattle.std.proofs.lemmas.List.Elements.{All-head, All-map, All-same, All-tail}
 use Rattle.book_texts.specs.Printable.{row_count}
-use Rattle.book_texts.specs.Typed.{IsTyped}
 use Rattle.run_books.proofs.Listed.{all_unmapped}
 use Rattle.run_books.proofs.Openings.{as_many}
 use Rattle.run_books.specs.Laws.{RunsHaveFewRows}
-use Rattle.run_books.specs.Runs.{IsRecorded}
 use Rattle.run_values.specs.Setups.{Setup}
-use Rattle.run_values.specs.declared.directory.OpeningCredit.{OpeningCredit}
-use Rattle.run_values.specs.declared.post.Body.{Body}
 use Rattle.runs_core.specs.Closing.{terms_shown}
-use Rattle.runs_core.specs.Runs.{RunShown}
 use Rattle.runs_core.specs.Teams.{terms_of, terms_with}
 use Rattle.shared_account.specs.Closed.{Closed}
+use Rattle.shared_account.specs.Refusals.{Knowing}
 use Rattle.shared_account.specs.Terms.{Terms}
 
 -- a history has at most so many entries
@@ -35,11 +30,10 @@ limits_are setup workers books opened =
     let made : All Is (terms_of setup.limit workers setup.accounts) = All-map Is (terms_with setup.limit workers) setup.accounts (λ k d within. refl) in
     all_unmapped Is (terms_shown workers) books (All-same Is (map (terms_shown workers) books) (terms_of setup.limit workers setup.accounts) opened made)
 
-pub few_rows : RunsHaveFewRows
-few_rows setup workers given books is =
-    let shown : RunShown = record { books = books; handled = is.handled; refusals = is.refusals } in
+pub few_rows : (Stood : Closed → ℕ → Knowing) → RunsHaveFewRows Stood
+few_rows Stood setup workers given books is =
     let limits = limits_are setup workers books is.run.opened in
     let within : All (IsWithin setup.limit) books = λ k d here. let limit = limits k d here in let typed = is.typed k d here in omega (arith, limit, typed.within_limit) in
-    let many = as_many setup workers given is.answers shown is.may_be is.run is.accounts in
+    let many = as_many setup workers books is.may_be is.run.opened is.accounts in
     let all = counted setup.limit books within in
     rw many at all

@@ -8,6 +8,7 @@ use Rattle.run_books.specs.Runs.{IsRecorded}
 use Rattle.run_values.specs.Setups.{Setup}
 use Rattle.run_values.specs.declared.post.Body.{Body}
 use Rattle.shared_account.specs.Closed.{Closed}
+use Rattle.shared_account.specs.Refusals.{Knowing}
 use Rattle.table_core.specs.Rows.{rows_of}
 
 -- the table of books, of which so many rows are taken, is read back to the opening and the history of each, and whatever audit there is of it says yes for each account, in order
@@ -16,16 +17,16 @@ pub record PassTheAudit (most : ℕ) (books : List Closed) : Type 0 where
   pub verdicts : (audit : Audited) → GivesAudit (Ok audit) (books_of most (rows_of (book_text books))) → audit ≡ audited (map (λ book. (book.account, true)) books)
 
 -- the books of a run can be printed into a table that has room for their rows
-abbrev pub RunsArePrintable : Type 0
-RunsArePrintable =
-    (most : ℕ) (setup : Setup) (workers : ℕ) (given : List (ℕ × Body)) (books : List Closed) → IsRecorded setup workers given books → row_count books ≤ most → ArePrintable most books
+abbrev pub RunsArePrintable : (Closed → ℕ → Knowing) → Type 0
+RunsArePrintable Stood =
+    (most : ℕ) (setup : Setup) (workers : ℕ) (given : List (ℕ × Body)) (books : List Closed) → IsRecorded Stood setup workers given books → row_count books ≤ most → ArePrintable most books
 
 -- and their table passes the audit
-abbrev pub RunsPassTheAudit : Type 0
-RunsPassTheAudit =
-    (most : ℕ) (setup : Setup) (workers : ℕ) (given : List (ℕ × Body)) (books : List Closed) → IsRecorded setup workers given books → row_count books ≤ most → PassTheAudit most books
+abbrev pub RunsPassTheAudit : (Closed → ℕ → Knowing) → Type 0
+RunsPassTheAudit Stood =
+    (most : ℕ) (setup : Setup) (workers : ℕ) (given : List (ℕ × Body)) (books : List Closed) → IsRecorded Stood setup workers given books → row_count books ≤ most → PassTheAudit most books
 
 -- they have no more rows than an opening of each account of the setup, and as many entries of each as its limit
-abbrev pub RunsHaveFewRows : Type 0
-RunsHaveFewRows =
-    (setup : Setup) (workers : ℕ) (given : List (ℕ × Body)) (books : List Closed) → IsRecorded setup workers given books → row_count books ≤ length setup.accounts * (1 + setup.limit)
+abbrev pub RunsHaveFewRows : (Closed → ℕ → Knowing) → Type 0
+RunsHaveFewRows Stood =
+    (setup : Setup) (workers : ℕ) (given : List (ℕ × Body)) (books : List Closed) → IsRecorded Stood setup workers given books → row_count books ≤ length setup.accounts * (1 + setup.limit)

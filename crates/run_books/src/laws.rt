@@ -4,7 +4,8 @@ ghost use Rattle.run_books.specs.Laws.{RunsArePrintable, RunsHaveFewRows, RunsPa
 
 use account_core::entries_are_in_range;
 use book_texts::printed_books_are_read;
-use runs_core::reserves_are_in_the_books;
+use runs_core::{reserves_are_in_the_books, run_entries_are_served};
+use shared_account::Shared;
 
 /// The table that `book_table` prints of the books of a run is read back to their openings and
 /// histories, and an audit of it says yes for each account.
@@ -15,12 +16,13 @@ use runs_core::reserves_are_in_the_books;
 /// make them, and recharges with last moments of 0 to `HORIZON`, or none (`AreTimely`). And the
 /// table has room for the rows of the books, one for each account and one for each entry: they are
 /// at most as many as the accounts and the limit of the setup allow (`few`).
-pub fn runs_pass_the_audit()
-    ensures printable { RunsArePrintable }
-    ensures pass { RunsPassTheAudit }
-    ensures few { RunsHaveFewRows }
+pub fn runs_pass_the_audit<S: Shared>()
+    ensures printable { RunsArePrintable S.stood }
+    ensures pass { RunsPassTheAudit S.stood }
+    ensures few { RunsHaveFewRows S.stood }
 {
     entries_are_in_range();
-    reserves_are_in_the_books();
+    run_entries_are_served::<S>();
+    reserves_are_in_the_books::<S>();
     printed_books_are_read();
 }

@@ -1,15 +1,13 @@
 -- The books of a run over an input pass the audit.
-use Rattle.std.proofs.Common.{◌≡◌, ◌≤◌, ◌+◌, ◌*◌, ℕ, List, length, sym, subst, arith, ap}
+use Rattle.std.proofs.Common.{◌≡◌, ◌≤◌, ◌+◌, ◌*◌, ℕ, List, length, sym, subst, arith}
 use Rattle.book_texts.specs.Printable.{row_count}
-use Rattle.book_texts.specs.Sizes.{most_rows}
-use Rattle.book_texts.specs.declared.size.BookSize.TheVariants as size
 use Rattle.run_books.specs.Laws.{RunsHaveFewRows, RunsPassTheAudit}
 use Rattle.run_books.specs.Runs.{HasAccounts, IsRecorded}
 use Rattle.run_command.proofs.Timing.{given_timely, rows_in_time}
 use Rattle.run_command.specs.Laws.{PlayedBooksPass}
-use Rattle.run_values.specs.Setups.{Setup}
 use Rattle.run_values.specs.declared.directory.OpeningCredit.{OpeningCredit}
 use Rattle.runs_core.specs.Hearing.{all_heard}
+use Rattle.shared_account.specs.Seen.{StoodIn}
 use Rattle.ssf_core.specs.Laws.{ReportsAreInRange}
 
 -- 1,000 histories of 1,000,000 entries
@@ -17,16 +15,14 @@ fits : (accounts limit rows : ℕ) → accounts ≤ 1000 → limit ≡ 1000000 �
 fits accounts limit rows few is within =
     let all : rows ≤ accounts * 1000001 = rw is at within in omega (arith, all)
 
-pub played_pass : ReportsAreInRange → RunsPassTheAudit → RunsHaveFewRows → PlayedBooksPass
+pub played_pass : ReportsAreInRange → RunsPassTheAudit StoodIn → RunsHaveFewRows StoodIn → PlayedBooksPass
 played_pass reports pass few_rows ask said given heard books may_be range given_by are typed =
     let accounts : List (ℕ × OpeningCredit) = said.setup.accounts in
     let listed = are.of_input.accounts in
     let Has : List (ℕ × OpeningCredit) → Type 0 = λ a. HasAccounts a in
-    let recorded : IsRecorded are.setup ask.workers given books = record {
+    let recorded : IsRecorded StoodIn are.setup ask.workers given books = record {
       may_be = may_be;
       answers = all_heard heard;
-      handled = are.handled;
-      refusals = are.refusals;
       run = are.run;
       accounts = subst Has (sym listed) range.accounts;
       timely = given_timely reports given_by.config ask.delay given_by.rows heard given given_by.play (rows_in_time given_by.rows said.script given_by.says range.recharges);

@@ -7,18 +7,17 @@ use Rattle.run_command.specs.Laws.{PlayedCallsHavePaid}
 use Rattle.run_records.specs.Laws.{IsServedRun, RecordsSumUp, UnroutedCallsPayNothing}
 use Rattle.run_values.specs.declared.directory.OpeningCredit.{OpeningCredit}
 use Rattle.runs_core.specs.Hearing.{all_heard}
+use Rattle.shared_account.specs.Seen.{StoodIn}
 use Rattle.ssf_core.specs.Laws.{InitialDpIsFirst}
 
-pub played_paid : InitialDpIsFirst → RecordsSumUp → UnroutedCallsPayNothing → PlayedCallsHavePaid
+pub played_paid : InitialDpIsFirst → RecordsSumUp StoodIn → UnroutedCallsPayNothing StoodIn → PlayedCallsHavePaid
 played_paid first sums unrouted ask said given heard books may_be accounts given_by are =
     let Has : List (ℕ × OpeningCredit) → Type 0 = λ a. HasAccounts a in
     let run : Run = record { setup = are.setup; given = given; books = books } in
-    let served : IsServedRun run = record {
+    let served : IsServedRun StoodIn run = record {
       workers = ask.workers;
       may_be = may_be;
       answers = all_heard heard;
-      handled = are.handled;
-      refusals = are.refusals;
       served = are.run;
       accounts = subst Has (sym are.of_input.accounts) accounts;
       parties = played_parties first given_by.config given given_by.play.calls;

@@ -1,6 +1,5 @@
 -- The books of a run.
-use Rattle.std.specs.Prelude.{◌≡◌, ℕ, Option, List}
-use Rattle.account_core.specs.declared.fault.AccountFault.{AccountFault}
+use Rattle.std.specs.Prelude.{◌≡◌, ℕ, List}
 use Rattle.account_core.specs.declared.limits.TheConstants.{MAX_LIMIT}
 use Rattle.run_texts.specs.Inputs.{RunInput}
 use Rattle.run_options.specs.declared.options.RunAsk.{RunAsk}
@@ -8,10 +7,10 @@ use Rattle.run_texts.specs.Views.{with_digits}
 use Rattle.runs_core.specs.Hearing.{all_heard}
 use Rattle.runs_core.specs.Runs.{IsRun}
 use Rattle.shared_account.specs.Closed.{Closed}
+use Rattle.shared_account.specs.Seen.{StoodIn}
 use Rattle.run_values.specs.Setups.{Setup}
 use Rattle.run_values.specs.declared.post.Answer.{Answer}
 use Rattle.run_values.specs.declared.post.Body.{Body}
-use Rattle.run_values.specs.declared.post.Post.{Post}
 
 -- what a run is set up with: the accounts, the subscribers and the tariff of the input, and a service that asks for as much as was asked for
 pub record IsSetupOf (ask : RunAsk) (said : RunInput) (setup : Setup) : Type 0 where
@@ -27,7 +26,5 @@ pub record AreBooksOf (ask : RunAsk) (said : RunInput) (given : List (ℕ × Bod
   -- what the run is set up with is in the input
   pub setup : Setup
   pub of_input : IsSetupOf ask said setup
-  -- and the books are those that such a run comes to
-  pub handled : List (List Post)
-  pub refusals : List (List (Option AccountFault))
-  pub run : IsRun setup ask.workers given (all_heard heard) (record { books = books; handled = handled; refusals = refusals })
+  -- and the books are those that such a run comes to; each refusal is shown by the book of the account that gave it
+  pub run : IsRun StoodIn setup ask.workers given (all_heard heard) books

@@ -10,6 +10,7 @@ use run_books::runs_pass_the_audit;
 use run_records::{records_sum_up, unrouted_calls_pay_nothing};
 use runs_core::Driver;
 use script_player::ScriptPlayer;
+use shared_account::TurnAccount;
 use ssf_core::{initial_dp_is_first, reports_are_in_range};
 
 /// What a player that has ended has given is the play of its rows by the answers that it has heard.
@@ -31,7 +32,7 @@ pub(crate) fn played_books_pass()
     ensures { PlayedBooksPass }
 {
     reports_are_in_range();
-    runs_pass_the_audit();
+    runs_pass_the_audit::<TurnAccount>();
 }
 
 /// The records of the calls of a run have paid, all together, what the calls of its books have, and
@@ -40,6 +41,6 @@ pub(crate) fn played_calls_have_paid()
     ensures { PlayedCallsHavePaid }
 {
     initial_dp_is_first();
-    records_sum_up();
-    unrouted_calls_pay_nothing();
+    records_sum_up::<TurnAccount>();
+    unrouted_calls_pay_nothing::<TurnAccount>();
 }

@@ -23,7 +23,7 @@ use run_options::{RunOptions, RunOutput};
 use run_texts::{RunTexts, read_texts};
 use run_trace::trace_table;
 use run_values::RunSetup;
-use runs_core::{Books, Driver, serve};
+use runs_core::{Driver, serve};
 use script_player::ScriptPlayer;
 use shared_account::{Book, OpenGate};
 use std::alloc::{AllocError, Global};
@@ -119,7 +119,7 @@ fn play<R: Wait + Threads + Sync>(
     let player = ScriptPlayer::new(alloc, script, options.ssf, options.delay)?;
     let mut listener = Listener::new(alloc, player, options.output);
     let workers = options.workers;
-    let Books { books, .. } = serve(rt, alloc, &setup, &mut listener, workers, &OpenGate)?;
+    let books = serve(rt, alloc, &setup, &mut listener, workers, &OpenGate)?;
     laws::is_played(&listener.player);
     let _ = setup.accounts();
     Ok(Played {

@@ -26,8 +26,8 @@ use Rattle.run_records.proofs.Unrouted.{reversed}
 use Rattle.run_records.specs.Laws.{IsServedRun, RecordsSumUp, paid_by_calls, paid_in}
 use Rattle.run_values.specs.Setups.{place_of}
 use Rattle.runs_core.specs.Entered.{ReservesAreInTheBooks}
-use Rattle.runs_core.specs.Runs.{RunShown}
 use Rattle.shared_account.specs.Closed.{Closed}
+use Rattle.shared_account.specs.Refusals.{Knowing}
 use Rattle.workers_core.proofs.Handling.{at_place}
 use Rattle.workers_core.specs.Verdicts.{home_of}
 
@@ -76,12 +76,12 @@ value_of_past : (call : ℕ) (found : Option Closed) → unwrap_or (paid_if_gran
 value_of_past call None = refl
 value_of_past call (Some book) = refl
 
-module _ (reserves : ReservesAreInTheBooks) (run : Run) (is : IsServedRun run) where
+module _ (Stood : Closed → ℕ → Knowing) (reserves : ReservesAreInTheBooks Stood) (run : Run) (is : IsServedRun Stood run) where
   begun_in : (place : ℕ) (d : Closed) → place < length run.books → (call : ℕ) → paid_in call (slice_index_or run.books place d) ≢ 0 → IsBegun run place call
   begun_in place d within call some =
       let book : Closed = slice_index_or run.books place d in
       let P : EntryData → Type 0 = λ event. IfReserves (IsBegun run place) event.asked in
-      granted_has (IsBegun run place) call (reverse book.history) (reversed P book.history (book_begun reserves run is place d within)) (paid_granted call book some)
+      granted_has (IsBegun run place) call (reverse book.history) (reversed P book.history (book_begun Stood reserves run is place d within)) (paid_granted call book some)
 
   -- the account of a record stands at the place of each book in which its call has paid
   placed : (call : CallRecord) → IsRecord run call → (place : ℕ) (d : Closed) → place < length run.books → paid_in call.call (slice_index_or run.books place d) ≢ 0
@@ -95,15 +95,14 @@ module _ (reserves : ReservesAreInTheBooks) (run : Run) (is : IsServedRun run) w
 
   its_account : (account place : ℕ) (d : Closed) → place < length run.books → place_of account run.setup ≡ Some place → (slice_index_or run.books place d).account ≡ account
   its_account account place d within at =
-      let shown : RunShown = record { books = run.books; handled = is.handled; refusals = is.refusals } in
-      let here = book_of run.setup is.workers run.given is.answers shown is.may_be is.served is.accounts place d within in
+      let here = book_of run.setup is.workers run.books is.may_be is.served.opened is.accounts place d within in
       let other = at_place run.setup (slice_index_or run.books place d).account place here.place_is in
       let own = at_place run.setup account place at in
       sym (eqb-true _ _ other.1) ∙ eqb-true _ _ own.1
 
   rising_books : IsStrictlySortedBy nat_cmp (map (λ (book : Closed). book.account) run.books)
   rising_books =
-      accounts_rise run.setup is.workers run.given is.answers (record { books = run.books; handled = is.handled; refusals = is.refusals }) is.may_be is.served is.accounts
+      accounts_rise run.setup is.workers run.books is.may_be is.served.opened is.accounts
 
   paid_with : (call : CallRecord) (account : Option ℕ)
       → ((place : ℕ) (d : Closed) → place < length run.books → paid_in call.call (slice_index_or run.books place d) ≢ 0 → option_and_then (λ a. place_of a run.setup) account ≡ Some place)
@@ -153,5 +152,5 @@ module _ (reserves : ReservesAreInTheBooks) (run : Run) (is : IsServedRun run) w
         ∙ sym (swap_sums paid_in (map (λ (r : CallRecord). r.call) records) run.books)
         ∙ sym (sum_alike paid_by_calls (λ book. sum_by (λ c. paid_in c book) (map (λ (r : CallRecord). r.call) records)) run.books book_total)
 
-pub records_total : ReservesAreInTheBooks → RecordsSumUp
-records_total reserves run records is are = total reserves run is records are
+pub records_total : (Stood : Closed → ℕ → Knowing) → ReservesAreInTheBooks Stood → RecordsSumUp Stood
+records_total Stood reserves run records is are = total Stood reserves run is records are

@@ -16,6 +16,7 @@ use Rattle.run_records.proofs.Reserves.{IsBegun, book_begun}
 use Rattle.run_records.specs.Laws.{IsServedRun, UnroutedCallsPayNothing}
 use Rattle.runs_core.specs.Entered.{ReservesAreInTheBooks}
 use Rattle.shared_account.specs.Closed.{Closed}
+use Rattle.shared_account.specs.Refusals.{Knowing}
 use Rattle.tariff_core.specs.Bands.{Band}
 use Rattle.tariff_core.specs.Routes.{HasNoRoute, IsPrefixFor}
 
@@ -37,7 +38,7 @@ all_found Q test (first ∷ books) book all is = by (all_found Q test books book
 
 -- ---- and it has paid nothing
 
-module _ (reserves : ReservesAreInTheBooks) (run : Run) (is : IsServedRun run) where
+module _ (Stood : Closed → ℕ → Knowing) (reserves : ReservesAreInTheBooks Stood) (run : Run) (is : IsServedRun Stood run) where
   abbrev HasBegun : Closed → Type 0
   HasBegun book = (place : ℕ) × All (λ event. IfReserves (IsBegun run place) event.asked) book.history
 
@@ -53,7 +54,7 @@ module _ (reserves : ReservesAreInTheBooks) (run : Run) (is : IsServedRun run) w
   past_begun call None granted = absurd (true≢false (sym granted))
   past_begun call (Some account) granted =
       granted_begun call (find (λ book. book.account == account) run.books)
-      (λ book found. all_found HasBegun (λ book. book.account == account) run.books book (λ place d within. (place, book_begun reserves run is place d within)) found) granted
+      (λ book found. all_found HasBegun (λ book. book.account == account) run.books book (λ place d within. (place, book_begun Stood reserves run is place d within)) found) granted
 
   -- a number with a prefix that counts has a route
   routed : (called prefix : List ℕ) → IsPrefixFor run.setup.tariff called prefix → HasNoRoute run.setup.tariff called → ⊥
@@ -61,16 +62,16 @@ module _ (reserves : ReservesAreInTheBooks) (run : Run) (is : IsServedRun run) w
       let (k, band, within, stands, own) = is_prefix.listed in
       no_route k band within (subst (λ (p : List ℕ). (rest : List ℕ) × (called ≡ p ++ rest)) (sym own ∙ ap (λ (b : Band). b.prefix) (sym stands)) is_prefix.begins)
 
-pub unrouted_pay_nothing : ReservesAreInTheBooks → UnroutedCallsPayNothing
-unrouted_pay_nothing reserves run call is record_is unrouted =
+pub unrouted_pay_nothing : (Stood : Closed → ℕ → Knowing) → ReservesAreInTheBooks Stood → UnroutedCallsPayNothing Stood
+unrouted_pay_nothing Stood reserves run call is record_is unrouted =
     ungranted_pays_nothing run call record_is (ungranted (is_some (known call.call (past_of call.account run.books)).plan) refl)
   where
     ungranted : (granted : Bool) → is_some (known call.call (past_of call.account run.books)).plan ≡ granted
         → is_some (known call.call (past_of call.account run.books)).plan ≡ false
     ungranted false same = same
     ungranted true same =
-        let begun = (past_begun reserves run is call.call call.account same).1 in
+        let begun = (past_begun Stood reserves run is call.call call.account same).1 in
         let same_parties : Some (begun.calling, begun.called) ≡ Some (record_is.start.calling, record_is.start.called) = sym begun.parties ∙ parties_start run call record_is in
         let one : begun.called ≡ record_is.start.called = ap (λ (o : Option (Number × Number)). unwrap_or (option_map (λ (p : Number × Number). p.1) o) begun.called) same_parties in
         let Prefix : Number → Type 0 = λ called. IsPrefixFor run.setup.tariff (digits_of called) begun.prefix in
-        absurd (routed reserves run is (digits_of record_is.start.called) begun.prefix (subst Prefix one begun.is_prefix) (unrouted_has_none run call record_is unrouted))
+        absurd (routed Stood reserves run is (digits_of record_is.start.called) begun.prefix (subst Prefix one begun.is_prefix) (unrouted_has_none run call record_is unrouted))

@@ -1,33 +1,30 @@
 -- What the records of a run's calls tell of what was paid.
-use Rattle.std.specs.Prelude.{◌≡◌, ℕ, true, Option, List, reverse, sum_by, unwrap_or}
+use Rattle.std.specs.Prelude.{◌≡◌, ℕ, true, List, reverse, sum_by, unwrap_or}
 use Rattle.account_core.specs.Available.{calls}
 use Rattle.account_core.specs.Known.{known, paid_if_granted}
-use Rattle.account_core.specs.declared.fault.AccountFault.{AccountFault}
 use Rattle.call_records.specs.Records.{AreRecords, IsRecord, Run}
 use Rattle.call_records.specs.declared.call_record.CallRecord.{CallRecord}
 use Rattle.call_records.specs.declared.outcome.Outcome.TheVariants as outcome
 use Rattle.run_books.specs.Runs.{HasAccounts}
 use Rattle.run_records.specs.Starts.{HaveTheirParties}
 use Rattle.run_values.specs.declared.post.Answer.{Answer}
-use Rattle.run_values.specs.declared.post.Post.{Post}
 use Rattle.runs_core.specs.Runs.{IsRun}
 use Rattle.runs_core.specs.Teams.{are_workers}
 use Rattle.shared_account.specs.Closed.{Closed}
+use Rattle.shared_account.specs.Refusals.{Knowing}
 
 -- a run that a driver was served in, whose calls start with the parties that each of their InitialDPs names
-pub record IsServedRun (run : Run) : Type 0 where
+pub record IsServedRun (Stood : Closed → ℕ → Knowing) (run : Run) : Type 0 where
   pub workers : ℕ
   pub may_be : are_workers workers ≡ true
   pub answers : List Answer
-  pub handled : List (List Post)
-  pub refusals : List (List (Option AccountFault))
-  pub served : IsRun run.setup workers run.given answers (record { books = run.books; handled = handled; refusals = refusals })
+  pub served : IsRun Stood run.setup workers run.given answers run.books
   pub accounts : HasAccounts run.setup.accounts
   pub parties : HaveTheirParties run.given
 
 -- a call to a number without a route has paid nothing
-abbrev pub UnroutedCallsPayNothing : Type 0
-UnroutedCallsPayNothing = (run : Run) (call : CallRecord) → IsServedRun run → IsRecord run call → call.outcome ≡ outcome.NoRoute → call.paid ≡ 0
+abbrev pub UnroutedCallsPayNothing : (Closed → ℕ → Knowing) → Type 0
+UnroutedCallsPayNothing Stood = (run : Run) (call : CallRecord) → IsServedRun Stood run → IsRecord run call → call.outcome ≡ outcome.NoRoute → call.paid ≡ 0
 
 -- what a call has paid in a book, 0 where it was granted nothing there
 abbrev pub paid_in : ℕ → Closed → ℕ
@@ -38,5 +35,5 @@ abbrev pub paid_by_calls : Closed → ℕ
 paid_by_calls book = sum_by (λ call. paid_in call book) (calls (reverse book.history))
 
 -- the records of a run's calls have paid what the calls of its books have
-abbrev pub RecordsSumUp : Type 0
-RecordsSumUp = (run : Run) (records : List CallRecord) → IsServedRun run → AreRecords run records → sum_by (λ call. call.paid) records ≡ sum_by paid_by_calls run.books
+abbrev pub RecordsSumUp : (Closed → ℕ → Knowing) → Type 0
+RecordsSumUp Stood = (run : Run) (records : List CallRecord) → IsServedRun Stood run → AreRecords run records → sum_by (λ call. call.paid) records ≡ sum_by paid_by_calls run.books

@@ -3,6 +3,7 @@
 ghost use Rattle.run_records.specs.Laws.{RecordsSumUp, UnroutedCallsPayNothing};
 
 use runs_core::reserves_are_in_the_books;
+use shared_account::Shared;
 
 /// A call to a number without a route has paid nothing.
 ///
@@ -10,16 +11,16 @@ use runs_core::reserves_are_in_the_books;
 /// of `RunSetup::accounts`, `IsRecord` in that of `call_records::records`. One thing is left to the
 /// driver: where it starts a call more than once, each InitialDP of the call names the same parties
 /// (`HaveTheirParties`). A script starts no call twice.
-pub fn unrouted_calls_pay_nothing()
-    ensures { UnroutedCallsPayNothing }
+pub fn unrouted_calls_pay_nothing<S: Shared>()
+    ensures { UnroutedCallsPayNothing S.stood }
 {
-    reserves_are_in_the_books();
+    reserves_are_in_the_books::<S>();
 }
 
 /// The records of all calls of a run have paid, all together, what the calls of its books have. It
 /// takes what `unrouted_calls_pay_nothing` takes, and that these are all records (`AreRecords`).
-pub fn records_sum_up()
-    ensures { RecordsSumUp }
+pub fn records_sum_up<S: Shared>()
+    ensures { RecordsSumUp S.stood }
 {
-    reserves_are_in_the_books();
+    reserves_are_in_the_books::<S>();
 }

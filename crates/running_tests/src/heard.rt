@@ -54,7 +54,7 @@ fn expect_heard<R: Abort + Threads + Wait + Sync>(
     let mut driver = Rounds::new(alloc, rounds.as_slice());
     let books = serve(rt, alloc, &setup, &mut driver, 2, &OpenGate)?;
     assert_eq!(rt; driver.heard(), heard.as_slice(), "with {limit}");
-    expect_entries(rt, entries_of(&books), replies, true);
+    expect_entries(rt, entries_of(books.as_slice()), replies, true);
     Ok(())
 }
 

@@ -29,7 +29,7 @@ fn expect_records<R: Abort + AllocGlobal + Wait + Threads + Sync>(
     let subscribers = [(Number::new("491700001")?, 7)];
     let setup = set_up(alloc, BAND, &[(7, 1500)], &subscribers, limit)??;
     let mut driver = Rounds::new(alloc, rounds);
-    let books = serve(rt, alloc, &setup, &mut driver, 1, &OpenGate)?.books;
+    let books = serve(rt, alloc, &setup, &mut driver, 1, &OpenGate)?;
     let calls = records(alloc, &setup, driver.given(), books.as_slice())?;
     let table = call_table(alloc, calls.as_slice())?;
     let wanted = format!(in alloc; "{HEADER}{rows}")?;

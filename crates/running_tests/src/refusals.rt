@@ -1,14 +1,15 @@
-//! The refusals in the books of a run, beside the posts that they are of.
+//! The refusals of a run, beside the posts that they are of.
 
 use crate::messages::{begun, of_call, recharge, report};
-use crate::rounds::Rounds;
+use crate::rounds::{Heard, Rounds};
 use crate::setups::{BAND, set_up};
 use account_core::AccountFault;
+use arrayvec::ArrayVec;
 use cap_values::{Number, SsfMsg};
-use run_values::Body;
-use runs_core::serve;
+use run_values::{Answer, Body};
+use runs_core::{Driver, handled, refusals, serve};
 use shared_account::OpenGate;
-use std::alloc::Global;
+use std::alloc::{AllocError, Global};
 use std::process::Abort;
 use std::sync::Wait;
 use std::test::Fail;
@@ -23,8 +24,22 @@ type Row<'a> = (
     &'a [Option<AccountFault>],
 );
 
+/// Answers that say what was heard.
+fn answers_of(alloc: Global, heard: &[Heard]) -> Result<Vec<Answer>, AllocError> {
+    let mut answers = Vec::new(alloc);
+    for said in heard {
+        answers.push(Answer {
+            number: answers.len() as u64,
+            ops: ArrayVec::new(),
+            stray: said.stray,
+            refused: said.refused,
+        })?;
+    }
+    Ok(answers)
+}
+
 /// Serves posts by two workers over accounts 7 and 8 of 1500 each, with a subscriber of account 7,
-/// and compares the refusals in the books.
+/// and compares the refusals that the answers tell.
 fn expect_refusals<R: Abort + Threads + Wait + Sync>(
     rt: &R,
     alloc: Global,
@@ -38,10 +53,18 @@ fn expect_refusals<R: Abort + Threads + Wait + Sync>(
         rounds.push((*body, None))?;
     }
     let mut driver = Rounds::new(alloc, rounds.as_slice());
-    let books = serve(rt, alloc, &setup, &mut driver, 2, &OpenGate)?;
-    assert_eq!(rt; books.refusals.len(), 2);
-    assert_eq!(rt; books.refusals[0].as_slice(), of_first, "of {posts:?}");
-    assert_eq!(rt; books.refusals[1].as_slice(), of_second, "of {posts:?}");
+    serve(rt, alloc, &setup, &mut driver, 2, &OpenGate)?;
+    let answers = answers_of(alloc, driver.heard())?;
+    assert!(rt; answers.len() == driver.given().len(), "of {posts:?}");
+    let told = refusals(alloc, 2, driver.given(), answers.as_slice())?;
+    let shares = handled(alloc, 2, driver.given())?;
+    assert_eq!(rt; (told.len(), shares.len()), (2, 2));
+    assert_eq!(rt; told[0].as_slice(), of_first, "of {posts:?}");
+    assert_eq!(rt; told[1].as_slice(), of_second, "of {posts:?}");
+    assert_eq!(rt;
+        (shares[0].len(), shares[1].len()),
+        (of_first.len(), of_second.len())
+    );
     Ok(())
 }
 

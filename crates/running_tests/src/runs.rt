@@ -8,8 +8,8 @@ use crate::shutting::Holding;
 use account_core::{Entry, Reply};
 use cap_values::{Event, Number};
 use run_values::{Body, RunSetup};
-use runs_core::{Books, RunFault, serve, serve_over};
-use shared_account::{Gate, OpenGate, SharedAccount};
+use runs_core::{RunFault, serve, serve_over};
+use shared_account::{Book, Gate, OpenGate, SharedAccount};
 use std::alloc::Global;
 use std::process::Abort;
 use std::sync::Wait;
@@ -31,7 +31,7 @@ fn set_up_two(alloc: Global, second: u32) -> Result<RunSetup, Fail> {
 /// A run that has ended: its books, or its fault, and what the driver heard of it.
 #[derive(Drop)]
 struct Played {
-    books: Result<Books, RunFault>,
+    books: Result<Vec<Book>, RunFault>,
     answered: usize,
     strays: usize,
 }
@@ -87,16 +87,16 @@ fn there_are_1_to_16_workers(rt: HostRuntime) -> Result<(), Fail> {
         assert_eq!(rt; fault, Some(RunFault::Workers), "of {workers}");
     }
     let books = play(&rt, rt.alloc(), 7, &[], 16, &OpenGate)?.books?;
-    assert_eq!(rt; (books.books.len(), books.handled.len()), (2, 16));
-    for book in &books.books {
+    assert_eq!(rt; books.len(), 2);
+    for book in &books {
         assert_eq!(rt; (book.opening(), book.history().len()), (1500, 0));
     }
     Ok(())
 }
 
 /// The entries in the book of account 7.
-pub(crate) fn entries_of(books: &Books) -> &[Entry] {
-    match books.books.first() {
+pub(crate) fn entries_of(books: &[Book]) -> &[Entry] {
+    match books.first() {
         Some(book) => book.history(),
         None => &[],
     }
@@ -162,7 +162,7 @@ fn posts_are_answered_and_entered(rt: HostRuntime) -> Result<(), Fail> {
         ] {
             assert_eq!(rt; (played.answered, played.strays), heard, "of {rounds:?}");
             let books = played.books?;
-            expect_entries(&rt, entries_of(&books), replies, is_one_call);
+            expect_entries(&rt, entries_of(books.as_slice()), replies, is_one_call);
         }
     }
     Ok(())
@@ -181,7 +181,7 @@ fn entries_past<R: Wait + Threads + Sync>(
         Some(begun(2, "491700002", "4930")?),
     )];
     let books = play(rt, alloc, second, &calls, 2, gate)?.books?;
-    match books.books.as_slice() {
+    match books.as_slice() {
         [one, other] => Ok(Some((one.history().len(), other.history().len()))),
         _ => Ok(None),
     }

@@ -6,8 +6,9 @@ use crate::shutting::{ALWAYS, Shutting};
 use account_core::{CallSum, Fate, Reply};
 use cap_values::Number;
 use run_texts::read_script;
-use runs_core::{Books, RunFault, serve};
+use runs_core::{RunFault, serve};
 use script_player::ScriptPlayer;
+use shared_account::Book;
 use ssf_core::{DefaultHandling, SsfConfig};
 use std::alloc::Global;
 use std::sync::Wait;
@@ -34,7 +35,7 @@ fn serve_script<R: Threads + Wait + Sync>(
     script: &str,
     limit: u32,
     gate: &Shutting,
-) -> Result<Result<Books, RunFault>, Fail> {
+) -> Result<Result<Vec<Book>, RunFault>, Fail> {
     let accounts = [(7, 1500)];
     let subscribers = [(Number::new("491700001")?, 7)];
     let setup = set_up(alloc, BAND, &accounts, &subscribers, limit)??;
@@ -74,8 +75,8 @@ fn scripts_are_served_within_limits_and_past_gates(rt: HostRuntime) -> Result<()
     for (limit, replies, paid) in rows {
         let gate = Shutting::new(ALWAYS, ALWAYS);
         let books = serve_script(&rt, rt.alloc(), UNENDED, limit, &gate)??;
-        expect_entries(&rt, entries_of(&books), replies, true);
-        for book in &books.books {
+        expect_entries(&rt, entries_of(books.as_slice()), replies, true);
+        for book in &books {
             let sum = CallSum {
                 call: 1,
                 paid,

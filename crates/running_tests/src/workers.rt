@@ -90,14 +90,14 @@ fn handle<R: Abort + Wait>(
     Ok(())
 }
 
-/// Handles posts by one worker, over a history of this limit, and gives how many seats and posts it
-/// hands back.
+/// Handles posts by one worker, over a history of this limit, and gives how many seats it hands
+/// back.
 fn handle_all<R: Abort + Wait>(
     rt: &R,
     alloc: Global,
     limit: u32,
     rows: &[Row<'_>],
-) -> Result<(usize, usize), Fail> {
+) -> Result<usize, Fail> {
     let setup = set_up_seven(alloc, limit)?;
     assert!(rt; has_seven(&setup));
     let (account, seats) = account_seven(rt, alloc, limit)?;
@@ -106,8 +106,7 @@ fn handle_all<R: Abort + Wait>(
     for row in rows {
         handle(rt, &mut worker, *row)?;
     }
-    let (seats, posts) = worker.finish();
-    Ok((seats.len(), posts.len()))
+    Ok(worker.finish().len())
 }
 
 #[test]
@@ -138,7 +137,7 @@ fn posts_are_handled(rt: HostRuntime) -> Result<(), Fail> {
         (7, recharge(9, 5), &[], true, None, None),
         (8, recharge(7, 0), &[], false, range, credit),
     ];
-    assert_eq!(rt; handle_all(&rt, rt.alloc(), 1000, &rows)?, (1, 9));
+    assert_eq!(rt; handle_all(&rt, rt.alloc(), 1000, &rows)?, 1);
     full_histories_are_told(&rt, rt.alloc())
 }
 
@@ -154,11 +153,7 @@ fn full_histories_are_told<R: Abort + Wait>(rt: &R, alloc: Global) -> Result<(),
     let fills: [Row<'_>; 2] = [first, (1, minute, &released, false, full, Some((3, 450)))];
     let fits: [Row<'_>; 2] = [first, (1, minute, &more, false, None, Some((3, 0)))];
     for (limit, rows) in [(4, fills), (5, fits)] {
-        assert_eq!(rt;
-            handle_all(rt, alloc, limit, &rows)?,
-            (1, 2),
-            "with {limit}"
-        );
+        assert_eq!(rt; handle_all(rt, alloc, limit, &rows)?, 1, "with {limit}");
     }
     Ok(())
 }

@@ -39,7 +39,7 @@ kept_before : (its : Bool) (answer : Answer) (all some more : List Answer) → a
 kept_before true answer all some more same = ap (λ list. answer ∷ list) same
 kept_before false answer all some more same = same
 
-answers_to-append : (workers worker : ℕ) (given added : List (ℕ × Body)) (answers more : List Answer) → length answers ≡ length given
+pub answers_to-append : (workers worker : ℕ) (given added : List (ℕ × Body)) (answers more : List Answer) → length answers ≡ length given
     → answers_to workers worker (given ++ added) (answers ++ more) ≡ answers_to workers worker given answers ++ answers_to workers worker added more
 answers_to-append workers worker [] added [] more many = refl
 answers_to-append workers worker [] added (answer ∷ answers) more many = absurd (omega (arith, many))

@@ -1,14 +1,17 @@
 -- What the entries of the books of a run have to do with what its workers handled.
-use Rattle.std.specs.Prelude.{◌≡◌, ◌<◌, ℕ, Option, Some, List, [], length, All, slice_index_or}
-use Rattle.account_core.specs.declared.fault.AccountFault.{AccountFault}
-use Rattle.runs_core.specs.Closing.{AreWorked}
+use Rattle.std.specs.Prelude.{◌≡◌, ◌<◌, ℕ, Some, List, length, map, All, slice_index_or}
+use Rattle.runs_core.specs.Closing.{lists_of}
+use Rattle.runs_core.specs.Hearing.{IsAnsweredBy, answers_to}
 use Rattle.shared_account.specs.Closed.{Closed}
 use Rattle.shared_account.specs.Own.{own}
+use Rattle.shared_account.specs.Refusals.{Knowing}
+use Rattle.workers_core.specs.Chains.{IsWorked, refusals_in}
+use Rattle.workers_core.specs.Handled.{answer_view}
 use Rattle.workers_core.specs.Laws.{IsOnTerms, accepted_of}
-use Rattle.workers_core.specs.Served.{credits_of}
-use Rattle.run_values.specs.Setups.{Setup}
-use Rattle.run_values.specs.Setups.{place_of}
-use Rattle.run_values.specs.declared.post.Post.{Post}
+use Rattle.workers_core.specs.Served.{IsServed, credits_of}
+use Rattle.run_values.specs.Setups.{Setup, place_of}
+use Rattle.run_values.specs.declared.post.Answer.{Answer}
+use Rattle.run_values.specs.declared.post.Body.{Body}
 
 -- the book of an account, at its place among the books
 pub record IsBookAt (setup : Setup) (books : List Closed) (account place : ℕ) (book : Closed) : Type 0 where
@@ -16,16 +19,29 @@ pub record IsBookAt (setup : Setup) (books : List Closed) (account place : ℕ) 
   pub within : place < length books
   pub book_is : slice_index_or books place book ≡ book
 
--- in the book of an account, the Credits of a worker are just the recharges of that account which the worker handled and which weren't refused, in order
-abbrev pub RechargesAreInTheBooks : Type 0
-RechargesAreInTheBooks =
-    (setup : Setup) (books : List Closed) (handled : List (List Post)) (refusals : List (List (Option AccountFault))) (worker account place : ℕ) (book : Closed)
-    → AreWorked setup books 0 handled refusals → worker < length handled → IsBookAt setup books account place book
-    → credits_of (own worker book.history) ≡ accepted_of account (slice_index_or handled worker []) (slice_index_or refusals worker [])
+-- a worker's entries in the books are what handling its posts, one after another, comes to, and those of the posts were refused of which the answers tell it
+abbrev pub RunListsAreWorked : (Closed → ℕ → Knowing) → Type 0
+RunListsAreWorked Stood =
+    (setup : Setup) (workers : ℕ) (given : List (ℕ × Body)) (answers : List Answer) (books : List Closed) (worker : ℕ) → (is : IsAnsweredBy Stood setup workers given answers books worker)
+    → IsWorked setup worker is.posts (refusals_in (map answer_view (answers_to workers worker given answers))) (lists_of worker books)
+
+-- in the book of an account, each entry of a worker comes from what the worker has handled
+abbrev pub RunEntriesAreServed : (Closed → ℕ → Knowing) → Type 0
+RunEntriesAreServed Stood =
+    (setup : Setup) (workers : ℕ) (given : List (ℕ × Body)) (answers : List Answer) (books : List Closed) (worker account place : ℕ) (book : Closed)
+    → (is : IsAnsweredBy Stood setup workers given answers books worker) → IsBookAt setup books account place book
+    → IsServed account is.posts (own worker book.history)
+
+-- the Credits of a worker there are just the recharges of that account which the worker handled and which weren't refused, in order
+abbrev pub RechargesAreInTheBooks : (Closed → ℕ → Knowing) → Type 0
+RechargesAreInTheBooks Stood =
+    (setup : Setup) (workers : ℕ) (given : List (ℕ × Body)) (answers : List Answer) (books : List Closed) (worker account place : ℕ) (book : Closed)
+    → (is : IsAnsweredBy Stood setup workers given answers books worker) → IsBookAt setup books account place book
+    → credits_of (own worker book.history) ≡ accepted_of account is.posts (refusals_in (map answer_view (answers_to workers worker given answers)))
 
 -- and each Reserve of a worker is of a call of a subscriber of that account, on the terms that the call began on
-abbrev pub ReservesAreInTheBooks : Type 0
-ReservesAreInTheBooks =
-    (setup : Setup) (books : List Closed) (handled : List (List Post)) (refusals : List (List (Option AccountFault))) (worker account place : ℕ) (book : Closed)
-    → AreWorked setup books 0 handled refusals → worker < length handled → IsBookAt setup books account place book
-    → All (λ event. IsOnTerms setup place (slice_index_or handled worker []) event.asked) (own worker book.history)
+abbrev pub ReservesAreInTheBooks : (Closed → ℕ → Knowing) → Type 0
+ReservesAreInTheBooks Stood =
+    (setup : Setup) (workers : ℕ) (given : List (ℕ × Body)) (answers : List Answer) (books : List Closed) (worker account place : ℕ) (book : Closed)
+    → (is : IsAnsweredBy Stood setup workers given answers books worker) → IsBookAt setup books account place book
+    → All (λ event. IsOnTerms setup place is.posts event.asked) (own worker book.history)

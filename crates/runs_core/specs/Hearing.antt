@@ -1,18 +1,18 @@
 -- What the driver of a run hears: the answers of the workers, in the order of its items.
-use Rattle.std.specs.Prelude.{◌≡◌, ◌+◌, ◌++◌, ◌<◌, ◌==◌, ℕ, Bool, true, false, Option, List, [], ◌∷◌, length, map, flat_map, if◌then◌else◌, slice_index_or}
-use Rattle.std.specs.Map.{keys_of}
+use Rattle.std.specs.Prelude.{◌≡◌, ◌++◌, ◌<◌, ◌==◌, ℕ, Bool, true, false, Option, List, [], ◌∷◌, length, map, flat_map, if◌then◌else◌, slice_index_or}
 use Rattle.account_core.specs.declared.fault.AccountFault.{AccountFault}
 use Rattle.shared_account.specs.Closed.{Closed}
+use Rattle.shared_account.specs.Refusals.{Knowing}
 use Rattle.workers_core.specs.Chains.{IsAnswered, refusals_in}
 use Rattle.workers_core.specs.Handled.{answer_view}
 use Rattle.run_values.specs.Setups.{Setup}
 use Rattle.run_values.specs.declared.post.Answer.{Answer}
 use Rattle.run_values.specs.declared.post.Body.{Body}
 use Rattle.run_values.specs.declared.post.Post.{Post}
-use Rattle.runs_core.specs.Closing.{AreLeftFrom, AreWorkedFrom, lists_of}
-use Rattle.runs_core.specs.Shares.{HaveHandled, numbered, worker_of}
+use Rattle.runs_core.specs.Closing.{lists_of, refuses_in}
+use Rattle.runs_core.specs.Shares.{HaveHandled, item_of, numbered, share, worker_of}
+use Rattle.runs_core.specs.Teams.{IsLeft}
 use Rattle.shared_account.specs.Seats.{Reads}
-use Rattle.runs_core.specs.declared.crew.WorkerEnd.{WorkerEnd}
 
 -- there is one answer for each item, in the order of the items, whose numbers go on from this one
 abbrev pub AnswersEach : ℕ → List (ℕ × Body) → List Answer → Type 0
@@ -48,34 +48,29 @@ HearsRounds {D} given ended hears before_this old (answers ∷ next ∷ heard) n
     (between : D) × HearsMore given hears before_this old answers between × (ended between ≡ false)
     × HearsRounds given ended hears (before_this ++ answers) between (next ∷ heard) new
 
--- handling the posts of a worker gave these answers, its lists in the books come from it, and these of the posts were refused
-pub record IsAnsweredBy (setup : Setup) (books : List Closed) (worker : ℕ) (posts : List Post) (refusals : List (Option AccountFault)) (answers : List Answer) : Type 0 where
-  pub answered : IsAnswered setup worker posts (map answer_view answers) (lists_of worker books)
-  pub refused : refusals ≡ refusals_in (map answer_view answers)
+-- a worker has answered its share of what was given: these are its posts, its entries in the books are what handling them, one after another, comes to, these
+-- are its answers, and each ask that was refused was refused by the account of its book
+pub record IsAnsweredBy (Stood : Closed → ℕ → Knowing) (setup : Setup) (workers : ℕ) (given : List (ℕ × Body)) (answers : List Answer) (books : List Closed) (worker : ℕ) : Type 0 where
+  pub posts : List Post
+  pub share : map item_of posts ≡ share workers given worker
+  pub answered : IsAnswered (refuses_in Stood books worker) setup worker posts (map answer_view (answers_to workers worker given answers)) (lists_of worker books)
+
+-- the refusal of each post that a worker handled, or none, as the answers tell it
+pub record HaveRefused (workers : ℕ) (given : List (ℕ × Body)) (answers : List Answer) (lists : List (List (Option AccountFault))) : Type 0 where
+  pub count : length lists ≡ workers
+  pub each : (worker : ℕ) → worker < workers → slice_index_or lists worker [] ≡ refusals_in (map answer_view (answers_to workers worker given answers))
 
 -- ---- of what the workers have left
 
--- the workers from this number on have left what handling their posts comes to, with these answers
-abbrev pub AreAnsweredFrom : {K S T : Type 0} → Reads K T → Setup → ℕ → List (List Answer) → List (WorkerEnd S T) → Type 0
-AreAnsweredFrom read setup number [] [] = Unit {0}
-AreAnsweredFrom read setup number [] (one ∷ left) = ⊥
-AreAnsweredFrom read setup number (answers ∷ lists) [] = ⊥
-AreAnsweredFrom read setup number (answers ∷ lists) (one ∷ left) =
-    IsAnswered setup number one.posts.items (map answer_view answers) (map read.mine one.seats.items)
-    × (one.refusals.items ≡ refusals_in (map answer_view answers))
-    × AreAnsweredFrom read setup (number + 1) lists left
-
--- round by round a driver has heard the answers of the workers, which have left this
-pub record HasHeardFrom {D K S T : Type 0} (given : D → List (ℕ × Body)) (ended : D → Bool) (hears : D → List Answer → D → Type 0) (read : Reads K T) (setup : Setup) (left : List (WorkerEnd S T)) (old new : D) : Type 0 where
+-- a driver was served until it ended, and its workers have left these teams of seats: each what handling its share comes to, with the answers that the driver
+-- has heard round by round
+pub record HasLeft {D K T : Type 0} (given : D → List (ℕ × Body)) (ended : D → Bool) (hears : D → List Answer → D → Type 0) (read : Reads K T) (Was : T → Knowing) (keys : List K) (setup : Setup) (workers : ℕ) (old new : D) (teams : List (List T)) : Type 0 where
+  pub handled : List (List Post)
+  pub shares : HaveHandled workers (given new) handled
   pub heard : List (List Answer)
   pub rounds : HearsRounds given ended hears [] old heard new
   pub lists : List (List Answer)
-  pub are_answers : AreAnswers (length left) 0 (given new) (all_heard heard) lists
-  pub answered : AreAnsweredFrom read setup 0 lists left
-
--- a driver was served until it ended, and its workers have left what handling its items comes to
-pub record HasLeft {D K S T : Type 0} (given : D → List (ℕ × Body)) (ended : D → Bool) (hears : D → List Answer → D → Type 0) (read : Reads K T) (keys : List K) (setup : Setup) (workers : ℕ) (old new : D) (ends : List (WorkerEnd S T)) : Type 0 where
-  pub handled : HaveHandled workers (given new) (map (λ one. one.posts.items) ends)
-  pub left : AreLeftFrom read keys (keys_of setup.accounts) ends
-  pub worked : AreWorkedFrom read setup 0 ends
-  pub heard : HasHeardFrom given ended hears read setup ends old new
+  pub are_answers : AreAnswers workers 0 (given new) (all_heard heard) lists
+  pub count : length teams ≡ workers
+  pub left : (worker : ℕ) → worker < workers
+      → IsLeft read Was keys setup worker (slice_index_or handled worker []) (map answer_view (slice_index_or lists worker [])) (slice_index_or teams worker [])

@@ -1,8 +1,8 @@
 pub mod Closing
 pub mod Crews
 pub mod Dealing
-pub mod Desks
 pub mod Entered
+pub mod Goings
 pub mod Headline
 pub mod Hearing
 pub mod Mails

@@ -1,9 +1,9 @@
 -- The links of the workers of a run: what was sent by them, and what their threads promise.
 use Rattle.std.specs.Prelude.{◌≡◌, ◌+◌, ◌++◌, ◌⊎◌, ℕ, List, [], ◌∷◌, map}
 use Rattle.runs_core.specs.Mails.{items_in}
+use Rattle.shared_account.specs.Refusals.{Knowing}
 use Rattle.shared_account.specs.Seats.{Reads}
 use Rattle.runs_core.specs.Teams.{IsLeft}
-use Rattle.runs_core.specs.declared.crew.WorkerEnd.{WorkerEnd}
 use Rattle.runs_core.specs.declared.worker_link.WorkerLink.{WorkerLink}
 use Rattle.runs_core.specs.declared.worker_link.WorkerPromise.{WorkerPromise}
 use Rattle.runs_core.specs.declared.run_fault.RunFault.{RunFault}
@@ -43,26 +43,24 @@ abbrev pub MayBeShut : {S G T : Type 0} → (G → Type 0) → List (WorkerPromi
 MayBeShut may_shut [] = ⊥
 MayBeShut may_shut (promise ∷ promises) = may_shut promise.gate.now ⊎ MayBeShut may_shut promises
 
--- a worker has left what its thread promised, and these are its answers
-abbrev pub IsLeftBy : {K S G T : Type 0} → Reads K T → (S → K) → WorkerPromise S G T → List Answer → WorkerEnd S T → Type 0
-IsLeftBy read key promise answers left =
-    IsLeft read (map key promise.accounts.now) promise.setup.now promise.number left.posts.items left.refusals.items (map answer_view answers) left.seats.items
+-- a worker has left what its thread promised: what handling the posts sent by its link comes to, with the answers that have come by it
+abbrev pub IsLeftBy : {K S G T : Type 0} → Reads K T → (S → K) → (T → Knowing) → WorkerLink S G T → List T → Type 0
+IsLeftBy read key Was link team =
+    IsLeft read Was (map key link.child.promise.accounts.now) link.child.promise.setup.now link.child.promise.number (sent_by link) (map answer_view (heard_by link)) team
 
 -- what each worker has left is what it promised
-abbrev pub AreLeftBy : {K S G T : Type 0} → Reads K T → (S → K) → List (WorkerPromise S G T) → List (List Answer) → List (WorkerEnd S T) → Type 0
-AreLeftBy read key [] heard [] = Unit {0}
-AreLeftBy read key [] heard (one ∷ left) = ⊥
-AreLeftBy read key (promise ∷ promises) heard [] = ⊥
-AreLeftBy read key (promise ∷ promises) [] (one ∷ left) = ⊥
-AreLeftBy read key (promise ∷ promises) (answers ∷ heard) (one ∷ left) = IsLeftBy read key promise answers one × AreLeftBy read key promises heard left
+abbrev pub AreLeftBy : {K S G T : Type 0} → Reads K T → (S → K) → (T → Knowing) → List (WorkerLink S G T) → List (List T) → Type 0
+AreLeftBy read key Was [] [] = Unit {0}
+AreLeftBy read key Was [] (team ∷ teams) = ⊥
+AreLeftBy read key Was (link ∷ links) [] = ⊥
+AreLeftBy read key Was (link ∷ links) (team ∷ teams) = IsLeftBy read key Was link team × AreLeftBy read key Was links teams
 
--- of the workers of these promises, those before one have left, and that one has failed so: it is the first that has
-pub record IsFirstFault {K S G T : Type 0} (read : Reads K T) (key : S → K) (may_shut : G → Type 0) (promises : List (WorkerPromise S G T)) (fault : RunFault) : Type 0 where
-  pub before : List (WorkerPromise S G T)
-  pub failed : WorkerPromise S G T
-  pub after : List (WorkerPromise S G T)
-  pub split : before ++ failed ∷ after ≡ promises
-  pub heard : List (List Answer)
-  pub left : List (WorkerEnd S T)
-  pub have_left : AreLeftBy read key before heard left
-  pub shut : fault ≡ out.GateClosed → may_shut failed.gate.now
+-- of the workers of these links, those before one have left, and that one has failed so: it is the first that has
+pub record IsFirstFault {K S G T : Type 0} (read : Reads K T) (key : S → K) (Was : T → Knowing) (may_shut : G → Type 0) (links : List (WorkerLink S G T)) (fault : RunFault) : Type 0 where
+  pub before : List (WorkerLink S G T)
+  pub failed : WorkerLink S G T
+  pub after : List (WorkerLink S G T)
+  pub split : before ++ failed ∷ after ≡ links
+  pub teams : List (List T)
+  pub have_left : AreLeftBy read key Was before teams
+  pub shut : fault ≡ out.GateClosed → may_shut failed.child.promise.gate.now

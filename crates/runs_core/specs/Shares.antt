@@ -36,12 +36,11 @@ share_from workers first given worker = filter (λ item. worker_of workers item.
 abbrev pub share : ℕ → List (ℕ × Body) → ℕ → List Item
 share workers given worker = share_from workers 0 given worker
 
--- each worker has handled its share, in order, and nothing else
-pub record HaveHandled (workers : ℕ) (given : List (ℕ × Body)) (handled : List (List Post)) : Type 0 where
-  pub count : length handled ≡ workers
-  pub each : (worker : ℕ) → worker < workers → map item_of (slice_index_or handled worker []) ≡ share workers given worker
-
 -- each worker gets its share of a round, whose first item has this number
 pub record AreShares (workers first : ℕ) (given : List (ℕ × Body)) (shares : List (List Post)) : Type 0 where
   pub count : length shares ≡ workers
   pub each : (worker : ℕ) → worker < workers → map item_of (slice_index_or shares worker []) ≡ share_from workers first given worker
+
+-- each worker has handled its share of all that was given, in order, and nothing else
+abbrev pub HaveHandled : ℕ → List (ℕ × Body) → List (List Post) → Type 0
+HaveHandled workers given handled = AreShares workers 0 given handled

@@ -1,13 +1,11 @@
 -- The seats of the accounts of a run: a team of each worker's, a row of each account's.
-use Rattle.std.specs.Prelude.{◌≡◌, ◌+◌, ◌&&◌, ℕ, Bool, Option, nat_le, true, List, [], ◌∷◌, map, All, ⊤}
-use Rattle.std.specs.Map.{keys_of}
-use Rattle.account_core.specs.Events.{EntryData}
+use Rattle.std.specs.Prelude.{◌≡◌, ◌+◌, ◌&&◌, ℕ, Bool, nat_le, true, List, [], ◌∷◌, map, All, ⊤}
+use Rattle.shared_account.specs.Refusals.{Knowing}
 use Rattle.shared_account.specs.Seats.{Reads, are_all}
 use Rattle.shared_account.specs.Terms.{Terms}
-use Rattle.account_core.specs.declared.fault.AccountFault.{AccountFault}
-use Rattle.workers_core.specs.Chains.{IsAnswered, refusals_in}
+use Rattle.workers_core.specs.Chains.{IsAnswered}
 use Rattle.workers_core.specs.Handled.{AnswerView}
-use Rattle.workers_core.specs.Served.{AreServed}
+use Rattle.workers_core.specs.Refusals.{RefusesAt}
 use Rattle.run_values.specs.Setups.{Setup}
 use Rattle.run_values.specs.declared.directory.OpeningCredit.{OpeningCredit}
 use Rattle.run_values.specs.declared.post.Post.{Post}
@@ -42,10 +40,8 @@ AreFresh read keys number [] = ⊤
 AreFresh read keys number (team ∷ teams) = IsFresh read keys number team × AreFresh read keys (number + 1) teams
 
 -- what a worker leaves after its posts, with its answers: its seats, one of each account, in order, all of its number, with the entries that
--- handling the posts made, and the refusals that the answers tell
-pub record IsLeft {K T : Type 0} (read : Reads K T) (keys : List K) (setup : Setup) (number : ℕ) (posts : List Post) (refusals : List (Option AccountFault)) (answers : List AnswerView) (team : List T) : Type 0 where
+-- handling the posts made, and knowing what shows each refusal
+pub record IsLeft {K T : Type 0} (read : Reads K T) (Was : T → Knowing) (keys : List K) (setup : Setup) (number : ℕ) (posts : List Post) (answers : List AnswerView) (team : List T) : Type 0 where
   pub of_accounts : map read.key team ≡ keys
   pub numbered : All (λ seat. read.number seat ≡ number) team
-  pub served : AreServed (keys_of setup.accounts) posts (map read.mine team)
-  pub answered : IsAnswered setup number posts answers (map read.mine team)
-  pub refused : refusals ≡ refusals_in answers
+  pub answered : IsAnswered (RefusesAt Was team) setup number posts answers (map read.mine team)

@@ -2,21 +2,17 @@
 
 ghost use Rattle.std.specs.Prelude.{◌≡◌, ◌++◌, ◌∷◌, ◌⊎◌, [], List, length, map, None, Some, IfErr, IfOk, IfSome, OnOk};
 ghost use Rattle.std.specs.Vec.Iter.{into_iter_items};
-ghost use Rattle.std.specs.Map.{keys_of};
-ghost use Rattle.runs_core.specs.Crews.{count_of, joined, posts_by};
-ghost use Rattle.runs_core.specs.Desks.{GoesOn, HasAnswered};
+ghost use Rattle.runs_core.specs.Crews.{count_of, joined};
+ghost use Rattle.runs_core.specs.Goings.{GoesOn};
 ghost use Rattle.runs_core.specs.RunFaults.{AsksNoGate, MayAskGate};
 ghost use Rattle.runs_core.specs.Sending.{heard_by, promises_of, sent_by};
-ghost use Rattle.runs_core.specs.Teams.{IsFresh, IsLeft};
 ghost use Rattle.workers_core.specs.Handled.{answer_view};
-ghost use Rattle.workers_core.specs.Workers.{IsReady, accounts_of, holding, number_by, number_of, posts_of, seats_of, setup_of};
+ghost use Rattle.workers_core.specs.Workers.{IsReady, number_by};
 ghost use Rattle.run_values.specs.declared.post.Answer.{Answer};
-ghost use Rattle.run_values.specs.declared.post.Post.{Post};
 
 use crate::RunFault;
 use crate::worker_link::WorkerLink;
-use account_core::AccountFault;
-use run_values::{Answer, Post, RunSetup};
+use run_values::{Answer, Post};
 use shared_account::{Gate, Shared};
 use std::alloc::Global;
 use std::sync::Wait;
@@ -27,7 +23,7 @@ use workers_core::Worker;
 #[derive(Drop)]
 pub(crate) struct Crew<'s, S: Shared, G: Gate> {
     /// The first worker.
-    pub desk: Desk<'s, S>,
+    pub worker: Worker<'s, S>,
     /// Why the first worker has failed, if it has.
     pub failed: Option<RunFault>,
     /// The links of the others, in order.
@@ -42,25 +38,26 @@ pub(crate) struct Replies {
 }
 
 impl<S: Shared, G: Gate> Crew<'_, S, G> {
-    /// Hands out the posts of a round, a share to each worker, and gives the answers. The others
-    /// get theirs before the first worker begins. After a fault no answers are left on their way
-    /// but those of workers that have failed. The fault of the first worker comes before those of
-    /// the others.
+    /// Hands out the posts of a round, the first worker's and those of the others, and gives the
+    /// answers. The others get theirs before the first worker begins. After a fault no answers are
+    /// left on their way but those of workers that have failed. The fault of the first worker comes
+    /// before those of the others.
     pub(crate) fn answer_round<R: Wait>(
         &mut self,
         rt: &R,
         alloc: Global,
-        shares: Vec<Vec<Post>>,
+        mine: Vec<Post>,
+        shares: IntoIter<Vec<Post>>,
         gate: &G,
     ) -> Result<Replies, RunFault>
-        requires ready { IsReady (number_by S.terms) S.key S.reads self.old.desk.worker }
+        requires ready { IsReady (number_by S.terms) S.key S.reads self.old.worker }
         requires works { self.old.failed ≡ None }
-        requires count { length shares.items ≡ count_of self.old }
-        ensures posts { OnOk result (posts_by self.new
-            ≡ joined (posts_by self.old) (map (λ share. share.items) shares.items)) }
-        ensures goes_on { IfOk result (λ replies. (posts : List Post)
-            × GoesOn (number_by S.terms)
-            S.key S.reads self.old.desk posts (map answer_view replies.first.items) self.new.desk) }
+        requires count { length (into_iter_items shares) ≡ length self.old.links.items }
+        ensures posts { OnOk result (map sent_by self.new.links.items
+            ≡ joined (map sent_by self.old.links.items)
+            (map (λ share. share.items) (into_iter_items shares))) }
+        ensures goes_on { IfOk result (λ replies. GoesOn (number_by S.terms) S.key S.reads S.was
+            self.old.worker mine.items (map answer_view replies.first.items) self.new.worker) }
         ensures heard { IfOk result (λ replies. map heard_by self.new.links.items
             ≡ joined (map heard_by self.old.links.items)
             (map (λ list. list.items) replies.others.items)) }
@@ -74,10 +71,6 @@ impl<S: Shared, G: Gate> Crew<'_, S, G> {
             → self.new.failed ≡ Some RunFault.GateClosed }
     {
         let mut others = Vec::with_capacity(alloc, self.links.len())?;
-        let mut shares = shares.into_iter();
-        let Some(mine) = shares.next() else {
-            unreachable!()
-        };
         let first = self.send_and_answer(rt, alloc, mine, shares, gate);
         let heard = hear_all(rt, alloc, &mut self.links, &mut others);
         let first = first?;
@@ -95,14 +88,14 @@ impl<S: Shared, G: Gate> Crew<'_, S, G> {
         shares: IntoIter<Vec<Post>>,
         gate: &G,
     ) -> Result<Vec<Answer>, RunFault>
-        requires ready { IsReady (number_by S.terms) S.key S.reads self.old.desk.worker }
+        requires ready { IsReady (number_by S.terms) S.key S.reads self.old.worker }
         requires works { self.old.failed ≡ None }
         requires count { length (into_iter_items shares) ≡ length self.old.links.items }
         ensures posts { OnOk result (map sent_by self.new.links.items
             ≡ joined (map sent_by self.old.links.items)
             (map (λ share. share.items) (into_iter_items shares))) }
-        ensures goes_on { IfOk result (λ answers. GoesOn (number_by S.terms)
-            S.key S.reads self.old.desk mine.items (map answer_view answers.items) self.new.desk) }
+        ensures goes_on { IfOk result (λ answers. GoesOn (number_by S.terms) S.key S.reads S.was
+            self.old.worker mine.items (map answer_view answers.items) self.new.worker) }
         ensures heard { map heard_by self.new.links.items ≡ map heard_by self.old.links.items }
         ensures promises { promises_of self.new.links.items ≡ promises_of self.old.links.items }
         ensures fault { MayAskGate (G.may_shut gate.now) result }
@@ -111,7 +104,7 @@ impl<S: Shared, G: Gate> Crew<'_, S, G> {
             ⊎ (self.new.failed ≡ Some why)) }
     {
         send_all(rt, &mut self.links, shares)?;
-        let answers = self.desk.answer_all(rt, alloc, mine, gate);
+        let answers = answer_all(rt, alloc, &mut self.worker, mine, gate);
         self.failed = answers.as_ref().err().copied();
         answers
     }
@@ -184,91 +177,22 @@ fn hear_one<S: Shared, R: Wait, G: Gate>(
     Ok(())
 }
 
-/// What a worker leaves: its seats, one of each account, and the posts that it has handled, with
-/// the refusal of each.
-#[derive(Drop)]
-pub(crate) struct WorkerEnd<S: Shared> {
-    pub seats: Vec<S::Seat>,
-    pub posts: Vec<Post>,
-    pub refusals: Vec<Option<AccountFault>>,
-}
-
-/// A worker, and the refusal of each post that it has handled, or none.
-#[derive(Drop)]
-pub(crate) struct Desk<'s, S: Shared> {
-    pub worker: Worker<'s, S>,
-    pub refusals: Vec<Option<AccountFault>>,
-}
-
-impl<'s, S: Shared> Desk<'s, S> {
-    /// The desk of a worker that has handled no post.
-    pub(crate) fn new(
-        alloc: Global,
-        number: u32,
-        setup: &'s RunSetup,
-        accounts: &'s [S],
-        seats: Vec<S::Seat>,
-    ) -> Result<Desk<'s, S>, RunFault>
-        requires numbered { map (number_by S.terms) accounts.now ≡ keys_of setup.now.accounts }
-        requires fresh { IsFresh S.reads (map S.key accounts.now) number seats.items }
-        ensures begins { IfOk result (λ desk. HasAnswered (number_by S.terms)
-            S.key S.reads setup.now accounts.now number [] [] desk) }
-        ensures fault { AsksNoGate result }
-    {
-        let worker = Worker::new(alloc, number, setup, accounts, seats)?;
-        Ok(Desk {
-            worker,
-            refusals: Vec::new(alloc),
-        })
+/// Handles posts by a worker, one after another, and gives their answers.
+pub(crate) fn answer_all<S: Shared, R: Wait, G: Gate>(
+    rt: &R,
+    alloc: Global,
+    worker: &mut Worker<'_, S>,
+    posts: Vec<Post>,
+    gate: &G,
+) -> Result<Vec<Answer>, RunFault>
+    requires ready { IsReady (number_by S.terms) S.key S.reads worker.old }
+    ensures goes_on { IfOk result (λ answers. GoesOn (number_by S.terms) S.key S.reads S.was
+        worker.old posts.items (map answer_view answers.items) worker.new) }
+    ensures fault { MayAskGate (G.may_shut gate.now) result }
+{
+    let mut answers = Vec::with_capacity(alloc, posts.len())?;
+    for post in posts {
+        answers.push(worker.handle(rt, post, gate)?)?;
     }
-
-    /// Handles posts, one after another, and gives their answers.
-    pub(crate) fn answer_all<R: Wait, G: Gate>(
-        &mut self,
-        rt: &R,
-        alloc: Global,
-        posts: Vec<Post>,
-        gate: &G,
-    ) -> Result<Vec<Answer>, RunFault>
-        requires ready { IsReady (number_by S.terms) S.key S.reads self.old.worker }
-        ensures goes_on { IfOk result (λ answers. GoesOn (number_by S.terms)
-            S.key S.reads self.old posts.items (map answer_view answers.items) self.new) }
-        ensures fault { MayAskGate (G.may_shut gate.now) result }
-    {
-        let mut answers = Vec::with_capacity(alloc, posts.len())?;
-        for post in posts {
-            answers.push(self.answer(rt, post, gate)?)?;
-        }
-        Ok(answers)
-    }
-
-    /// Handles a post, and puts down its refusal, or none. The room for the refusal is made before
-    /// an account is asked.
-    fn answer<R: Wait, G: Gate>(&mut self, rt: &R, post: Post, gate: &G) -> Result<Answer, RunFault>
-        requires ready { IsReady (number_by S.terms) S.key S.reads self.old.worker }
-        ensures goes_on { IfOk result (λ answer. GoesOn (number_by S.terms)
-            S.key S.reads self.old (post ∷ []) (answer_view answer ∷ []) self.new) }
-        ensures fault { MayAskGate (G.may_shut gate.now) result }
-    {
-        self.refusals.reserve(1)?;
-        let answer = self.worker.handle(rt, post, gate)?;
-        self.refusals.push(answer.refused)?;
-        Ok(answer)
-    }
-
-    /// What the worker leaves.
-    pub(crate) fn finish(self) -> WorkerEnd<S>
-        requires ready { IsReady (number_by S.terms) S.key S.reads self.worker }
-        ensures seats { result.seats.items ≡ seats_of self.entry.worker }
-        ensures posts { result.posts.items ≡ posts_of self.entry.worker }
-        ensures refusals { result.refusals.items ≡ self.entry.refusals.items }
-    {
-        let Desk { worker, refusals } = self;
-        let (seats, posts) = worker.finish();
-        WorkerEnd {
-            seats,
-            posts,
-            refusals,
-        }
-    }
+    Ok(answers)
 }

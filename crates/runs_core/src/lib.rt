@@ -9,10 +9,15 @@ mod opened;
 mod rounds;
 mod run_fault;
 mod serving;
+mod shares;
 mod threads;
 mod worker_link;
 
 pub use driver::Driver;
-pub use laws::{books_are_right, recharges_are_in_the_books, reserves_are_in_the_books};
+pub use laws::{
+    books_are_right, recharges_are_in_the_books, reserves_are_in_the_books, run_entries_are_served,
+    run_lists_are_worked,
+};
 pub use run_fault::RunFault;
-pub use serving::{Books, serve, serve_over};
+pub use serving::{serve, serve_over};
+pub use shares::{handled, refusals};

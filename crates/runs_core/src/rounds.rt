@@ -12,9 +12,9 @@ ghost use Rattle.workers_core.specs.Workers.{IsReady, accounts_of, number_by, se
 ghost use Rattle.run_values.specs.declared.post.Body.{Body};
 
 use crate::crew::{Crew, Replies};
-use crate::opened::empty_piles;
+use crate::shares::{share_out, worker_of};
 use crate::{Driver, RunFault};
-use run_values::{Answer, Body, Post};
+use run_values::{Answer, Body};
 use shared_account::{Gate, Shared};
 use std::alloc::Global;
 use std::collections::VecDeque;
@@ -30,14 +30,14 @@ pub(crate) fn play<D: Driver, S: Shared, R: Wait, G: Gate>(
     gate: &G,
 ) -> Result<(), RunFault>
     requires fresh { D.given driver.old ≡ [] }
-    requires served { HasServed (number_by S.terms) S.key S.reads
-        (setup_of crew.old.desk.worker) (accounts_of crew.old.desk.worker) [] [] crew.old }
+    requires served { HasServed (number_by S.terms) S.key S.reads S.was
+        (setup_of crew.old.worker) (accounts_of crew.old.worker) [] [] crew.old }
     requires works { crew.old.failed ≡ None }
     ensures ended { OnOk result (D.ended driver.new ≡ true) }
     ensures plan { D.plan driver.new ≡ D.plan driver.old }
     ensures played { OnOk result (HasPlayed D.given D.ended D.hears
-        (number_by S.terms) S.key S.reads
-        (setup_of crew.old.desk.worker) (accounts_of crew.old.desk.worker)
+        (number_by S.terms) S.key S.reads S.was
+        (setup_of crew.old.worker) (accounts_of crew.old.worker)
         driver.old driver.new crew.new) }
     ensures count { count_of crew.new ≡ count_of crew.old }
     ensures promises { promises_of crew.new.links.items ≡ promises_of crew.old.links.items }
@@ -63,14 +63,14 @@ fn play_round<D: Driver, S: Shared, R: Wait, G: Gate>(
     gate: &G,
     answers: &mut Vec<Answer>,
 ) -> Result<bool, RunFault>
-    requires ready { IsReady (number_by S.terms) S.key S.reads crew.old.desk.worker }
+    requires ready { IsReady (number_by S.terms) S.key S.reads crew.old.worker }
     requires works { crew.old.failed ≡ None }
     ensures ended { IfOk result (λ more. D.ended driver.new ≡ not more) }
     ensures plan { D.plan driver.new ≡ D.plan driver.old }
     ensures more { result ≡ Ok true → (added : List (ℕ × Body))
         × (D.given driver.new ≡ D.given driver.old ++ added)
-        × IsServedRound (number_by S.terms)
-        S.key S.reads (length (D.given driver.old)) added answers.new.items crew.old crew.new }
+        × IsServedRound (number_by S.terms) S.key S.reads S.was
+        (length (D.given driver.old)) added answers.new.items crew.old crew.new }
     ensures hears { IfOk result (λ _. D.hears driver.old answers.old.items driver.new) }
     ensures given { result ≡ Ok false → D.given driver.new ≡ D.given driver.old }
     ensures crew { result ≡ Ok false → crew.new ≡ crew.old }
@@ -85,61 +85,15 @@ fn play_round<D: Driver, S: Shared, R: Wait, G: Gate>(
     }
     let added = &driver.given()[first..];
     let shares = share_out(alloc, crew.links.len() + 1, first, added)?;
-    let replies = crew.answer_round(rt, alloc, shares, gate)?;
+    let mut shares = shares.into_iter();
+    let Some(mine) = shares.next() else {
+        unreachable!()
+    };
+    let replies = crew.answer_round(rt, alloc, mine, shares, gate)?;
     answers.clear();
     let mut queues = queues(alloc, replies)?;
     merge(first, added, &mut queues, answers)?;
     Ok(true)
-}
-
-/// Shares out the items of a round, each to the worker of its call or account.
-fn share_out(
-    alloc: Global,
-    workers: usize,
-    first: usize,
-    added: &[(u64, Body)],
-) -> Result<Vec<Vec<Post>>, RunFault>
-    requires some { 0 < workers }
-    requires few { first + length added.now < 2 ^ 64 }
-    requires moments { All (λ item. item.0 ≤ HORIZON) added.now }
-    ensures shares { IfOk result (λ shares.
-        AreShares workers first added.now (map (λ share. share.items) shares.items)) }
-    ensures fault { AsksNoGate result }
-{
-    let mut shares = empty_piles(alloc, workers)?;
-    for place in 0..added.len() {
-        let post = post_at(added, place, first + place);
-        let worker = worker_of(workers, &post.body);
-        shares[worker].push(post)?;
-    }
-    Ok(shares)
-}
-
-/// The item at a place, as a post of this number.
-fn post_at(added: &[(u64, Body)], place: usize, number: usize) -> Post
-    requires within { place < length added.now }
-    requires moments { All (λ item. item.0 ≤ HORIZON) added.now }
-    ensures { HoldsAt (λ item. item_of result ≡ item_at number item) added.now place }
-{
-    let (at, body) = added[place];
-    Post {
-        number: number as u64,
-        at,
-        body,
-    }
-}
-
-/// The worker of a body, among so many.
-fn worker_of(workers: usize, body: &Body) -> usize
-    requires some { 0 < workers }
-    ensures value { result ≡ worker_of workers body.now }
-    ensures within { result < workers }
-{
-    let number = match *body {
-        Body::Ssf { call, .. } => call,
-        Body::Recharge { account, .. } => u64::from(account),
-    };
-    (number % workers as u64) as usize
 }
 
 /// The answers of each worker, to be taken one by one.

@@ -1,34 +1,35 @@
 //! A run, from its setup to its books.
 
-ghost use Rattle.std.specs.Prelude.{◌≡◌, ◌≤◌, ◌<◌, ◌↔◌, [], true, false, length, map, None, IfOk, IfSome, OnOk, All};
+ghost use Rattle.std.specs.Prelude.{◌≡◌, ◌≤◌, ◌<◌, ◌↔◌, [], ℕ, true, false, length, map, None, IfOk, IfSome, OnOk, All, slice_index_or};
 ghost use Rattle.std.specs.Map.{keys_of};
 ghost use Rattle.std.specs.Vec.Iter.{into_iter_items};
+ghost use Rattle.runs_core.specs.Closing.{AreAllThere, AreBooksOf, AreNumberedFrom, AreOf, IsInBooks, ShowsAll, terms_shown};
 ghost use Rattle.runs_core.specs.Crews.{HasPlayed, count_of};
-ghost use Rattle.runs_core.specs.Desks.{HasAnswered};
+ghost use Rattle.runs_core.specs.Goings.{HasAnswered};
 ghost use Rattle.runs_core.specs.Hearing.{HasLeft};
-ghost use Rattle.runs_core.specs.RunFaults.{MayAskGate, AsksNoGate};
-ghost use Rattle.runs_core.specs.Runs.{HasRun, run_shown};
+ghost use Rattle.runs_core.specs.RunFaults.{AsksNoGate, MayAskGate};
+ghost use Rattle.runs_core.specs.Runs.{HasRun};
 ghost use Rattle.runs_core.specs.Sending.{ArePromised, promises_of};
 ghost use Rattle.runs_core.specs.Teams.{AreFresh, are_workers};
-ghost use Rattle.runs_core.specs.Closing.{AreAllThere, AreBooksOf, AreLeftFrom, AreListed, AreNumberedFrom, AreOf, AreServedBy, lists_in, terms_shown};
 ghost use Rattle.account_core.specs.Answers.{IsLegal};
 ghost use Rattle.shared_account.specs.Closed.{IsBookOf};
 ghost use Rattle.shared_account.specs.Seats.{are_all};
+ghost use Rattle.shared_account.specs.Seen.{StoodIn};
 ghost use Rattle.workers_core.specs.Workers.{number_by};
 
-use crate::crew::{Crew, Desk, WorkerEnd};
+use crate::crew::Crew;
 use crate::opened::{Opened, deal, empty_piles, open_accounts};
 use crate::rounds::play;
 use crate::threads::{finish_all, start_all};
 use crate::{Driver, RunFault, laws};
-use account_core::AccountFault;
-use run_values::{Post, RunSetup};
+use run_values::RunSetup;
 use shared_account::{Book, CloseFault, Gate, Shared, TurnAccount};
 use std::alloc::Global;
 use std::sync::Wait;
 use std::thread;
 use std::thread::{Scope, Threads};
 use std::vec::IntoIter;
+use workers_core::Worker;
 
 /// The most workers of a run.
 const MAX_WORKERS: u32 = 16;
@@ -55,10 +56,10 @@ pub fn serve<D: Driver, R: Wait + Threads + Sync, G: Gate + Sync>(
     driver: &mut D,
     workers: u32,
     gate: &G,
-) -> Result<Books, RunFault>
+) -> Result<Vec<Book>, RunFault>
     requires given { D.given driver.old ≡ [] }
-    ensures run { IfOk result (λ all. HasRun D.given D.ended D.hears
-        setup.now workers driver.old driver.new (run_shown all)) }
+    ensures run { IfOk result (λ books. HasRun D.given D.ended D.hears StoodIn
+        setup.now workers driver.old driver.new books.items) }
     ensures ended { OnOk result (D.ended driver.new ≡ true) }
     ensures plan { D.plan driver.new ≡ D.plan driver.old }
     ensures workers { (result ≡ Err RunFault.Workers) ↔ (are_workers workers ≡ false) }
@@ -76,10 +77,10 @@ pub fn serve_over<D: Driver, S: Shared, R: Wait + Threads + Sync, G: Gate + Sync
     driver: &mut D,
     workers: u32,
     gate: &G,
-) -> Result<Books, RunFault>
+) -> Result<Vec<Book>, RunFault>
     requires given { D.given driver.old ≡ [] }
-    ensures run { IfOk result (λ all. HasRun D.given D.ended D.hears
-        setup.now workers driver.old driver.new (run_shown all)) }
+    ensures run { IfOk result (λ books. HasRun D.given D.ended D.hears S.stood
+        setup.now workers driver.old driver.new books.items) }
     ensures ended { OnOk result (D.ended driver.new ≡ true) }
     ensures plan { D.plan driver.new ≡ D.plan driver.old }
     ensures workers { (result ≡ Err RunFault.Workers) ↔ (are_workers workers ≡ false) }
@@ -97,7 +98,7 @@ pub fn serve_over<D: Driver, S: Shared, R: Wait + Threads + Sync, G: Gate + Sync
 /// What comes back from the scope of the threads: the driver, and what the workers have left.
 struct Served<'d, D: Driver, S: Shared> {
     driver: &'d mut D,
-    left: Result<Vec<WorkerEnd<S>>, RunFault>,
+    left: Result<Vec<Vec<S::Seat>>, RunFault>,
 }
 
 /// Runs a worker for each team until the driver has ended.
@@ -109,7 +110,7 @@ fn run_workers<D: Driver, S: Shared, R: Wait + Threads + Sync, G: Gate + Sync>(
     teams: Vec<Vec<S::Seat>>,
     driver: &mut D,
     gate: &G,
-) -> Result<Vec<WorkerEnd<S>>, RunFault>
+) -> Result<Vec<Vec<S::Seat>>, RunFault>
     requires given { D.given driver.old ≡ [] }
     requires some { 1 ≤ length teams.items }
     requires few { length teams.items ≤ 16 }
@@ -119,8 +120,8 @@ fn run_workers<D: Driver, S: Shared, R: Wait + Threads + Sync, G: Gate + Sync>(
     ensures ended { OnOk result (D.ended driver.new ≡ true) }
     ensures plan { D.plan driver.new ≡ D.plan driver.old }
     ensures left { IfOk result (λ left. HasLeft D.given D.ended D.hears
-        S.reads (map S.key accounts.now)
-        setup.now (length teams.items) driver.old driver.new left.items) }
+        S.reads S.was (map S.key accounts.now) setup.now (length teams.items)
+        driver.old driver.new (map (λ team. team.items) left.items)) }
     ensures fault { MayAskGate (G.may_shut gate.now) result }
 {
     let served = thread::scope(
@@ -136,8 +137,8 @@ fn run_workers<D: Driver, S: Shared, R: Wait + Threads + Sync, G: Gate + Sync>(
                 × (D.plan result.driver.now ≡ D.plan driver.entry.now)
                 × OnOk result.left (D.ended result.driver.now ≡ true)
                 × IfOk result.left (λ left. HasLeft D.given D.ended D.hears
-                S.reads (map S.key accounts.entry.now)
-                setup.entry.now (length teams.items) driver.entry.now result.driver.now left.items)
+                S.reads S.was (map S.key accounts.entry.now) setup.entry.now (length teams.items)
+                driver.entry.now result.driver.now (map (λ team. team.items) left.items))
                 × MayAskGate (G.may_shut gate.entry.now) result.left }
         {
             let left = run_in(scope, rt, alloc, setup, accounts, teams, driver, gate);
@@ -160,7 +161,7 @@ fn run_in<'s, E, D: Driver, S: Shared, R: Wait + Threads + Sync, G: Gate + Sync>
     teams: Vec<Vec<S::Seat>>,
     driver: &mut D,
     gate: &'s G,
-) -> Result<Vec<WorkerEnd<S>>, RunFault>
+) -> Result<Vec<Vec<S::Seat>>, RunFault>
     requires given { D.given driver.old ≡ [] }
     requires some { 1 ≤ length teams.items }
     requires few { length teams.items ≤ 16 }
@@ -170,8 +171,8 @@ fn run_in<'s, E, D: Driver, S: Shared, R: Wait + Threads + Sync, G: Gate + Sync>
     ensures ended { OnOk result (D.ended driver.new ≡ true) }
     ensures plan { D.plan driver.new ≡ D.plan driver.old }
     ensures left { IfOk result (λ left. HasLeft D.given D.ended D.hears
-        S.reads (map S.key accounts.now)
-        setup.now (length teams.items) driver.old driver.new left.items) }
+        S.reads S.was (map S.key accounts.now) setup.now (length teams.items)
+        driver.old driver.new (map (λ team. team.items) left.items)) }
     ensures fault { MayAskGate (G.may_shut gate.now) result }
 {
     let mut left = Vec::with_capacity(alloc, teams.len())?;
@@ -181,7 +182,7 @@ fn run_in<'s, E, D: Driver, S: Shared, R: Wait + Threads + Sync, G: Gate + Sync>
         unreachable!()
     };
     let mut crew = Crew {
-        desk: Desk::new(alloc, 0, setup, accounts, team)?,
+        worker: Worker::new(alloc, 0, setup, accounts, team)?,
         failed: None,
         links,
     };
@@ -189,7 +190,7 @@ fn run_in<'s, E, D: Driver, S: Shared, R: Wait + Threads + Sync, G: Gate + Sync>
         scope, rt, alloc, setup, accounts, teams, driver, gate, &mut crew,
     );
     let Crew {
-        desk,
+        worker,
         failed,
         links,
     } = crew;
@@ -199,7 +200,7 @@ fn run_in<'s, E, D: Driver, S: Shared, R: Wait + Threads + Sync, G: Gate + Sync>
     }
     finished?;
     ran?;
-    left.insert(0, desk.finish())?;
+    left.insert(0, worker.finish())?;
     Ok(left)
 }
 
@@ -220,15 +221,16 @@ fn start_and_play<'s, E, D: Driver, S: Shared, R: Wait + Threads + Sync, G: Gate
     requires numbered { map (number_by S.terms) accounts.now ≡ keys_of setup.now.accounts }
     requires fresh { AreFresh S.reads
         (map S.key accounts.now) 1 (map (λ team. team.items) (into_iter_items teams)) }
-    requires first { HasAnswered (number_by S.terms) S.key S.reads setup.now accounts.now 0 [] []
-        crew.old.desk }
+    requires first { HasAnswered (number_by S.terms) S.key S.reads S.was
+        setup.now accounts.now 0 [] [] crew.old.worker }
     requires works { crew.old.failed ≡ None }
     requires none { crew.old.links.items ≡ [] }
     ensures ended { OnOk result (D.ended driver.new ≡ true) }
     ensures plan { D.plan driver.new ≡ D.plan driver.old }
     ensures count { OnOk result (length crew.new.links.items ≡ length (into_iter_items teams)) }
     ensures played { OnOk result (HasPlayed D.given D.ended D.hears
-        (number_by S.terms) S.key S.reads setup.now accounts.now driver.old driver.new crew.new) }
+        (number_by S.terms) S.key S.reads S.was
+        setup.now accounts.now driver.old driver.new crew.new) }
     ensures promised { ArePromised setup.now accounts.now gate.now 1
         (promises_of crew.new.links.items) }
     ensures fault { MayAskGate (G.may_shut gate.now) result }
@@ -247,64 +249,31 @@ fn start_and_play<'s, E, D: Driver, S: Shared, R: Wait + Threads + Sync, G: Gate
     play(rt, alloc, driver, crew, gate)
 }
 
-/// The books of a run that has ended.
-#[derive(Drop)]
-pub struct Books {
-    /// One book for each account, in ascending order of the accounts' numbers.
-    pub books: Vec<Book>,
-    /// The posts that each worker has handled, in order.
-    pub handled: Vec<Vec<Post>>,
-    /// For each post that a worker has handled, in the same order, the last fault that an ask of an
-    /// account for it got; none where every ask for it was entered, or there was none.
-    pub refusals: Vec<Vec<Option<AccountFault>>>,
-}
-
-/// Closes the accounts of a run, when its workers have left.
+/// Closes the accounts of a run, with the seats that its workers have left.
 fn close_accounts<S: Shared>(
     alloc: Global,
     accounts: Vec<S>,
-    left: Vec<WorkerEnd<S>>,
-) -> Result<Books, RunFault>
-    requires left { AreLeftFrom S.reads (map S.key accounts.items)
-        (map (number_by S.terms) accounts.items) left.items }
-    requires numbers { AreNumberedFrom S.reads 0 left.items }
+    left: Vec<Vec<S::Seat>>,
+) -> Result<Vec<Book>, RunFault>
+    requires keys { All (λ team. map S.reads.key team.items ≡ map S.key accounts.items) left.items }
+    requires numbers { AreNumberedFrom S.reads 0 (map (λ team. team.items) left.items) }
     requires seats { All (λ account. (S.terms account).seats ≡ length left.items) accounts.items }
-    ensures terms { IfOk result (λ all. map (terms_shown (length left.items)) all.books.items
+    ensures terms { IfOk result (λ books. map (terms_shown (length left.items)) books.items
         ≡ map S.terms accounts.items) }
     ensures legal { IfOk result
-        (λ all. All (λ book. IsLegal book.opening book.until book.history) all.books.items) }
-    ensures owned { IfOk result (λ all. All (λ book.
-        All (λ event. event.seat < length left.items) book.history) all.books.items) }
-    ensures handled { IfOk result (λ all.
-        map (λ posts. posts.items) all.handled.items ≡ map (λ one. one.posts.items) left.items) }
-    ensures served { IfOk result (λ all. All (λ book. AreServedBy book.account
-        (map (λ posts. posts.items) all.handled.items)
-        (lists_in (length left.items) book)) all.books.items) }
-    ensures refusals { IfOk result (λ all. map (λ one. one.items) all.refusals.items
-        ≡ map (λ one. one.refusals.items) left.items) }
-    ensures lists { IfOk result (λ all. AreListed all.books.items 0
-        (map (λ one. map S.reads.mine one.seats.items) left.items)) }
+        (λ books. All (λ book. IsLegal book.opening book.until book.history) books.items) }
+    ensures owned { IfOk result (λ books. All (λ book.
+        All (λ event. event.seat < length left.items) book.history) books.items) }
+    ensures shown { IfOk result (λ books. (worker : ℕ) → worker < length left.items
+        → IsInBooks S.reads S.was S.stood books.items worker
+        (slice_index_or (map (λ team. team.items) left.items) worker [])) }
     ensures fault { AsksNoGate result }
 {
     let mut rows = empty_piles(alloc, accounts.len())?;
-    let mut handled = Vec::with_capacity(alloc, left.len())?;
-    let mut refusals = Vec::with_capacity(alloc, left.len())?;
-    for one in left {
-        let WorkerEnd {
-            seats,
-            posts,
-            refusals: refused,
-        } = one;
-        deal(&mut rows, seats)?;
-        handled.push(posts)?;
-        refusals.push(refused)?;
+    for team in left {
+        deal(&mut rows, team)?;
     }
-    let books = close_each(alloc, accounts, rows)?;
-    Ok(Books {
-        books,
-        handled,
-        refusals,
-    })
+    close_each(alloc, accounts, rows)
 }
 
 /// Closes each account, with its row of seats.
@@ -317,8 +286,8 @@ fn close_each<S: Shared>(
         (map (λ row. row.items) rows.items) }
     requires all { AreAllThere (map (λ account. (S.terms account).seats) accounts.items)
         (map (λ row. map S.reads.number row.items) rows.items) }
-    ensures books { IfOk result (λ books. AreBooksOf (map S.terms accounts.items)
-        (map (λ row. map S.reads.mine row.items) rows.items) books.items) }
+    ensures books { IfOk result (λ books. AreBooksOf S.reads S.was S.stood
+        (map S.terms accounts.items) (map (λ row. row.items) rows.items) books.items) }
     ensures fault { AsksNoGate result }
 {
     let mut books = Vec::with_capacity(alloc, accounts.len())?;
@@ -338,6 +307,7 @@ fn close<S: Shared>(account: S, seats: Vec<S::Seat>) -> Result<Book, RunFault>
     requires all { are_all (S.terms account).seats (map S.reads.number seats.items) ≡ true }
     ensures book { IfOk result (λ book.
         IsBookOf (S.terms account) (map S.reads.mine seats.items) book) }
+    ensures shows { IfOk result (λ book. ShowsAll S.reads S.was S.stood seats.items book) }
     ensures fault { AsksNoGate result }
 {
     match account.close(seats) {

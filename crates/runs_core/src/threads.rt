@@ -1,16 +1,14 @@
 //! The workers of a run are started, and waited for.
 
-ghost use Rattle.std.specs.Prelude.{◌≡◌, ◌<◌, ◌+◌, ◌++◌, ◌∷◌, [], length, map, All, IfErr, IfOk, OnOk};
+ghost use Rattle.std.specs.Prelude.{◌≡◌, ◌<◌, ◌+◌, ◌++◌, ◌∷◌, [], List, length, map, All, IfErr, IfOk, OnOk};
 ghost use Rattle.std.specs.Map.{keys_of};
 ghost use Rattle.std.specs.Vec.Iter.{into_iter_items};
 ghost use Rattle.runs_core.specs.RunFaults.{AsksNoGate, MayAskGate};
 ghost use Rattle.runs_core.specs.Sending.{AreLeftBy, ArePromised, IsFirstFault, IsLeftBy, MayBeShut, heard_by, promises_of, sent_by};
 ghost use Rattle.runs_core.specs.Teams.{AreFresh, IsFresh};
-ghost use Rattle.runs_core.specs.declared.crew.WorkerEnd.{WorkerEnd};
 ghost use Rattle.workers_core.specs.Workers.{number_by};
 
 use crate::RunFault;
-use crate::crew::WorkerEnd;
 use crate::worker_link::{WorkerLink, start};
 use run_values::RunSetup;
 use shared_account::{Gate, Shared};
@@ -85,15 +83,13 @@ fn start_one<'s, E, S: Shared, R: Wait + Threads + Sync, G: Gate + Sync>(
 pub(crate) fn finish_all<S: Shared, R: Wait + Threads, G: Gate>(
     rt: &R,
     links: Vec<WorkerLink<'_, S, G>>,
-    left: &mut Vec<WorkerEnd<S>>,
+    left: &mut Vec<Vec<S::Seat>>,
 ) -> Result<(), RunFault>
     requires none { left.old.items ≡ [] }
-    ensures posts { OnOk result
-        (map (λ l. l.posts.items) left.new.items ≡ map sent_by links.entry.items) }
-    ensures left { OnOk result (AreLeftBy S.reads S.key
-        (promises_of links.entry.items) (map heard_by links.entry.items) left.new.items) }
-    ensures first { IfErr result (λ fault. IsFirstFault S.reads S.key
-        G.may_shut (promises_of links.entry.items) fault) }
+    ensures left { OnOk result (AreLeftBy S.reads S.key S.was
+        links.entry.items (map (λ team. team.items) left.new.items)) }
+    ensures first { IfErr result (λ fault. IsFirstFault S.reads S.key S.was
+        G.may_shut links.entry.items fault) }
     ensures fault { MayAskGate (MayBeShut G.may_shut (promises_of links.entry.items)) result }
 {
     let mut fault = None;
@@ -112,16 +108,15 @@ pub(crate) fn finish_all<S: Shared, R: Wait + Threads, G: Gate>(
 fn finish_one<S: Shared, R: Wait + Threads, G: Gate>(
     rt: &R,
     link: WorkerLink<'_, S, G>,
-    left: &mut Vec<WorkerEnd<S>>,
+    left: &mut Vec<Vec<S::Seat>>,
 ) -> Result<(), RunFault>
-    ensures left { OnOk result ((one : WorkerEnd S S.Seat)
-        × (left.new.items ≡ left.old.items ++ one ∷ [])
-        × (one.posts.items ≡ sent_by link.entry)
-        × IsLeftBy S.reads S.key link.entry.child.promise
-        (heard_by link.entry) one) }
+    ensures left { OnOk result ((team : List S.Seat)
+        × (map (λ team. team.items) left.new.items
+        ≡ map (λ team. team.items) left.old.items ++ team ∷ [])
+        × IsLeftBy S.reads S.key S.was link.entry team) }
     ensures fault { MayAskGate (G.may_shut link.entry.child.promise.gate.now) result }
 {
-    let one = link.finish(rt)?;
-    left.push(one)?;
+    let seats = link.finish(rt)?;
+    left.push(seats)?;
     Ok(())
 }

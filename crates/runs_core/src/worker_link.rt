@@ -5,7 +5,7 @@ ghost use Rattle.std.specs.Map.{keys_of};
 ghost use Rattle.runs_core.specs.Mails.{items_in};
 ghost use Rattle.runs_core.specs.RunFaults.{AsksNoGate, MayAskGate};
 ghost use Rattle.runs_core.specs.Teams.{IsFresh, IsLeft};
-ghost use Rattle.runs_core.specs.Desks.{GoesOn};
+ghost use Rattle.runs_core.specs.Goings.{GoesOn};
 ghost use Rattle.workers_core.specs.Ends.{ArePaired, IsSameInbox, IsSameOutbox, sent, taken};
 ghost use Rattle.workers_core.specs.Handled.{answer_view};
 ghost use Rattle.workers_core.specs.Logs.{has_close};
@@ -14,14 +14,14 @@ ghost use Rattle.run_values.specs.declared.post.Answer.{Answer};
 ghost use Rattle.workers_core.specs.declared.mailboxes.Mail.TheVariants as mail;
 
 use crate::RunFault;
-use crate::crew::{Desk, WorkerEnd};
+use crate::crew::answer_all;
 use run_values::{Answer, Post, RunSetup};
 use shared_account::{Gate, Shared};
 use std::alloc::Global;
 use std::snapshot::Snapshot;
 use std::sync::Wait;
 use std::thread::{Promise, PromisedHandle, Scope, Threads};
-use workers_core::{Gone, Inbox, Mail, Outbox, compare, mailbox};
+use workers_core::{Gone, Inbox, Mail, Outbox, Worker, compare, mailbox};
 
 /// How many mails wait in a mailbox at most: those of one round, and the last one.
 const MAILBOX: u32 = 2;
@@ -77,10 +77,9 @@ pub(crate) fn start<'s, E, S: Shared, R: Wait + Threads + Sync, G: Gate + Sync>(
         ensures { IfOk result (λ f. IsSameInbox posts f.inbox
             × IsSameOutbox answers f.outbox
             × (has_close (taken f.inbox) ≡ true)
-            × (items_in (taken f.inbox) ≡ f.left.posts.items)
-            × IsLeft S.reads (map S.key accounts.entry.now)
-            setup.entry.now number f.left.posts.items f.left.refusals.items
-            (map answer_view (items_in (sent f.outbox))) f.left.seats.items)
+            × IsLeft S.reads S.was (map S.key accounts.entry.now)
+            setup.entry.now number (items_in (taken f.inbox))
+            (map answer_view (items_in (sent f.outbox))) f.seats.items)
             × MayAskGate (G.may_shut gate.entry.now) result }
     {
         work(
@@ -136,13 +135,12 @@ impl<S: Shared, G: Gate> WorkerLink<'_, S, G> {
     }
 
     /// Sends the last mail, and waits for what the worker leaves.
-    pub(crate) fn finish<R: Wait + Threads>(self, rt: &R) -> Result<WorkerEnd<S>, RunFault>
-        ensures posts { IfOk result (λ left. left.posts.items ≡ items_in (sent self.entry.outbox)) }
-        ensures left { IfOk result (λ left. IsLeft S.reads
+    pub(crate) fn finish<R: Wait + Threads>(self, rt: &R) -> Result<Vec<S::Seat>, RunFault>
+        ensures left { IfOk result (λ seats. IsLeft S.reads S.was
             (map S.key self.entry.child.promise.accounts.now)
             self.entry.child.promise.setup.now self.entry.child.promise.number
-            left.posts.items left.refusals.items
-            (map answer_view (items_in (taken self.entry.inbox))) left.seats.items) }
+            (items_in (sent self.entry.outbox))
+            (map answer_view (items_in (taken self.entry.inbox))) seats.items) }
         ensures fault { MayAskGate (G.may_shut self.entry.child.promise.gate.now) result }
     {
         let WorkerLink {
@@ -153,14 +151,14 @@ impl<S: Shared, G: Gate> WorkerLink<'_, S, G> {
         } = self;
         let _ = outbox.send_mail(rt, Mail::Close);
         let Finished {
-            left,
+            seats,
             inbox: posts,
             outbox: answers,
         } = child.join(rt)?;
         compare(outbox, posts);
         take_last(rt, &mut inbox)?;
         compare(answers, inbox);
-        Ok(left)
+        Ok(seats)
     }
 }
 
@@ -195,20 +193,16 @@ fn work<S: Shared, R: Wait, G: Gate>(
     ensures inbox { IfOk result (λ finished. IsSameInbox inbox finished.inbox) }
     ensures outbox { IfOk result (λ finished. IsSameOutbox outbox finished.outbox) }
     ensures closed { IfOk result (λ finished. has_close (taken finished.inbox) ≡ true) }
-    ensures posts { IfOk result
-        (λ finished. items_in (taken finished.inbox) ≡ finished.left.posts.items) }
-    ensures left { IfOk result (λ finished. IsLeft S.reads
-        (map S.key accounts.now) setup.now number finished.left.posts.items
-        finished.left.refusals.items (map answer_view (items_in (sent finished.outbox)))
-        finished.left.seats.items) }
+    ensures left { IfOk result (λ finished. IsLeft S.reads S.was
+        (map S.key accounts.now) setup.now number (items_in (taken finished.inbox))
+        (map answer_view (items_in (sent finished.outbox))) finished.seats.items) }
     ensures fault { MayAskGate (G.may_shut gate.now) result }
 {
-    let mut desk = Desk::new(alloc, number, setup, accounts, seats)?;
-    answer_rounds(rt, alloc, &mut desk, &mut inbox, &mut outbox, gate)?;
+    let mut worker = Worker::new(alloc, number, setup, accounts, seats)?;
+    answer_rounds(rt, alloc, &mut worker, &mut inbox, &mut outbox, gate)?;
     let _ = outbox.send_mail(rt, Mail::Close);
-    let left = desk.finish();
     Ok(Finished {
-        left,
+        seats: worker.finish(),
         inbox,
         outbox,
     })
@@ -218,24 +212,24 @@ fn work<S: Shared, R: Wait, G: Gate>(
 fn answer_rounds<S: Shared, R: Wait, G: Gate>(
     rt: &R,
     alloc: Global,
-    desk: &mut Desk<'_, S>,
+    worker: &mut Worker<'_, S>,
     inbox: &mut Inbox<Vec<Post>>,
     outbox: &mut Outbox<Vec<Answer>>,
     gate: &G,
 ) -> Result<(), RunFault>
-    requires ready { IsReady (number_by S.terms) S.key S.reads desk.old.worker }
+    requires ready { IsReady (number_by S.terms) S.key S.reads worker.old }
     requires taken { taken inbox.old ≡ [] }
     requires sent { sent outbox.old ≡ [] }
     ensures inbox { IsSameInbox inbox.old inbox.new }
     ensures outbox { IsSameOutbox outbox.old outbox.new }
     ensures closed { OnOk result (has_close (taken inbox.new) ≡ true) }
-    ensures goes_on { OnOk result (GoesOn (number_by S.terms) S.key S.reads desk.old
-        (items_in (taken inbox.new)) (map answer_view (items_in (sent outbox.new))) desk.new) }
+    ensures goes_on { OnOk result (GoesOn (number_by S.terms) S.key S.reads S.was worker.old
+        (items_in (taken inbox.new)) (map answer_view (items_in (sent outbox.new))) worker.new) }
     ensures fault { MayAskGate (G.may_shut gate.now) result }
 {
     for _ in rt.forever() {
         match inbox.take_mail(rt) {
-            Ok(Mail::Work(posts)) => answer_round(rt, alloc, desk, posts, outbox, gate)?,
+            Ok(Mail::Work(posts)) => answer_round(rt, alloc, worker, posts, outbox, gate)?,
             Ok(Mail::Close) => return Ok(()),
             Err(Gone) => return Err(RunFault::Channel),
         }
@@ -247,31 +241,31 @@ fn answer_rounds<S: Shared, R: Wait, G: Gate>(
 fn answer_round<S: Shared, R: Wait, G: Gate>(
     rt: &R,
     alloc: Global,
-    desk: &mut Desk<'_, S>,
+    worker: &mut Worker<'_, S>,
     posts: Vec<Post>,
     outbox: &mut Outbox<Vec<Answer>>,
     gate: &G,
 ) -> Result<(), RunFault>
-    requires ready { IsReady (number_by S.terms) S.key S.reads desk.old.worker }
+    requires ready { IsReady (number_by S.terms) S.key S.reads worker.old }
     ensures outbox { IsSameOutbox outbox.old outbox.new }
     ensures goes_on { OnOk result ((answers : List Answer)
         × (items_in (sent outbox.new) ≡ items_in (sent outbox.old) ++ answers)
-        × GoesOn (number_by S.terms)
-        S.key S.reads desk.old posts.items (map answer_view answers) desk.new) }
+        × GoesOn (number_by S.terms) S.key S.reads S.was
+        worker.old posts.items (map answer_view answers) worker.new) }
     ensures fault { MayAskGate (G.may_shut gate.now) result }
 {
-    let answers = desk.answer_all(rt, alloc, posts, gate)?;
+    let answers = answer_all(rt, alloc, worker, posts, gate)?;
     let Ok(()) = outbox.send_mail(rt, Mail::Work(answers)) else {
         return Err(RunFault::Channel);
     };
     Ok(())
 }
 
-/// What a worker's thread gives back after its last mail: what the worker leaves, and its ends of
-/// the two mailboxes.
+/// What a worker's thread gives back after its last mail: the worker's seats, one of each account,
+/// and its ends of the two mailboxes.
 #[derive(Drop)]
 pub(crate) struct Finished<S: Shared> {
-    pub left: WorkerEnd<S>,
+    pub seats: Vec<S::Seat>,
     pub inbox: Inbox<Vec<Post>>,
     pub outbox: Outbox<Vec<Answer>>,
 }
@@ -301,10 +295,9 @@ impl<'s, S: Shared, G: Gate> Promise<Result<Finished<S>, RunFault>> for WorkerPr
     ghost kept_by = { λ p r. IfOk r (λ f. IsSameInbox p.inbox.value f.inbox
         × IsSameOutbox p.outbox.value f.outbox
         × (has_close (taken f.inbox) ≡ true)
-        × (items_in (taken f.inbox) ≡ f.left.posts.items)
-        × IsLeft S.reads (map S.key p.accounts.now)
-        p.setup.now p.number f.left.posts.items f.left.refusals.items
-        (map answer_view (items_in (sent f.outbox))) f.left.seats.items)
+        × IsLeft S.reads S.was (map S.key p.accounts.now)
+        p.setup.now p.number (items_in (taken f.inbox))
+        (map answer_view (items_in (sent f.outbox))) f.seats.items)
         × (r ≡ Err out.GateClosed → G.may_shut p.gate.now)
         × (r ≢ Err out.Workers) };
 }

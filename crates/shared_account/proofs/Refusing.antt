@@ -1,5 +1,5 @@
 -- What the refusals of a held account come to for a caller who can't see it.
-use Rattle.std.proofs.Common.{◌≡◌, ℕ, Bool, true, false, Option, Some, None, List, Result, Ok, Err, inl, inr, refl, sym, subst}
+use Rattle.std.proofs.Common.{◌≡◌, ◌≢◌, ◌∙◌, ap, ℕ, Bool, true, false, Option, Some, None, List, Result, Ok, Err, inl, inr, refl, sym, subst}
 use Rattle.std.specs.Prelude.{◌+◌, ◌⊎◌, if◌then◌else◌, length, nat_lt, reverse, IfErr, IsOk}
 use Rattle.account_core.specs.Answers.{misplaced}
 use Rattle.account_core.specs.Asked.{Asked, Credits, Reserves, Returns, Settles, call_of, is_in_range}
@@ -10,7 +10,8 @@ use Rattle.account_core.specs.Places.{IsClosing, needed_by, or_else, over_limit,
 use Rattle.account_core.specs.declared.entry.Reply.{Reply}
 use Rattle.account_core.specs.declared.fault.AccountFault.{AccountFault}
 use Rattle.account_core.specs.declared.fault.AccountFault.TheVariants as fault
-use Rattle.shared_account.specs.Kinds.{ClosesCall, IsFaultOf, IsRefused, IsReplyTo, IsReturn, OpensCall}
+use Rattle.account_core.specs.SharingLaws.{AccountsHaveNoGate}
+use Rattle.shared_account.specs.Kinds.{ClosesCall, IsFaultOf, IsReplyTo, IsReturn, OpensCall, RefusalsAreOfTheirKind}
 use Rattle.shared_account.proofs.Answering.{answer_fits}
 
 pub fits_of : (account : Ledger) (asked : Asked) (told : Reply) → told ≡ answer_of account asked → IsReplyTo asked told
@@ -116,16 +117,16 @@ pub refused_kind : (account : Ledger) (asked : Asked) (why : AccountFault) → (
 refused_kind account asked why (inl gate) = let F : AccountFault → Type 0 = IsFaultOf asked in subst F (sym gate) tt
 refused_kind account asked why (inr is) = fault_kind account asked why is
 
-pub refused_by : (account : Ledger) (asked : Asked) (why : AccountFault) → (why ≡ fault.GateClosed) ⊎ IsRefusal account asked why → IsRefused asked why
-refused_by account asked why (inl gate) = inl gate
-refused_by account asked why (inr is) = inr (record { account = account; refused = is })
-
 pub refusals_kind : (account : Ledger) (asked : Asked) (told : Result Reply AccountFault) → IfErr told (λ why. (why ≡ fault.GateClosed) ⊎ IsRefusal account asked why)
     → IfErr told (IsFaultOf asked)
 refusals_kind account asked (Ok answered) refused = tt
 refusals_kind account asked (Err why) refused = refused_kind account asked why refused
 
-pub refusals_by : (account : Ledger) (asked : Asked) (told : Result Reply AccountFault) → IfErr told (λ why. (why ≡ fault.GateClosed) ⊎ IsRefusal account asked why)
-    → IfErr told (IsRefused asked)
-refusals_by account asked (Ok answered) refused = tt
-refusals_by account asked (Err why) refused = refused_by account asked why refused
+-- ---- every refusal of an account
+
+not_shut : AccountsHaveNoGate → (account : Ledger) (asked : Asked) (why : AccountFault) → IsRefusal account asked why → why ≢ fault.GateClosed
+not_shut none account asked why (inl is) = λ shut. none account.limit (reverse account.history) asked (is ∙ ap Some shut)
+not_shut none account asked why (inr is) = λ shut. let never : fault.OutOfMemory ≡ fault.GateClosed = sym is.1 ∙ shut in cc never
+
+pub of_their_kind : AccountsHaveNoGate → RefusalsAreOfTheirKind
+of_their_kind none account asked why is = (fault_kind account asked why is, not_shut none account asked why is)

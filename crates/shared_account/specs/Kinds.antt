@@ -1,5 +1,5 @@
 -- What a reply or a fault may be, whatever the account holds.
-use Rattle.std.specs.Prelude.{◌≡◌, ◌≤◌, ◌⊎◌, true, false}
+use Rattle.std.specs.Prelude.{◌≡◌, ◌≢◌, ◌≤◌, true, false}
 use Rattle.account_core.specs.Asked.{Asked, Credits, Reserves, Returns, Settles, is_in_range}
 use Rattle.account_core.specs.Ledger.{IsRefusal, Ledger}
 use Rattle.account_core.specs.declared.entry.Reply.{Reply}
@@ -44,11 +44,6 @@ IsFaultOf asked fault.CallUsed = OpensCall asked × (is_in_range asked ≡ true)
 IsFaultOf asked fault.OutOfRange = is_in_range asked ≡ false
 IsFaultOf asked fault.GateClosed = Unit {0}
 
--- there is an account that has this fault for the operation
-pub record HasRefused (asked : Asked) (why : AccountFault) : Type 0 where
-  pub account : Ledger
-  pub refused : IsRefusal account asked why
-
--- a call is refused by its gate, or by an account
-abbrev pub IsRefused : Asked → AccountFault → Type 0
-IsRefused asked why = (why ≡ fault.GateClosed) ⊎ HasRefused asked why
+-- what an account refuses an operation with is a fault of a kind that the operation has, and no closed gate
+abbrev pub RefusalsAreOfTheirKind : Type 0
+RefusalsAreOfTheirKind = (account : Ledger) (asked : Asked) (why : AccountFault) → IsRefusal account asked why → IsFaultOf asked why × (why ≢ fault.GateClosed)

@@ -20,7 +20,7 @@ pub use board::TurnSeat;
 pub use book::{Book, Summary};
 pub use fault::CloseFault;
 pub use gate::{Gate, OpenGate};
-pub use laws::calls_of_one_seat_are_alone;
+pub use laws::{calls_of_one_seat_are_alone, refusals_are_of_their_kind};
 pub use own_entries::OwnEntries;
 pub use seat::Seat;
 pub use shared::Shared;

@@ -17,13 +17,10 @@ use tariff_core::MAX_MONEY;
 /// are asking too, that `NotOpen`, `CallUsed` or `HistoryFull` was right; and nothing of who comes
 /// first, nor that a call returns.
 ///
-/// It also says what it means that the account refused an operation with a fault (`refuses`).
-/// Nothing but a call shows that, so whoever is generic over the form can't tell of a refusal that
-/// no account gave.
-///
-/// And it says what a seat knows of the account (`was`), and what a book shows of it later
+/// It also says what a seat knows of the account (`was`), and what a book shows of it later
 /// (`stood`): when a seat's own entries were these, the account was this. A fault comes with such
-/// an account, which refuses just that operation with just that fault.
+/// an account, which refuses just that operation with just that fault. Nothing but a call shows
+/// that, so whoever is generic over the form can't tell of a refusal that no account gave.
 ///
 /// What a form tells of a seat is `reads`: the key of its account, its number and its own entries.
 /// A seat is of the account whose key it has: the account's number, or whatever else a form tells
@@ -31,11 +28,10 @@ use tariff_core::MAX_MONEY;
 pub trait Shared: Sync + Drop {
     ghost use Rattle.std.specs.Prelude.{◌≡◌, ◌≤◌, ◌↔◌, ◌⊎◌, ◌++◌, ◌∷◌, ℕ, List, [], true, false, map, reverse, All, OnErr, IfOk, IfErr};
     ghost use Rattle.std.specs.Coded.{Coded};
-    ghost use Rattle.account_core.specs.Asked.{Asked, call_of};
+    ghost use Rattle.account_core.specs.Asked.{call_of};
     ghost use Rattle.account_core.specs.Events.{EntryData, asked_of};
     ghost use Rattle.account_core.specs.Ledger.{Ledger, event_by};
     ghost use Rattle.account_core.specs.Places.{IsClosing};
-    ghost use Rattle.account_core.specs.declared.fault.AccountFault.{AccountFault};
     ghost use Rattle.account_core.specs.declared.fault.AccountFault.TheVariants as out;
     ghost use Rattle.shared_account.specs.Closed.{Closed, IsBookOf};
     ghost use Rattle.shared_account.specs.Kinds.{IsFaultOf, IsReplyTo, IsReturn};
@@ -56,8 +52,6 @@ pub trait Shared: Sync + Drop {
     ghost terms: { Self → Terms };
 
     ghost reads: { Reads Key Self.Seat };
-
-    ghost refuses: { Self → Asked → AccountFault → Type 0 };
 
     ghost was: { Self.Seat → List EntryData → Ledger → Type 0 };
 
@@ -114,8 +108,7 @@ pub trait Shared: Sync + Drop {
             ≡ reads.mine seat.old ++ event_by (reads.number seat.old) (asked_of op) reply ∷ []) }
         ensures kind { IfOk result (λ reply. IsReplyTo (asked_of op) reply) }
         ensures kept { OnErr result (reads.mine seat.new ≡ reads.mine seat.old) }
-        ensures refused { IfErr result (λ fault. refuses self.now (asked_of op) fault) }
-        ensures refused_at { IfErr result (λ fault. (fault ≡ out.GateClosed)
+        ensures refused { IfErr result (λ fault. (fault ≡ out.GateClosed)
             ⊎ IsRefusedAt (was seat.new) (reads.mine seat.old) (asked_of op) fault) }
         ensures was { (mine : List EntryData) (account : Ledger)
             → was seat.old mine account → was seat.new mine account }

@@ -166,7 +166,6 @@ fn make_seats(alloc: Global, account: u32, count: u32) -> Result<Vec<Seat>, Allo
 }
 
 impl Shared for SharedAccount {
-    ghost use Rattle.shared_account.specs.Kinds.{IsRefused};
     ghost use Rattle.shared_account.specs.Seats.{seat_reads};
     ghost use Rattle.std.specs.Coded.{coded_ℕ};
     ghost use Rattle.std.specs.Prelude.{ℕ};
@@ -182,8 +181,6 @@ impl Shared for SharedAccount {
     ghost terms = { λ account. account };
 
     ghost reads = { seat_reads };
-
-    ghost refuses = { λ _ asked fault. IsRefused asked fault };
 
     ghost was = { λ _ _ _. Unit {0} };
 

@@ -226,7 +226,6 @@ fn enter<G: Gate>(
 }
 
 impl Shared for TurnAccount {
-    ghost use Rattle.shared_account.specs.Kinds.{IsRefused};
     ghost use Rattle.shared_account.specs.Seen.{HasSeen, StoodIn};
     ghost use Rattle.atomic_table.specs.Seated.{TableId, table_id_coded};
 
@@ -245,8 +244,6 @@ impl Shared for TurnAccount {
       number = λ seat. seat.number;
       mine = own_of;
     } };
-
-    ghost refuses = { λ _ asked fault. IsRefused asked fault };
 
     ghost was = { HasSeen };
 

@@ -1,8 +1,8 @@
 -- What a dialogue asks first for a post is entered, where nothing is refused.
-use Rattle.std.proofs.Common.{◌≡◌, ◌<◌, ◌++◌, ◌∙◌, ℕ, zero, suc, Bool, true, false, Option, Some, None, Ok, Err, List, [], ◌∷◌, length, map, refl, sym, ap, subst, arith, append-nil}
+use Rattle.std.proofs.Common.{◌≡◌, ◌<◌, ◌++◌, ◌∙◌, ℕ, zero, suc, Bool, true, false, Option, Some, None, Ok, Err, List, [], ◌∷◌, length, map, refl, sym, ap, subst, arith}
 use Rattle.std.specs.Prelude.{◌==◌, Contains, if◌then◌else◌, slice_index_or}
 use Rattle.std.specs.Map.{keys_of}
-use Rattle.std.proofs.lemmas.List.{append_assoc, map-append}
+use Rattle.std.proofs.lemmas.List.{map-append}
 use Rattle.std.proofs.lemmas.List.Elements.{All-head, All-tail, Contains-append_left, Contains-append_right, Contains-push}
 use Rattle.account_core.specs.Asked.{Asked}
 use Rattle.account_core.specs.Events.{EntryData}
@@ -15,7 +15,7 @@ use Rattle.dialogue_core.specs.Phases.{Conditions, Phase, Says, FirstAsk, Runnin
 use Rattle.dialogue_core.specs.Table.{on_begin, conditions, reserve, on_message}
 use Rattle.tariff_core.specs.Routes.{HasNoRoute}
 use Rattle.tariff_core.specs.declared.route.Route.{Route}
-use Rattle.workers_core.proofs.Chaining.{first_sound, once_sound}
+use Rattle.workers_core.proofs.Chaining.{all_sound, first_sound}
 use Rattle.workers_core.proofs.Growing.{place_within}
 use Rattle.workers_core.proofs.Handling.{Means, home_within, many_keys, means_on, own_of, same_number}
 use Rattle.workers_core.specs.Chains.{AreHandled, IsHandledOnce, at_first, seat_numbers}
@@ -144,15 +144,6 @@ asks_first numbers call place asked to old new t within none is =
 
 -- ---- what a worker holds before the post
 
-sound_all : (setup : Setup) (numbers : List ℕ) (done posts : List Post) (refusals : List (Option AccountFault)) (old new : Holding) → IsSound (keys_of setup.accounts) done old
-    → AreHandled setup numbers posts refusals old new → IsSound (keys_of setup.accounts) (done ++ posts) new
-sound_all setup numbers done [] [] old new sound are = rw (append-nil done) (subst (λ h. IsSound (keys_of setup.accounts) done h) are sound)
-sound_all setup numbers done [] (refusal ∷ refusals) old new sound are = absurd are
-sound_all setup numbers done (post ∷ posts) [] old new sound are = absurd are
-sound_all setup numbers done (post ∷ posts) (refusal ∷ refusals) old new sound are =
-    let P : List Post → Type 0 = λ all. IsSound (keys_of setup.accounts) all new in
-    subst P (append_assoc done (post ∷ []) posts) (sound_all setup numbers (done ++ post ∷ []) posts refusals are.0 new (once_sound setup numbers done post refusal old are.0 sound are.1) are.2)
-
 none_yet : (call its : ℕ) (b : Bool) (standing : DialogueAt) (found after : Option DialogueAt) → (call == its) ≡ b → after ≡ (if b then Some standing else found) → found ≡ None → (call ≡ its → ⊥) → after ≡ None
 none_yet call its true standing found after is now none not = absurd (not (same_number call its is))
 none_yet call its false standing found after is now none not = now ∙ none
@@ -198,7 +189,7 @@ reserved_by setup numbers call place at called (Some route) old new t within non
 pub calls_are_reserved : CallsAreReserved
 calls_are_reserved setup number before post lists old call other place calling called is fresh body home has =
     let numbers = seat_numbers number setup in
-    let sound = sound_all setup numbers [] before is.refused (at_first setup) old (first_sound setup) is.begins in
+    let sound = all_sound setup numbers [] before is.refused (at_first setup) old (first_sound setup) is.begins in
     let none : old.talks call ≡ None = none_after setup numbers call before is.refused (at_first setup) old fresh is.begins refl in
     let verdict_is : verdict_on setup old.talks post.number post.at post.body ≡ Begins call place called =
     ap (verdict_on setup old.talks post.number post.at) body ∙ ap (spoken setup post.number post.at call (msg.InitialDp other calling called)) none ∙ ap (begins call called) home in
@@ -227,14 +218,14 @@ pub taken_on : (setup : Setup) (number : ℕ) (before : List Post) (post : Post)
 taken_on setup number before post lists old call place message said to is running body takes =
     let numbers = seat_numbers number setup in
     let standing : DialogueAt = record { phase = Running running.terms; place = place } in
-    let sound = sound_all setup numbers [] before is.refused (at_first setup) old (first_sound setup) is.begins in
+    let sound = all_sound setup numbers [] before is.refused (at_first setup) old (first_sound setup) is.begins in
     let own = own_of (length (keys_of setup.accounts)) before call standing (old.talks call) running.is (sound.talks call) in
     let verdict_is : verdict_on setup old.talks post.number post.at post.body ≡ GoesOn call place said to =
     ap (verdict_on setup old.talks post.number post.at) body ∙ ap (spoken setup post.number post.at call message) running.is ∙ ap (goes_on call place) takes in (
       record {
         sound = sound;
-        within = place_within setup before old place sound (rw (← many_keys setup) own.placed);
+        within = place_within setup before old place sound (rw (← many_keys setup) own.is.placed);
         talk = subst (λ v. IsDone setup numbers post.at v old is.between is.handles.told) verdict_is is.handles.handled.done;
       },
-      own.about,
+      own.is.about,
     )

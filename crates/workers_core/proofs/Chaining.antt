@@ -1,52 +1,100 @@
 -- Posts are handled one after another, and what a worker holds stays in order.
-use Rattle.std.proofs.Common.{◌++◌, ℕ, Option, List, [], ◌∷◌, map, refl, sym, subst}
+use Rattle.std.proofs.Common.{◌++◌, ℕ, Option, List, [], ◌∷◌, map, refl, sym, subst, append_assoc, append-nil}
 use Rattle.std.specs.Map.{keys_of}
-use Rattle.account_core.specs.Events.{EntryData}
-use Rattle.account_core.specs.declared.fault.AccountFault.{AccountFault}
 use Rattle.std.proofs.lemmas.List.Elements.{All-nil}
+use Rattle.std.specs.Prelude.{slice_index_or}
+use Rattle.account_core.specs.Asked.{Asked, Credits}
+use Rattle.account_core.specs.Events.{EntryData}
+use Rattle.account_core.specs.Ledger.{Ledger}
+use Rattle.account_core.specs.declared.fault.AccountFault.{AccountFault}
+use Rattle.dialogue_core.specs.Phases.{Asks}
+use Rattle.dialogue_core.specs.Table.{on_begin}
+use Rattle.shared_account.specs.Refusals.{IsRefusedAt, Knowing}
 use Rattle.workers_core.proofs.Handling.{sound_after}
-use Rattle.workers_core.specs.Chains.{AreAnswered, AreHandled, IsAnswered, IsHandledOnce, IsWorked, at_first, refusals_in}
-use Rattle.workers_core.specs.Handled.{Holding, IsHandled, AnswerView}
+use Rattle.workers_core.proofs.Talking.{all_right_still, refused_still, right_still}
+use Rattle.workers_core.specs.Chains.{AreAnswered, AreHandled, IsAnswered, IsHandledOnce, IsWorked, at_first, refusals_in, seat_numbers}
+use Rattle.workers_core.specs.Handled.{AnswerView, AreRefusedRightly, Holding, IsDone, IsRightlyHandled}
+use Rattle.workers_core.specs.Laws.{EntriesComeFromPosts}
 use Rattle.workers_core.specs.Served.{AreServed}
-use Rattle.run_values.specs.Setups.{Setup}
+use Rattle.workers_core.specs.Talks.{Showing}
+use Rattle.workers_core.specs.Verdicts.{Begins, GoesOn, Recharges, Rejects, Strays, Verdict, verdict}
 use Rattle.workers_core.specs.Workers.{IsSound}
+use Rattle.run_values.specs.Setups.{Setup}
 use Rattle.run_values.specs.declared.directory.OpeningCredit.{OpeningCredit}
 use Rattle.run_values.specs.declared.post.Post.{Post}
 
 -- one post more
-pub one_more : (setup : Setup) (numbers : List ℕ) (posts : List Post) (answers : List AnswerView) (post : Post) (told : AnswerView) (old between new : Holding)
-    → AreAnswered setup numbers posts answers old between → IsHandled setup numbers post between new told
-    → AreAnswered setup numbers (posts ++ post ∷ []) (answers ++ told ∷ []) old new
-one_more setup numbers [] [] post told old between new are is =
-    let P : Holding → Type 0 = λ h. IsHandled setup numbers post h new told in (new, subst P (sym are) is, refl)
-one_more setup numbers [] (t ∷ answers) post told old between new are is = absurd are
-one_more setup numbers (p ∷ posts) [] post told old between new are is = absurd are
-one_more setup numbers (p ∷ posts) (t ∷ answers) post told old between new are is =
-    (are.0, are.1, one_more setup numbers posts answers post told are.0 between new are.2 is)
+pub one_more : (Shows : ℕ → Showing) (setup : Setup) (numbers : List ℕ) (posts : List Post) (answers : List AnswerView) (post : Post) (told : AnswerView) (old between new : Holding)
+    → AreAnswered Shows setup numbers posts answers old between → IsRightlyHandled Shows setup numbers post between new told
+    → AreAnswered Shows setup numbers (posts ++ post ∷ []) (answers ++ told ∷ []) old new
+one_more Shows setup numbers [] [] post told old between new are is =
+    let P : Holding → Type 0 = λ h. IsRightlyHandled Shows setup numbers post h new told in (new, subst P (sym are) is, refl)
+one_more Shows setup numbers [] (t ∷ answers) post told old between new are is = absurd are
+one_more Shows setup numbers (p ∷ posts) [] post told old between new are is = absurd are
+one_more Shows setup numbers (p ∷ posts) (t ∷ answers) post told old between new are is =
+    (are.0, are.1, one_more Shows setup numbers posts answers post told are.0 between new are.2 is)
 
 -- posts after posts
-pub more_after : (setup : Setup) (numbers : List ℕ) (posts later : List Post) (answers told : List AnswerView) (old between new : Holding)
-    → AreAnswered setup numbers posts answers old between → AreAnswered setup numbers later told between new
-    → AreAnswered setup numbers (posts ++ later) (answers ++ told) old new
-more_after setup numbers [] later [] told old between new are then_are =
-    let P : Holding → Type 0 = λ h. AreAnswered setup numbers later told h new in subst P (sym are) then_are
-more_after setup numbers [] later (t ∷ answers) told old between new are then_are = absurd are
-more_after setup numbers (p ∷ posts) later [] told old between new are then_are = absurd are
-more_after setup numbers (p ∷ posts) later (t ∷ answers) told old between new are then_are =
-    (are.0, are.1, more_after setup numbers posts later answers told are.0 between new are.2 then_are)
+pub more_after : (Shows : ℕ → Showing) (setup : Setup) (numbers : List ℕ) (posts later : List Post) (answers told : List AnswerView) (old between new : Holding)
+    → AreAnswered Shows setup numbers posts answers old between → AreAnswered Shows setup numbers later told between new
+    → AreAnswered Shows setup numbers (posts ++ later) (answers ++ told) old new
+more_after Shows setup numbers [] later [] told old between new are then_are =
+    let P : Holding → Type 0 = λ h. AreAnswered Shows setup numbers later told h new in subst P (sym are) then_are
+more_after Shows setup numbers [] later (t ∷ answers) told old between new are then_are = absurd are
+more_after Shows setup numbers (p ∷ posts) later [] told old between new are then_are = absurd are
+more_after Shows setup numbers (p ∷ posts) later (t ∷ answers) told old between new are then_are =
+    (are.0, are.1, more_after Shows setup numbers posts later answers told are.0 between new are.2 then_are)
 
--- posts that were answered were handled, and those were refused of which the answers tell it
-handled_so : (setup : Setup) (numbers : List ℕ) (posts : List Post) (answers : List AnswerView) (old new : Holding) → AreAnswered setup numbers posts answers old new
+-- ---- what showed a refusal shows it later
+
+rightly_still : (Shows Later : ℕ → Showing) → ((place : ℕ) (mine : List EntryData) (asked : Asked) (why : AccountFault) → Shows place mine asked why → Later place mine asked why)
+    → (setup : Setup) (numbers : List ℕ) (at : ℕ) (v : Verdict) (old new : Holding) (told : AnswerView) (done : IsDone setup numbers at v old new told)
+    → AreRefusedRightly Shows setup numbers at v old new told done → AreRefusedRightly Later setup numbers at v old new told done
+rightly_still Shows Later still setup numbers at Strays old new told done right = tt
+rightly_still Shows Later still setup numbers at Rejects old new told done right = tt
+rightly_still Shows Later still setup numbers at (Recharges place amount until) old new told done right =
+    right_still (Shows place) (Later place) (still place) (slice_index_or old.lists place []) (Asks (Credits amount until)) done.got right
+rightly_still Shows Later still setup numbers at (Begins call place called) old new told done right =
+    all_right_still (Shows place) (Later place) (still place) (slice_index_or numbers place 0) (on_begin call at setup.service.wanted setup.service.least done.route) (slice_index_or old.lists place [])
+    done.talked.gots right
+rightly_still Shows Later still setup numbers at (GoesOn call place said phase) old new told done right =
+    all_right_still (Shows place) (Later place) (still place) (slice_index_or numbers place 0) (said, phase) (slice_index_or old.lists place []) done.gots right
+
+still_answered : (Shows Later : ℕ → Showing) → ((place : ℕ) (mine : List EntryData) (asked : Asked) (why : AccountFault) → Shows place mine asked why → Later place mine asked why)
+    → (setup : Setup) (numbers : List ℕ) (posts : List Post) (answers : List AnswerView) (old new : Holding) → AreAnswered Shows setup numbers posts answers old new
+    → AreAnswered Later setup numbers posts answers old new
+still_answered Shows Later still setup numbers [] [] old new are = are
+still_answered Shows Later still setup numbers [] (t ∷ answers) old new are = absurd are
+still_answered Shows Later still setup numbers (p ∷ posts) [] old new are = absurd are
+still_answered Shows Later still setup numbers (p ∷ posts) (t ∷ answers) old new are = (
+  are.0,
+  record {
+    handled = are.1.handled;
+    right = rightly_still Shows Later still setup numbers p.at (verdict setup old.talks p) old are.0 t are.1.handled.done are.1.right;
+  },
+  still_answered Shows Later still setup numbers posts answers are.0 new are.2,
+)
+
+-- what was known at each place is known later
+pub answered_still : (Was Later : ℕ → Knowing) → ((place : ℕ) (mine : List EntryData) (account : Ledger) → Was place mine account → Later place mine account)
+    → (setup : Setup) (numbers : List ℕ) (posts : List Post) (answers : List AnswerView) (old new : Holding) → AreAnswered (λ place. IsRefusedAt (Was place)) setup numbers posts answers old new
+    → AreAnswered (λ place. IsRefusedAt (Later place)) setup numbers posts answers old new
+answered_still Was Later still =
+    still_answered (λ place. IsRefusedAt (Was place)) (λ place. IsRefusedAt (Later place)) (λ place. refused_still (Was place) (Later place) (still place))
+
+-- ---- posts that were answered were handled, and those were refused of which the answers tell it
+
+handled_so : (Shows : ℕ → Showing) (setup : Setup) (numbers : List ℕ) (posts : List Post) (answers : List AnswerView) (old new : Holding) → AreAnswered Shows setup numbers posts answers old new
     → AreHandled setup numbers posts (refusals_in answers) old new
-handled_so setup numbers [] [] old new are = are
-handled_so setup numbers [] (t ∷ answers) old new are = absurd are
-handled_so setup numbers (p ∷ posts) [] old new are = absurd are
-handled_so setup numbers (p ∷ posts) (t ∷ answers) old new are =
-    (are.0, record { told = t; handled = are.1; refused = refl }, handled_so setup numbers posts answers are.0 new are.2)
+handled_so Shows setup numbers [] [] old new are = are
+handled_so Shows setup numbers [] (t ∷ answers) old new are = absurd are
+handled_so Shows setup numbers (p ∷ posts) [] old new are = absurd are
+handled_so Shows setup numbers (p ∷ posts) (t ∷ answers) old new are =
+    (are.0, record { told = t; handled = are.1.handled; refused = refl }, handled_so Shows setup numbers posts answers are.0 new are.2)
 
-pub worked_so : (setup : Setup) (number : ℕ) (posts : List Post) (answers : List AnswerView) (lists : List (List EntryData)) → IsAnswered setup number posts answers lists
+pub worked_so : (Shows : ℕ → Showing) (setup : Setup) (number : ℕ) (posts : List Post) (answers : List AnswerView) (lists : List (List EntryData)) → IsAnswered Shows setup number posts answers lists
     → IsWorked setup number posts (refusals_in answers) lists
-worked_so setup number posts answers lists is = record { talks = is.talks; chain = handled_so setup _ posts answers _ _ is.chain }
+worked_so Shows setup number posts answers lists is = record { talks = is.talks; chain = handled_so Shows setup _ posts answers _ _ is.chain }
 
 -- ---- what a worker holds is in order, from the first post on
 
@@ -60,3 +108,16 @@ first_sound setup = record { served = none_served setup.accounts; talks = λ cal
 pub once_sound : (setup : Setup) (numbers : List ℕ) (done : List Post) (post : Post) (refusal : Option AccountFault) (old new : Holding) → IsSound (keys_of setup.accounts) done old
     → IsHandledOnce setup numbers post refusal old new → IsSound (keys_of setup.accounts) (done ++ post ∷ []) new
 once_sound setup numbers done post refusal old new sound is = sound_after setup numbers done post old new is.told sound is.handled.done
+
+pub all_sound : (setup : Setup) (numbers : List ℕ) (done posts : List Post) (refusals : List (Option AccountFault)) (old new : Holding) → IsSound (keys_of setup.accounts) done old
+    → AreHandled setup numbers posts refusals old new → IsSound (keys_of setup.accounts) (done ++ posts) new
+all_sound setup numbers done [] [] old new sound are = rw (append-nil done) (subst (λ h. IsSound (keys_of setup.accounts) done h) are sound)
+all_sound setup numbers done [] (refusal ∷ refusals) old new sound are = absurd are
+all_sound setup numbers done (post ∷ posts) [] old new sound are = absurd are
+all_sound setup numbers done (post ∷ posts) (refusal ∷ refusals) old new sound are =
+    let P : List Post → Type 0 = λ all. IsSound (keys_of setup.accounts) all new in
+    subst P (append_assoc done (post ∷ []) posts) (all_sound setup numbers (done ++ post ∷ []) posts refusals are.0 new (once_sound setup numbers done post refusal old are.0 sound are.1) are.2)
+
+pub come_from_posts : EntriesComeFromPosts
+come_from_posts setup number posts refusals lists is =
+    (all_sound setup (seat_numbers number setup) [] posts refusals (at_first setup) (record { lists = lists; talks = is.talks }) (first_sound setup) is.chain).served

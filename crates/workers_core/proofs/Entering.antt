@@ -52,7 +52,7 @@ message_adds setup numbers posts place number at call message (GoesOn its there 
     let own = own_of (length (keys_of setup.accounts)) posts its m.standing (old.talks its) m.stands (sound.talks its) in
     let takes : TakesTo its number m.message (Ok (said, phase)) =
     let P : Step → Type 0 = λ step. TakesTo its number m.message step in
-    subst P m.takes (takes_told its number at m.standing.phase m.message own.about) in
+    subst P m.takes (takes_told its number at m.standing.phase m.message own.is.about) in
     none_more setup numbers its there place (said, phase) old new t within (λ seat gots. talk_credits seat its (said, phase) gots takes.0 takes.1) done
 
 no_money : (account call : ℕ) (message : SsfMsg) (refusal : Option AccountFault) → credited_by account (Ssf call message) refusal ≡ []

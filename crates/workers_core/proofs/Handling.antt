@@ -18,14 +18,14 @@ use Rattle.dialogue_core.specs.Views.{phase_of, says_of}
 use Rattle.workers_core.proofs.Abouts.{SaysOf, TakesTo, begun_about, begun_says, begun_settles, settled_by, takes_told, talk_credits, talk_held, talk_settles, talked_about}
 use Rattle.workers_core.proofs.Parts.{IsEntered, all_served_grown, all_served_more, begun_more, part_through}
 use Rattle.workers_core.specs.Cases.{IsCase, IsRightlyActed, IsWithin, with_room}
-use Rattle.workers_core.specs.Handled.{AreRefusedRightly, Holding, IsDone, IsRecharged, IsTalked, IsUnasked, Stay, AnswerView}
+use Rattle.workers_core.specs.Handled.{AnswerView, AreRefusedRightly, Holding, IsDone, IsRecharged, IsTalked, IsUnasked, StandsNow, Stay}
 use Rattle.workers_core.specs.Served.{IsPart, Money, Report, begun_by, begun_of, recharged_in, reported_in, settles_of}
 use Rattle.run_values.specs.Openings.{no_credit}
 use Rattle.run_values.specs.Setups.{Setup, account_of, place_of}
 use Rattle.dialogue_core.specs.Talks.{Got}
 use Rattle.workers_core.specs.Talks.{AreRight, Showing, entries_of, entry_of}
 use Rattle.workers_core.specs.Verdicts.{DialogueAt, Verdict, Strays, Rejects, Recharges, Begins, GoesOn, begins, fresh, goes_on, home_of, recharged, spoken, strays, verdict, verdict_on}
-use Rattle.workers_core.specs.Workers.{IsAbout, IsOwn, IsSound, standing_of}
+use Rattle.workers_core.specs.Workers.{ArePlaced, IsAbout, IsOwn, IsPlaced, IsSound, standing_of}
 use Rattle.workers_core.specs.declared.worker.Case.{Case}
 use Rattle.workers_core.specs.declared.worker.Case.TheVariants as case
 use Rattle.run_values.specs.declared.directory.OpeningCredit.{OpeningCredit}
@@ -113,35 +113,39 @@ means_on setup talks number at (Recharge account amount until) = means_recharged
 
 -- ---- the place of a case
 
+-- the dialogue that was found
+pub standing_so : (P : DialogueAt → Type 0) (standing : DialogueAt) (found : Option DialogueAt) → found ≡ Some standing → IfSome found P → P standing
+standing_so P standing None is has = cc
+standing_so P standing (Some other) is has = let same : other ≡ standing = cc in subst P same has
+
 pub own_of : (count : ℕ) (posts : List Post) (call : ℕ) (standing : DialogueAt) (found : Option DialogueAt) → found ≡ Some standing → IfSome found (λ s. IsOwn count posts call s)
     → IsOwn count posts call standing
-own_of count posts call standing None is own = cc
-own_of count posts call standing (Some other) is own = let same : other ≡ standing = cc in let P : DialogueAt → Type 0 = λ s. IsOwn count posts call s in subst P same own
+own_of count posts call = standing_so (λ s. IsOwn count posts call s)
 
 pub many_keys : (setup : Setup) → length (keys_of setup.accounts) ≡ length setup.accounts
 many_keys setup = length-map setup.accounts (λ (e : ℕ × OpeningCredit). e.0)
 
-within_by : (setup : Setup) (at : ℕ) (posts : List Post) (old : Holding) (number : ℕ) (body : Body) (v : Verdict) (case : Case) → IsSound (keys_of setup.accounts) posts old
+within_by : (setup : Setup) (at : ℕ) (old : Holding) (number : ℕ) (body : Body) (v : Verdict) (case : Case) → ArePlaced (length setup.accounts) old.talks
     → Means setup old.talks number at body v → IsCase setup at v case → IsWithin (length setup.accounts) case
-within_by setup at posts old number body v case.Stray sound means is = tt
-within_by setup at posts old number body v case.Rejected sound means is = tt
-within_by setup at posts old number body v (case.Recharge place amount until) sound means is =
+within_by setup at old number body v case.Stray placed means is = tt
+within_by setup at old number body v case.Rejected placed means is = tt
+within_by setup at old number body v (case.Recharge place amount until) placed means is =
     let P : Verdict → Type 0 = λ w. Means setup old.talks number at body w in
     let m : IsOfAccount setup body place amount until = subst P is means in (at_place setup m.account place m.at).0
-within_by setup at posts old number body v (case.Talk call talk turn) sound means is =
+within_by setup at old number body v (case.Talk call talk turn) placed means is =
     let P : Verdict → Type 0 = λ w. Means setup old.talks number at body w in
     elim is [
       | inl goes ↦
           (let m : IsOfDialogue old.talks number at body call talk.place (says_of turn) (phase_of talk.dialogue) = subst P goes means in
-          let own = own_of (length (keys_of setup.accounts)) posts call m.standing (old.talks call) m.stands (sound.talks call) in
-          rw (← m.same, ← many_keys setup) own.placed)
+          let its = standing_so (λ s. IsPlaced (length setup.accounts) call s) m.standing (old.talks call) m.stands (placed call) in
+          rw (← m.same) its.placed)
       | inr first ↦ (let m : IsOfBeginning setup old.talks body call talk.place first.called = subst P first.is means in m.within)
     ]
 
-pub case_within : (setup : Setup) (posts : List Post) (old : Holding) (post : Post) (case : Case) → IsSound (keys_of setup.accounts) posts old
+pub case_within : (setup : Setup) (old : Holding) (post : Post) (case : Case) → ArePlaced (length setup.accounts) old.talks
     → IsCase setup post.at (verdict setup old.talks post) case → IsWithin (length setup.accounts) case
-case_within setup posts old post case sound is =
-    within_by setup post.at posts old post.number post.body (verdict setup old.talks post) case sound (means_on setup old.talks post.number post.at post.body) is
+case_within setup old post case placed is =
+    within_by setup post.at old post.number post.body (verdict setup old.talks post) case placed (means_on setup old.talks post.number post.at post.body) is
 
 -- ---- what is done, by the verdict
 
@@ -236,23 +240,7 @@ pub recharged_so : (setup : Setup) (numbers : List ℕ) (at : ℕ) (v : Verdict)
     → IsRecharged numbers place amount until old new t
 recharged_so setup numbers at v old new t place amount until done is = let P : Verdict → Type 0 = λ w. IsDone setup numbers at w old new t in subst P is done
 
--- ---- what a worker holds stays in order
-
-own_more : (count : ℕ) (posts : List Post) (post : Post) (call : ℕ) (found : Option DialogueAt) → IfSome found (λ s. IsOwn count posts call s) → IfSome found (λ s. IsOwn count (posts ++ post ∷ []) call s)
-own_more count posts post call None own = tt
-own_more count posts post call (Some standing) own = record { placed = own.placed; about = own.about; begun = begun_more posts post call own.begun }
-
-own_same : (count : ℕ) (posts : List Post) (post : Post) (call : ℕ) (found after : Option DialogueAt) → after ≡ found → IfSome found (λ s. IsOwn count posts call s)
-    → IfSome after (λ s. IsOwn count (posts ++ post ∷ []) call s)
-own_same count posts post call found after same own =
-    let P : Option DialogueAt → Type 0 = λ f. IfSome f (λ s. IsOwn count (posts ++ post ∷ []) call s) in subst P (sym same) (own_more count posts post call found own)
-
-unasked_sound : (accounts : List ℕ) (posts : List Post) (post : Post) (old new : Holding) → IsSound accounts posts old → new.lists ≡ old.lists → Stay old.talks new.talks
-    → IsSound accounts (posts ++ post ∷ []) new
-unasked_sound accounts posts post old new sound lists talks = record {
-  served = rw lists (all_served_more accounts posts post old.lists sound.served);
-  talks = λ call. own_same (length accounts) posts post call (old.talks call) (new.talks call) (talks call) (sound.talks call);
-}
+-- ---- where the dialogues stand
 
 pub same_number : (s t : ℕ) → (s == t) ≡ true → s ≡ t
 same_number s t is = grind (arith, nat_tests, is)
@@ -260,14 +248,70 @@ same_number s t is = grind (arith, nat_tests, is)
 pub is_itself : (n : ℕ) → (n == n) ≡ true
 is_itself n = grind (arith, nat_tests)
 
-own_now : (count : ℕ) (posts : List Post) (post : Post) (call other : ℕ) (b : Bool) (standing : DialogueAt) (found after : Option DialogueAt) → (other == call) ≡ b
-    → after ≡ (if b then Some standing else found) → IsOwn count (posts ++ post ∷ []) call standing → IfSome found (λ s. IsOwn count posts other s)
-    → IfSome after (λ s. IsOwn count (posts ++ post ∷ []) other s)
-own_now count posts post call other true standing found after is now own before =
-    let P : Option DialogueAt → Type 0 = λ f. IfSome f (λ s. IsOwn count (posts ++ post ∷ []) other s) in
-    let Q : ℕ → Type 0 = λ c. IsOwn count (posts ++ post ∷ []) c standing in
-    subst P (sym now) (subst Q (sym (same_number other call is)) own)
-own_now count posts post call other false standing found after is now own before = own_same count posts post other found after now before
+-- what holds of each dialogue holds of each that stands as before
+pub stay_each : (P : ℕ → DialogueAt → Type 0) (old new : ℕ → Option DialogueAt) → Stay old new → ((call : ℕ) → IfSome (old call) (P call)) → (call : ℕ) → IfSome (new call) (P call)
+stay_each P old new same each call = let Q : Option DialogueAt → Type 0 = λ found. IfSome found (P call) in subst Q (sym (same call)) (each call)
+
+now_or : (P : ℕ → DialogueAt → Type 0) (call other : ℕ) (b : Bool) (standing : DialogueAt) (found after : Option DialogueAt) → (other == call) ≡ b
+    → after ≡ (if b then Some standing else found) → P call standing → IfSome found (P other) → IfSome after (P other)
+now_or P call other true standing found after is now its before =
+    let Q : Option DialogueAt → Type 0 = λ f. IfSome f (P other) in
+    let R : ℕ → Type 0 = λ c. P c standing in
+    subst Q (sym now) (subst R (sym (same_number other call is)) its)
+now_or P call other false standing found after is now its before = let Q : Option DialogueAt → Type 0 = λ f. IfSome f (P other) in subst Q (sym now) before
+
+-- and of each but one, which stands so now
+pub now_each : (P : ℕ → DialogueAt → Type 0) (call : ℕ) (standing : DialogueAt) (old new : ℕ → Option DialogueAt) → StandsNow call standing old new → P call standing
+    → ((other : ℕ) → IfSome (old other) (P other)) → (other : ℕ) → IfSome (new other) (P other)
+now_each P call standing old new now its each other = now_or P call other (other == call) standing (old other) (new other) refl (now other) its (each other)
+
+ended_about : (numbers : List ℕ) (call place : ℕ) (first : Says × Phase) (old new : Holding) (t : AnswerView) → IsAbout call first.1 → (is : IsTalked numbers call place first old new t) → IsAbout call is.phase
+ended_about numbers call place first old new t about is = let P : (Says × Phase) → Type 0 = λ p. IsAbout call p.1 in subst P is.talk (talked_about call first is.gots about)
+
+talked_placed : (count : ℕ) (numbers : List ℕ) (call place : ℕ) (first : Says × Phase) (old new : Holding) (t : AnswerView) → place < count → IsAbout call first.1
+    → IsTalked numbers call place first old new t → ArePlaced count old.talks → ArePlaced count new.talks
+talked_placed count numbers call place first old new t within about is placed =
+    now_each (λ c s. IsPlaced count c s) call (record { phase = is.phase; place = place }) old.talks new.talks is.talks
+    (record { placed = within; about = ended_about numbers call place first old new t about is }) placed
+
+placed_by : (setup : Setup) (numbers : List ℕ) (post : Post) (v : Verdict) (old new : Holding) (t : AnswerView) → ArePlaced (length setup.accounts) old.talks
+    → Means setup old.talks post.number post.at post.body v → IsDone setup numbers post.at v old new t → ArePlaced (length setup.accounts) new.talks
+placed_by setup numbers post Strays old new t placed m done = stay_each (λ c s. IsPlaced (length setup.accounts) c s) old.talks new.talks done.talks placed
+placed_by setup numbers post Rejects old new t placed m done = stay_each (λ c s. IsPlaced (length setup.accounts) c s) old.talks new.talks done.talks placed
+placed_by setup numbers post (Recharges place amount until) old new t placed m done =
+    stay_each (λ c s. IsPlaced (length setup.accounts) c s) old.talks new.talks done.talks placed
+placed_by setup numbers post (Begins call place called) old new t placed m done =
+    talked_placed (length setup.accounts) numbers call place (on_begin call post.at setup.service.wanted setup.service.least done.route) old new t m.within
+    (begun_about call post.at setup.service.wanted setup.service.least done.route) done.talked placed
+placed_by setup numbers post (GoesOn call place said phase) old new t placed m done =
+    let its = standing_so (λ s. IsPlaced (length setup.accounts) call s) m.standing (old.talks call) m.stands (placed call) in
+    let takes : TakesTo call post.number m.message (Ok (said, phase)) =
+    let P : Step → Type 0 = λ step. TakesTo call post.number m.message step in
+    subst P m.takes (takes_told call post.number post.at m.standing.phase m.message its.about) in
+    talked_placed (length setup.accounts) numbers call place (said, phase) old new t (rw (← m.same) its.placed) takes.0 done placed
+
+-- each dialogue is still about its call, and has its account
+pub placed_after : (setup : Setup) (numbers : List ℕ) (post : Post) (old new : Holding) (t : AnswerView) → ArePlaced (length setup.accounts) old.talks
+    → IsDone setup numbers post.at (verdict setup old.talks post) old new t → ArePlaced (length setup.accounts) new.talks
+placed_after setup numbers post old new t placed done =
+    placed_by setup numbers post (verdict setup old.talks post) old new t placed (means_on setup old.talks post.number post.at post.body) done
+
+-- ---- what a worker holds stays in order
+
+own_more : (count : ℕ) (posts : List Post) (post : Post) (call : ℕ) (found : Option DialogueAt) → IfSome found (λ s. IsOwn count posts call s) → IfSome found (λ s. IsOwn count (posts ++ post ∷ []) call s)
+own_more count posts post call None own = tt
+own_more count posts post call (Some standing) own = record { is = own.is; begun = begun_more posts post call own.begun }
+
+all_own_more : (count : ℕ) (posts : List Post) (post : Post) (talks : ℕ → Option DialogueAt) → ((call : ℕ) → IfSome (talks call) (λ s. IsOwn count posts call s))
+    → (call : ℕ) → IfSome (talks call) (λ s. IsOwn count (posts ++ post ∷ []) call s)
+all_own_more count posts post talks own call = own_more count posts post call (talks call) (own call)
+
+unasked_sound : (accounts : List ℕ) (posts : List Post) (post : Post) (old new : Holding) → IsSound accounts posts old → new.lists ≡ old.lists → Stay old.talks new.talks
+    → IsSound accounts (posts ++ post ∷ []) new
+unasked_sound accounts posts post old new sound lists talks = record {
+  served = rw lists (all_served_more accounts posts post old.lists sound.served);
+  talks = stay_each (λ call s. IsOwn (length accounts) (posts ++ post ∷ []) call s) old.talks new.talks talks (all_own_more (length accounts) posts post old.talks sound.talks);
+}
 
 talked_sound : (accounts numbers : List ℕ) (call place : ℕ) (first : Says × Phase) (posts : List Post) (post : Post) (old new : Holding) (t : AnswerView) → IsSound accounts posts old
     → place < length accounts → Contains (begun_of (posts ++ post ∷ [])) call → IsAbout call first.1 → SaysOf call first.0
@@ -280,12 +324,11 @@ talked_sound accounts numbers call place first posts post old new t sound within
           let P : List Money → Type 0 = λ l. IsPart l (recharged_in (get_or accounts place 0) post.body) in subst P (sym (talk_credits seat call first is.gots about says)) tt;
       calls = talk_held seat call (begun_of (posts ++ post ∷ [])) first is.gots about says has;
     } in
-    let stands : IsAbout call is.phase = let P : (Says × Phase) → Type 0 = λ p. IsAbout call p.1 in subst P is.talk (talked_about call first is.gots about) in
     record {
       served = rw is.lists (all_served_grown accounts posts post old.lists place (entries_of seat first is.gots) sound.served within entered);
-      talks = λ other.
-          own_now (length accounts) posts post call other (other == call) (record { phase = is.phase; place = place }) (old.talks other) (new.talks other) refl (is.talks other)
-          (record { placed = within; about = stands; begun = has }) (sound.talks other);
+      talks = now_each (λ c s. IsOwn (length accounts) (posts ++ post ∷ []) c s) call (record { phase = is.phase; place = place }) old.talks new.talks is.talks
+          (record { is = record { placed = within; about = ended_about numbers call place first old new t about is }; begun = has })
+          (all_own_more (length accounts) posts post old.talks sound.talks);
     }
 
 credit_entered : (account : ℕ) (posts : List Post) (post : Post) (seat amount : ℕ) (until : Option ℕ) (got : Got) → recharged_in account post.body ≡ (amount, until) ∷ []
@@ -317,7 +360,8 @@ sound_by setup numbers posts post (Recharges place amount until) old new t sound
           rw done.lists
           (all_served_grown (keys_of setup.accounts) posts post old.lists place (entry_of seat (Asks (Credits amount until)) done.got) sound.served within
           (credit_entered (get_or (keys_of setup.accounts) place 0) posts post seat amount until done.got (of_account setup post.body place amount until m)));
-      talks = λ call. own_same (length (keys_of setup.accounts)) posts post call (old.talks call) (new.talks call) (done.talks call) (sound.talks call);
+      talks = stay_each (λ c s. IsOwn (length (keys_of setup.accounts)) (posts ++ post ∷ []) c s) old.talks new.talks done.talks
+          (all_own_more (length (keys_of setup.accounts)) posts post old.talks sound.talks);
     }
 sound_by setup numbers posts post (Begins call place called) old new t sound m done =
     let within : place < length (keys_of setup.accounts) = rw (many_keys setup) m.within in
@@ -331,10 +375,10 @@ sound_by setup numbers posts post (Begins call place called) old new t sound m d
     (begun_about call post.at setup.service.wanted setup.service.least done.route) (begun_says call post.at setup.service.wanted setup.service.least done.route) settles done.talked
 sound_by setup numbers posts post (GoesOn call place said phase) old new t sound m done =
     let own = own_of (length (keys_of setup.accounts)) posts call m.standing (old.talks call) m.stands (sound.talks call) in
-    let within : place < length (keys_of setup.accounts) = rw (← m.same) own.placed in
+    let within : place < length (keys_of setup.accounts) = rw (← m.same) own.is.placed in
     let takes : TakesTo call post.number m.message (Ok (said, phase)) =
     let P : Step → Type 0 = λ step. TakesTo call post.number m.message step in
-    subst P m.takes (takes_told call post.number post.at m.standing.phase m.message own.about) in
+    subst P m.takes (takes_told call post.number post.at m.standing.phase m.message own.is.about) in
     talked_sound (keys_of setup.accounts) numbers call place (said, phase) posts post old new t sound within (begun_more posts post call own.begun) takes.0 takes.1 (rw m.is takes.2) done
 
 -- what a worker holds stays in order

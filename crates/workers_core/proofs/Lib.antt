@@ -9,7 +9,6 @@ pub mod Growing
 pub mod Handling
 pub mod Orders
 pub mod Parts
-pub mod Refused
 pub mod Reserving
 pub mod Returnings
 pub mod Settlings

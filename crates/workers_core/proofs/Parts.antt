@@ -1,9 +1,9 @@
 -- Parts of lists, and what the entries of seats have to do with posts as both grow.
-use Rattle.std.proofs.Common.{◌≡◌, ◌<◌, ◌++◌, ◌∙◌, ℕ, zero, suc, List, [], ◌∷◌, length, subst, arith, inl, inr, All, get_or, map}
+use Rattle.std.proofs.Common.{◌<◌, ◌++◌, ◌∙◌, ℕ, zero, suc, List, [], ◌∷◌, length, subst, arith, inl, inr, All, get_or}
 use Rattle.std.specs.Prelude.{Contains, flat_map}
 use Rattle.std.proofs.lemmas.Grind.{flat_map-append}
 use Rattle.std.proofs.lemmas.List.{flat_map_more}
-use Rattle.std.proofs.lemmas.List.Elements.{All-append, All-head, All-nil, All-tail, All-weaker, Contains-append_left}
+use Rattle.std.proofs.lemmas.List.Elements.{All-append, All-weaker, Contains-append_left}
 use Rattle.account_core.specs.Events.{EntryData}
 use Rattle.workers_core.specs.Handled.{grown}
 use Rattle.workers_core.specs.Served.{AreServed, IsPart, IsServed, begun_by, begun_of, credited_in, credits_of, held_in, held_of, recharged_in, recharges_of, reported_in, reports_of, settled_in, settles_of}
@@ -99,11 +99,3 @@ all_served_grown (account ∷ accounts) posts post (mine ∷ lists) zero entries
     (served_grown account posts post mine entries are.0 entered, all_served_more accounts posts post lists are.1)
 all_served_grown (account ∷ accounts) posts post (mine ∷ lists) (suc place) entries are within entered =
     (served_more account posts post mine are.0, all_served_grown accounts posts post lists place entries are.1 (omega (arith, within)) entered)
-
-pub none_served : {T : Type 0} (mine_of : T → List EntryData) (accounts : List ℕ) (seats : List T) → length seats ≡ length accounts → All (λ seat. mine_of seat ≡ []) seats
-    → AreServed accounts [] (map mine_of seats)
-none_served mine_of [] [] many none = tt
-none_served mine_of [] (seat ∷ seats) many none = absurd (omega (arith, many))
-none_served mine_of (account ∷ accounts) [] many none = absurd (omega (arith, many))
-none_served mine_of (account ∷ accounts) (seat ∷ seats) many none =
-    (rw (All-head (λ s. mine_of s ≡ []) seat seats none) (record { settles = tt; credits = tt; calls = All-nil (λ call. Contains [] call) }), none_served mine_of accounts seats (omega (arith, many)) (All-tail (λ s. mine_of s ≡ []) seat seats none))

@@ -129,12 +129,12 @@ before_by setup numbers posts post call (Begins its at called) old new t sound m
 before_by setup numbers posts post call (GoesOn its at said phase) old new t sound m done not =
     let own = own_of (length (keys_of setup.accounts)) posts its m.standing (old.talks its) m.stands (sound.talks its) in
     let P : Step → Type 0 = λ step. TakesTo its post.number m.message step in
-    let takes : TakesTo its post.number m.message (Ok (said, phase)) = subst P m.takes (takes_told its post.number post.at m.standing.phase m.message own.about) in
+    let takes : TakesTo its post.number m.message (Ok (said, phase)) = subst P m.takes (takes_told its post.number post.at m.standing.phase m.message own.is.about) in
     let last : StepReturnsLast (Ok (said, phase)) = subst StepReturnsLast m.takes (last_told post.number post.at m.standing.phase m.message) in
     let through : is_through m.standing.phase ≡ true → is_through phase ≡ true =
     λ is. let over : StepIsOver (Ok (said, phase)) = subst StepIsOver m.takes (over_told post.number post.at m.standing.phase m.message is) in over.1 in
     let Q : ℕ → Type 0 = λ c. has_ended (old.talks c) ≡ false in
-    before_talk numbers call its at (said, phase) old new t (call == its) refl (place_within setup posts old at sound (rw (← m.same, ← many_keys setup) own.placed)) takes.0 takes.1 last
+    before_talk numbers call its at (said, phase) old new t (call == its) refl (place_within setup posts old at sound (rw (← m.same, ← many_keys setup) own.is.placed)) takes.0 takes.1 last
     (λ same began. subst Q (sym same) (ap has_ended m.stands ∙ not_before (is_through m.standing.phase) (is_through phase) through began)) done not
 
 before_all : (setup : Setup) (numbers : List ℕ) (call : ℕ) (done posts : List Post) (refusals : List (Option AccountFault)) (old new : Holding) → IsSound (keys_of setup.accounts) done old
@@ -182,9 +182,9 @@ after_by setup numbers posts post call (Begins its at called) old new t sound m 
 after_by setup numbers posts post call (GoesOn its at said phase) old new t sound m done ended =
     let own = own_of (length (keys_of setup.accounts)) posts its m.standing (old.talks its) m.stands (sound.talks its) in
     let P : Step → Type 0 = λ step. TakesTo its post.number m.message step in
-    let takes : TakesTo its post.number m.message (Ok (said, phase)) = subst P m.takes (takes_told its post.number post.at m.standing.phase m.message own.about) in
+    let takes : TakesTo its post.number m.message (Ok (said, phase)) = subst P m.takes (takes_told its post.number post.at m.standing.phase m.message own.is.about) in
     let Q : ℕ → Type 0 = λ c. has_ended (old.talks c) ≡ true in
-    after_talk numbers call its at (said, phase) old new t (call == its) refl (place_within setup posts old at sound (rw (← m.same, ← many_keys setup) own.placed)) takes.0 takes.1
+    after_talk numbers call its at (said, phase) old new t (call == its) refl (place_within setup posts old at sound (rw (← m.same, ← many_keys setup) own.is.placed)) takes.0 takes.1
     (λ same. let through : is_through m.standing.phase ≡ true = ap has_ended (sym m.stands) ∙ subst Q same ended in
     let over : StepIsOver (Ok (said, phase)) = subst StepIsOver m.takes (over_told post.number post.at m.standing.phase m.message through) in over) done ended
 

@@ -77,8 +77,8 @@ adds_by setup numbers posts post place (Begins call at called) old new t sound m
 adds_by setup numbers posts post place (GoesOn call at said phase) old new t sound m done =
     let own = own_of (length (keys_of setup.accounts)) posts call m.standing (old.talks call) m.stands (sound.talks call) in
     let P : Step → Type 0 = λ step. TakesTo call post.number m.message step in
-    let takes : TakesTo call post.number m.message (Ok (said, phase)) = subst P m.takes (takes_told call post.number post.at m.standing.phase m.message own.about) in
-    talk_adds numbers call at place (said, phase) old new t (reported_in post.number post.body) (place_within setup posts old at sound (rw (← m.same, ← many_keys setup) own.placed)) takes.0
+    let takes : TakesTo call post.number m.message (Ok (said, phase)) = subst P m.takes (takes_told call post.number post.at m.standing.phase m.message own.is.about) in
+    talk_adds numbers call at place (said, phase) old new t (reported_in post.number post.body) (place_within setup posts old at sound (rw (← m.same, ← many_keys setup) own.is.placed)) takes.0
     (rw m.is takes.2) done
 
 -- what further posts add

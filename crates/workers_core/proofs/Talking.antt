@@ -1,10 +1,11 @@
 -- The talk of a dialogue with its account, ask by ask.
-use Rattle.std.proofs.Common.{◌≡◌, ◌++◌, ◌∙◌, ℕ, false, Option, None, Ok, Err, List, [], ◌∷◌, refl, sym, ap, subst, append_assoc, append-nil}
+use Rattle.std.proofs.Common.{◌≡◌, ◌≢◌, ◌⊎◌, ◌++◌, ◌∙◌, inl, inr, ℕ, false, Option, None, Ok, Err, List, [], ◌∷◌, refl, sym, ap, subst, append_assoc, append-nil}
 use Rattle.account_core.specs.Asked.{Asked}
 use Rattle.account_core.specs.Events.{EntryData}
 use Rattle.account_core.specs.Ledger.{Ledger}
 use Rattle.shared_account.specs.Refusals.{IsRefusedAt, Knowing}
 use Rattle.account_core.specs.declared.fault.AccountFault.{AccountFault}
+use Rattle.account_core.specs.declared.fault.AccountFault.TheVariants as fault
 use Rattle.cap_values.specs.Orders.{Order}
 use Rattle.dialogue_core.specs.Phases.{Phase, Says, Asks, Sends, Finished}
 use Rattle.workers_core.specs.Cases.{IsAsked, or_fault}
@@ -27,14 +28,14 @@ so_begun Shows seat first mine = record { gots = []; asked = tt; talks = refl; e
 
 -- ---- what shows a refusal goes on to show it
 
-right_still : (Shows Later : Showing) → ((mine : List EntryData) (asked : Asked) (why : AccountFault) → Shows mine asked why → Later mine asked why)
+pub right_still : (Shows Later : Showing) → ((mine : List EntryData) (asked : Asked) (why : AccountFault) → Shows mine asked why → Later mine asked why)
     → (mine : List EntryData) (says : Says) (got : Got) → IsRight Shows mine says got → IsRight Later mine says got
 right_still Shows Later still mine (Asks asked) (Ok reply) right = tt
 right_still Shows Later still mine (Asks asked) (Err fault) right = still mine asked fault right
 right_still Shows Later still mine (Sends orders) got right = tt
 right_still Shows Later still mine Finished got right = tt
 
-all_right_still : (Shows Later : Showing) → ((mine : List EntryData) (asked : Asked) (why : AccountFault) → Shows mine asked why → Later mine asked why)
+pub all_right_still : (Shows Later : Showing) → ((mine : List EntryData) (asked : Asked) (why : AccountFault) → Shows mine asked why → Later mine asked why)
     → (seat : ℕ) (first : Says × Phase) (before : List EntryData) (gots : List Got) → AreRight Shows seat first before gots → AreRight Later seat first before gots
 all_right_still Shows Later still seat first before [] right = tt
 all_right_still Shows Later still seat first before (got ∷ earlier) right = (
@@ -42,7 +43,7 @@ all_right_still Shows Later still seat first before (got ∷ earlier) right = (
   all_right_still Shows Later still seat first before earlier right.1,
 )
 
-refused_still : (Was Later : Knowing) → ((mine : List EntryData) (account : Ledger) → Was mine account → Later mine account)
+pub refused_still : (Was Later : Knowing) → ((mine : List EntryData) (account : Ledger) → Was mine account → Later mine account)
     → (mine : List EntryData) (asked : Asked) (why : AccountFault) → IsRefusedAt Was mine asked why → IsRefusedAt Later mine asked why
 refused_still Was Later still mine asked why is =
     record { account = is.account; was = still mine is.account is.was; legal = is.legal; refused = is.refused; room = is.room }
@@ -56,6 +57,11 @@ pub right_known : (Was Later : Knowing) → ((mine : List EntryData) (account : 
 right_known Was Later still = right_still (IsRefusedAt Was) (IsRefusedAt Later) (refused_still Was Later still)
 
 -- ---- ask by ask
+
+-- a fault that isn't a closed gate is the account's
+pub not_gate : {P : Type 0} (why : AccountFault) → (why ≡ fault.GateClosed) ⊎ P → why ≢ fault.GateClosed → P
+not_gate why (inl shut) other = absurd (other shut)
+not_gate why (inr is) other = is
 
 pub fault_after : (gots : List Got) (got : Got) → or_fault (last_fault gots) got ≡ last_fault (got ∷ gots)
 fault_after gots (Ok reply) = refl

@@ -1,5 +1,5 @@
 -- The case of a post, as the code has it, and what acting on it does.
-use Rattle.std.specs.Prelude.{◌≡◌, ◌==◌, ◌<◌, ◌++◌, ◌⊎◌, ℕ, true, false, Option, Some, None, Ok, Err, List, [], ◌∷◌, IfSome, IsSome, if◌then◌else◌, slice_index_or}
+use Rattle.std.specs.Prelude.{◌≡◌, ◌==◌, ◌<◌, ◌++◌, ◌⊎◌, ℕ, true, false, Option, Some, None, Ok, Err, List, [], ◌∷◌, IsSome, if◌then◌else◌, slice_index_or}
 use Rattle.std.specs.BTreeMap.{is_at}
 use Rattle.std.specs.Map.{lookup}
 use Rattle.std.specs.Ordering.{nat_cmp}
@@ -14,7 +14,6 @@ use Rattle.dialogue_core.specs.Table.{on_begin}
 use Rattle.dialogue_core.specs.Views.{phase_of, says_of}
 use Rattle.tariff_core.specs.declared.route.Route.{Route}
 use Rattle.workers_core.specs.Handled.{Holding, IsRecharged, IsTalked, IsUnasked, AnswerView}
-use Rattle.workers_core.specs.Refusals.{IsRefusedAsk, IsRefusedTalk, Refusing}
 use Rattle.run_values.specs.Setups.{Setup}
 use Rattle.dialogue_core.specs.Talks.{Got, after_got}
 use Rattle.workers_core.specs.Talks.{AreRight, IsRight, Showing, entry_of}
@@ -103,14 +102,3 @@ pub record IsCredited (Shows : Showing) (seat : ℕ) (asked : Asked) (before aft
   pub stray : told.stray ≡ false
   pub refuses : told.refused ≡ or_fault None got
   pub right : IsRight Shows before (Asks asked) got
-
--- a post was refused with a fault, by its case: the account at the case's place has given that fault to what was asked
-abbrev pub IsRefusedCase : (ℕ → Refusing) → Case → AccountFault → Type 0
-IsRefusedCase Refuses case.Stray fault = ⊥
-IsRefusedCase Refuses case.Rejected fault = ⊥
-IsRefusedCase Refuses (case.Recharge place amount until) fault = IsRefusedAsk (Refuses place) (Credits amount until) fault
-IsRefusedCase Refuses (case.Talk call talk turn) fault = IsRefusedTalk (Refuses talk.place) (says_of turn, phase_of talk.dialogue) fault
-
--- what is told after an ask is what was told before it, or a fault that the ask was refused with
-abbrev pub IsToldOf : Refusing → Asked → Option AccountFault → Option AccountFault → Type 0
-IsToldOf Refuses asked old new = (new ≡ old) ⊎ IfSome new (IsRefusedAsk Refuses asked)

@@ -2,7 +2,8 @@
 use Rattle.std.specs.Prelude.{◌≡◌, ℕ, Option, None, List, [], ◌∷◌, map}
 use Rattle.account_core.specs.Events.{EntryData}
 use Rattle.account_core.specs.declared.fault.AccountFault.{AccountFault}
-use Rattle.workers_core.specs.Handled.{Holding, IsHandled, AnswerView}
+use Rattle.workers_core.specs.Handled.{AnswerView, Holding, IsHandled, IsRightlyHandled}
+use Rattle.workers_core.specs.Talks.{Showing}
 use Rattle.run_values.specs.Setups.{Setup}
 use Rattle.workers_core.specs.Verdicts.{DialogueAt}
 use Rattle.run_values.specs.declared.post.Post.{Post}
@@ -36,19 +37,19 @@ pub record IsWorked (setup : Setup) (number : ℕ) (posts : List Post) (refusals
 
 -- ---- with all that the answers tell
 
--- posts, in order, lead from what a worker holds to what it holds then, with these answers, one for each
-abbrev pub AreAnswered : Setup → List ℕ → List Post → List AnswerView → Holding → Holding → Type 0
-AreAnswered setup numbers [] [] old new = old ≡ new
-AreAnswered setup numbers [] (told ∷ answers) old new = ⊥
-AreAnswered setup numbers (post ∷ posts) [] old new = ⊥
-AreAnswered setup numbers (post ∷ posts) (told ∷ answers) old new =
-    (between : Holding) × IsHandled setup numbers post old between told × AreAnswered setup numbers posts answers between new
+-- posts, in order, lead from what a worker holds to what it holds then, with these answers, one for each, and each ask that was refused was refused rightly
+abbrev pub AreAnswered : (ℕ → Showing) → Setup → List ℕ → List Post → List AnswerView → Holding → Holding → Type 0
+AreAnswered Shows setup numbers [] [] old new = old ≡ new
+AreAnswered Shows setup numbers [] (told ∷ answers) old new = ⊥
+AreAnswered Shows setup numbers (post ∷ posts) [] old new = ⊥
+AreAnswered Shows setup numbers (post ∷ posts) (told ∷ answers) old new =
+    (between : Holding) × IsRightlyHandled Shows setup numbers post old between told × AreAnswered Shows setup numbers posts answers between new
 
 -- which posts were refused, as their answers tell
 abbrev pub refusals_in : List AnswerView → List (Option AccountFault)
 refusals_in answers = map (λ told. told.refused) answers
 
--- the lists of a worker's seats are what its posts made of empty ones, and these are its answers
-pub record IsAnswered (setup : Setup) (number : ℕ) (posts : List Post) (answers : List AnswerView) (lists : List (List EntryData)) : Type 0 where
+-- the lists of a worker's seats are what its posts made of empty ones, these are its answers, and each ask that was refused was refused rightly
+pub record IsAnswered (Shows : ℕ → Showing) (setup : Setup) (number : ℕ) (posts : List Post) (answers : List AnswerView) (lists : List (List EntryData)) : Type 0 where
   pub talks : ℕ → Option DialogueAt
-  pub chain : AreAnswered setup (seat_numbers number setup) posts answers (at_first setup) (record { lists = lists; talks = talks })
+  pub chain : AreAnswered Shows setup (seat_numbers number setup) posts answers (at_first setup) (record { lists = lists; talks = talks })

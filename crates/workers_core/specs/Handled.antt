@@ -1,5 +1,5 @@
 -- What the handling of a post does.
-use Rattle.std.specs.Prelude.{◌≡◌, ◌++◌, ◌==◌, ℕ, Bool, true, false, Option, Some, None, List, [], ◌∷◌, IfSome, if◌then◌else◌, slice_set, slice_index_or}
+use Rattle.std.specs.Prelude.{◌≡◌, ◌++◌, ◌==◌, ℕ, Bool, true, false, Option, Some, None, List, [], ◌∷◌, if◌then◌else◌, slice_set, slice_index_or}
 use Rattle.account_core.specs.Asked.{Credits}
 use Rattle.account_core.specs.Events.{EntryData}
 use Rattle.account_core.specs.declared.fault.AccountFault.{AccountFault}
@@ -10,7 +10,6 @@ use Rattle.dialogue_core.specs.Phases.{Phase, Says, Asks}
 use Rattle.dialogue_core.specs.Table.{on_begin}
 use Rattle.tariff_core.specs.declared.route.Route.{Route}
 use Rattle.run_values.specs.Setups.{Setup}
-use Rattle.workers_core.specs.Refusals.{IsRefusalOf}
 use Rattle.dialogue_core.specs.Talks.{Got, sent_by}
 use Rattle.workers_core.specs.Talks.{AllAsk, AreRight, IsRight, Showing, entries_of, entry_of, is_ask, last_fault, talked}
 use Rattle.workers_core.specs.Verdicts.{DialogueAt, IsRouted, Verdict, Strays, Rejects, Recharges, Begins, GoesOn, verdict}
@@ -90,11 +89,10 @@ IsDone setup numbers at (Recharges place amount until) old new told = IsRecharge
 IsDone setup numbers at (Begins call place called) old new told = IsBegun setup numbers at call place called old new told
 IsDone setup numbers at (GoesOn call place said phase) old new told = IsTalked numbers call place (said, phase) old new told
 
--- a post is handled, where the seats have these numbers; a refusal that the answer tells is of a kind that an ask for the post has, and no closed gate
+-- a post is handled, where the seats have these numbers
 pub record IsHandled (setup : Setup) (numbers : List ℕ) (post : Post) (old new : Holding) (told : AnswerView) : Type 0 where
   pub number : told.number ≡ post.number
   pub done : IsDone setup numbers post.at (verdict setup old.talks post) old new told
-  pub kind : IfSome told.refused (IsRefusalOf setup old.talks post)
 
 -- each ask that was refused for a post was refused rightly, by the verdict on the post: in its place, and at the seat's own entries then
 abbrev pub AreRefusedRightly : (Shows : ℕ → Showing) (setup : Setup) (numbers : List ℕ) (at : ℕ) (v : Verdict) (old new : Holding) (told : AnswerView) → IsDone setup numbers at v old new told → Type 0

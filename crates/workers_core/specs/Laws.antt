@@ -1,5 +1,6 @@
 -- What holds of every talk, and of all that a worker has handled.
 use Rattle.std.specs.Prelude.{◌≡◌, ◌≢◌, ◌==◌, ◌++◌, ℕ, Bool, true, false, Option, Some, None, List, [], ◌∷◌, All, Contains, if◌then◌else◌, length, map, slice_index_or}
+use Rattle.std.specs.Map.{keys_of}
 use Rattle.account_core.specs.Asked.{Asked, Credits, Reserves, Returns, Settles}
 use Rattle.account_core.specs.Events.{EntryData}
 use Rattle.account_core.specs.declared.fault.AccountFault.{AccountFault}
@@ -16,7 +17,7 @@ use Rattle.tariff_core.specs.declared.route.Route.{Route}
 use Rattle.tariff_core.specs.declared.times.TimeInfo.{TimeInfo}
 use Rattle.workers_core.specs.Chains.{AreHandled, IsHandledOnce, IsWorked, at_first, seat_numbers}
 use Rattle.workers_core.specs.Handled.{Holding, IsTalked, AnswerView}
-use Rattle.workers_core.specs.Served.{IsPart, Money, Report, credits_of, recharged_in, reports_of, returns_of, settles_of}
+use Rattle.workers_core.specs.Served.{AreServed, IsPart, Money, Report, credits_of, recharged_in, reports_of, returns_of, settles_of}
 use Rattle.run_values.specs.Setups.{Setup, place_of}
 use Rattle.dialogue_core.specs.Talks.{sent_by}
 use Rattle.workers_core.specs.Talks.{is_ask}
@@ -30,6 +31,12 @@ abbrev pub WhatIsSaidIsSent : Type 0
 WhatIsSaidIsSent =
     (numbers : List ℕ) (call place : ℕ) (first : Says × Phase) (old new : Holding) (told : AnswerView) → is_ask first.0 ≡ false
     → IsTalked numbers call place first old new told → (told.orders ≡ sent_by first.0) × (told.refused ≡ None)
+
+-- each entry of a worker comes from what it handled
+abbrev pub EntriesComeFromPosts : Type 0
+EntriesComeFromPosts =
+    (setup : Setup) (number : ℕ) (posts : List Post) (refusals : List (Option AccountFault)) (lists : List (List EntryData)) → IsWorked setup number posts refusals lists
+    → AreServed (keys_of setup.accounts) posts lists
 
 -- ---- recharges
 

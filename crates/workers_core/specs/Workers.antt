@@ -44,15 +44,11 @@ accounts_of worker = worker.accounts.now
 abbrev pub seats_of : {S T : Type 0} → Worker S T → List T
 seats_of worker = worker.seats.items
 
--- the posts that it has handled
-abbrev pub posts_of : {S T : Type 0} → Worker S T → List Post
-posts_of worker = worker.posts.items
-
 -- where the dialogue of each call stands
 abbrev pub talks_of : {S T : Type 0} → Worker S T → ℕ → Option DialogueAt
 talks_of worker = standings_in worker.talks
 
--- what a worker holds beside its posts
+-- what a worker holds
 abbrev pub holding : {S T : Type 0} → (T → List EntryData) → Worker S T → Holding
 holding mine_of worker = record { lists = map mine_of (seats_of worker); talks = talks_of worker }
 
@@ -66,10 +62,18 @@ IsAbout call (Returning after) = Unit {0}
 IsAbout call Ending = Unit {0}
 IsAbout call Closed = Unit {0}
 
--- a dialogue of a call: its account is one of so many, it is about the call, and the call had an InitialDp among the posts
-pub record IsOwn (count : ℕ) (posts : List Post) (call : ℕ) (standing : DialogueAt) : Type 0 where
+-- a dialogue of a call: its account is one of so many, and it is about the call
+pub record IsPlaced (count call : ℕ) (standing : DialogueAt) : Type 0 where
   pub placed : standing.place < count
   pub about : IsAbout call standing.phase
+
+-- each dialogue is so
+abbrev pub ArePlaced : ℕ → (ℕ → Option DialogueAt) → Type 0
+ArePlaced count talks = (call : ℕ) → IfSome (talks call) (λ standing. IsPlaced count call standing)
+
+-- and its call had an InitialDp among the posts
+pub record IsOwn (count : ℕ) (posts : List Post) (call : ℕ) (standing : DialogueAt) : Type 0 where
+  pub is : IsPlaced count call standing
   pub begun : Contains (begun_of posts) call
 
 -- what a worker holds is in order, where the accounts have these numbers
@@ -77,10 +81,10 @@ pub record IsSound (accounts : List ℕ) (posts : List Post) (h : Holding) : Typ
   pub served : AreServed accounts posts h.lists
   pub talks : (call : ℕ) → IfSome (h.talks call) (λ standing. IsOwn (length accounts) posts call standing)
 
--- a worker can handle a post: the accounts are those of the setup, each seat is of its account and has the worker's number, and what it holds is in
--- order
+-- a worker can handle a post: the accounts are those of the setup, each seat is of its account and has the worker's number, and each dialogue is about its call
+-- and has its account among them
 pub record IsReady {S T K : Type 0} (account_number : S → ℕ) (key : S → K) (read : Reads K T) (worker : Worker S T) : Type 0 where
   pub accounts : map account_number (accounts_of worker) ≡ keys_of (setup_of worker).accounts
   pub keys : map read.key (seats_of worker) ≡ map key (accounts_of worker)
   pub numbers : All (λ number. number ≡ number_of worker) (map read.number (seats_of worker))
-  pub sound : IsSound (keys_of (setup_of worker).accounts) (posts_of worker) (holding read.mine worker)
+  pub talks : ArePlaced (length (setup_of worker).accounts) (talks_of worker)

@@ -1,12 +1,12 @@
 //! What is done about a post, in each case.
 
-ghost use Rattle.std.specs.Prelude.{◌≡◌, ◌≢◌, ◌==◌, ◌∷◌, ◌<◌, ◌≤◌, if◌then◌else◌, [], ℕ, List, None, Some, true, false, length, map, IfErr, IfOk, IfSome, IsSome, OnOk};
+ghost use Rattle.std.specs.Prelude.{◌≡◌, ◌≢◌, ◌==◌, ◌∷◌, ◌<◌, ◌≤◌, if◌then◌else◌, [], ℕ, List, None, Some, true, false, length, map, IfErr, IfOk, IsSome, OnOk};
 ghost use Rattle.std.specs.BTreeMap.{is_at};
 ghost use Rattle.std.specs.Map.{lookup};
 ghost use Rattle.std.specs.Ordering.{nat_cmp};
-ghost use Rattle.workers_core.specs.Cases.{HasRoom, IsRightlyActed, IsCredited, IsRefusedCase, IsWithin, with_room, IsAsked, IsToldOf};
+ghost use Rattle.workers_core.specs.Cases.{HasRoom, IsAsked, IsCredited, IsRightlyActed, IsWithin, with_room};
 ghost use Rattle.workers_core.specs.Handled.{IsRecharged, IsTalked, answer_view};
-ghost use Rattle.workers_core.specs.Refusals.{HasRefusedAt, IsRefusedAsk, IsRefusedTalk, RefusesAt, WasAt};
+ghost use Rattle.workers_core.specs.Refusals.{RefusesAt, WasAt};
 ghost use Rattle.workers_core.specs.Workers.{standing_of, standings_in};
 ghost use Rattle.dialogue_core.specs.Talks.{asks_after, asks_left};
 ghost use Rattle.workers_core.specs.Talks.{IsTalk};
@@ -88,8 +88,6 @@ pub(crate) fn act<S: Shared, R: Wait, G: Gate>(
         (record { lists = map S.reads.mine seats.old.items; talks = standings_in talks.old })
         (record { lists = map S.reads.mine seats.new.items; talks = standings_in talks.new })
         (answer_view answer)) }
-    ensures refused { IfOk result (λ answer. IfSome answer.refused
-        (IsRefusedCase (HasRefusedAt S.refuses accounts.now) case)) }
     ensures was { OnOk result ((place : ℕ) (mine : List EntryData) (account : Ledger)
         → WasAt S.was seats.old.items place mine account
         → WasAt S.was seats.new.items place mine account) }
@@ -176,8 +174,6 @@ fn recharge<S: Shared, R: Wait, G: Gate>(
         (S.reads.mine seat.old) (S.reads.mine seat.new) (answer_view answer)) }
     ensures was { (mine : List EntryData) (ledger : Ledger)
         → S.was seat.old mine ledger → S.was seat.new mine ledger }
-    ensures refused { IfOk result (λ answer. IfSome answer.refused
-        (IsRefusedAsk (S.refuses account.now) (asked_of credit))) }
     ensures fault { IfErr result (λ fault. fault ≡ WorkerFault.GateClosed) }
     ensures gate { result ≡ Err WorkerFault.GateClosed → G.may_shut gate.now }
 {
@@ -228,8 +224,6 @@ fn converse<S: Shared, R: Wait, G: Gate>(
         (S.reads.number seat.old) (says_of turn, phase_of dialogue.old)
         (S.reads.mine seat.old) (S.reads.mine seat.new)
         (phase_of dialogue.new) (orders_of said.ops.items) said.refused) }
-    ensures refused { IfOk result (λ said. IfSome said.refused
-        (IsRefusedTalk (S.refuses account.now) (says_of turn, phase_of dialogue.old))) }
     ensures was { OnOk result ((mine : List EntryData) (ledger : Ledger)
         → S.was seat.old mine ledger → S.was seat.new mine ledger) }
     ensures fault { IfErr result (λ fault. fault ≡ WorkerFault.GateClosed) }
@@ -266,8 +260,6 @@ fn ask<S: Shared, R: Wait, G: Gate>(
         (phase_of dialogue.old) (phase_of dialogue.new) (says_of turn) refused.old refused.new) }
     ensures fewer { IfOk result (λ turn.
         asks_left (says_of turn) (phase_of dialogue.new) ≤ asks_after (phase_of dialogue.old)) }
-    ensures told { IfOk result (λ _.
-        IsToldOf (S.refuses account.now) (asked_of op) refused.old refused.new) }
     ensures was { (mine : List EntryData) (ledger : Ledger)
         → S.was seat.old mine ledger → S.was seat.new mine ledger }
     ensures fault { IfErr result (λ fault. fault ≡ WorkerFault.GateClosed) }

@@ -1,11 +1,18 @@
 //! Laws of talks and of workers, each the contract of a function that does nothing.
 
-ghost use Rattle.workers_core.specs.Laws.{CallsAreReserved, CallsAreReturned, PostsAreHandled, RechargesAreEntered, ReportsAreSettled, ReservesAreOnTerms, WhatIsSaidIsSent};
+ghost use Rattle.workers_core.specs.Laws.{CallsAreReserved, CallsAreReturned, EntriesComeFromPosts, PostsAreHandled, RechargesAreEntered, ReportsAreSettled, ReservesAreOnTerms, WhatIsSaidIsSent};
 
 /// An answer to a message that asks no account has the operations that the dialogue said at once,
 /// and no refusal.
 pub fn what_is_said_is_sent()
     ensures { WhatIsSaidIsSent }
+{}
+
+/// Each entry of a worker comes from the posts that it handled: each Settle is of a report and
+/// carries its post's number, each Credit is of a recharge of the account, both in the order of the
+/// posts, and each Reserve or Return is of a call that had an InitialDp.
+pub fn entries_come_from_posts()
+    ensures { EntriesComeFromPosts }
 {}
 
 /// The Credits of an account by a worker are just the recharges of it that the worker handled and

@@ -4,11 +4,10 @@ ghost use Rattle.std.specs.Prelude.{◌≡◌, ◌++◌, ◌∷◌, ◌≤◌, �
 ghost use Rattle.std.specs.Map.{keys_of};
 ghost use Rattle.account_core.specs.Events.{EntryData};
 ghost use Rattle.account_core.specs.Ledger.{Ledger};
-ghost use Rattle.workers_core.specs.Handled.{IsHandled, IsRecharged, IsRightlyHandled, answer_view};
-ghost use Rattle.workers_core.specs.Refusals.{HasRefusedAt, IsRefusedPost, RefusesAt, WasAt};
-ghost use Rattle.workers_core.specs.Served.{AreServed};
+ghost use Rattle.workers_core.specs.Handled.{IsRecharged, IsRightlyHandled, answer_view};
+ghost use Rattle.workers_core.specs.Refusals.{RefusesAt, WasAt};
 ghost use Rattle.workers_core.specs.Verdicts.{Recharges, Rejects, strays, verdict, fresh, goes_on, home_of, recharged};
-ghost use Rattle.workers_core.specs.Workers.{IsReady, accounts_of, holding, number_by, number_of, posts_of, seats_of, setup_of, talks_of, standings_in};
+ghost use Rattle.workers_core.specs.Workers.{IsReady, accounts_of, holding, number_by, number_of, seats_of, setup_of, talks_of, standings_in};
 ghost use Rattle.workers_core.specs.Cases.{IsCase};
 ghost use Rattle.cap_values.specs.Orders.{Release, orders_of};
 ghost use Rattle.dialogue_core.specs.Table.{on_message};
@@ -26,8 +25,8 @@ use std::alloc::Global;
 use std::sync::Wait;
 use tariff_core::HORIZON;
 
-/// A worker. It has a seat at each account of the run, keeps the dialogue of each of its calls to
-/// its end and beyond, and keeps the posts that it has handled.
+/// A worker. It has a seat at each account of the run, and keeps the dialogue of each of its calls
+/// to its end and beyond.
 #[derive(Drop)]
 pub struct Worker<'s, S: Shared> {
     number: u32,
@@ -35,7 +34,6 @@ pub struct Worker<'s, S: Shared> {
     accounts: &'s [S],
     seats: Vec<S::Seat>,
     talks: RisingMap<Talk>,
-    posts: Vec<Post>,
 }
 
 impl<'s, S: Shared> Worker<'s, S> {
@@ -57,7 +55,6 @@ impl<'s, S: Shared> Worker<'s, S> {
         ensures accounts { IfOk result (λ worker. accounts_of worker ≡ accounts.now) }
         ensures seats { IfOk result (λ worker. seats_of worker ≡ seats.items) }
         ensures talks { IfOk result (λ worker. (call : ℕ) → talks_of worker call ≡ None) }
-        ensures posts { IfOk result (λ worker. posts_of worker ≡ []) }
         ensures ready { IfOk result (λ worker. IsReady (number_by S.terms) S.key S.reads worker) }
         ensures fault { IfErr result (λ fault. fault ≡ WorkerFault.OutOfMemory) }
     {
@@ -67,7 +64,6 @@ impl<'s, S: Shared> Worker<'s, S> {
             accounts,
             seats,
             talks: RisingMap::new(alloc),
-            posts: Vec::new(alloc),
         })
     }
 
@@ -78,10 +74,9 @@ impl<'s, S: Shared> Worker<'s, S> {
     /// dialogue: it sends no operation and asks no account. An InitialDp from a number that is no
     /// subscriber's is answered by ReleaseCall(21), and no account is asked. Else the dialogue of
     /// the call talks with its account until it sends operations or is done, or the account is
-    /// recharged. A refusal that the answer tells is one that this account gave to what it was
-    /// asked for the post, so never `GateClosed`. Each ask that was refused, told or not, was
-    /// refused by an account that the seat there knows, as it was at the entries that the seat had
-    /// then.
+    /// recharged. The answer tells the last refusal of an ask for the post. Each ask that was
+    /// refused, told or not, was refused by an account that the seat there knows, as it was at the
+    /// entries that the seat had then: so never with `GateClosed`.
     ///
     /// `OutOfMemory` comes before any account is asked; `GateClosed` where a gate is closed. After
     /// either the worker isn't used again.
@@ -93,19 +88,13 @@ impl<'s, S: Shared> Worker<'s, S> {
     ) -> Result<Answer, WorkerFault>
         requires ready { IsReady (number_by S.terms) S.key S.reads self.old }
         ensures number { IfOk result (λ answer. answer.number ≡ post.number) }
-        ensures handled { IfOk result (λ answer. IsHandled (setup_of self.old) (map
-            S.reads.number (seats_of self.old)) post
-            (holding S.reads.mine self.old) (holding S.reads.mine self.new) (answer_view answer)) }
-        ensures right { IfOk result (λ answer. IsRightlyHandled
+        ensures handled { IfOk result (λ answer. IsRightlyHandled
             (RefusesAt S.was (seats_of self.new)) (setup_of self.old)
             (map S.reads.number (seats_of self.old)) post
             (holding S.reads.mine self.old) (holding S.reads.mine self.new) (answer_view answer)) }
         ensures was { OnOk result ((place : ℕ) (mine : List EntryData) (account : Ledger)
             → WasAt S.was (seats_of self.old) place mine account
             → WasAt S.was (seats_of self.new) place mine account) }
-        ensures refused { IfOk result (λ answer. IfSome answer.refused
-            (IsRefusedPost (HasRefusedAt S.refuses (accounts_of self.old)) (setup_of self.old)
-            post.at (verdict (setup_of self.old) (talks_of self.old) post))) }
         ensures stray { IfOk result (λ answer. answer.stray ≡ strays
             (verdict (setup_of self.old) (talks_of self.old) post)) }
         ensures stray_asks_nothing { IfOk result (λ answer. answer.stray ≡ true
@@ -119,7 +108,6 @@ impl<'s, S: Shared> Worker<'s, S> {
             ≡ Recharges place amount until
             → IsRecharged (map S.reads.number (seats_of self.old)) place amount until
             (holding S.reads.mine self.old) (holding S.reads.mine self.new) (answer_view answer)) }
-        ensures posts { OnOk result (posts_of self.new ≡ posts_of self.old ++ post ∷ []) }
         ensures setup { OnOk result (setup_of self.new ≡ setup_of self.old) }
         ensures accounts { OnOk result (accounts_of self.new ≡ accounts_of self.old) }
         ensures worker { OnOk result (number_of self.new ≡ number_of self.old) }
@@ -133,7 +121,6 @@ impl<'s, S: Shared> Worker<'s, S> {
         ensures gate { result ≡ Err WorkerFault.GateClosed → G.may_shut gate.now }
     {
         let case = judge(self.setup, &self.talks, &post);
-        self.posts.push(post)?;
         make_room(&mut self.talks, &case)?;
         pass(gate, self.number, &post.body)?;
         let accounts = self.accounts;
@@ -157,17 +144,12 @@ impl<'s, S: Shared> Worker<'s, S> {
         self.seats.as_slice()
     }
 
-    /// Hands back the seats in the order in which they were given, and the posts that were handled,
-    /// in order. It takes no memory.
-    pub fn finish(self) -> (Vec<S::Seat>, Vec<Post>)
-        requires ready { IsReady (number_by S.terms) S.key S.reads self }
-        ensures seats { result.0.items ≡ seats_of self.entry }
-        ensures posts { result.1.items ≡ posts_of self.entry }
-        ensures served { AreServed (keys_of (setup_of self.entry).accounts) result.1.items (map
-            S.reads.mine result.0.items) }
+    /// Hands back the seats in the order in which they were given. It takes no memory.
+    pub fn finish(self) -> Vec<S::Seat>
+        ensures { result.items ≡ seats_of self.entry }
     {
-        let Worker { seats, posts, .. } = self;
-        (seats, posts)
+        let Worker { seats, .. } = self;
+        seats
     }
 }
 

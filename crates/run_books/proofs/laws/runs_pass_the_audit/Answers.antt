@@ -3,8 +3,12 @@ use Rattle.run_books.proofs.RowCounts.{few_rows}
 use Rattle.run_books.proofs.laws.runs_pass_the_audit.Goals as goal
 
 pub returns : goal.returns
-returns c = record {
-  printable = printable c.reserves_are_in_the_books.ensures c.entries_are_in_range.ensures;
-  pass = pass c.reserves_are_in_the_books.ensures c.entries_are_in_range.ensures c.printed_books_are_read.ensures.read c.printed_books_are_read.ensures.pass;
-  few = few_rows;
-}
+returns g c =
+    let serves = c.run_entries_are_served.ensures in
+    let reserves = c.reserves_are_in_the_books.ensures in
+    let ranges = c.entries_are_in_range.ensures in
+    record {
+      printable = printable g.S.Shared.stood serves reserves ranges;
+      pass = pass g.S.Shared.stood serves reserves ranges c.printed_books_are_read.ensures.read c.printed_books_are_read.ensures.pass;
+      few = few_rows g.S.Shared.stood;
+    }

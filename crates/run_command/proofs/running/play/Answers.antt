@@ -1,4 +1,4 @@
-use Rattle.std.proofs.Common.{◌∙◌, ◌++◌, List, [], ap, map, refl}
+use Rattle.std.proofs.Common.{◌∙◌, ◌++◌, List, [], ap, refl}
 use Rattle.run_command.proofs.ListenLemmas.{counts_heard, keeps_heard, player_hears}
 use Rattle.run_command.proofs.PlayLemmas.{given_by, rounds_of}
 use Rattle.run_options.specs.Options.{ask_of}
@@ -40,8 +40,6 @@ returns-clause-books g c =
           least = rw c.in_ok-setup.ensures.service refl;
           limit = c.in_ok-setup.ensures.limit;
         };
-        handled = map (λ posts. posts.items) c.in_ok-books.field-0.handled.items;
-        refusals = map (λ one. one.items) c.in_ok-books.field-0.refusals.items;
         run = ran.run;
       };
       setup = refl;

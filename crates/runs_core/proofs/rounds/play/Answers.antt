@@ -7,7 +7,7 @@ use Rattle.workers_core.specs.Workers.{number_by}
 
 pub loop-init : goal.loop-init
 loop-init g c = (
-  none_played g.D.Driver.given g.D.Driver.ended g.D.Driver.hears (number_by g.S.Shared.terms) g.S.Shared.key g.S.Shared.reads _ _ _ _ _
+  none_played g.D.Driver.given g.D.Driver.ended g.D.Driver.hears (number_by g.S.Shared.terms) g.S.Shared.key g.S.Shared.reads g.S.Shared.was _ _ _ _ _
       c.requires.fresh (search rules) c.requires.served,
   refl,
   refl,
@@ -19,7 +19,7 @@ pub loop-preserved : goal.loop-preserved
 loop-preserved g c =
     let before = c.loop.invariant in
     let more = c.in_ok-play_round.ensures.more (search rules) in (
-      played_more g.D.Driver.given g.D.Driver.ended g.D.Driver.hears (number_by g.S.Shared.terms) g.S.Shared.key g.S.Shared.reads _ _
+      played_more g.D.Driver.given g.D.Driver.ended g.D.Driver.hears (number_by g.S.Shared.terms) g.S.Shared.key g.S.Shared.reads g.S.Shared.was _ _
           _ _ _ _ _ _ _ more.0 before.0 more.1 (search rules) (search rules) more.2,
       c.play_round.ensures.count ∙ before.1,
       c.play_round.ensures.promises ∙ before.2,
@@ -30,5 +30,5 @@ loop-preserved g c =
 pub returns-then-not-branch-clause-played : goal.returns-then-not-branch-clause-played
 returns-then-not-branch-clause-played g c =
     let last = c.in_ok-play_round.ensures in
-    played_out g.D.Driver.given g.D.Driver.ended g.D.Driver.hears (number_by g.S.Shared.terms) g.S.Shared.key g.S.Shared.reads _ _
+    played_out g.D.Driver.given g.D.Driver.ended g.D.Driver.hears (number_by g.S.Shared.terms) g.S.Shared.key g.S.Shared.reads g.S.Shared.was _ _
     _ _ _ _ _ _ c.loop.invariant.0 (last.given (search rules)) (search rules) (search rules) (last.crew (search rules))

@@ -1,4 +1,5 @@
-use Rattle.std.proofs.Common.{◌≡◌, ◌+◌, arith, ap, length, map}
+use Rattle.std.proofs.Common.{◌≡◌, ◌+◌, ◌∷◌, arith, ap, length, map, rules}
+use Rattle.std.specs.Vec.Iter.{into_iter_items}
 use Rattle.std.proofs.lemmas.List.{length-map}
 use Rattle.runs_core.proofs.Sendings.{added_slice}
 use Rattle.runs_core.specs.Crews.{count_of}
@@ -12,19 +13,20 @@ returns-clause-more g c = λ _.
     let lists = c.in_ok-queues.ensures.items in
     let added = added_slice _ _ grows.0 c.given.result.now c.given-first.result.now grows.1 c.given.ensures.items c.given-first.ensures.items in
     let first = ap length c.given-first.ensures.items in
+    let split : c.in_ok-shares.shares.items ≡ c.in-Some.mine ∷ into_iter_items c.next.new.self = search rules in
     let workers : c.len.result + 1 ≡ count_of c.args.crew.now = omega (arith, c.len.ensures, c.args.crew.now.links.ok) in
     let many : length c.in_ok-queues.queues.items ≡ count_of c.args.crew.now =
     omega (arith, ap length lists, length-map c.in_ok-queues.queues.items (λ queue. queue.items), length-map replies.others.items (λ list. list.items), c.in_ok-replies.ensures.others) in (
       grows.0,
       grows.1,
       record {
-        shares = map (λ share. share.items) c.in_ok-shares.shares.items;
-        are_shares = rw (added, first, workers) at c.in_ok-shares.ensures.shares;
-        posts = c.in_ok-replies.ensures.posts;
-        own = c.in_ok-replies.ensures.goes_on.0;
+        own = c.in-Some.mine.items;
+        others = map (λ share. share.items) (into_iter_items c.next.new.self);
+        are_shares = rw (added, first, workers, split) at c.in_ok-shares.ensures.shares;
+        sent = c.in_ok-replies.ensures.posts;
         mine = replies.first.items;
-        goes_on = c.in_ok-replies.ensures.goes_on.1;
-        others = others;
+        goes_on = c.in_ok-replies.ensures.goes_on;
+        replies = others;
         heard = c.in_ok-replies.ensures.heard;
         are_answers = rw (added, first, lists, many) at c.in_ok-merge.ensures.answers;
         count = c.in_ok-replies.ensures.count;

@@ -8,6 +8,6 @@ use Rattle.runs_core.proofs.serving.close_each.Given as goal
 abbrev pub invariant-loop-account : goal.invariant-loop-account
 invariant-loop-account g l =
     AreOf g.S.Shared.reads.key (map g.S.Shared.key (into_iter_items l.account-iterator)) (map (λ row. row.items) (into_iter_items l.rows_left))
-    × ((later : List Closed) → AreBooksOf (map g.S.Shared.terms (into_iter_items l.account-iterator)) (map (λ row. map g.S.Shared.reads.mine row.items) (into_iter_items l.rows_left)) later
-    → AreBooksOf (map g.S.Shared.terms l.fn.accounts.items) (map (λ row. map g.S.Shared.reads.mine row.items) l.fn.rows.items) (l.books.items ++ later))
+    × ((later : List Closed) → AreBooksOf g.S.Shared.reads g.S.Shared.was g.S.Shared.stood (map g.S.Shared.terms (into_iter_items l.account-iterator)) (map (λ row. row.items) (into_iter_items l.rows_left)) later
+    → AreBooksOf g.S.Shared.reads g.S.Shared.was g.S.Shared.stood (map g.S.Shared.terms l.fn.accounts.items) (map (λ row. row.items) l.fn.rows.items) (l.books.items ++ later))
     × AreAllThere (map (λ account. (g.S.Shared.terms account).seats) (into_iter_items l.account-iterator)) (map (λ row. map g.S.Shared.reads.number row.items) (into_iter_items l.rows_left))

@@ -1,8 +1,17 @@
-use Rattle.std.proofs.Common.{rules}
+use Rattle.std.proofs.Common.{map, rules}
 use Rattle.runs_core.proofs.Finishing.{shut_by}
-use Rattle.runs_core.proofs.Roundings.{handled_with, heard_with, left_with}
+use Rattle.runs_core.proofs.Goings.{begins}
+use Rattle.runs_core.proofs.Roundings.{has_left}
+use Rattle.runs_core.specs.Teams.{IsFresh}
 use Rattle.runs_core.proofs.serving.run_in.Goals as goal
 use Rattle.workers_core.specs.Workers.{number_by}
+
+pub start_and_play-ran-requires-clause-first : goal.start_and_play-ran-requires-clause-first
+start_and_play-ran-requires-clause-first g c = λ _ _.
+    let made = c.in_ok-new.ensures in
+    let fresh : IsFresh g.S.Shared.reads (map g.S.Shared.key c.args.accounts.now) 0 c.in-Some.team.items = search rules in
+    begins (number_by g.S.Shared.terms) g.S.Shared.key g.S.Shared.reads g.S.Shared.was c.args.setup.now c.args.accounts.now 0 c.in-Some.team.items _
+    c.requires.numbered fresh made.ready made.setup made.accounts made.number made.seats made.talks
 
 pub returns-in_err-finished-clause-fault : goal.returns-in_err-finished-clause-fault
 returns-in_err-finished-clause-fault g c =
@@ -13,19 +22,6 @@ returns-in_err-finished-clause-fault g c =
 
 pub returns-clause-left : goal.returns-clause-left
 returns-clause-left g c =
-    let read = g.S.Shared.reads in
-    let played = c.in_ok-ran.ensures.played in
-    let seats = c.finish.ensures.seats in
-    let posts = c.finish.ensures.posts in
-    let refusals = c.finish.ensures.refusals in
-    let promised = c.start_and_play-ran.ensures.promised in
-    let by = c.in_ok-finished.ensures.left in
-    let both = left_with (number_by g.S.Shared.terms) g.S.Shared.key read c.args.setup.now c.args.accounts.now c.args.gate.now _ _ _ c.finish.result _ _ _ played.served seats posts refusals promised by in
     rw (c.in_ok-insert.ensures.items)
-    (record {
-      handled = handled_with (number_by g.S.Shared.terms) g.S.Shared.key read c.args.setup.now c.args.accounts.now _ _ _ c.finish.result _ _ played.served posts c.in_ok-finished.ensures.posts (search rules);
-      left = both.0;
-      worked = both.1;
-      heard = heard_with g.D.Driver.given g.D.Driver.ended g.D.Driver.hears (number_by g.S.Shared.terms) g.S.Shared.key read c.args.setup.now c.args.accounts.now c.args.gate.now _ _ _ c.finish.result _
-          played seats posts refusals c.in_ok-finished.ensures.posts promised by;
-    })
+    (has_left g.D.Driver.given g.D.Driver.ended g.D.Driver.hears (number_by g.S.Shared.terms) g.S.Shared.key g.S.Shared.reads g.S.Shared.was c.args.setup.now c.args.accounts.now c.args.gate.now
+    _ _ _ c.finish.result.items _ _ c.in_ok-ran.ensures.played c.finish.ensures c.start_and_play-ran.ensures.promised c.in_ok-finished.ensures.left (search rules))

@@ -5,9 +5,9 @@ use Rattle.workers_core.specs.Workers.{number_by}
 
 pub play-requires-clause-served : goal.play-requires-clause-served
 play-requires-clause-served g c = λ _ _.
-    none_served_by (number_by g.S.Shared.terms) g.S.Shared.key g.S.Shared.reads c.args.setup.now c.args.accounts.now _ c.requires.first (search rules) (search rules)
+    none_served_by (number_by g.S.Shared.terms) g.S.Shared.key g.S.Shared.reads g.S.Shared.was c.args.setup.now c.args.accounts.now _ c.requires.first (search rules) (search rules)
 
 pub returns-clause-played : goal.returns-clause-played
 returns-clause-played g c =
     on_ok c.play.result _ _ c.play.ensures.played
-    (played_by g.D.Driver.given g.D.Driver.ended g.D.Driver.hears (number_by g.S.Shared.terms) g.S.Shared.key g.S.Shared.reads c.args.setup.now c.args.accounts.now c.args.crew.now.desk _ _ _ c.requires.first)
+    (played_by g.D.Driver.given g.D.Driver.ended g.D.Driver.hears (number_by g.S.Shared.terms) g.S.Shared.key g.S.Shared.reads g.S.Shared.was c.args.setup.now c.args.accounts.now c.args.crew.now.worker _ _ _ c.requires.first)

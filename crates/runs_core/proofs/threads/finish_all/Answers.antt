@@ -1,44 +1,40 @@
-use Rattle.std.proofs.Common.{◌≡◌, ◌∙◌, ap, arith, length, map, rules, subst}
+use Rattle.std.proofs.Common.{◌≡◌, ap, arith, length, map, rules, subst}
+use Rattle.std.specs.Prelude.{IfSome}
 use Rattle.std.specs.Vec.Iter.{into_iter_items}
 use Rattle.runs_core.proofs.Finishing.{all_finished, none_finished, one_failed, one_finished}
-use Rattle.std.specs.Prelude.{IfSome}
-use Rattle.runs_core.specs.Sending.{AreLeftBy, IsFirstFault, MayBeShut, heard_by, promises_of, sent_by}
+use Rattle.runs_core.specs.Sending.{AreLeftBy, IsFirstFault, MayBeShut, promises_of}
 use Rattle.runs_core.proofs.threads.finish_all.Goals as goal
 
 pub loop-link-init : goal.loop-link-init
-loop-link-init g c = none_finished _ _ _ c.args.links.items _ c.args.left.now.items c.into_iter-link-iterator.ensures.into_iter_gives.0 c.requires.none
+loop-link-init g c =
+    none_finished _ _ _ _ c.args.links.items _ (map (λ team. team.items) c.args.left.now.items) c.into_iter-link-iterator.ensures.into_iter_gives.0 (ap (map (λ team. team.items)) c.requires.none)
 
 pub loop-link-preserved-in-Err : goal.loop-link-preserved-in-Err
 loop-link-preserved-in-Err g c =
     rw (c.or-fault.ensures)
-    (one_failed _ _ _ c.args.links.items (into_iter_items c.next.new.self) c.loop-link.left.items c.finish_one.new.left.items c.loop-link.fault c.in-Some.link c.in-Err.why
+    (one_failed _ _ _ _ c.args.links.items (into_iter_items c.next.new.self) (map (λ team. team.items) c.loop-link.left.items) (map (λ team. team.items) c.finish_one.new.left.items) c.loop-link.fault c.in-Some.link c.in-Err.why
     (rw c.in-Some.ensures.steps.0 at c.loop-link.invariant) (search rules) (search rules))
 
 pub loop-link-preserved : goal.loop-link-preserved
 loop-link-preserved g c =
     let left = c.in_default.ensures.left in
-    one_finished _ _ _ c.args.links.items (into_iter_items c.next.new.self) c.loop-link.left.items c.finish_one.new.left.items c.loop-link.fault c.in-Some.link left.0
-    (rw c.in-Some.ensures.steps.0 at c.loop-link.invariant) left.1 left.2 left.3
-
-pub returns-in-None-fault-clause-posts : goal.returns-in-None-fault-clause-posts
-returns-in-None-fault-clause-posts g c =
-    let none : length (into_iter_items c.loop-link.link-iterator) ≡ 0 = omega (arith, c.in-None.ensures.steps.0, c.loop-link.link-iterator.rest.ok) in
-    c.loop-link.invariant.posts c.in-None-fault.is ∙ ap (map sent_by) (all_finished _ _ _ _ _ _ _ none c.loop-link.invariant)
+    one_finished _ _ _ _ c.args.links.items (into_iter_items c.next.new.self) (map (λ team. team.items) c.loop-link.left.items) (map (λ team. team.items) c.finish_one.new.left.items) c.loop-link.fault c.in-Some.link left.0
+    (rw c.in-Some.ensures.steps.0 at c.loop-link.invariant) left.1 left.2
 
 pub returns-in-None-fault-clause-left : goal.returns-in-None-fault-clause-left
 returns-in-None-fault-clause-left g c =
     let none : length (into_iter_items c.loop-link.link-iterator) ≡ 0 = omega (arith, c.in-None.ensures.steps.0, c.loop-link.link-iterator.rest.ok) in
-    subst (λ links. AreLeftBy g.S.Shared.reads g.S.Shared.key (promises_of links) (map heard_by links) c.loop-link.left.items)
-    (all_finished _ _ _ _ _ _ _ none c.loop-link.invariant) (c.loop-link.invariant.left_by c.in-None-fault.is)
+    subst (λ links. AreLeftBy g.S.Shared.reads g.S.Shared.key g.S.Shared.was links (map (λ team. team.items) c.loop-link.left.items))
+    (all_finished _ _ _ _ _ _ _ _ none c.loop-link.invariant) (c.loop-link.invariant.left_by c.in-None-fault.is)
 
 pub returns-in-Some-fault-clause-fault : goal.returns-in-Some-fault-clause-fault
 returns-in-Some-fault-clause-fault g c =
     let none : length (into_iter_items c.loop-link.link-iterator) ≡ 0 = omega (arith, c.in-None.ensures.steps.0, c.loop-link.link-iterator.rest.ok) in (
-      λ closed. subst (λ links. MayBeShut g.G.Gate.may_shut (promises_of links)) (all_finished _ _ _ _ _ _ _ none c.loop-link.invariant) (c.loop-link.invariant.shut (cc)),
+      λ closed. subst (λ links. MayBeShut g.G.Gate.may_shut (promises_of links)) (all_finished _ _ _ _ _ _ _ _ none c.loop-link.invariant) (c.loop-link.invariant.shut (cc)),
       λ is. c.loop-link.invariant.workers (cc),
     )
 
 pub returns-in-Some-fault-clause-first : goal.returns-in-Some-fault-clause-first
 returns-in-Some-fault-clause-first g c =
-    subst (λ found. IfSome found (λ why. IsFirstFault g.S.Shared.reads g.S.Shared.key g.G.Gate.may_shut (promises_of c.args.links.items) why))
+    subst (λ found. IfSome found (λ why. IsFirstFault g.S.Shared.reads g.S.Shared.key g.S.Shared.was g.G.Gate.may_shut c.args.links.items why))
     c.in-Some-fault.is c.loop-link.invariant.first

@@ -4,13 +4,13 @@ use Rattle.workers_core.specs.Ends.{sent, taken}
 use Rattle.workers_core.specs.Handled.{answer_view}
 use Rattle.workers_core.specs.Workers.{number_by}
 use Rattle.runs_core.specs.Mails.{items_in}
-use Rattle.runs_core.proofs.AtDesks.{goes_none, goes_more}
+use Rattle.runs_core.proofs.Goings.{goes_none, goes_more}
 use Rattle.runs_core.proofs.Mailing.{closes, items_closed, items_more}
 use Rattle.runs_core.proofs.worker_link.answer_rounds.Goals as goal
 
 pub loop-init : goal.loop-init
 loop-init g c =
-    rw (c.requires.taken, c.requires.sent) (search rules, search rules, goes_none (number_by g.S.Shared.terms) g.S.Shared.key g.S.Shared.reads c.args.desk.now c.requires.ready)
+    rw (c.requires.taken, c.requires.sent) (search rules, search rules, goes_none (number_by g.S.Shared.terms) g.S.Shared.key g.S.Shared.reads g.S.Shared.was c.args.worker.now c.requires.ready)
 
 pub loop-preserved : goal.loop-preserved
 loop-preserved g c =
@@ -18,7 +18,7 @@ loop-preserved g c =
     let does = c.in_ok-answer_round-in-Ok-Work.ensures.goes_on in
     let posts = items_more (taken c.loop.inbox) _ c.in-Ok-Work.posts (rw c.in-Ok-Work.field-0-is at c.in-Ok-Work.ensures.taken) in
     let answers = ap (map answer_view) does.1 ∙ map-append answer_view (items_in (sent c.loop.outbox)) does.0 in
-    (search rules, search rules, rw (posts, answers) (goes_more (number_by g.S.Shared.terms) g.S.Shared.key g.S.Shared.reads c.args.desk.now _ _ _ _ c.loop.desk _ before.2 does.2))
+    (search rules, search rules, rw (posts, answers) (goes_more (number_by g.S.Shared.terms) g.S.Shared.key g.S.Shared.reads g.S.Shared.was c.args.worker.now _ _ _ _ c.loop.worker _ before.2 does.2))
 
 pub returns-in-Ok-Close-clause-goes_on : goal.returns-in-Ok-Close-clause-goes_on
 returns-in-Ok-Close-clause-goes_on g c = rw (items_closed (taken c.loop.inbox) _ (rw c.in-Ok-Close.field-0-is at c.in-Ok-Close.ensures.taken)) c.loop.invariant.2

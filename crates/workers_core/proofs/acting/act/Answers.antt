@@ -7,7 +7,6 @@ use Rattle.dialogue_core.specs.Views.{phase_of, says_of}
 use Rattle.workers_core.specs.Handled.{answer_view}
 use Rattle.workers_core.specs.Workers.{standings_in}
 use Rattle.workers_core.proofs.Doings.{as_many, grown_at, mine_at, numbered_at, on_ok, own_account, recharged_by, same_seats, stands_now, talked_by, was_at, was_there}
-use Rattle.workers_core.proofs.Refused.{ask_there, talk_there}
 use Rattle.workers_core.proofs.Talking.{right_known, rights_known}
 use Rattle.workers_core.specs.Refusals.{WasAt}
 use Rattle.shared_account.specs.Refusals.{IsRefusedAt}
@@ -98,16 +97,3 @@ returns-in_ok-said-in-Talk-clause-was g c =
     let there : c.in-Talk.talk.place < length c.args.seats.now.items =
     rw (as_many g.S.Shared.reads.key g.S.Shared.key c.args.seats.now.items c.args.accounts.now c.requires.keys) (rw c.in-Talk.is at c.requires.within) in
     was_at g.S.Shared.was c.args.seats.now.items c.in-Talk.talk.place c.index_mut-in-Talk.result.now c.converse.new.seat there c.index_mut-in-Talk.ensures.value c.in_ok-said-in-Talk.ensures.was
-
-pub returns-in-Recharge-clause-refused : goal.returns-in-Recharge-clause-refused
-returns-in-Recharge-clause-refused g c =
-    rw c.in-Recharge.is
-    (IfOk-weaker c.recharge.result _ _ (λ answer is.
-    ask_there g.S.Shared.refuses c.args.accounts.now c.in-Recharge.place c.index-accounts-place.result _ answer.refused (rw c.in-Recharge.is at c.requires.within) c.index-accounts-place.is is)
-    c.recharge.ensures.refused)
-
-pub returns-in_ok-said-in-Talk-clause-refused : goal.returns-in_ok-said-in-Talk-clause-refused
-returns-in_ok-said-in-Talk-clause-refused g c =
-    rw c.in-Talk.is
-    (talk_there g.S.Shared.refuses c.args.accounts.now c.in-Talk.talk.place c.index-accounts-place-in-Talk.result (says_of c.in-Talk.turn, phase_of c.in-Talk.talk.dialogue)
-    c.in_ok-said-in-Talk.said.refused (rw c.in-Talk.is at c.requires.within) c.index-accounts-place-in-Talk.is c.in_ok-said-in-Talk.ensures.refused)

@@ -1,6 +1,6 @@
 use Rattle.std.proofs.Common.{rules, refl, ◌≢◌, Err}
 use Rattle.account_core.specs.declared.fault.AccountFault.TheVariants as fault
-use Rattle.workers_core.proofs.Refused.{not_gate}
+use Rattle.workers_core.proofs.Talking.{not_gate}
 use Rattle.workers_core.proofs.acting.ask.Goals as goal
 
 pub returns-in-Err : goal.returns-in-Err
@@ -14,10 +14,9 @@ returns-in-Err g c =
         enters = search rules;
         says = c.hear.ensures.says;
         refuses = refl;
-        right = not_gate c.in-Err.fault c.in-Err.ensures.refused_at other;
+        right = not_gate c.in-Err.fault c.in-Err.ensures.refused other;
       };
       fewer = c.hear.ensures.fewer;
-      told = search rules;
       was = c.call-got.ensures.was;
       fault = tt;
       gate = search rules;

@@ -1,8 +1,6 @@
 use Rattle.std.proofs.Common.{arith, ◌∙◌}
 use Rattle.account_core.specs.Events.{asked_of}
 use Rattle.dialogue_core.specs.Views.{phase_of, says_of}
-use Rattle.shared_account.specs.Refusals.{IsRefusedAt}
-use Rattle.workers_core.proofs.Refused.{told_more}
 use Rattle.workers_core.proofs.Talking.{so_asked}
 use Rattle.workers_core.proofs.acting.converse.Goals as goal
 
@@ -22,8 +20,4 @@ loop-turn-preserved g c = record {
       (says_of c.in_ok-turn.turn) c.loop-turn.refused c.ask.new.refused
       (rw c.in-Ask.is at c.loop-turn.invariant.so_far)
       (rw c.loop-turn.invariant.same_number at c.in_ok-turn.ensures.asked);
-  told =
-      told_more (IsRefusedAt (g.S.Shared.was c.loop-turn.seat)) (g.S.Shared.refuses c.args.account.now) (g.S.Shared.reads.number c.args.seat.now) (says_of c.args.turn, phase_of c.args.dialogue.now) (g.S.Shared.reads.mine c.args.seat.now)
-      (g.S.Shared.reads.mine c.loop-turn.seat) (asked_of c.in-Ask.op) (phase_of c.loop-turn.dialogue) c.loop-turn.refused c.ask.new.refused
-      (rw c.in-Ask.is at c.loop-turn.invariant.so_far) c.in_ok-turn.ensures.told c.loop-turn.invariant.told;
 }

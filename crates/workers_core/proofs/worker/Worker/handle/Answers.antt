@@ -1,42 +1,21 @@
 use Rattle.std.proofs.Common.{◌≡◌, ◌∙◌, ℕ, List, All, length, map, ap, sym, subst}
 use Rattle.std.proofs.lemmas.List.{length-map}
 use Rattle.workers_core.specs.Handled.{answer_view}
-use Rattle.workers_core.specs.Refusals.{HasRefusedAt, RefusesAt}
+use Rattle.workers_core.specs.Refusals.{RefusesAt}
 use Rattle.workers_core.specs.Verdicts.{verdict}
 use Rattle.workers_core.specs.Workers.{holding, number_by, standings_in}
-use Rattle.workers_core.proofs.Handling.{case_within, done_by, recharged_so, rejected_so, sound_after, stray_is, stray_lists}
+use Rattle.workers_core.proofs.Handling.{case_within, done_by, placed_after, recharged_so, rejected_so, stray_is, stray_lists}
 use Rattle.run_values.specs.declared.directory.OpeningCredit.{OpeningCredit}
-use Rattle.workers_core.proofs.Refused.{kind_told, post_refused}
 use Rattle.workers_core.proofs.worker.Worker.handle.Goals as goal
 
-pub returns-clause-refused : goal.returns-clause-refused
-returns-clause-refused g c =
-    post_refused (HasRefusedAt g.S.Shared.refuses c.args.self.now.accounts.now) c.args.self.now.setup.now c.args.post.at
-    (verdict c.args.self.now.setup.now (standings_in c.args.self.now.talks) c.args.post) c.judge-case.result c.in_ok-answer.answer.refused c.judge-case.ensures c.in_ok-answer.ensures.refused
-
-rightly : goal.returns-clause-right
-rightly g c =
+pub returns-clause-handled : goal.returns-clause-handled
+returns-clause-handled g c =
     let so =
     done_by (RefusesAt g.S.Shared.was c.act.new.seats.items) c.args.self.now.setup.now (map g.S.Shared.reads.number c.args.self.now.seats.items) c.args.post.at
     (verdict c.args.self.now.setup.now (standings_in c.args.self.now.talks) c.args.post) c.judge-case.result (map g.S.Shared.reads.mine c.args.self.now.seats.items)
     (standings_in c.args.self.now.talks) (standings_in c.make_room.new.talks) _ (answer_view c.in_ok-answer.answer) c.judge-case.ensures c.in_ok-make_room.ensures.others
     c.in_ok-answer.ensures.acted in
-    record {
-      handled = record {
-        number = c.in_ok-answer.ensures.number;
-        done = so.0;
-        kind =
-            kind_told (HasRefusedAt g.S.Shared.refuses c.args.self.now.accounts.now) c.args.self.now.setup.now (standings_in c.args.self.now.talks) c.args.post
-            c.in_ok-answer.answer.refused (returns-clause-refused g c);
-      };
-      right = so.1;
-    }
-
-pub returns-clause-right : goal.returns-clause-right
-returns-clause-right g c = rightly g c
-
-done : goal.returns-clause-handled
-done g c = (rightly g c).handled
+    record { handled = record { number = c.in_ok-answer.ensures.number; done = so.0 }; right = so.1 }
 
 pub act-requires-clause-within : goal.act-requires-clause-within
 act-requires-clause-within g c κs within =
@@ -44,10 +23,7 @@ act-requires-clause-within g c κs within =
     sym (length-map c.args.self.now.accounts.now (number_by g.S.Shared.terms)) ∙ ap length c.requires.ready.accounts
     ∙ length-map c.args.self.now.setup.now.accounts (λ (e : ℕ × OpeningCredit). e.0) in
     rw many
-    (case_within c.args.self.now.setup.now c.args.self.now.posts.items (holding g.S.Shared.reads.mine c.args.self.now) c.args.post c.judge-case.result c.requires.ready.sound c.judge-case.ensures)
-
-pub returns-clause-handled : goal.returns-clause-handled
-returns-clause-handled g c = done g c
+    (case_within c.args.self.now.setup.now (holding g.S.Shared.reads.mine c.args.self.now) c.args.post c.judge-case.result c.requires.ready.talks c.judge-case.ensures)
 
 pub returns-clause-ready : goal.returns-clause-ready
 returns-clause-ready g c = record {
@@ -56,20 +32,19 @@ returns-clause-ready g c = record {
   numbers =
       let P : List ℕ → Type 0 = λ numbers. All (λ number. number ≡ c.args.self.now.number) numbers in
       subst P (sym c.in_ok-answer.ensures.same_numbers) c.requires.ready.numbers;
-  sound =
-      rw c.in_ok-push.ensures.items
-      (sound_after c.args.self.now.setup.now (map g.S.Shared.reads.number c.args.self.now.seats.items) c.args.self.now.posts.items c.args.post
-      (holding g.S.Shared.reads.mine c.args.self.now) _ (answer_view c.in_ok-answer.answer) c.requires.ready.sound (done g c).done);
+  talks =
+      placed_after c.args.self.now.setup.now (map g.S.Shared.reads.number c.args.self.now.seats.items) c.args.post (holding g.S.Shared.reads.mine c.args.self.now) _
+      (answer_view c.in_ok-answer.answer) c.requires.ready.talks (returns-clause-handled g c).handled.done;
 }
 
 pub returns-clause-stray : goal.returns-clause-stray
-returns-clause-stray g c = stray_is _ _ _ _ _ _ (answer_view c.in_ok-answer.answer) (done g c).done
+returns-clause-stray g c = stray_is _ _ _ _ _ _ (answer_view c.in_ok-answer.answer) (returns-clause-handled g c).handled.done
 
 pub returns-clause-stray_asks_nothing : goal.returns-clause-stray_asks_nothing
-returns-clause-stray_asks_nothing g c = λ is. stray_lists _ _ _ _ _ _ (answer_view c.in_ok-answer.answer) (done g c).done is
+returns-clause-stray_asks_nothing g c = λ is. stray_lists _ _ _ _ _ _ (answer_view c.in_ok-answer.answer) (returns-clause-handled g c).handled.done is
 
 pub returns-clause-rejected : goal.returns-clause-rejected
-returns-clause-rejected g c = λ is. rejected_so _ _ _ _ _ _ (answer_view c.in_ok-answer.answer) (done g c).done is
+returns-clause-rejected g c = λ is. rejected_so _ _ _ _ _ _ (answer_view c.in_ok-answer.answer) (returns-clause-handled g c).handled.done is
 
 pub returns-clause-recharged : goal.returns-clause-recharged
-returns-clause-recharged g c = λ place amount until is. recharged_so _ _ _ _ _ _ (answer_view c.in_ok-answer.answer) place amount until (done g c).done is
+returns-clause-recharged g c = λ place amount until is. recharged_so _ _ _ _ _ _ (answer_view c.in_ok-answer.answer) place amount until (returns-clause-handled g c).handled.done is

@@ -1,7 +1,0 @@
-use Rattle.std.specs.Vec.Iter.{into_iter_items}
-use Rattle.runs_core.proofs.AtDesks.{AreGoing}
-use Rattle.runs_core.proofs.crew.Desk.answer_all.Given as goal
-use Rattle.workers_core.specs.Workers.{number_by}
-
-abbrev pub invariant-loop-post : goal.invariant-loop-post
-invariant-loop-post g l = AreGoing (number_by g.S.Shared.terms) g.S.Shared.key g.S.Shared.reads l.fn.self l.fn.posts.items (into_iter_items l.post-iterator) l.answers.items l.self

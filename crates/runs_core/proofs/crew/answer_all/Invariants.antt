@@ -1,0 +1,7 @@
+use Rattle.std.specs.Vec.Iter.{into_iter_items}
+use Rattle.runs_core.proofs.Goings.{AreGoing}
+use Rattle.runs_core.proofs.crew.answer_all.Given as goal
+use Rattle.workers_core.specs.Workers.{number_by}
+
+abbrev pub invariant-loop-post : goal.invariant-loop-post
+invariant-loop-post g l = AreGoing (number_by g.S.Shared.terms) g.S.Shared.key g.S.Shared.reads g.S.Shared.was l.fn.worker l.fn.posts.items (into_iter_items l.post-iterator) l.answers.items l.worker
