@@ -18,8 +18,8 @@ use Rattle.dialogue_core.specs.Table.{Step, are_units, on_begin, on_reply, seque
 use Rattle.dialogue_core.specs.declared.fault.DialogueFault.TheVariants.{Unexpected}
 use Rattle.tariff_core.specs.declared.route.Route.{Route}
 use Rattle.workers_core.specs.Served.{IsPart, Report, credited_in, credits_of, held_in, held_of, report_in, settled_in, settles_of}
-use Rattle.dialogue_core.specs.Talks.{Got, after_got, or_done}
-use Rattle.workers_core.specs.Talks.{entries_of, entry_of, talked}
+use Rattle.dialogue_core.specs.Talks.{Got, after_got, or_done, talked}
+use Rattle.workers_core.specs.Talks.{entries_of, entry_of}
 use Rattle.workers_core.specs.Workers.{IsAbout}
 
 -- what is said asks for a call alone

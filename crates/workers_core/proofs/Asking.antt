@@ -22,8 +22,8 @@ use Rattle.workers_core.specs.Chains.{AreHandled, IsHandledOnce, at_first, seat_
 use Rattle.workers_core.specs.Handled.{Holding, IsBegun, IsDone, IsTalked, AnswerView, grown}
 use Rattle.workers_core.specs.Laws.{CallsAreReserved, HasNoDialogue, IsHandledAfter, IsReserved, IsRunning, PostsAreHandled, asked_at}
 use Rattle.run_values.specs.Setups.{Setup, account_of}
-use Rattle.dialogue_core.specs.Talks.{Got}
-use Rattle.workers_core.specs.Talks.{entries_of, entry_of, is_ask, last_fault, talked}
+use Rattle.dialogue_core.specs.Talks.{Got, is_ask, talked}
+use Rattle.workers_core.specs.Talks.{entries_of, entry_of, last_fault}
 use Rattle.workers_core.specs.Verdicts.{DialogueAt, IsRouted, Verdict, Strays, Rejects, Recharges, Begins, GoesOn, begins, goes_on, home_of, spoken, verdict_on}
 use Rattle.workers_core.specs.Workers.{IsSound}
 use Rattle.run_values.specs.declared.post.Body.TheVariants.{Ssf}

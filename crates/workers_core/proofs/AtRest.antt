@@ -2,8 +2,8 @@
 use Rattle.std.proofs.Common.{◌≡◌, ◌∙◌, false, List, [], ◌∷◌, refl, sym, ap}
 use Rattle.dialogue_core.specs.Phases.{Phase, Says}
 use Rattle.workers_core.specs.Laws.{WhatIsSaidIsSent}
-use Rattle.dialogue_core.specs.Talks.{Got, sent_by}
-use Rattle.workers_core.specs.Talks.{AllAsk, is_ask, last_fault}
+use Rattle.dialogue_core.specs.Talks.{Got, is_ask, sent_by}
+use Rattle.workers_core.specs.Talks.{AllAsk, last_fault}
 
 -- the first of the replies would need a pending ask
 pub nothing_asked : (first : Says × Phase) (gots : List Got) → is_ask first.0 ≡ false → AllAsk first gots → gots ≡ []

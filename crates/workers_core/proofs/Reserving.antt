@@ -27,8 +27,8 @@ use Rattle.workers_core.specs.Chains.{AreHandled, at_first}
 use Rattle.workers_core.specs.Handled.{Holding, IsDone, IsTalked, Stay, AnswerView, grown}
 use Rattle.workers_core.specs.Laws.{HasBegun, IsOnTerms, ReservesAreOnTerms}
 use Rattle.run_values.specs.Setups.{Setup}
-use Rattle.dialogue_core.specs.Talks.{Got, after_got, or_done}
-use Rattle.workers_core.specs.Talks.{entries_of, entry_of, talked}
+use Rattle.dialogue_core.specs.Talks.{Got, after_got, or_done, talked}
+use Rattle.workers_core.specs.Talks.{entries_of, entry_of}
 use Rattle.workers_core.specs.Verdicts.{DialogueAt, IsRouted, Verdict, Strays, Rejects, Recharges, Begins, GoesOn, home_of, verdict_on}
 use Rattle.run_values.specs.declared.post.Body.TheVariants.{Ssf}
 use Rattle.run_values.specs.declared.post.Post.{Post}

@@ -27,8 +27,8 @@ use Rattle.workers_core.specs.Handled.{Holding, IsDone, IsTalked, AnswerView}
 use Rattle.workers_core.specs.Laws.{AreReturnedFor, CallsAreReturned, ends_call}
 use Rattle.workers_core.specs.Served.{returned_in, returns_of}
 use Rattle.run_values.specs.Setups.{Setup}
-use Rattle.dialogue_core.specs.Talks.{Got}
-use Rattle.workers_core.specs.Talks.{entries_of, entry_of, talked}
+use Rattle.dialogue_core.specs.Talks.{Got, talked}
+use Rattle.workers_core.specs.Talks.{entries_of, entry_of}
 use Rattle.workers_core.specs.Verdicts.{DialogueAt, Verdict, Strays, Rejects, Recharges, Begins, GoesOn, verdict_on}
 use Rattle.workers_core.specs.Workers.{IsAbout, IsSound}
 use Rattle.run_values.specs.declared.post.Post.{Post}

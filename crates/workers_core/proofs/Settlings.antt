@@ -22,8 +22,8 @@ use Rattle.workers_core.specs.Handled.{Holding, IsDone, IsTalked, AnswerView}
 use Rattle.workers_core.specs.Laws.{AreSettledFor, ReportsAreSettled}
 use Rattle.workers_core.specs.Served.{AreServed, IsPart, Report, reported_in, reports_of, settled_in, settles_of}
 use Rattle.run_values.specs.Setups.{Setup}
-use Rattle.dialogue_core.specs.Talks.{Got}
-use Rattle.workers_core.specs.Talks.{entries_of, entry_of, is_ask, last_fault, talked}
+use Rattle.dialogue_core.specs.Talks.{Got, is_ask, talked}
+use Rattle.workers_core.specs.Talks.{entries_of, entry_of, last_fault}
 use Rattle.workers_core.specs.Verdicts.{Verdict, Strays, Rejects, Recharges, Begins, GoesOn, verdict_on}
 use Rattle.workers_core.specs.Workers.{IsAbout, IsSound}
 use Rattle.run_values.specs.declared.post.Post.{Post}

@@ -4,13 +4,14 @@ use Rattle.account_core.specs.Asked.{Asked}
 use Rattle.account_core.specs.Events.{EntryData}
 use Rattle.account_core.specs.Ledger.{Ledger}
 use Rattle.shared_account.specs.Refusals.{IsRefusedAt, Knowing}
+use Rattle.shared_account.specs.Seats.{Reads}
 use Rattle.account_core.specs.declared.fault.AccountFault.{AccountFault}
 use Rattle.account_core.specs.declared.fault.AccountFault.TheVariants as fault
 use Rattle.cap_values.specs.Orders.{Order}
 use Rattle.dialogue_core.specs.Phases.{Phase, Says, Asks, Sends, Finished}
-use Rattle.workers_core.specs.Cases.{IsAsked, or_fault}
-use Rattle.dialogue_core.specs.Talks.{Got, sent_by}
-use Rattle.workers_core.specs.Talks.{AllAsk, AreRight, IsRight, IsTalk, Showing, entries_of, entry_of, is_ask, last_fault, talked}
+use Rattle.workers_core.specs.Cases.{AtDesk, or_fault}
+use Rattle.dialogue_core.specs.Talks.{AreGot, Gets, Got, IsTalkedOut, after_got, is_ask, sent_by, talked}
+use Rattle.workers_core.specs.Talks.{AllAsk, AreRight, IsRight, IsTalk, Showing, entries_of, entry_of, last_fault}
 
 -- ---- how far a talk has come
 
@@ -67,19 +68,19 @@ pub fault_after : (gots : List Got) (got : Got) → or_fault (last_fault gots) g
 fault_after gots (Ok reply) = refl
 fault_after gots (Err fault) = refl
 
-pub so_asked : (Was Later : Knowing) → ((mine : List EntryData) (account : Ledger) → Was mine account → Later mine account)
-    → (seat : ℕ) (first : Says × Phase) (before between after : List EntryData) (asked : Asked) (from to : Phase) (said : Says) (old new : Option AccountFault)
-    → IsSoFar (IsRefusedAt Was) seat first before between (Asks asked, from) old → IsAsked (IsRefusedAt Later) seat asked between after from to said old new
-    → IsSoFar (IsRefusedAt Later) seat first before after (said, to) new
-so_asked Was Later still seat first before between after asked from to said old new so is = record {
-  gots = is.got ∷ so.gots;
+so_asked : (Was Later : Knowing) → ((mine : List EntryData) (account : Ledger) → Was mine account → Later mine account)
+    → (seat : ℕ) (first : Says × Phase) (before between after : List EntryData) (asked : Asked) (from : Phase) (got : Got) (old new : Option AccountFault)
+    → IsSoFar (IsRefusedAt Was) seat first before between (Asks asked, from) old → after ≡ between ++ entry_of seat (Asks asked) got → new ≡ or_fault old got
+    → IsRight (IsRefusedAt Later) between (Asks asked) got → IsSoFar (IsRefusedAt Later) seat first before after (after_got from got) new
+so_asked Was Later still seat first before between after asked from got old new so enters refuses right = record {
+  gots = got ∷ so.gots;
   asked = (ap (λ (p : Says × Phase). is_ask p.0) so.talks, so.asked);
-  talks = rw (so.talks) is.says;
-  enters = rw (so.talks) (is.enters ∙ ap (λ l. l ++ entry_of seat (Asks asked) is.got) so.enters ∙ append_assoc before (entries_of seat first so.gots) (entry_of seat (Asks asked) is.got));
-  refuses = is.refuses ∙ ap (λ r. or_fault r is.got) so.refuses ∙ fault_after so.gots is.got;
+  talks = rw (so.talks) refl;
+  enters = rw (so.talks) (enters ∙ ap (λ l. l ++ entry_of seat (Asks asked) got) so.enters ∙ append_assoc before (entries_of seat first so.gots) (entry_of seat (Asks asked) got));
+  refuses = refuses ∙ ap (λ r. or_fault r got) so.refuses ∙ fault_after so.gots got;
   right =
-      let R : List EntryData × Says → Type 0 = λ at. IsRight (IsRefusedAt Later) at.0 at.1 is.got in
-      (subst R (λ i. (so.enters i, (sym so.talks i).0)) is.right, rights_known Was Later still seat first before so.gots so.right);
+      let R : List EntryData × Says → Type 0 = λ at. IsRight (IsRefusedAt Later) at.0 at.1 got in
+      (subst R (λ i. (so.enters i, (sym so.talks i).0)) right, rights_known Was Later still seat first before so.gots so.right);
 }
 
 pub so_ended : (Shows : Showing) (seat : ℕ) (first : Says × Phase) (before after : List EntryData) (last : Says) (phase : Phase) (orders : List Order) (refused : Option AccountFault)
@@ -95,3 +96,48 @@ so_ended Shows seat first before after last phase orders refused so rests sends 
   refuses = so.refuses;
   right = so.right;
 }
+
+-- ---- at a desk
+
+-- how far a talk at a desk has come, whose gate and whose seat's key and number stay
+pub record IsSpoken {X G K T : Type 0} (gate : X → G) (shown : X → T × Option AccountFault) (reads : Reads K T) (Was : T → Knowing) (first : Says × Phase) (from now : X) (next : Says × Phase) : Type 0 where
+  pub same_gate : gate now ≡ gate from
+  pub same_key : reads.key (shown now).0 ≡ reads.key (shown from).0
+  pub same_number : reads.number (shown now).0 ≡ reads.number (shown from).0
+  pub still : (mine : List EntryData) (account : Ledger) → Was (shown from).0 mine account → Was (shown now).0 mine account
+  pub so_far : IsSoFar (IsRefusedAt (Was (shown now).0)) (reads.number (shown from).0) first (reads.mine (shown from).0) (reads.mine (shown now).0) next (shown now).1
+
+asked_at : {X G K T : Type 0} (gate : X → G) (shown : X → T × Option AccountFault) (reads : Reads K T) (Was : T → Knowing) (first : Says × Phase) (from between to : X) (said : Says) (phase : Phase) (got : Got)
+    → Gets (AtDesk gate shown reads Was) between said got to → IsSpoken gate shown reads Was first from between (said, phase) → IsSpoken gate shown reads Was first from to (after_got phase got)
+asked_at gate shown reads Was first from between to (Asks asked) phase got is so =
+    let (same, ask) = is in
+    record {
+      same_gate = same ∙ so.same_gate;
+      same_key = ask.same_key ∙ so.same_key;
+      same_number = ask.same_number ∙ so.same_number;
+      still = λ mine account was. ask.still mine account (so.still mine account was);
+      so_far =
+          so_asked (Was (shown between).0) (Was (shown to).0) ask.still (reads.number (shown from).0) first (reads.mine (shown from).0) (reads.mine (shown between).0) (reads.mine (shown to).0) asked phase got
+          (shown between).1 (shown to).1 so.so_far (rw so.same_number at ask.enters) ask.refuses ask.right;
+    }
+asked_at gate shown reads Was first from between to (Sends orders) phase got is so = absurd is
+asked_at gate shown reads Was first from between to Finished phase got is so = absurd is
+
+-- what the asks got leads so far
+pub spoken : {X G K T : Type 0} (gate : X → G) (shown : X → T × Option AccountFault) (reads : Reads K T) (Was : T → Knowing) (first : Says × Phase) (from : X) (gots : List Got) (to : X)
+    → AreGot (AtDesk gate shown reads Was) first from gots to → (shown from).1 ≡ None → IsSpoken gate shown reads Was first from to (talked first gots)
+spoken gate shown reads Was first from [] to is none = rw is (record {
+  same_gate = refl;
+  same_key = refl;
+  same_number = refl;
+  still = λ mine account was. was;
+  so_far = rw none (so_begun (IsRefusedAt (Was (shown from).0)) (reads.number (shown from).0) first (reads.mine (shown from).0));
+})
+spoken gate shown reads Was first from (got ∷ earlier) to is none =
+    let (between, before, gets) = is in
+    asked_at gate shown reads Was first from between to (talked first earlier).0 (talked first earlier).1 got gets (spoken gate shown reads Was first from earlier between before none)
+
+-- what a talk that was ended by nothing leads to
+pub spoken_out : {X G K T : Type 0} (gate : X → G) (shown : X → T × Option AccountFault) (reads : Reads K T) (Was : T → Knowing) (first : Says × Phase) (from to : X) (phase : Phase) (orders : List Order)
+    (talk : IsTalkedOut (AtDesk gate shown reads Was) first from to phase orders) → (shown from).1 ≡ None → IsSpoken gate shown reads Was first from to (talk.last, phase)
+spoken_out gate shown reads Was first from to phase orders talk none = rw talk.talks at (spoken gate shown reads Was first from talk.gots to talk.are_got none)

@@ -18,8 +18,8 @@ use Rattle.dialogue_core.specs.declared.fault.DialogueFault.TheVariants.{Unexpec
 use Rattle.tariff_core.specs.declared.route.Route.{Route}
 use Rattle.workers_core.proofs.Abouts.{SaysOf, says_of_call}
 use Rattle.workers_core.specs.Served.{returned_in, returns_of}
-use Rattle.dialogue_core.specs.Talks.{Got, after_got, or_done}
-use Rattle.workers_core.specs.Talks.{AllAsk, entries_of, entry_of, is_ask, last_fault, talked}
+use Rattle.dialogue_core.specs.Talks.{Got, after_got, is_ask, or_done, talked}
+use Rattle.workers_core.specs.Talks.{AllAsk, entries_of, entry_of, last_fault}
 use Rattle.workers_core.specs.Workers.{IsAbout}
 
 -- ---- a dialogue is through with its call once it has asked for the Return, or has nothing to return

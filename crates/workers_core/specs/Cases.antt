@@ -5,6 +5,7 @@ use Rattle.std.specs.Map.{lookup}
 use Rattle.std.specs.Ordering.{nat_cmp}
 use Rattle.account_core.specs.Asked.{Asked, Credits}
 use Rattle.account_core.specs.Events.{EntryData}
+use Rattle.account_core.specs.Ledger.{Ledger}
 use Rattle.account_core.specs.declared.fault.AccountFault.{AccountFault}
 use Rattle.cap_values.specs.NumberDigits.{digits_of}
 use Rattle.cap_values.specs.Orders.{Release}
@@ -12,10 +13,12 @@ use Rattle.cap_values.specs.declared.number.Number.{Number}
 use Rattle.dialogue_core.specs.Phases.{Phase, Says, Asks}
 use Rattle.dialogue_core.specs.Table.{on_begin}
 use Rattle.dialogue_core.specs.Views.{phase_of, says_of}
+use Rattle.shared_account.specs.Refusals.{IsRefusedAt, Knowing}
+use Rattle.shared_account.specs.Seats.{Reads}
 use Rattle.tariff_core.specs.declared.route.Route.{Route}
 use Rattle.workers_core.specs.Handled.{Holding, IsRecharged, IsTalked, IsUnasked, AnswerView}
 use Rattle.run_values.specs.Setups.{Setup}
-use Rattle.dialogue_core.specs.Talks.{Got, after_got}
+use Rattle.dialogue_core.specs.Talks.{Asking, Got}
 use Rattle.workers_core.specs.Talks.{AreRight, IsRight, Showing, entry_of}
 use Rattle.workers_core.specs.Verdicts.{DialogueAt, IsRouted, Verdict, Strays, Rejects, Recharges, Begins, GoesOn}
 use Rattle.workers_core.specs.Workers.{standing_of}
@@ -86,13 +89,19 @@ pub record IsRightlyActed (Shows : ℕ → Showing) (numbers : List ℕ) (case :
   pub acted : IsActed numbers case old new told
   pub right : AreRightIn Shows numbers case old new told acted
 
--- an account was asked once, from a seat: what it got was entered and is right, and the dialogue went on by it
-pub record IsAsked (Shows : Showing) (seat : ℕ) (asked : Asked) (before after : List EntryData) (from to : Phase) (said : Says) (old new : Option AccountFault) : Type 0 where
-  pub got : Got
-  pub enters : after ≡ before ++ entry_of seat (Asks asked) got
-  pub says : after_got from got ≡ (said, to)
-  pub refuses : new ≡ or_fault old got
-  pub right : IsRight Shows before (Asks asked) got
+-- an account was asked once, from a seat beside which the last fault is kept: what it got was entered and is right, and what the seat
+-- knew it still knows
+pub record IsAsked {K T : Type 0} (reads : Reads K T) (Was : T → Knowing) (before : T × Option AccountFault) (asked : Asked) (got : Got) (after : T × Option AccountFault) : Type 0 where
+  pub same_key : reads.key after.0 ≡ reads.key before.0
+  pub same_number : reads.number after.0 ≡ reads.number before.0
+  pub enters : reads.mine after.0 ≡ reads.mine before.0 ++ entry_of (reads.number before.0) (Asks asked) got
+  pub refuses : after.1 ≡ or_fault before.1 got
+  pub right : IsRight (IsRefusedAt (Was after.0)) (reads.mine before.0) (Asks asked) got
+  pub still : (mine : List EntryData) (account : Ledger) → Was before.0 mine account → Was after.0 mine account
+
+-- an ask at a desk, whose gate stays
+abbrev pub AtDesk : {X G K T : Type 0} → (X → G) → (X → T × Option AccountFault) → Reads K T → (T → Knowing) → Asking X
+AtDesk gate shown reads Was before asked got after = (gate after ≡ gate before) × IsAsked reads Was (shown before) asked got (shown after)
 
 -- an account was asked for a Credit, and what it got is right
 pub record IsCredited (Shows : Showing) (seat : ℕ) (asked : Asked) (before after : List EntryData) (told : AnswerView) : Type 0 where

@@ -10,8 +10,8 @@ use Rattle.dialogue_core.specs.Phases.{Phase, Says, Asks}
 use Rattle.dialogue_core.specs.Table.{on_begin}
 use Rattle.tariff_core.specs.declared.route.Route.{Route}
 use Rattle.run_values.specs.Setups.{Setup}
-use Rattle.dialogue_core.specs.Talks.{Got, sent_by}
-use Rattle.workers_core.specs.Talks.{AllAsk, AreRight, IsRight, Showing, entries_of, entry_of, is_ask, last_fault, talked}
+use Rattle.dialogue_core.specs.Talks.{Got, is_ask, sent_by, talked}
+use Rattle.workers_core.specs.Talks.{AllAsk, AreRight, IsRight, Showing, entries_of, entry_of, last_fault}
 use Rattle.workers_core.specs.Verdicts.{DialogueAt, IsRouted, Verdict, Strays, Rejects, Recharges, Begins, GoesOn, verdict}
 use Rattle.run_values.specs.declared.post.Answer.{Answer}
 use Rattle.run_values.specs.declared.post.Post.{Post}

@@ -19,8 +19,7 @@ use Rattle.workers_core.specs.Chains.{AreHandled, IsHandledOnce, IsWorked, at_fi
 use Rattle.workers_core.specs.Handled.{Holding, IsTalked, AnswerView}
 use Rattle.workers_core.specs.Served.{AreServed, IsPart, Money, Report, credits_of, recharged_in, reports_of, returns_of, settles_of}
 use Rattle.run_values.specs.Setups.{Setup, place_of}
-use Rattle.dialogue_core.specs.Talks.{sent_by}
-use Rattle.workers_core.specs.Talks.{is_ask}
+use Rattle.dialogue_core.specs.Talks.{is_ask, sent_by}
 use Rattle.workers_core.specs.Verdicts.{home_of}
 use Rattle.run_values.specs.declared.post.Body.{Body}
 use Rattle.run_values.specs.declared.post.Body.TheVariants.{Ssf}

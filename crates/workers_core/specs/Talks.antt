@@ -1,17 +1,12 @@
 -- The talk of a dialogue with its account: what is asked, what each ask gets, and what is entered.
-use Rattle.std.specs.Prelude.{◌≡◌, ◌++◌, ℕ, Bool, true, false, Option, Some, None, Ok, Err, List, [], ◌∷◌}
+use Rattle.std.specs.Prelude.{◌≡◌, ◌++◌, ℕ, true, false, Option, Some, None, Ok, Err, List, [], ◌∷◌}
 use Rattle.account_core.specs.Asked.{Asked}
 use Rattle.account_core.specs.Events.{EntryData}
 use Rattle.account_core.specs.Ledger.{event_by}
 use Rattle.account_core.specs.declared.fault.AccountFault.{AccountFault}
 use Rattle.cap_values.specs.Orders.{Order}
 use Rattle.dialogue_core.specs.Phases.{Phase, Says, Asks, Sends, Finished}
-use Rattle.dialogue_core.specs.Talks.{Got, after_got, sent_by}
-
--- what the dialogue says, and where it stands, once its asks got these, the newest first
-abbrev pub talked : Says × Phase → List Got → Says × Phase
-talked first [] = first
-talked first (got ∷ earlier) = after_got (talked first earlier).1 got
+use Rattle.dialogue_core.specs.Talks.{Got, is_ask, sent_by, talked}
 
 -- the entry of an ask that got a reply
 abbrev pub entry_of : ℕ → Says → Got → List EntryData
@@ -30,12 +25,6 @@ abbrev pub last_fault : List Got → Option AccountFault
 last_fault [] = None
 last_fault (Ok reply ∷ earlier) = last_fault earlier
 last_fault (Err fault ∷ earlier) = Some fault
-
--- an ask of the account is pending
-abbrev pub is_ask : Says → Bool
-is_ask (Asks asked) = true
-is_ask (Sends orders) = false
-is_ask Finished = false
 
 -- each of these came to an ask that was pending
 abbrev pub AllAsk : Says × Phase → List Got → Type 0

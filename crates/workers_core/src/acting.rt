@@ -9,7 +9,6 @@ ghost use Rattle.workers_core.specs.Handled.{IsRecharged, IsTalked, answer_view}
 ghost use Rattle.workers_core.specs.Refusals.{RefusesAt, WasAt};
 ghost use Rattle.workers_core.specs.Workers.{standing_of, standings_in};
 ghost use Rattle.dialogue_core.specs.Talks.{asks_after, asks_left};
-ghost use Rattle.workers_core.specs.Talks.{IsTalk};
 ghost use Rattle.account_core.specs.Events.{EntryData, asked_of};
 ghost use Rattle.account_core.specs.Ledger.{Ledger};
 ghost use Rattle.shared_account.specs.Refusals.{IsRefusedAt};
@@ -18,10 +17,10 @@ ghost use Rattle.dialogue_core.specs.Views.{phase_of, says_of};
 
 use crate::WorkerFault;
 use crate::worker::{Case, Talk};
-use account_core::{AccountFault, Op};
+use account_core::{AccountFault, Op, Reply};
 use arrayvec::ArrayVec;
 use cap_values::{Cause, ScfOp};
-use dialogue_core::{Dialogue, Turn};
+use dialogue_core::{Asker, Dialogue, Turn, converse};
 use rising_map::RisingMap;
 use run_values::{Answer, Body};
 use shared_account::{Gate, Shared};
@@ -116,21 +115,24 @@ pub(crate) fn act<S: Shared, R: Wait, G: Gate>(
                 mut dialogue,
                 place,
             } = talk;
-            let said = converse(
+            let mut desk = Desk {
                 rt,
                 gate,
-                &accounts[place],
-                &mut seats[place],
-                &mut dialogue,
-                turn,
-            )?;
-            keep(talks, call, Talk { dialogue, place });
-            Ok(Answer {
-                number,
-                ops: said.ops,
-                stray: false,
-                refused: said.refused,
-            })
+                account: &accounts[place],
+                refused: None,
+            };
+            match converse(&mut desk, &mut seats[place], &mut dialogue, turn) {
+                Ok(ops) => {
+                    keep(talks, call, Talk { dialogue, place });
+                    Ok(Answer {
+                        number,
+                        ops,
+                        stray: false,
+                        refused: desk.refused,
+                    })
+                }
+                Err(end) => Err(end),
+            }
         }
     }
 }
@@ -199,79 +201,42 @@ fn keep(talks: &mut RisingMap<Talk>, call: u64, talk: Talk)
     talks.set(call, talk)
 }
 
-/// What a talk comes to.
+/// Where a seat asks its account, and the last fault that an ask got there.
 #[derive(Drop)]
-struct TalkEnd {
-    /// The operations that are sent.
-    ops: ArrayVec<ScfOp, 4>,
-    /// The last fault that an ask got.
+struct Desk<'a, S, R, G> {
+    rt: &'a R,
+    gate: &'a G,
+    account: &'a S,
     refused: Option<AccountFault>,
 }
 
-/// Puts each ask of a dialogue to the account at once, and gives what it says then.
-fn converse<S: Shared, R: Wait, G: Gate>(
-    rt: &R,
-    gate: &G,
-    account: &S,
-    seat: &mut S::Seat,
-    dialogue: &mut Dialogue,
-    turn: Turn,
-) -> Result<TalkEnd, WorkerFault>
-    requires { S.reads.key seat.old ≡ S.key account.now }
-    ensures same_key { S.reads.key seat.new ≡ S.reads.key seat.old }
-    ensures same_number { S.reads.number seat.new ≡ S.reads.number seat.old }
-    ensures talk { IfOk result (λ said. IsTalk (IsRefusedAt (S.was seat.new))
-        (S.reads.number seat.old) (says_of turn, phase_of dialogue.old)
-        (S.reads.mine seat.old) (S.reads.mine seat.new)
-        (phase_of dialogue.new) (orders_of said.ops.items) said.refused) }
-    ensures was { OnOk result ((mine : List EntryData) (ledger : Ledger)
-        → S.was seat.old mine ledger → S.was seat.new mine ledger) }
-    ensures fault { IfErr result (λ fault. fault ≡ WorkerFault.GateClosed) }
-    ensures gate { result ≡ Err WorkerFault.GateClosed → G.may_shut gate.now }
-{
-    let mut turn = turn;
-    let mut refused = None;
-    while let Turn::Ask(op) = turn {
-        turn = ask(rt, gate, account, seat, dialogue, &mut refused, op)?;
-    }
-    Ok(TalkEnd {
-        ops: turn.into_operations(),
-        refused,
-    })
-}
+impl<S: Shared, R: Wait, G: Gate> Asker<S::Seat> for Desk<'_, S, R, G> {
+    ghost use Rattle.std.specs.Prelude.{◌≡◌};
+    ghost use Rattle.workers_core.specs.Cases.{AtDesk};
+    ghost use Rattle.workers_core.specs.declared.worker_fault.WorkerFault.TheVariants as out;
 
-/// Asks the account once, and hands what the ask got to the dialogue, whose next turn it gives. A
-/// closed gate ends the talk.
-fn ask<S: Shared, R: Wait, G: Gate>(
-    rt: &R,
-    gate: &G,
-    account: &S,
-    seat: &mut S::Seat,
-    dialogue: &mut Dialogue,
-    refused: &mut Option<AccountFault>,
-    op: Op,
-) -> Result<Turn, WorkerFault>
-    requires { S.reads.key seat.old ≡ S.key account.now }
-    ensures same_key { S.reads.key seat.new ≡ S.reads.key seat.old }
-    ensures same_number { S.reads.number seat.new ≡ S.reads.number seat.old }
-    ensures asked { IfOk result (λ turn. IsAsked (IsRefusedAt (S.was seat.new))
-        (S.reads.number seat.old) (asked_of op)
-        (S.reads.mine seat.old) (S.reads.mine seat.new)
-        (phase_of dialogue.old) (phase_of dialogue.new) (says_of turn) refused.old refused.new) }
-    ensures fewer { IfOk result (λ turn.
-        asks_left (says_of turn) (phase_of dialogue.new) ≤ asks_after (phase_of dialogue.old)) }
-    ensures was { (mine : List EntryData) (ledger : Ledger)
-        → S.was seat.old mine ledger → S.was seat.new mine ledger }
-    ensures fault { IfErr result (λ fault. fault ≡ WorkerFault.GateClosed) }
-    ensures gate { result ≡ Err WorkerFault.GateClosed → G.may_shut gate.now }
-{
-    let got = account.call(rt, seat, op, gate);
-    match got {
-        Err(AccountFault::GateClosed) => Err(WorkerFault::GateClosed),
-        Err(fault) => {
-            *refused = Some(fault);
-            Ok(dialogue.hear(Err(fault)))
+    type End = WorkerFault;
+
+    ghost may_ask = { λ at. S.reads.key at.1 ≡ S.key at.0.account.now };
+
+    ghost does = { AtDesk (λ at. at.0.gate) (λ at. (at.1, at.0.refused)) S.reads S.was };
+
+    ghost ends = { λ before asked end after. (end ≡ out.GateClosed)
+        × G.may_shut before.0.gate.now };
+
+    /// Asks the account from a seat. A closed gate ends the talk.
+    fn ask(
+        &mut self,
+        seat: &mut S::Seat,
+        op: Op,
+    ) -> Result<Result<Reply, AccountFault>, WorkerFault> {
+        match self.account.call(self.rt, seat, op, self.gate) {
+            Err(AccountFault::GateClosed) => Err(WorkerFault::GateClosed),
+            Err(fault) => {
+                self.refused = Some(fault);
+                Ok(Err(fault))
+            }
+            Ok(reply) => Ok(Ok(reply)),
         }
-        Ok(reply) => Ok(dialogue.hear(Ok(reply))),
     }
 }

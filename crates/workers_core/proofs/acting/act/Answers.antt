@@ -7,7 +7,7 @@ use Rattle.dialogue_core.specs.Views.{phase_of, says_of}
 use Rattle.workers_core.specs.Handled.{answer_view}
 use Rattle.workers_core.specs.Workers.{standings_in}
 use Rattle.workers_core.proofs.Doings.{as_many, grown_at, mine_at, numbered_at, on_ok, own_account, recharged_by, same_seats, stands_now, talked_by, was_at, was_there}
-use Rattle.workers_core.proofs.Talking.{right_known, rights_known}
+use Rattle.workers_core.proofs.Talking.{right_known, rights_known, so_ended, spoken, spoken_out}
 use Rattle.workers_core.specs.Refusals.{WasAt}
 use Rattle.shared_account.specs.Refusals.{IsRefusedAt}
 use Rattle.std.specs.Prelude.{slice_index_or, slice_set}
@@ -18,8 +18,8 @@ recharge-requires-after_bounds g c κs within =
     own_account g.S.Shared.reads.key g.S.Shared.key c.args.seats.now.items c.args.accounts.now c.in-Recharge.place c.index_mut.result.now c.index-accounts-place.result
     c.requires.keys (rw c.in-Recharge.is at c.requires.within) c.index_mut.ensures.value c.index-accounts-place.is
 
-pub converse-requires-after_bounds : goal.converse-requires-after_bounds
-converse-requires-after_bounds g c κs within =
+pub converse-requires : goal.converse-requires
+converse-requires g c =
     own_account g.S.Shared.reads.key g.S.Shared.key c.args.seats.now.items c.args.accounts.now c.in-Talk.talk.place c.index_mut-in-Talk.result.now c.index-accounts-place-in-Talk.result
     c.requires.keys (rw c.in-Talk.is at c.requires.within) c.index_mut-in-Talk.ensures.value c.index-accounts-place-in-Talk.is
 
@@ -54,35 +54,36 @@ returns-in-Recharge-clause-acted g c =
     })
     c.recharge.ensures.credited)
 
-pub returns-in_ok-said-in-Talk-clause-same_keys : goal.returns-in_ok-said-in-Talk-clause-same_keys
-returns-in_ok-said-in-Talk-clause-same_keys g c =
-    same_seats g.S.Shared.reads.key c.args.seats.now.items c.in-Talk.talk.place c.index_mut-in-Talk.result.now c.converse.new.seat c.index_mut-in-Talk.ensures.value c.converse.ensures.same_key
+pub returns-in-Ok-clause-same_keys : goal.returns-in-Ok-clause-same_keys
+returns-in-Ok-clause-same_keys g c =
+    same_seats g.S.Shared.reads.key c.args.seats.now.items c.in-Talk.talk.place c.index_mut-in-Talk.result.now c.converse.new.way c.index_mut-in-Talk.ensures.value (spoken_out _ _ g.S.Shared.reads g.S.Shared.was _ _ _ _ _ c.in-Ok.ensures.talks refl).same_key
 
-pub returns-in_ok-said-in-Talk-clause-same_numbers :
-    goal.returns-in_ok-said-in-Talk-clause-same_numbers
-returns-in_ok-said-in-Talk-clause-same_numbers g c =
-    same_seats g.S.Shared.reads.number c.args.seats.now.items c.in-Talk.talk.place c.index_mut-in-Talk.result.now c.converse.new.seat c.index_mut-in-Talk.ensures.value c.converse.ensures.same_number
+pub returns-in-Ok-clause-same_numbers :
+    goal.returns-in-Ok-clause-same_numbers
+returns-in-Ok-clause-same_numbers g c =
+    same_seats g.S.Shared.reads.number c.args.seats.now.items c.in-Talk.talk.place c.index_mut-in-Talk.result.now c.converse.new.way c.index_mut-in-Talk.ensures.value (spoken_out _ _ g.S.Shared.reads g.S.Shared.was _ _ _ _ _ c.in-Ok.ensures.talks refl).same_number
 
-pub returns-in_ok-said-in-Talk-clause-acted : goal.returns-in_ok-said-in-Talk-clause-acted
-returns-in_ok-said-in-Talk-clause-acted g c =
+pub returns-in-Ok-clause-acted : goal.returns-in-Ok-clause-acted
+returns-in-Ok-clause-acted g c =
     rw c.in-Talk.is
-    (let there : c.in-Talk.talk.place < length c.args.seats.now.items =
+    (let talk = c.in-Ok.ensures.talks in
+    let there : c.in-Talk.talk.place < length c.args.seats.now.items =
     rw (as_many g.S.Shared.reads.key g.S.Shared.key c.args.seats.now.items c.args.accounts.now c.requires.keys) (rw c.in-Talk.is at c.requires.within) in
     let so =
-    talked_by (IsRefusedAt (g.S.Shared.was c.converse.new.seat)) (map g.S.Shared.reads.number c.args.seats.now.items) c.in-Talk.call c.in-Talk.talk.place (g.S.Shared.reads.number c.index_mut-in-Talk.result.now)
+    talked_by (IsRefusedAt (g.S.Shared.was c.converse.new.way)) (map g.S.Shared.reads.number c.args.seats.now.items) c.in-Talk.call c.in-Talk.talk.place (g.S.Shared.reads.number c.index_mut-in-Talk.result.now)
     (says_of c.in-Talk.turn, phase_of c.in-Talk.talk.dialogue) (phase_of c.converse.new.dialogue) _ _ (standings_in c.args.talks.now) (standings_in c.keep.new.talks)
-    (g.S.Shared.reads.mine c.index_mut-in-Talk.result.now) (g.S.Shared.reads.mine c.converse.new.seat) (orders_of c.in_ok-said-in-Talk.said.ops.items) c.in_ok-said-in-Talk.said.refused _
-    c.in_ok-said-in-Talk.ensures.talk
+    (g.S.Shared.reads.mine c.index_mut-in-Talk.result.now) (g.S.Shared.reads.mine c.converse.new.way) (orders_of c.in-Ok.ops.items) c.converse.new.asker.refused _
+    (so_ended _ _ _ _ _ talk.last _ _ _ (spoken_out _ _ g.S.Shared.reads g.S.Shared.was _ _ _ _ _ talk refl).so_far talk.rests talk.sends)
     (numbered_at g.S.Shared.reads.number c.args.seats.now.items c.in-Talk.talk.place c.index_mut-in-Talk.result.now there c.index_mut-in-Talk.ensures.value)
     (mine_at g.S.Shared.reads.mine c.args.seats.now.items c.in-Talk.talk.place c.index_mut-in-Talk.result.now there c.index_mut-in-Talk.ensures.value)
-    (λ entries. grown_at g.S.Shared.reads.mine c.args.seats.now.items c.in-Talk.talk.place c.index_mut-in-Talk.result.now c.converse.new.seat entries there c.index_mut-in-Talk.ensures.value)
+    (λ entries. grown_at g.S.Shared.reads.mine c.args.seats.now.items c.in-Talk.talk.place c.index_mut-in-Talk.result.now c.converse.new.way entries there c.index_mut-in-Talk.ensures.value)
     (stands_now c.args.talks.now c.keep.new.talks c.in-Talk.call (record { dialogue = c.converse.new.dialogue; place = c.in-Talk.talk.place }) c.keep.ensures)
     refl refl refl in
     record {
       acted = so.0;
       right =
-          rights_known (g.S.Shared.was c.converse.new.seat) (WasAt g.S.Shared.was (slice_set c.args.seats.now.items c.in-Talk.talk.place c.converse.new.seat) c.in-Talk.talk.place)
-          (was_there g.S.Shared.was c.args.seats.now.items c.in-Talk.talk.place c.converse.new.seat there) _ _ _ _ so.1;
+          rights_known (g.S.Shared.was c.converse.new.way) (WasAt g.S.Shared.was (slice_set c.args.seats.now.items c.in-Talk.talk.place c.converse.new.way) c.in-Talk.talk.place)
+          (was_there g.S.Shared.was c.args.seats.now.items c.in-Talk.talk.place c.converse.new.way there) _ _ _ _ so.1;
     })
 
 pub returns-in-Recharge-clause-was : goal.returns-in-Recharge-clause-was
@@ -92,8 +93,13 @@ returns-in-Recharge-clause-was g c =
     on_ok c.recharge.result _
     (was_at g.S.Shared.was c.args.seats.now.items c.in-Recharge.place c.index_mut.result.now c.recharge.new.seat there c.index_mut.ensures.value c.recharge.ensures.was)
 
-pub returns-in_ok-said-in-Talk-clause-was : goal.returns-in_ok-said-in-Talk-clause-was
-returns-in_ok-said-in-Talk-clause-was g c =
+pub returns-in-Ok-clause-was : goal.returns-in-Ok-clause-was
+returns-in-Ok-clause-was g c =
     let there : c.in-Talk.talk.place < length c.args.seats.now.items =
     rw (as_many g.S.Shared.reads.key g.S.Shared.key c.args.seats.now.items c.args.accounts.now c.requires.keys) (rw c.in-Talk.is at c.requires.within) in
-    was_at g.S.Shared.was c.args.seats.now.items c.in-Talk.talk.place c.index_mut-in-Talk.result.now c.converse.new.seat there c.index_mut-in-Talk.ensures.value c.in_ok-said-in-Talk.ensures.was
+    was_at g.S.Shared.was c.args.seats.now.items c.in-Talk.talk.place c.index_mut-in-Talk.result.now c.converse.new.way there c.index_mut-in-Talk.ensures.value (spoken_out _ _ g.S.Shared.reads g.S.Shared.was _ _ _ _ _ c.in-Ok.ensures.talks refl).still
+
+pub returns-in-Err-clause-gate : goal.returns-in-Err-clause-gate
+returns-in-Err-clause-gate g c = λ shut.
+    let cut = c.in-Err.ensures.cut_off in
+    rw (spoken _ _ g.S.Shared.reads g.S.Shared.was _ _ cut.gots cut.between cut.are_got refl).same_gate at cut.ends.1
