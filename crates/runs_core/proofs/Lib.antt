@@ -2,6 +2,7 @@ pub mod Booking
 pub mod Columns
 pub mod Deals
 pub mod Finishing
+pub mod FirstFaults
 pub mod Goings
 pub mod Hearings
 pub mod InBooks

@@ -1,5 +1,5 @@
 -- The names of what can end a run.
-use Rattle.std.specs.Prelude.{◌≡◌, ◌≢◌, ℕ, List, Result, Err, codes}
+use Rattle.std.specs.Prelude.{◌≡◌, ◌≢◌, ℕ, List, Option, Some, None, Result, Ok, Err, codes}
 use Rattle.runs_core.specs.declared.run_fault.RunFault.{RunFault}
 use Rattle.runs_core.specs.declared.run_fault.RunFault.TheVariants as fault
 use Rattle.workers_core.specs.declared.worker_fault.WorkerFault.{WorkerFault}
@@ -26,3 +26,9 @@ AsksNoGate result = (result ≢ Err fault.GateClosed) × (result ≢ Err fault.W
 -- a step that may ask a gate: it fails by one only where that may answer false, and never for the number of workers
 abbrev pub MayAskGate : {X : Type 0} → Type 0 → Result X RunFault → Type 0
 MayAskGate may_shut result = (result ≡ Err fault.GateClosed → may_shut) × (result ≢ Err fault.Workers)
+
+-- how a run ends: with the fault of its first worker, else with that of the others, else as its rounds end
+abbrev pub ended_by : {X Y : Type 0} → Option RunFault → Result X RunFault → Result Y RunFault → Result Y RunFault
+ended_by (Some why) finished ran = Err why
+ended_by None (Err why) ran = Err why
+ended_by None (Ok done) ran = ran

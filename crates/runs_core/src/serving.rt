@@ -7,7 +7,7 @@ ghost use Rattle.runs_core.specs.Closing.{AreAllThere, AreBooksOf, AreNumberedFr
 ghost use Rattle.runs_core.specs.Crews.{HasPlayed, count_of};
 ghost use Rattle.runs_core.specs.Goings.{HasAnswered};
 ghost use Rattle.runs_core.specs.Hearing.{HasLeft};
-ghost use Rattle.runs_core.specs.RunFaults.{AsksNoGate, MayAskGate};
+ghost use Rattle.runs_core.specs.RunFaults.{AsksNoGate, MayAskGate, ended_by};
 ghost use Rattle.runs_core.specs.Runs.{HasRun};
 ghost use Rattle.runs_core.specs.Sending.{ArePromised, promises_of};
 ghost use Rattle.runs_core.specs.Teams.{AreFresh, are_workers};
@@ -195,13 +195,24 @@ fn run_in<'s, E, D: Driver, S: Shared, R: Wait + Threads + Sync, G: Gate + Sync>
         links,
     } = crew;
     let finished = finish_all(rt, links, &mut left);
-    if let Some(why) = failed {
-        return Err(why);
-    }
-    finished?;
-    ran?;
+    first_fault(failed, finished, ran)?;
     left.insert(0, worker.finish())?;
     Ok(left)
+}
+
+/// The fault of a run, if it has one: that of its first worker, else that of the others, else its
+/// own.
+fn first_fault(
+    failed: Option<RunFault>,
+    finished: Result<(), RunFault>,
+    ran: Result<(), RunFault>,
+) -> Result<(), RunFault>
+    ensures exact { result ≡ ended_by failed finished ran }
+{
+    match failed {
+        Some(why) => Err(why),
+        None => finished.and(ran),
+    }
 }
 
 /// Starts the workers but for the first, and plays the rounds.

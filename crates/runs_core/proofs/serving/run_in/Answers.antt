@@ -1,7 +1,9 @@
-use Rattle.std.proofs.Common.{map, rules}
+use Rattle.std.proofs.Common.{map, rules, sym, ◌∙◌}
 use Rattle.runs_core.proofs.Finishing.{shut_by}
+use Rattle.runs_core.proofs.FirstFaults.{finished_well, gate_of, ran_well}
 use Rattle.runs_core.proofs.Goings.{begins}
 use Rattle.runs_core.proofs.Roundings.{has_left}
+use Rattle.runs_core.specs.RunFaults.{MayAskGate}
 use Rattle.runs_core.specs.Teams.{IsFresh}
 use Rattle.runs_core.proofs.serving.run_in.Goals as goal
 use Rattle.workers_core.specs.Workers.{number_by}
@@ -13,15 +15,20 @@ start_and_play-ran-requires-clause-first g c = λ _ _.
     begins (number_by g.S.Shared.terms) g.S.Shared.key g.S.Shared.reads g.S.Shared.was c.args.setup.now c.args.accounts.now 0 c.in-Some.team.items _
     c.requires.numbered fresh made.ready made.setup made.accounts made.number made.seats made.talks
 
-pub returns-in_err-finished-clause-fault : goal.returns-in_err-finished-clause-fault
-returns-in_err-finished-clause-fault g c =
-    let other = c.finish_all-finished.ensures.fault in (
-      λ closed. shut_by g.G.Gate.may_shut c.args.setup.now c.args.accounts.now c.args.gate.now 1 _ c.start_and_play-ran.ensures.promised (other.0 (search rules)),
-      λ same. other.1 (search rules),
-    )
+pub returns-in_err-first_fault-clause-fault : goal.returns-in_err-first_fault-clause-fault
+returns-in_err-first_fault-clause-fault g c =
+    let other = c.finish_all-finished.ensures.fault in
+    let whole : MayAskGate (g.G.Gate.may_shut c.args.gate.now) c.first_fault.result =
+    rw c.first_fault.ensures.exact (gate_of (g.G.Gate.may_shut c.args.gate.now) _ c.finish_all-finished.result c.start_and_play-ran.result
+    (λ closed. shut_by g.G.Gate.may_shut c.args.setup.now c.args.accounts.now c.args.gate.now 1 _ c.start_and_play-ran.ensures.promised (other.0 closed), other.1)
+    c.start_and_play-ran.ensures.fault c.start_and_play-ran.ensures.failed) in
+    (λ closed. whole.0 (search rules), λ same. whole.1 (search rules))
 
 pub returns-clause-left : goal.returns-clause-left
 returns-clause-left g c =
+    let is = sym c.first_fault.ensures.exact ∙ c.in_ok-first_fault.was in
+    let ran = ran_well _ c.finish_all-finished.result c.start_and_play-ran.result _ is in
+    let (_, finished) = finished_well _ c.finish_all-finished.result c.start_and_play-ran.result _ is in
     rw (c.in_ok-insert.ensures.items)
     (has_left g.D.Driver.given g.D.Driver.ended g.D.Driver.hears (number_by g.S.Shared.terms) g.S.Shared.key g.S.Shared.reads g.S.Shared.was c.args.setup.now c.args.accounts.now c.args.gate.now
-    _ _ _ c.finish.result.items _ _ c.in_ok-ran.ensures.played c.finish.ensures c.start_and_play-ran.ensures.promised c.in_ok-finished.ensures.left (search rules))
+    _ _ _ c.finish.result.items _ _ (rw ran at c.start_and_play-ran.ensures.played) c.finish.ensures c.start_and_play-ran.ensures.promised (rw finished at c.finish_all-finished.ensures.left) (search rules))
