@@ -7,7 +7,7 @@ use Rattle.account_core.specs.Events.{EntryData}
 use Rattle.account_core.specs.Laws.{EntriesAreInRange, IsInRange}
 use Rattle.book_texts.specs.Typed.{IsTyped, IsTypedAsked}
 use Rattle.entry_rows.specs.Fits.{FitsAsked, FitsEvent}
-use Rattle.run_books.proofs.Listed.{all_passing}
+use Rattle.runs_core.proofs.Listed.{all_passing}
 use Rattle.run_books.proofs.Openings.{IsOpenedWithin}
 use Rattle.run_books.proofs.Posts.{IsTimelyAsked, handled_all, mine_timely}
 use Rattle.run_books.specs.Timely.{AreTimely, IsTimely}

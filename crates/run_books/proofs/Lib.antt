@@ -1,5 +1,4 @@
 pub mod Entries
-pub mod Listed
 pub mod Openings
 pub mod Posts
 pub mod Printing

@@ -2,7 +2,7 @@
 use Rattle.std.proofs.Common.{◌≡◌, ◌≤◌, ◌+◌, ◌*◌, ℕ, List, [], ◌∷◌, length, map, refl, arith, All}
 use Rattle.std.proofs.lemmas.List.Elements.{All-head, All-map, All-same, All-tail}
 use Rattle.book_texts.specs.Printable.{row_count}
-use Rattle.run_books.proofs.Listed.{all_unmapped}
+use Rattle.runs_core.proofs.Listed.{all_unmapped}
 use Rattle.run_books.proofs.Openings.{as_many}
 use Rattle.run_books.specs.Laws.{RunsHaveFewRows}
 use Rattle.run_values.specs.Setups.{Setup}

@@ -8,7 +8,7 @@ use Rattle.call_records.specs.Calls.{first_told, parties_of, start_by}
 use Rattle.cap_values.specs.declared.message.SsfMsg.{SsfMsg}
 use Rattle.cap_values.specs.declared.message.SsfMsg.TheVariants as message
 use Rattle.cap_values.specs.declared.number.Number.{Number}
-use Rattle.run_books.proofs.Listed.{all_passing}
+use Rattle.runs_core.proofs.Listed.{all_passing}
 use Rattle.run_records.specs.Starts.{HasItsParties, HaveTheirParties}
 use Rattle.run_values.specs.declared.post.Body.{Body}
 use Rattle.run_values.specs.declared.post.Body.TheVariants as body

@@ -1,3 +1,4 @@
+pub mod Alone
 pub mod Booking
 pub mod Columns
 pub mod Deals
@@ -8,6 +9,7 @@ pub mod Hearings
 pub mod InBooks
 pub mod Joins
 pub mod Leaving
+pub mod Listed
 pub mod Mailing
 pub mod Numbers
 pub mod Refusing

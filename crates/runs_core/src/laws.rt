@@ -1,11 +1,11 @@
 //! The laws of the books of a run, each the contract of a function that does nothing.
 
 ghost use Rattle.std.specs.Prelude.{◌≡◌};
-ghost use Rattle.runs_core.specs.Entered.{RechargesAreInTheBooks, ReservesAreInTheBooks, RunEntriesAreServed, RunListsAreWorked};
+ghost use Rattle.runs_core.specs.Entered.{RechargesAreInTheBooks, ReservesAreInTheBooks, RunCallsAreOfOneWorker, RunClosingIsNeverRefused, RunEntriesAreServed, RunListsAreWorked};
 ghost use Rattle.runs_core.specs.Headline.{BooksAreRight};
 
 use account_core::{closed_calls_pay_the_tariff, no_balance_is_negative};
-use shared_account::Shared;
+use shared_account::{Shared, calls_of_one_seat_are_alone};
 use workers_core::{entries_come_from_posts, recharges_are_entered, reserves_are_on_terms};
 
 /// In a book of a run no balance is negative, and every call that was closed within its grants has
@@ -54,6 +54,22 @@ pub fn reserves_are_in_the_books<S: Shared>()
     ensures { ReservesAreInTheBooks S.stood }
 {
     reserves_are_on_terms();
+}
+
+/// In the books of a run each entry of a call is by one worker, that of the call's remainder.
+pub fn run_calls_are_of_one_worker<S: Shared>()
+    ensures { RunCallsAreOfOneWorker S.stood }
+{
+    entries_come_from_posts();
+}
+
+/// In a run over accounts by turns no Return of a call that its worker's own entries show open is
+/// refused, and no first Settle since its last grant.
+pub fn run_closing_is_never_refused()
+    ensures { RunClosingIsNeverRefused }
+{
+    entries_come_from_posts();
+    calls_of_one_seat_are_alone();
 }
 
 /// What was lent to a scope that has ended is as the scope left it.

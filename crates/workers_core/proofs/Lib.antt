@@ -9,6 +9,7 @@ pub mod Growing
 pub mod Handling
 pub mod Orders
 pub mod Parts
+pub mod Refusing
 pub mod Reserving
 pub mod Returnings
 pub mod Settlings

@@ -1,6 +1,10 @@
 //! Laws of talks and of workers, each the contract of a function that does nothing.
 
+ghost use Rattle.std.specs.Prelude.{ℕ, List};
 ghost use Rattle.workers_core.specs.Laws.{CallsAreReserved, CallsAreReturned, EntriesComeFromPosts, PostsAreHandled, RechargesAreEntered, ReportsAreSettled, ReservesAreOnTerms, WhatIsSaidIsSent};
+ghost use Rattle.workers_core.specs.Refusals.{IsAloneWith, NeverRefusesClosing, RefusesAt};
+
+use shared_account::Shared;
 
 /// An answer to a message that asks no account has the operations that the dialogue said at once,
 /// and no refusal.
@@ -38,6 +42,13 @@ pub fn posts_are_handled()
 /// the subscriber's account, or it was refused.
 pub fn calls_are_reserved()
     ensures { CallsAreReserved }
+{}
+
+/// What closes a call that is the seats' alone, its Return or its first Settle since its last grant,
+/// by the own entries of the seat that asks, is never refused by an account that the seat knows.
+pub fn closing_is_never_refused<S: Shared>()
+    ensures { (seats : List S.Seat) (call : ℕ) → IsAloneWith S.was seats call
+        → NeverRefusesClosing (RefusesAt S.was seats) call }
 {}
 
 /// A ChargingReport of a call that goes on is settled just once, at the call's account and at no
