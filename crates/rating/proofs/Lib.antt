@@ -1,0 +1,5 @@
+pub mod ColumnLemmas
+pub mod FrontLemmas
+pub mod LineLemmas
+pub mod PartLemmas
+pub mod RateLemmas

@@ -1,0 +1,99 @@
+-- What the record of a call says, or why it says nothing.
+use Rattle.std.specs.Prelude.{◌≡◌, ◌+◌, ◌-◌, ◌==◌, ◌≤◌, ◌++◌, ◌∷◌, [], ℕ, List, not, length, Option, Some, None, Result, Ok, Err, ok_or, if◌then◌else◌, nat_le, nat_lt, IfSome}
+use Rattle.std.specs.List.{flat_map}
+use Rattle.cap_values.specs.Numbers.{is_number}
+use Rattle.csv.specs.Writing.{comma, default_writer, field_text}
+use Rattle.table_core.specs.Decimals.{decimal_of}
+use Rattle.table_core.specs.Fields.{field_in, is_blank}
+use Rattle.table_core.specs.Judging.{after}
+use Rattle.table_core.specs.Rows.{Fields}
+use Rattle.tariff_core.specs.declared.plan.TheConstants.{MAX_MONEY}
+use Rattle.tariff_core.specs.declared.times.TheConstants.{DAY, LAST_MOMENT}
+use Rattle.rating.specs.declared.call.Answered.{Answered}
+use Rattle.rating.specs.declared.call.Talk.{Talk}
+use Rattle.rating.specs.declared.call.Talk.TheVariants as talk
+use Rattle.rating.specs.declared.call.TheConstants.{MAX_ROW}
+use Rattle.rating.specs.declared.columns.Columns.{Columns}
+use Rattle.rating.specs.declared.columns.TimeColumns.{TimeColumns}
+use Rattle.rating.specs.declared.columns.TimeColumns.TheVariants as times
+use Rattle.rating.specs.declared.kind.RateKind.{RateKind}
+use Rattle.rating.specs.declared.kind.RateKind.TheVariants as kind
+
+-- the number that was called, when the call was answered and how long it lasted if it was, and what it was charged where that is recorded
+pub record CallSaid : Type 0 where
+  pub called : List ℕ
+  pub answered : Option Answered
+  pub paid : Option ℕ
+
+-- each field as csv writes it, with a comma behind
+unfoldable pub with_commas : Fields → List ℕ
+with_commas fields = flat_map (λ field. field_text default_writer field ++ (comma ∷ [])) fields
+
+-- the bytes of a row as csv writes it, the end of its line counted as one
+abbrev pub size_of : Fields → ℕ
+size_of fields = length (with_commas fields)
+
+-- the number called, 1 to 15 digits
+abbrev pub called_in : Fields → ℕ → Result (List ℕ) RateKind
+called_in fields place = if is_number (field_in fields place) then Ok (field_in fields place) else Err kind.Number
+
+-- a number that must be there
+abbrev pub number_in : Fields → ℕ → ℕ → Result ℕ RateKind
+number_in fields place most = ok_or (decimal_of most (field_in fields place)) kind.Number
+
+-- a number where the field isn't empty
+abbrev pub present : Result ℕ RateKind → Result (Option ℕ) RateKind
+present (Ok number) = Ok (Some number)
+present (Err why) = Err why
+
+abbrev pub optional_in : Fields → ℕ → ℕ → Result (Option ℕ) RateKind
+optional_in fields place most = if is_blank fields place then Ok None else present (number_in fields place most)
+
+-- the time up to an end, which is at most a day behind the answer
+abbrev pub talk_until : ℕ → ℕ → Result Talk RateKind
+talk_until at end = if nat_lt end at then Err kind.Order else if nat_lt DAY (end - at) then Err kind.Order else Ok (talk.Lasts (end - at))
+
+-- times before the tariff switch and after it, a day at most together
+abbrev pub talk_split : ℕ → ℕ → Result Talk RateKind
+talk_split before after = if nat_lt DAY (before + after) then Err kind.Number else Ok (talk.Splits before after)
+
+-- how long a call lasted that was answered at a moment
+abbrev pub talk_in : Fields → TimeColumns → ℕ → Result Talk RateKind
+talk_in fields (times.Time place) at = after (number_in fields place DAY) (λ time. Ok (talk.Lasts time))
+talk_in fields (times.End place) at = after (number_in fields place LAST_MOMENT) (λ end. talk_until at end)
+talk_in fields (times.Split before_place after_place) at =
+    after (number_in fields before_place DAY) (λ before. after (number_in fields after_place DAY) (λ after. talk_split before after))
+
+-- when a call was answered, if it was, and then how long it lasted; of one that wasn't, the times aren't read
+abbrev pub answered_by : Fields → TimeColumns → Option ℕ → Result (Option Answered) RateKind
+answered_by fields times None = Ok None
+answered_by fields times (Some at) = after (talk_in fields times at) (λ talk. Ok (Some (record { at = at; talk = talk })))
+
+abbrev pub answered_in : Fields → Columns → Result (Option Answered) RateKind
+answered_in fields columns = after (optional_in fields columns.answer LAST_MOMENT) (answered_by fields columns.times)
+
+-- what was charged, where there is a column for it and it isn't empty
+abbrev pub paid_in : Fields → Option ℕ → Result (Option ℕ) RateKind
+paid_in fields None = Ok None
+paid_in fields (Some place) = optional_in fields place MAX_MONEY
+
+-- what the columns of a row say; that an end is out of order is told last
+unfoldable pub call_in : Fields → Columns → Result CallSaid RateKind
+call_in fields columns =
+    after (called_in fields columns.called) (λ called. after (paid_in fields columns.paid) (λ paid. after (answered_in fields columns) (λ answered.
+    Ok (record { called = called; answered = answered; paid = paid }))))
+
+-- what a row says under a header of so many fields: a row that is too long, or of another number of fields, says nothing
+unfoldable pub said_in : ℕ → Columns → Fields → Result CallSaid RateKind
+said_in width columns fields =
+    if nat_lt MAX_ROW (size_of fields) then Err kind.TooLong else if not (length fields == width) then Err kind.Csv else call_in fields columns
+
+-- times are a day at most
+abbrev pub IsWithinDay : Talk → Type 0
+IsWithinDay (talk.Lasts time) = time ≤ DAY
+IsWithinDay (talk.Splits before after) = before + after ≤ DAY
+
+-- the answer and the times lie in their ranges
+pub record IsInRange (answered : Answered) : Type 0 where
+  pub at : answered.at ≤ LAST_MOMENT
+  pub talk : IsWithinDay answered.talk

@@ -1,0 +1,14 @@
+pub mod Asks
+pub mod Bounds
+pub mod Calls
+pub mod Charges
+pub mod Columns
+pub mod Ends
+pub mod Faults
+pub mod Fronts
+pub mod Lines
+pub mod Parts
+pub mod Rated
+pub mod SaidOf
+pub mod Tallies
+pub mod Texts

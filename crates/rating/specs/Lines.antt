@@ -1,0 +1,57 @@
+-- The rows that `rate` prints.
+use Rattle.std.specs.Prelude.{◌-◌, ◌&&◌, ℕ, Bool, List, [], ◌∷◌, ◌++◌, Option, Some, None, codes, if◌then◌else◌, nat_lt}
+use Rattle.std.specs.Fmt.{decimal}
+use Rattle.csv.specs.Writing.{default_writer, field_text, row_text}
+use Rattle.table_core.specs.Rows.{Fields}
+use Rattle.rating.specs.Rated.{Rating, Faulty, Priced, is_right}
+use Rattle.rating.specs.declared.charge.Charge.{Charge}
+use Rattle.rating.specs.declared.kind.RateKind.{RateKind}
+use Rattle.rating.specs.declared.kind.RateKind.TheVariants as kind
+
+-- the name of a fault
+abbrev pub name_of : RateKind → List ℕ
+name_of kind.Csv = codes "Csv"
+name_of kind.Number = codes "Number"
+name_of kind.Order = codes "Order"
+name_of kind.TooLong = codes "TooLong"
+name_of kind.NoRoute = codes "noroute"
+
+-- the price less what was charged, with a minus where more was; empty where nothing is recorded
+abbrev pub difference : ℕ → Option ℕ → List ℕ
+difference price None = []
+difference price (Some paid) = if nat_lt price paid then codes "-" ++ decimal (paid - price) else decimal (price - paid)
+
+-- the six columns of a row
+abbrev pub columns_of : Rating → Fields
+columns_of (Priced prefix charge paid) =
+    prefix ∷ decimal charge.before ∷ decimal charge.after ∷ decimal charge.price ∷ difference charge.price paid ∷ [] ∷ []
+columns_of (Faulty why) = [] ∷ [] ∷ [] ∷ [] ∷ [] ∷ name_of why ∷ []
+
+-- their names
+abbrev pub names : Fields
+names = codes "prefix" ∷ codes "before" ∷ codes "after" ∷ codes "price" ∷ codes "difference" ∷ codes "fault" ∷ []
+
+-- a field as csv writes it
+abbrev pub cell : List ℕ → List ℕ
+cell field = field_text default_writer field
+
+-- times and their price as they are printed, a comma before each and one behind all
+abbrev pub charge_text : Charge → List ℕ
+charge_text charge = codes "," ++ (cell (decimal charge.before) ++ (codes "," ++ (cell (decimal charge.after) ++ (codes "," ++ (cell (decimal charge.price) ++ codes ",")))))
+
+-- the six columns as they are printed behind a comma, with the end of the line
+abbrev pub columns_text : Rating → List ℕ
+columns_text (Priced prefix charge paid) = cell prefix ++ (charge_text charge ++ (cell (difference charge.price paid) ++ codes ",\n"))
+columns_text (Faulty why) = codes ",,,,," ++ (cell (name_of why) ++ codes "\n")
+
+-- the header again, with the six names
+abbrev pub header_line : Fields → List ℕ
+header_line header = row_text default_writer (header ++ names)
+
+-- a row again, with its six columns
+abbrev pub row_line : Fields → Rating → List ℕ
+row_line fields rating = row_text default_writer (fields ++ columns_of rating)
+
+-- the same where it is printed: where only rows are that differ or have a fault, a right one isn't
+abbrev pub line_of : Bool → Fields → Rating → List ℕ
+line_of differing fields rating = if differing && is_right rating then [] else row_line fields rating

@@ -1,0 +1,70 @@
+-- The text that `rate` prints of an input.
+use Rattle.std.specs.Prelude.{◌≡◌, ℕ, Bool, List, [], ◌∷◌, ◌++◌, All, length, map, Option, Some, None, Result, Ok, Err}
+use Rattle.std.specs.List.{flat_map}
+use Rattle.run_texts.specs.Inputs.{tariff_in}
+use Rattle.table_core.specs.Judging.{after}
+use Rattle.table_core.specs.Rows.{Fields, rows_of}
+use Rattle.tariff_core.specs.Bands.{Band}
+use Rattle.rating.specs.Asks.{NamesWish}
+use Rattle.rating.specs.Columns.{columns_in}
+use Rattle.rating.specs.Faults.{told}
+use Rattle.rating.specs.Lines.{header_line, line_of}
+use Rattle.rating.specs.Parts.{parts_of}
+use Rattle.rating.specs.Rated.{IsRated, Rating}
+use Rattle.rating.specs.Tallies.{tally_of}
+use Rattle.rating.specs.declared.columns.Columns.{Columns}
+use Rattle.rating.specs.declared.fault.RateFault.{RateFault}
+use Rattle.rating.specs.declared.fault.RateFault.TheVariants as fault
+use Rattle.rating.specs.declared.tally.Tally.{Tally}
+
+-- what is to be rated: a tariff, a header and where its columns stand, and the rows below it
+pub record RateInput : Type 0 where
+  pub bands : List Band
+  pub header : Fields
+  pub columns : Columns
+  pub rows : List Fields
+
+-- the rows below a header
+abbrev pub below : List Band → Fields → List Fields → Option Columns → Result RateInput RateFault
+below bands header rows None = Err fault.Header
+below bands header rows (Some columns) = Ok (record { bands = bands; header = header; columns = columns; rows = rows })
+
+-- the rows of a table, the first of which is its header
+abbrev pub headed : NamesWish → List Band → List Fields → Result RateInput RateFault
+headed names bands [] = Err fault.Header
+headed names bands (header ∷ rows) = below bands header rows (columns_in header names)
+
+-- an input: its parts, its tariff, its header, judged in this order
+abbrev pub input_of : NamesWish → List ℕ → Result RateInput RateFault
+input_of names text = after (parts_of text) (λ parts. after (told (tariff_in parts.tariff)) (λ bands. headed names bands (rows_of parts.records)))
+
+-- a row, and what it comes to
+pub record RatedRow : Type 0 where
+  pub fields : Fields
+  pub rating : Rating
+
+-- a row comes to this by its own fields, the tariff and the header alone
+abbrev pub IsRatedRow : RateInput → RatedRow → Type 0
+IsRatedRow input row = IsRated input.bands (length input.header) input.columns row.fields row.rating
+
+-- some rows have been rated
+pub record AreRated (input : RateInput) (rows : List Fields) (rated : List RatedRow) : Type 0 where
+  pub rows_are : rows ≡ map (λ row. row.fields) rated
+  pub each : All (IsRatedRow input) rated
+
+-- the text of rows that have been rated: the header, and a line of each row that is printed
+abbrev pub text_of : Bool → Fields → List RatedRow → List ℕ
+text_of differing header rated = header_line header ++ flat_map (λ row. line_of differing row.fields row.rating) rated
+
+-- what is counted of them
+abbrev pub count_of : List RatedRow → Tally
+count_of rated = tally_of (map (λ row. row.rating) rated)
+
+-- the text that is printed where this is to be rated, and what is counted
+pub record IsRatedText (differing : Bool) (meaning : Result RateInput RateFault) (printed : List ℕ) (tally : Tally) : Type 0 where
+  pub input : RateInput
+  pub is_input : meaning ≡ Ok input
+  pub rated : List RatedRow
+  pub are_rated : AreRated input input.rows rated
+  pub printed_is : printed ≡ text_of differing input.header rated
+  pub tally_is : tally ≡ count_of rated

@@ -1,0 +1,38 @@
+//! What `rate` is asked for.
+
+/// By which columns the times of a call are found.
+#[derive(Clone, Copy)]
+pub enum Times<'a> {
+    /// `before` and `after` where the header has both, else `time` where it has that, else `end`.
+    UsualNames,
+    /// A column of how long the call lasted.
+    Time(&'a str),
+    /// A column of when it ended.
+    End(&'a str),
+    /// Columns of its times before the tariff switch and after it.
+    Split(&'a str, &'a str),
+}
+
+/// The names of the columns.
+#[derive(Clone, Copy)]
+pub struct Names<'a> {
+    /// The number that was called.
+    pub called: &'a str,
+    /// When the call was answered.
+    pub answer: &'a str,
+    /// Its times.
+    pub times: Times<'a>,
+    /// What was charged: `paid` where there is such a column, if no name is asked for.
+    pub paid: Option<&'a str>,
+}
+
+/// What `rate` is asked for.
+#[derive(Clone, Copy)]
+pub struct RateAsk<'a> {
+    /// The names of the columns.
+    pub names: Names<'a>,
+    /// Whether only the rows are printed that differ or have a fault.
+    pub differing: bool,
+    /// Whether a summary is printed behind the rows.
+    pub summary: bool,
+}

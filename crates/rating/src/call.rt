@@ -1,0 +1,163 @@
+//! What the record of a call says.
+
+ghost use Rattle.std.specs.Prelude.{◌≡◌, ◌<◌, ◌≤◌, length, unwrap_or, IfOk, IfSome};
+ghost use Rattle.std.specs.Result.{result_map_both};
+ghost use Rattle.csv.specs.Records.{fields_of};
+ghost use Rattle.rating.specs.Calls.{IsInRange, IsWithinDay, answered_in, call_in, called_in, number_in, optional_in, paid_in, talk_in, talk_split, talk_until};
+ghost use Rattle.rating.specs.Columns.{HasColumns, HasTimes};
+ghost use Rattle.rating.specs.SaidOf.{said_by};
+
+use crate::RateKind;
+use crate::columns::{Columns, TimeColumns};
+use cap_values::MAX_DIGITS;
+use csv::ByteRecord;
+use table_core::{are_digits, decimal, field, is_blank};
+use tariff_core::{DAY, LAST_MOMENT, MAX_MONEY};
+
+/// The most bytes of a row, as `csv` writes it, the end of its line counted as one.
+pub const MAX_ROW: usize = 65_536;
+
+/// What is recorded of a call's time, in units of 100 ms.
+#[derive(Clone, Copy)]
+pub(crate) enum Talk {
+    /// How long it lasted.
+    Lasts(u32),
+    /// Its times before the tariff switch and after it.
+    Splits(u32, u32),
+}
+
+/// When a call was answered, and its time.
+#[derive(Clone, Copy)]
+pub(crate) struct Answered {
+    pub(crate) at: u64,
+    pub(crate) talk: Talk,
+}
+
+/// What the record of a call says.
+#[derive(Clone, Copy)]
+pub(crate) struct Call<'a> {
+    pub(crate) called: &'a [u8],
+    pub(crate) answered: Option<Answered>,
+    pub(crate) paid: Option<u64>,
+}
+
+impl<'a> Call<'a> {
+    /// What the columns of a row say. `Number` is the fault where a field isn't a number in its
+    /// range, and else `Order` where the end is out of order.
+    #[tactic(auto, unfolding(crate::specs::Calls::call_in))]
+    pub(crate) fn read(row: &'a ByteRecord, columns: &Columns) -> Result<Call<'a>, RateKind>
+        requires { HasColumns (length (fields_of row.now)) columns.now }
+        ensures value { result_map_both said_by (λ kind. kind) result ≡ call_in (fields_of row.now) columns.now }
+        ensures within { IfOk result (λ call. IfSome call.answered IsInRange) }
+        ensures paid { IfOk result (λ call. unwrap_or call.paid 0 ≤ MAX_MONEY) }
+    {
+        let called = called(row, columns.called)?;
+        let paid = paid(row, columns.paid)?;
+        let answered = read_answered(row, columns)?;
+        Ok(Call {
+            called,
+            answered,
+            paid,
+        })
+    }
+}
+
+/// The number called.
+fn called(row: &ByteRecord, place: usize) -> Result<&[u8], RateKind>
+    requires { place < length (fields_of row.now) }
+    ensures { result_map_both (λ digits. digits.now) (λ kind. kind) result ≡ called_in (fields_of row.now) place }
+{
+    let digits = field(row, place);
+    if !digits.is_empty() && digits.len() <= MAX_DIGITS && are_digits(digits) {
+        Ok(digits)
+    } else {
+        Err(RateKind::Number)
+    }
+}
+
+/// When the call was answered, if it was, and its time.
+fn read_answered(row: &ByteRecord, columns: &Columns) -> Result<Option<Answered>, RateKind>
+    requires { HasColumns (length (fields_of row.now)) columns.now }
+    ensures value { result ≡ answered_in (fields_of row.now) columns.now }
+    ensures within { IfOk result (λ answered. IfSome answered IsInRange) }
+{
+    let Some(at) = optional(row, columns.answer, LAST_MOMENT)? else {
+        return Ok(None);
+    };
+    let talk = read_talk(row, columns.times, at)?;
+    Ok(Some(Answered { at, talk }))
+}
+
+/// How long a call lasted that was answered at a moment.
+fn read_talk(row: &ByteRecord, times: TimeColumns, at: u64) -> Result<Talk, RateKind>
+    requires { HasTimes (length (fields_of row.now)) times }
+    ensures value { result ≡ talk_in (fields_of row.now) times at }
+    ensures within { IfOk result IsWithinDay }
+{
+    match times {
+        TimeColumns::Time(place) => Ok(Talk::Lasts(number(row, place, u64::from(DAY))? as u32)),
+        TimeColumns::End(place) => talk_until(at, number(row, place, LAST_MOMENT)?),
+        TimeColumns::Split(before, after) => {
+            let before = number(row, before, u64::from(DAY))?;
+            let after = number(row, after, u64::from(DAY))?;
+            talk_split(before as u32, after as u32)
+        }
+    }
+}
+
+/// The time from an answer to an end, a day at most.
+fn talk_until(at: u64, end: u64) -> Result<Talk, RateKind>
+    ensures value { result ≡ talk_until at end }
+    ensures within { IfOk result IsWithinDay }
+{
+    if end < at || end - at > u64::from(DAY) {
+        return Err(RateKind::Order);
+    }
+    Ok(Talk::Lasts((end - at) as u32))
+}
+
+/// Two times, a day at most together.
+fn talk_split(before: u32, after: u32) -> Result<Talk, RateKind>
+    requires before { before ≤ DAY }
+    requires after { after ≤ DAY }
+    ensures value { result ≡ talk_split before after }
+    ensures within { IfOk result IsWithinDay }
+{
+    if before + after > DAY {
+        return Err(RateKind::Number);
+    }
+    Ok(Talk::Splits(before, after))
+}
+
+/// What was charged, where there is a column for it and it isn't empty.
+fn paid(row: &ByteRecord, place: Option<usize>) -> Result<Option<u64>, RateKind>
+    requires { IfSome place (λ place. place < length (fields_of row.now)) }
+    ensures value { result ≡ paid_in (fields_of row.now) place }
+    ensures within { IfOk result (λ paid. unwrap_or paid 0 ≤ MAX_MONEY) }
+{
+    match place {
+        Some(place) => optional(row, place, MAX_MONEY),
+        None => Ok(None),
+    }
+}
+
+/// The number in a field, none where it is empty.
+fn optional(row: &ByteRecord, place: usize, most: u64) -> Result<Option<u64>, RateKind>
+    requires { place < length (fields_of row.now) }
+    ensures value { result ≡ optional_in (fields_of row.now) place most }
+    ensures within { IfOk result (λ number. unwrap_or number 0 ≤ most) }
+{
+    if is_blank(row, place) {
+        return Ok(None);
+    }
+    Ok(Some(number(row, place, most)?))
+}
+
+/// The number in a field.
+fn number(row: &ByteRecord, place: usize, most: u64) -> Result<u64, RateKind>
+    requires { place < length (fields_of row.now) }
+    ensures value { result ≡ number_in (fields_of row.now) place most }
+    ensures within { IfOk result (λ number. number ≤ most) }
+{
+    decimal(field(row, place), most).ok_or(RateKind::Number)
+}

@@ -1,0 +1,66 @@
+//! The price of a call by its route.
+
+ghost use Rattle.std.specs.Prelude.{◌≡◌, ◌+◌, ◌-◌, ◌<◌, ◌≤◌, IfSome};
+ghost use Rattle.tariff_core.specs.RatesOf.{rates_of};
+ghost use Rattle.rating.specs.Charges.{before_switch, price_of_call};
+ghost use Rattle.rating.specs.Rated.{charged, charge_by};
+ghost use Rattle.rating.specs.declared.call.Talk.TheVariants as talks;
+
+use tariff_core::{DAY, Route, price};
+
+/// The times of a call before the tariff switch and after it, in units of 100 ms, and their price.
+#[derive(Clone, Copy, Debug, PartialEq, Eq)]
+pub struct Charge {
+    /// Before the switch.
+    pub before: u32,
+    /// After it.
+    pub after: u32,
+    /// The price of both.
+    pub price: u64,
+}
+
+impl Charge {
+    /// No time, at no price.
+    pub(crate) const NONE: Charge = Charge {
+        before: 0,
+        after: 0,
+        price: 0,
+    };
+
+    /// Times at their price.
+    pub(crate) fn of_times(route: &Route, before: u32, after: u32) -> Charge
+        requires { before + after ≤ DAY }
+        ensures { result ≡ charged route.now before after }
+    {
+        Charge {
+            before,
+            after,
+            price: price(&route.plan, before, after),
+        }
+    }
+}
+
+/// What a call costs that is answered at a moment and lasts so long, its time split at the switch
+/// of its route.
+pub fn charge_call(route: &Route, at: u64, talk: u32) -> Charge
+    requires time { talk ≤ DAY }
+    requires switch { IfSome route.now.switch_at (λ switch. at < switch) }
+    ensures exact { result ≡ charge_by route.now at (talks.Lasts talk) }
+    ensures price { result.price
+        ≡ price_of_call (rates_of route.now.plan) at route.now.switch_at talk }
+{
+    let before = before_switch(at, talk, route.switch_at);
+    Charge::of_times(route, before, talk - before)
+}
+
+/// How much of a call lies before the switch.
+fn before_switch(at: u64, talk: u32, switch_at: Option<u64>) -> u32
+    requires { IfSome switch_at (λ switch. at < switch) }
+    ensures value { result ≡ before_switch at talk switch_at }
+    ensures within { result ≤ talk }
+{
+    match switch_at {
+        Some(switch) => u64::from(talk).min(switch - at) as u32,
+        None => talk,
+    }
+}

@@ -1,0 +1,137 @@
+//! The columns of a table, found by their names.
+
+ghost use Rattle.std.specs.Prelude.{◌≡◌, ◌<◌, ◌≤◌, ◌+◌, ◌-◌, ◌^◌, length, drop, option_map, IfSome};
+ghost use Rattle.csv.specs.Records.{fields_of};
+ghost use Rattle.rating.specs.Columns.{HasColumns, HasTimes, columns_in, needed, paid_in, place_from, sought, times_in};
+ghost use Rattle.rating.specs.Asks.{ByUsualNames};
+ghost use Rattle.rating.specs.SaidOf.{names_of, times_of};
+
+use crate::ask::{Names, Times};
+use csv::ByteRecord;
+use table_core::is_word;
+
+/// Where the columns of a call's times stand, from 0.
+#[derive(Clone, Copy)]
+pub(crate) enum TimeColumns {
+    /// How long it lasted.
+    Time(usize),
+    /// When it ended.
+    End(usize),
+    /// The times before the tariff switch and after it.
+    Split(usize, usize),
+}
+
+/// Where the columns stand, from 0.
+#[derive(Clone, Copy)]
+pub(crate) struct Columns {
+    pub(crate) called: usize,
+    pub(crate) answer: usize,
+    pub(crate) times: TimeColumns,
+    pub(crate) paid: Option<usize>,
+}
+
+impl Columns {
+    /// The columns of a header by these names; none where it hasn't one that must be there, or has
+    /// one twice.
+    #[tactic(auto, unfolding(crate::specs::Columns::columns_in))]
+    pub(crate) fn find(header: &ByteRecord, names: &Names<'_>) -> Option<Columns>
+        ensures value { result ≡ columns_in (fields_of header.now) (names_of names.now) }
+        ensures within { IfSome result (HasColumns (length (fields_of header.now))) }
+    {
+        let called = needed(header, names.called)?;
+        let answer = needed(header, names.answer)?;
+        let times = times(header, names.times)?;
+        let paid = paid(header, names.paid)?;
+        Some(Columns {
+            called,
+            answer,
+            times,
+            paid,
+        })
+    }
+}
+
+/// The columns of the times.
+fn times(header: &ByteRecord, names: Times<'_>) -> Option<TimeColumns>
+    ensures value { result ≡ times_in (fields_of header.now) (times_of names.entry) }
+    ensures within { IfSome result (HasTimes (length (fields_of header.now))) }
+{
+    match names {
+        Times::UsualNames => usual_times(header),
+        Times::Time(name) => Some(TimeColumns::Time(needed(header, name)?)),
+        Times::End(name) => Some(TimeColumns::End(needed(header, name)?)),
+        Times::Split(before, after) => {
+            let before = needed(header, before)?;
+            let after = needed(header, after)?;
+            Some(TimeColumns::Split(before, after))
+        }
+    }
+}
+
+/// The columns of the times by their usual names.
+fn usual_times(header: &ByteRecord) -> Option<TimeColumns>
+    ensures value { result ≡ times_in (fields_of header.now) ByUsualNames }
+    ensures within { IfSome result (HasTimes (length (fields_of header.now))) }
+{
+    let before = sought(header, "before")?;
+    let after = sought(header, "after")?;
+    if let (Some(before), Some(after)) = (before, after) {
+        return Some(TimeColumns::Split(before, after));
+    }
+    match sought(header, "time")? {
+        Some(place) => Some(TimeColumns::Time(place)),
+        None => Some(TimeColumns::End(needed(header, "end")?)),
+    }
+}
+
+/// The column of what was charged, where there is one.
+fn paid(header: &ByteRecord, name: Option<&str>) -> Option<Option<usize>>
+    ensures value { result
+        ≡ paid_in (fields_of header.now) (option_map (λ name. name.now) name.entry) }
+    ensures within { IfSome result
+        (λ paid. IfSome paid (λ place. place < length (fields_of header.now))) }
+{
+    match name {
+        Some(name) => Some(Some(needed(header, name)?)),
+        None => sought(header, "paid"),
+    }
+}
+
+/// The place of a name that the header must have once.
+fn needed(header: &ByteRecord, name: &str) -> Option<usize>
+    ensures value { result ≡ needed (fields_of header.now) name.now }
+    ensures within { IfSome result (λ place. place < length (fields_of header.now)) }
+{
+    sought(header, name)?
+}
+
+/// The place of a name, none inside where the header hasn't it; none where it has it twice.
+fn sought(header: &ByteRecord, name: &str) -> Option<Option<usize>>
+    ensures value { result ≡ sought (fields_of header.now) name.now }
+    ensures within { IfSome result
+        (λ found. IfSome found (λ place. place < length (fields_of header.now))) }
+{
+    let Some(place) = place_from(header, name, 0) else {
+        return Some(None);
+    };
+    match place_from(header, name, place + 1) {
+        Some(_) => None,
+        None => Some(Some(place)),
+    }
+}
+
+/// The first place of a name from a place on.
+fn place_from(header: &ByteRecord, name: &str, start: usize) -> Option<usize>
+    requires { start ≤ length (fields_of header.now) }
+    ensures value { result
+        ≡ place_from (drop start (fields_of header.now)) name.now start }
+    ensures next { IfSome result (λ place. place + 1 ≤ 2 ^ 64 - 1) }
+    ensures within { IfSome result (λ place. place < length (fields_of header.now)) }
+{
+    for place in start..header.len() {
+        if is_word(header, place, name) {
+            return Some(place);
+        }
+    }
+    None
+}

@@ -1,0 +1,34 @@
+//! Why a row has no price.
+
+ghost use Rattle.std.specs.Prelude.{◌≡◌};
+ghost use Rattle.rating.specs.Lines.{name_of};
+
+/// Why a row has no price. No other row is judged by it.
+#[derive(Clone, Copy, Debug, PartialEq, Eq)]
+pub enum RateKind {
+    /// Another number of fields than the header has.
+    Csv,
+    /// A field that is no number in its range: of the called number, 1 to 15 digits.
+    Number,
+    /// An end that lies before the answer, or more than a day behind it.
+    Order,
+    /// A row of more than `MAX_ROW` bytes.
+    TooLong,
+    /// A called number that begins with no prefix of the tariff.
+    NoRoute,
+}
+
+impl RateKind {
+    /// The name in the column `fault`.
+    pub(crate) fn name(self) -> &'static str
+        ensures { result.now ≡ name_of self }
+    {
+        match self {
+            RateKind::Csv => "Csv",
+            RateKind::Number => "Number",
+            RateKind::Order => "Order",
+            RateKind::TooLong => "TooLong",
+            RateKind::NoRoute => "noroute",
+        }
+    }
+}

@@ -1,0 +1,25 @@
+//! The records of a real system, held against a tariff: what each call should have cost.
+#![tactic(auto)]
+
+mod ask;
+mod bounded;
+mod call;
+mod charge;
+mod columns;
+mod fault;
+mod kind;
+mod line;
+mod rated;
+mod rating;
+mod tally;
+mod tariff_text;
+mod writing;
+
+pub use ask::{Names, RateAsk, Times};
+pub use charge::{Charge, charge_call};
+pub use fault::RateFault;
+pub use kind::RateKind;
+pub use rating::rate;
+pub use tally::Tally;
+pub use tariff_text::MAX_TARIFF;
+pub use writing::write_text;

@@ -1,0 +1,107 @@
+//! What a row comes to by a tariff.
+
+ghost use Rattle.std.specs.Prelude.{◌≡◌, ◌<◌, ◌≤◌, ◌+◌, length, unwrap_or, IfSome};
+ghost use Rattle.csv.specs.Records.{fields_of};
+ghost use Rattle.tariff_core.specs.declared.plan.TheConstants.{MAX_MONEY};
+ghost use Rattle.tariff_core.specs.declared.pricing.TheConstants.{MAX_PRICE};
+ghost use Rattle.rating.specs.Calls.{IsInRange, IsWithinDay, said_in, size_of};
+ghost use Rattle.rating.specs.Columns.{HasColumns};
+ghost use Rattle.rating.specs.Rated.{IsPriced, IsRated, charge_by, differs, has_fault, is_right};
+ghost use Rattle.rating.specs.SaidOf.{rating_of};
+
+use crate::call::{Answered, Call, MAX_ROW, Talk};
+use crate::charge::charge_call;
+use crate::columns::Columns;
+use crate::{Charge, RateKind};
+use csv::ByteRecord;
+use tariff_core::{DAY, HORIZON, Route, Tariff};
+
+/// What a row comes to.
+#[derive(Clone, Copy)]
+pub(crate) enum Rated<'a> {
+    /// The prefix that counts, the times and their price, and what was charged.
+    Priced(&'a [u8], Charge, Option<u64>),
+    /// A fault.
+    Faulty(RateKind),
+}
+
+impl Rated<'_> {
+    /// Whether what was charged is another amount than the price.
+    pub(crate) fn differs(&self) -> bool
+        ensures { result ≡ differs (rating_of self.now) }
+    {
+        match self {
+            Rated::Priced(_, charge, Some(paid)) => charge.price != *paid,
+            _ => false,
+        }
+    }
+
+    /// Whether the row has a fault.
+    pub(crate) fn has_fault(&self) -> bool
+        ensures { result ≡ has_fault (rating_of self.now) }
+    {
+        matches!(self, Rated::Faulty(_))
+    }
+
+    /// Whether it neither differs nor has a fault.
+    pub(crate) fn is_right(&self) -> bool
+        ensures { result ≡ is_right (rating_of self.now) }
+    {
+        !self.differs() && !self.has_fault()
+    }
+}
+
+/// What a row of so many bytes comes to by a tariff, under a header of so many fields.
+#[tactic(auto, unfolding(crate::specs::Calls::said_in))]
+pub(crate) fn rate_row<'a>(
+    tariff: &Tariff,
+    columns: &Columns,
+    width: usize,
+    row: &'a ByteRecord,
+    size: usize,
+) -> Rated<'a>
+    requires size { size ≡ size_of (fields_of row.now) }
+    requires columns { HasColumns width columns.now }
+    ensures { IsRated tariff.now width columns.now (fields_of row.now) (rating_of result) }
+{
+    if size > MAX_ROW {
+        return Rated::Faulty(RateKind::TooLong);
+    }
+    if row.len() != width {
+        return Rated::Faulty(RateKind::Csv);
+    }
+    match Call::read(row, columns) {
+        Ok(call) => rate_call(tariff, &call),
+        Err(kind) => Rated::Faulty(kind),
+    }
+}
+
+/// What a call comes to.
+fn rate_call<'a>(tariff: &Tariff, call: &Call<'a>) -> Rated<'a>
+    requires { IfSome call.now.answered IsInRange }
+    ensures { IsPriced tariff.now call.now.called.now call.now.answered call.now.paid
+        (rating_of result) }
+{
+    let Some(answered) = call.answered else {
+        return Rated::Priced(b"", Charge::NONE, call.paid);
+    };
+    match tariff.quote(call.called, answered.at) {
+        Some(quote) => {
+            let charge = charge_answered(&quote.route, answered);
+            Rated::Priced(quote.prefix, charge, call.paid)
+        }
+        None => Rated::Faulty(RateKind::NoRoute),
+    }
+}
+
+/// What a call costs by its route.
+fn charge_answered(route: &Route, answered: Answered) -> Charge
+    requires time { IsWithinDay answered.talk }
+    requires switch { IfSome route.now.switch_at (λ switch. answered.at < switch) }
+    ensures { result ≡ charge_by route.now answered.at answered.talk }
+{
+    match answered.talk {
+        Talk::Lasts(time) => charge_call(route, answered.at, time),
+        Talk::Splits(before, after) => Charge::of_times(route, before, after),
+    }
+}

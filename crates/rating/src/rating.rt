@@ -1,0 +1,235 @@
+//! Records that are rated as they come.
+
+ghost use Rattle.std.specs.Prelude.{◌≡◌, ◌<◌, ◌-◌, ◌^◌, ◌&&◌, length, IfErr, IfOk, IfSome, OnOk, Ok, List};
+ghost use Rattle.std.specs.Io.KnownBytes.{Appends};
+ghost use Rattle.csv.specs.Records.{fields_of};
+ghost use Rattle.table_core.specs.Rows.{Fields, HasLeft, rows_of};
+ghost use Rattle.rating.specs.Columns.{HasColumns};
+ghost use Rattle.rating.specs.Ends.{AddsRow, EndsBy, IsCutOff, IsSilent, MayStop, Sends};
+ghost use Rattle.rating.specs.Lines.{header_line};
+ghost use Rattle.rating.specs.Parts.{MayAlwaysCome};
+ghost use Rattle.rating.specs.Rated.{is_right};
+ghost use Rattle.rating.specs.SaidOf.{names_of, rating_of};
+ghost use Rattle.rating.specs.Tallies.{IsBounded};
+ghost use Rattle.rating.specs.Texts.{headed, input_of};
+
+use crate::bounded::{Bounded, MAX_GIVEN};
+use crate::columns::Columns;
+use crate::line::{push_fields, push_header, push_rated};
+use crate::rated::{Rated, rate_row};
+use crate::tariff_text::read_tariff_text;
+use crate::{RateAsk, RateFault, Tally, write_text};
+use csv::ByteRecord;
+use run_texts::{InputFault, read_tariff};
+use std::alloc::{AllocError, Global};
+use std::cell::Cell;
+use std::io::{BufReader, Read, Write};
+use table_core::{Rows, TableFault};
+use tariff_core::Tariff;
+
+/// How many bytes are gathered before they are written.
+const ENOUGH: usize = 65_536;
+
+/// Rates the records of an input, which is a tariff, a line `%%` and a CSV table with a header, and
+/// prints the header and each row again as they come, with the columns `prefix`, `before`, `after`,
+/// `price`, `difference` and `fault` behind them. No row is kept. The answer is what was counted.
+///
+/// `Input` and `TooLong` are the faults of the tariff, and then `Header` that of the first row;
+/// nothing is printed then. Where the input fails in the middle of the rows, memory runs out, or
+/// the output fails, a front of the text has been printed. Memory runs out too where a row has not
+/// ended within `MAX_GIVEN` bytes, such as one with a quote that never ends.
+pub fn rate<I: Read + Drop, O: Write>(
+    alloc: Global,
+    ask: &RateAsk<'_>,
+    input: I,
+    output: &mut O,
+) -> Result<Tally, RateFault>
+    ensures ends { IfSome (I.remaining input) (λ text.
+        EndsBy ask.now.differing (input_of (names_of ask.now.names) text)
+        (O.contents output.old) (O.contents output.new) result) }
+    ensures silent { IfErr result
+        (IsSilent (O.contents output.old) (O.contents output.new)) }
+    ensures bounded { IfOk result IsBounded }
+{
+    let Ok(mut input) = BufReader::new(alloc, input) else {
+        return Err(RateFault::Input(InputFault::OutOfMemory));
+    };
+    let text = read_tariff_text(alloc, &mut input)?;
+    let tariff = read_tariff(alloc, text.as_slice())?;
+    rate_records(alloc, &tariff, ask, input, output)
+}
+
+/// Rates the records of a table by a tariff.
+fn rate_records<I: Read + Drop, O: Write>(
+    alloc: Global,
+    tariff: &Tariff,
+    ask: &RateAsk<'_>,
+    records: I,
+    output: &mut O,
+) -> Result<Tally, RateFault>
+    ensures ends { IfSome (I.remaining records) (λ text.
+        EndsBy ask.now.differing (headed (names_of ask.now.names) tariff.now (rows_of text))
+        (O.contents output.old) (O.contents output.new) result) }
+    ensures silent { IfErr result
+        (IsSilent (O.contents output.old) (O.contents output.new)) }
+    ensures bounded { IfOk result IsBounded }
+{
+    let room = Cell::new(MAX_GIVEN);
+    let mut rows = Rows::new(alloc, Bounded::new(records, &room));
+    if !rows.next_row()? {
+        return Err(RateFault::Header);
+    }
+    let Some(columns) = Columns::find(rows.row(), &ask.names) else {
+        return Err(RateFault::Header);
+    };
+    let mut text = Vec::new(alloc);
+    push_header(&mut text, rows.row())?;
+    let rater = Rater {
+        tariff,
+        columns,
+        width: rows.row().len(),
+        differing: ask.differing,
+    };
+    rate_rows(&rater, rows, &room, text, output)
+}
+
+/// What a row is rated by.
+#[derive(Clone, Copy)]
+struct Rater<'a> {
+    tariff: &'a Tariff,
+    columns: Columns,
+    width: usize,
+    differing: bool,
+}
+
+impl Rater<'_> {
+    /// Adds the line of a row to a text, and counts it.
+    fn add_row(
+        &self,
+        row: &ByteRecord,
+        text: &mut Vec<u8>,
+        tally: &mut Tally,
+    ) -> Result<(), AllocError>
+        requires columns { HasColumns self.now.width self.now.columns }
+        requires bounded { IsBounded tally.old }
+        requires room { tally.old.rows < 2 ^ 64 - 1 }
+        ensures adds { OnOk result (AddsRow self.now.tariff.now self.now.width self.now.columns
+            self.now.differing (fields_of row.now) text.old.items text.new.items
+            tally.old tally.new) }
+        ensures bounded { IsBounded tally.new }
+    {
+        let start = text.len();
+        push_fields(text, row)?;
+        let size = text.len() - start;
+        let rated = rate_row(self.tariff, &self.columns, self.width, row, size);
+        tally.count(&rated);
+        if self.hides(&rated) {
+            text.truncate(start);
+            return Ok(());
+        }
+        push_rated(text, &rated)
+    }
+
+    /// Whether the line of a row isn't printed.
+    fn hides(&self, rated: &Rated<'_>) -> bool
+        ensures { result ≡ (self.now.differing && is_right (rating_of rated.now)) }
+    {
+        self.differing && rated.is_right()
+    }
+}
+
+/// Rates rows as they come. The room is made anew before each row; the text is what was printed of
+/// the header.
+fn rate_rows<I: Read + Drop, O: Write>(
+    rater: &Rater<'_>,
+    rows: Rows<I>,
+    room: &Cell<usize>,
+    text: Vec<u8>,
+    output: &mut O,
+) -> Result<Tally, RateFault>
+    requires { HasColumns rater.now.width rater.now.columns }
+    ensures ends { (header : Fields) → (left : List Fields)
+        → HasLeft I.remaining rows left → text.items ≡ header_line header
+        → length header ≡ rater.now.width
+        → EndsBy rater.now.differing (Ok (record {
+          bands = rater.now.tariff.now;
+          header = header;
+          columns = rater.now.columns;
+          rows = left;
+        }))
+        (O.contents output.old) (O.contents output.new) result }
+    ensures stopped { IfErr result MayStop }
+    ensures bounded { IfOk result IsBounded }
+{
+    let (mut rows, mut text) = (rows, text);
+    let mut tally = Tally::new();
+    for _turn in 0..u64::MAX {
+        room.set(MAX_GIVEN);
+        let found = match rows.next_row() {
+            Ok(found) => found,
+            Err(fault) => {
+                write_rest(output, text.as_slice())?;
+                return Err(fault_of(fault, room.get()));
+            }
+        };
+        if !found {
+            write_rest(output, text.as_slice())?;
+            return Ok(tally);
+        }
+        rater.add_row(rows.row(), &mut text, &mut tally)?;
+        send(output, &mut text)?;
+    }
+    Err(RateFault::Input(InputFault::OutOfMemory))
+}
+
+/// The fault of rows that can't be read: where no room was left, a row is too long to be kept.
+fn fault_of(fault: TableFault, room: usize) -> RateFault
+    ensures { MayAlwaysCome result }
+{
+    match room {
+        0 => RateFault::Input(InputFault::OutOfMemory),
+        _ => RateFault::from(fault),
+    }
+}
+
+/// Writes a text where it has `ENOUGH` bytes, and leaves the rest of it.
+fn send<O: Write>(output: &mut O, text: &mut Vec<u8>) -> Result<(), RateFault>
+    ensures sends { OnOk result (Sends (O.contents output.old) (O.contents output.new)
+        text.old.items text.new.items) }
+    ensures fault { IfErr result
+        (IsCutOff (O.contents output.old) (O.contents output.new) text.old.items) }
+{
+    if text.len() >= ENOUGH {
+        write_all(output, text.as_slice())?;
+        text.clear();
+    }
+    Ok(())
+}
+
+/// Writes the rest of a text, and what the output still holds back.
+fn write_rest<O: Write>(output: &mut O, text: &[u8]) -> Result<(), RateFault>
+    ensures wrote { OnOk result
+        (Appends (O.contents output.old) (O.contents output.new) text.now) }
+    ensures fault { IfErr result
+        (IsCutOff (O.contents output.old) (O.contents output.new) text.now) }
+{
+    write_all(output, text)?;
+    match output.flush() {
+        Ok(()) => Ok(()),
+        Err(_) => Err(RateFault::Output),
+    }
+}
+
+/// Writes a text.
+fn write_all<O: Write>(output: &mut O, text: &[u8]) -> Result<(), RateFault>
+    ensures wrote { OnOk result
+        (Appends (O.contents output.old) (O.contents output.new) text.now) }
+    ensures fault { IfErr result
+        (IsCutOff (O.contents output.old) (O.contents output.new) text.now) }
+{
+    if write_text(output, text) {
+        Ok(())
+    } else {
+        Err(RateFault::Output)
+    }
+}
