@@ -2,7 +2,7 @@
 //! each fault usually means.
 
 /// The day of the program.
-pub(crate) const VERSION: &str = "2026-11-25";
+pub(crate) const VERSION: &str = "2026-11-26";
 
 /// Behind the options of `price`.
 pub(crate) const PRICE: &str = "\

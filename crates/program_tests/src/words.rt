@@ -118,7 +118,7 @@ fn prints_help(rt: HostRuntime) -> Result<(), Fail> {
 
 #[test]
 fn prints_version(rt: HostRuntime) -> Result<(), Fail> {
-    let version = "prepaid 2026-11-25\n";
+    let version = "prepaid 2026-11-26\n";
     for words in ["--version", "-V"] {
         expect(&rt, words, "", (0, version, ""))?;
     }
