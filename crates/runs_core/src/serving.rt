@@ -1,6 +1,6 @@
 //! A run, from its setup to its books.
 
-ghost use Rattle.std.specs.Prelude.{◌≡◌, ◌≤◌, ◌<◌, ◌↔◌, [], ℕ, true, false, length, map, None, IfOk, IfSome, OnOk, All, slice_index_or};
+ghost use Rattle.std.specs.Prelude.{◌≡◌, ◌≤◌, ◌<◌, ◌↔◌, [], ℕ, true, false, length, map, None, IfErr, IfOk, IfSome, OnOk, All, slice_index_or};
 ghost use Rattle.std.specs.Map.{keys_of};
 ghost use Rattle.std.specs.Vec.Iter.{into_iter_items};
 ghost use Rattle.runs_core.specs.Closing.{AreAllThere, AreBooksOf, AreNumberedFrom, AreOf, IsInBooks, ShowsAll, terms_shown};
@@ -319,7 +319,7 @@ fn close<S: Shared>(account: S, seats: Vec<S::Seat>) -> Result<Book, RunFault>
     ensures book { IfOk result (λ book.
         IsBookOf (S.terms account) (map S.reads.mine seats.items) book) }
     ensures shows { IfOk result (λ book. ShowsAll S.reads S.was S.stood seats.items book) }
-    ensures fault { AsksNoGate result }
+    ensures fault { IfErr result (λ fault. fault ≡ RunFault.Mismatch) }
 {
     match account.close(seats) {
         Ok(book) => Ok(book),
