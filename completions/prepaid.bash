@@ -5,11 +5,11 @@ _prepaid()
     local current=${COMP_WORDS[COMP_CWORD]} previous=${COMP_WORDS[COMP_CWORD - 1]}
     local words
     if ((COMP_CWORD == 1)); then
-        words='price replay run audit quote help --help -h --version -V'
+        words='price replay run audit quote rate help --help -h --version -V'
     elif [[ $previous == --default ]]; then
         words='proceed release'
-    elif [[ $previous == --* && $previous != --book && $previous != --calls && $previous != --trace && $previous != --long && $previous != --help && $previous != --version ]]; then
-        # a number comes next
+    elif [[ $previous == --* && $previous != --book && $previous != --calls && $previous != --trace && $previous != --long && $previous != --differing && $previous != --summary && $previous != --help && $previous != --version ]]; then
+        # a number or a name comes next
         words=''
     else
         case ${COMP_WORDS[1]} in
@@ -18,7 +18,8 @@ _prepaid()
             run) words='--workers --wanted --least --tssf --tccd --delay --default --book --calls --trace --help -h' ;;
             audit) words='--long --help -h' ;;
             quote) words='--called --at --for --credit --help -h' ;;
-            help) words='price replay run audit quote help' ;;
+            rate) words='--called --answer --paid --time --end --before --after --differing --summary --help -h' ;;
+            help) words='price replay run audit quote rate help' ;;
             *) words='' ;;
         esac
     fi

@@ -6,6 +6,6 @@ from model.command import command
 
 if __name__ == "__main__":
     status, output, fault, _ = command(sys.argv[1:], sys.stdin.buffer.read())
-    sys.stdout.write(output)
+    sys.stdout.buffer.write(output.encode("latin-1"))
     sys.stderr.write(fault)
     sys.exit(status)

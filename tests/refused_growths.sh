@@ -1,7 +1,7 @@
 #!/usr/bin/env bash
 # Refuses growths of memory to each public call that takes any (crates/refused_growths) and to each
 # command of the program (crates/prepaid): the Nth alone, and all from the Nth on, for N = 1, 2, 3
-# and so on until none is refused. Prints how many growths each has. Want of memory has to end in
+# and so on until none is refused. Prints how many growths each has. A refused growth has to end in
 # its fault, or with an answer that has its place; nothing may be changed by it, and what is asked
 # again with memory has to be answered as if nothing had been refused.
 #
@@ -12,7 +12,7 @@ cd "$(dirname "$0")/.."
 calls=crates/refused_growths/out/refused_growths
 prepaid=crates/prepaid/out/prepaid
 commands='command/help command/price command/replay command/run command/run_book command/run_calls
-    command/run_trace command/audit command/audit_long command/audit_altered'
+    command/run_trace command/audit command/audit_long command/audit_altered command/rate'
 
 # The words of a command and its input, what it prints, and its status.
 words_of() {
@@ -25,6 +25,7 @@ words_of() {
         command/run_calls) echo 'run --calls' ;;
         command/run_trace) echo 'run --trace' ;;
         command/audit_long) echo 'audit --long' ;;
+        command/rate) echo 'rate' ;;
         command/audit*) echo 'audit' ;;
     esac
 }
@@ -37,6 +38,7 @@ input_of() {
         command/run*) echo examples/call.txt ;;
         command/audit | command/audit_long) echo "$work/book" ;;
         command/audit_altered) echo examples/altered_book.csv ;;
+        command/rate) echo "$work/records" ;;
     esac
 }
 
@@ -82,6 +84,11 @@ answer_of() {
             echo '402,4,1,switch,Ended,,,,'
             ;;
         command/audit | command/audit_long) echo 'account 7 yes' ;;
+        command/rate)
+            echo 'called,answer,time,paid,note,prefix,before,after,price,difference,fault'
+            echo '4930,0,600,1050,"a, b",49,600,0,1050,0,'
+            echo '4930,0,600,1000,,49,600,0,1050,50,'
+            ;;
         command/audit_altered)
             echo 'account 7 no'
             echo 'account 8 yes'
@@ -91,7 +98,7 @@ answer_of() {
 
 status_of() {
     case $1 in
-        command/audit_altered) echo 3 ;;
+        command/audit_altered | command/rate) echo 3 ;;
         *) echo 0 ;;
     esac
 }
@@ -130,7 +137,12 @@ is_command_right() {
         [ "$refused" -gt 0 ] && [ -s "$work/ungranted" ] && cmp -s "$work/output" "$work/ungranted"
         return
     fi
-    [ "$refused" -gt 0 ] && [ "$status" -eq 2 ] && [ ! -s "$work/output" ] || return
+    [ "$refused" -gt 0 ] && [ "$status" -eq 2 ] || return
+    # Rows are printed as they come, so what there is of them is a front.
+    case $name in
+        command/rate) head -c "$(stat -c %s "$work/output")" "$work/answer" | cmp -s - "$work/output" || return ;;
+        *) [ ! -s "$work/output" ] || return ;;
+    esac
     case $name,$(cat "$work/faults") in
         *,'prepaid: run: OutOfMemory' | command/run*,'prepaid: run: Thread') return 0 ;;
         *) return 1 ;;
@@ -181,6 +193,7 @@ try_all() {
     work=$(mktemp -d)
     trap 'rm -rf "$work"' EXIT
     answer_of command/run_book > "$work/book"
+    printf '%s\n' prefix,from,fee,rate 49,00:00,50,1000 %% called,answer,time,paid,note '4930,0,600,1050,"a, b"' 4930,0,600,1000, > "$work/records"
     answer_of "$name" > "$work/answer"
     ungranted_of "$name" > "$work/ungranted"
     for form in ONE FROM; do

@@ -17,7 +17,7 @@ HELP = {"-h", "--help"}
 VERSION = {"-V", "--version"}
 # Kinds of a tariff's faults that the program tells as those of a run.
 OF_RUN = {"Device", "OutOfMemory"}
-PARTS = r"(reports|ops|setup|script|book) row"
+PARTS = r"(reports|ops|setup|script|book|records) row"
 
 TARIFF = "prefix,from,fee,rate\n49,00:00,50,1000\n"
 
@@ -77,6 +77,8 @@ def said_in_formats(text):
         commands[name] = set(found) | set(re.findall(r"\[(--[a-z]+)\]", options)) | HELP
         for option in found:
             behind = options[options.index(option) :]
+            if f"{option} NAME" in options:
+                continue  # the name of a column
             values[name, option] = re.search(r"\d+ to (\d+\^)?\d+", behind)[0], None
             if re.match(rf"{option} N\]` [^`]*it is where it is left out", behind):
                 values[name, option] = values[name, option][0], values[name, option][0].split()[-1]
@@ -146,7 +148,7 @@ def said_in_man(text):
         elif section == "COMMANDS":
             option, *takes = term.replace(",", "").split()
             commands[below] |= {it for it in term.replace(",", " ").split() if it.startswith("-")}
-            if takes and not takes[0].startswith("-"):
+            if takes and takes[0] != "NAME" and not takes[0].startswith("-"):
                 allowed = re.search(r"Range: ([^.]*)\.", said)[1]
                 left = re.search(r"Left out: ([^.]*)\.", said)
                 values[below, option] = allowed, left and left[1]

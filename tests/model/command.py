@@ -2,6 +2,7 @@
 import re
 
 from .account import DAY, MAX_MONEY, Account, Plan, Times, afford, price
+from .rate import rate
 from .run import Options, Run
 from .tables import (
     LAST_MOMENT,
@@ -21,7 +22,7 @@ MAX_INPUT = 16_777_216
 # What `run` may print in place of its lines.
 TABLES = ("--book", "--calls", "--trace")
 # Options without a value.
-FLAGS = (*TABLES, "--long")
+FLAGS = (*TABLES, "--long", "--differing")
 # How many rows a book may have, and a long one.
 MOST_ROWS, MOST_LONG_ROWS = 1_000_000, 4_294_967_293
 # More entries than an input has room for.
@@ -31,6 +32,7 @@ TAKEN = {
     "price": {"--fee", "--before", "--after", "--free"},
     "replay": {"--opening", "--limit"},
     "audit": {"--long"},
+    "rate": {"--called", "--answer", "--time", "--end", "--paid", "--before", "--after", "--differing"},
     "quote": {"--called", "--at", "--for", "--credit"},
     "run": {"--workers", "--wanted", "--least", "--tssf", "--tccd", "--delay", "--default", *TABLES},
 }
@@ -47,8 +49,8 @@ def command(words, text, book=None):
             table = next((it for it in TABLES if it in given), None)
             text = {None: run.lines, "--book": run.book, "--calls": run.calls, "--trace": run.trace}[table]()
             return 0, text, run.refusals(), not run.is_contended
-        if words[0] == "audit":
-            return *do_audit(given, text), "", True
+        if words[0] in ("audit", "rate"):
+            return *{"audit": do_audit, "rate": rate}[words[0]](given, text), "", True
         return 0, {"price": do_price, "replay": do_replay, "quote": do_quote}[words[0]](given, text), "", True
     except Fault as fault:
         return fault.status, "", fault.line + "\n", True
@@ -61,9 +63,15 @@ def options_in(name, words):
         if word not in TAKEN[name] or word in given or word not in FLAGS and not left:
             raise ARGUMENTS
         given[word] = True if word in FLAGS else left.pop(0)
-    if sum(it in given for it in TABLES) > 1:
+    if sum(it in given for it in TABLES) > 1 or name == "rate" and not are_times(given):
         raise ARGUMENTS
     return given
+
+
+def are_times(given):
+    """Whether the columns of the times are named in one way at most: a time, an end, or two times."""
+    ways = [it in given for it in ("--time", "--end", "--before", "--after")]
+    return ways[2] == ways[3] and sum(ways[:3]) < 2
 
 
 def number(given, word, default=None, most=None, least=0):

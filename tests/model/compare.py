@@ -3,6 +3,7 @@ import argparse
 import collections
 import functools
 import os
+import random
 import subprocess
 import sys
 import time
@@ -27,13 +28,32 @@ def compare(program, seed):
     # where several workers meet at an account, the order of their operations is the book's
     book = said[1].decode("latin-1") if said[0] == 0 and "--book" in words else None
     status, output, fault, is_ordered = command(words, text, book)
-    wanted = status, output.encode(), fault.encode()
+    wanted = status, output.encode("latin-1"), fault.encode()
+    if said == wanted and words[:1] == ["rate"] and (apart := in_two_parts(program, seed, words, text, said)):
+        return "differs", apart
     if said == wanted or not is_ordered and (said[0], said[2]) == (status, fault.encode()):
         return f"{(words or ['none'])[0]} status {status}", None
     at = next((i for i, (a, b) in enumerate(zip(said[1], wanted[1])) if a != b), min(len(said[1]), len(wanted[1])))
     lines = [it[1][:at].count(b"\n") for it in (said, wanted)]
     shown = [(it[0], it[1].split(b"\n")[line : line + 1], it[2]) for it, line in zip((said, wanted), lines)]
     return "differs", f"seed {seed}: {words}\n  program: {shown[0]}\n  model:   {shown[1]}"
+
+
+def in_two_parts(program, seed, words, text, said):
+    """How the rows of a file that is cut in two, each part with the header, differ from those of the whole file, if they do."""
+    if said[0] not in (0, 3) or b'"' in text or b"\r" in text or b"\xef" in text:
+        return None
+    lines = text.split(b"\n")
+    above = lines.index(b"%%") + 1
+    header = next((it for it in range(above, len(lines)) if lines[it]), None)
+    if header is None:
+        return None
+    cut = random.Random(seed).randrange(header + 1, len(lines) + 1)
+    parts = b"\n".join(lines[:cut]) + b"\n", b"\n".join([*lines[: header + 1], *lines[cut:]])
+    statuses, (first, second), _ = zip(*(run(program, words, it) for it in parts))
+    if (max(statuses), first + second.split(b"\n", 1)[1]) != said[:2]:
+        return f"seed {seed}: {words}: in two parts, cut before line {cut + 1}, other rows"
+    return None
 
 
 def main():

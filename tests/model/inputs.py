@@ -3,7 +3,8 @@ import random
 
 from .account import DAY, MAX_MONEY
 from .command import FLAGS, TABLES, command
-from .tables import BOOK, OPS, SCRIPT, SETUP, TARIFF
+from .rate import Wrong, line, rated
+from .tables import BOOK, OPS, SCRIPT, SETUP, TARIFF, Fault, read_tariff
 
 # Fields that are wrong in most places, and right at an end of a range in some.
 FIELDS = (
@@ -23,8 +24,8 @@ def make(seed):
     it = random.Random(seed)
     if seed % 500 == 11:
         return full_run(it)
-    kind = "quote" if seed % 10 == 9 else it.choices(["price", "replay", "run", "audit"], [2, 3, 9, 5])[0]
-    words, text = {"price": prices, "replay": operations, "run": runs, "audit": books, "quote": quotes}[kind](it)
+    kind = "quote" if seed % 10 == 9 else "rate" if seed % 10 == 4 else it.choices(["price", "replay", "run", "audit"], [2, 3, 9, 5])[0]
+    words, text = {"price": prices, "replay": operations, "run": runs, "audit": books, "quote": quotes, "rate": ratings}[kind](it)
     if it.random() < 0.12:
         words = other_words(it, words)
     if it.random() < 0.35:
@@ -71,6 +72,46 @@ def quotes(it):
     words += ["--for", it.choice([0, 1, 600, it.randrange(3000), DAY])] if it.random() < 0.6 else []
     words += ["--credit", it.choice([0, 50, 1500, it.randrange(10_000), MAX_MONEY])] if it.random() < 0.6 else []
     return list(map(str, words)), text
+
+
+def ratings(it):
+    """Records of calls, of which many were charged what the tariff says; columns in any order, with others between them."""
+    text, starts = tariff(it)
+    kind = it.choice(["time", "time", "end", "split", "both"])
+    times = {"time": ["time"], "end": ["end"], "split": ["before", "after"], "both": ["time", "end", "before", "after"]}[kind]
+    usual = ["called", "answer", *times, *["paid"][: it.random() < 0.8]]
+    names = {name: it.choice([name] * 5 + ["c " + name]) for name in usual}
+    options = [name for name in usual if names[name] != name]
+    if kind == "both" and it.random() < 0.7:
+        options += it.choice([["time"], ["end"], ["before", "after"]])
+    if {"before", "after"} & set(options):
+        options += ["before", "after"]
+    words = ["rate", *(["--differing"] if it.random() < 0.3 else [])]
+    for name in it.sample(sorted(set(options)), len(set(options))):
+        words += ["--" + name, names[name]]
+    header = [*usual, *it.sample(["id", "calling", "note"], it.randrange(4))]
+    it.shuffle(header)
+    lines = [line([names.get(name, name).encode() for name in header])]
+    for _ in range(it.randrange(12)):
+        row = record(it, text, starts, kind)
+        lines.append(line([row[name] for name in header]))
+    return words, text + b"%%\n" + b"".join(lines)
+
+
+def record(it, text, starts, kind):
+    """What the columns of a call have: often what it should have cost."""
+    called, at = it.choice(NUMBERS), it.choice([0, 1, 10**6]) * DAY + max(0, it.choice(starts) + it.choice([-600, -1, 0, 1, 300]))
+    talk = it.choice([0, 1, 600, it.randrange(3000), DAY - 1, DAY])
+    before = it.randrange(talk + 1)
+    try:
+        paid = rated(read_tariff(text), called, at, [before, talk - before] if kind in ("split", "both") else [talk])[3]
+    except (Fault, Wrong):
+        paid = 0
+    paid = it.choice(["", paid, paid, paid, paid, paid + 1, max(0, paid - 1), MAX_MONEY])
+    end = at + it.choice([talk, talk, talk, talk, talk, -1, DAY + 1])
+    found = {"called": called, "answer": it.choice(["", at, at, at, at]), "time": talk, "end": max(0, end), "before": before, "after": talk - before, "paid": paid}
+    notes = {"id": it.randrange(100), "calling": it.choice(NUMBERS), "note": it.choice(["", "a,b", 'say "x"', "two\nlines", " "])}
+    return {name: str(value).encode() for name, value in {**found, **notes}.items()}
 
 
 def operations(it):

@@ -262,10 +262,15 @@ def read_script(text, accounts):
     return read
 
 
+def separators(lines):
+    """Which of some lines are %% alone. A CR before the end of the input is none of a line's end."""
+    return [i for i, line in enumerate(lines) if line == b"%%" or line == b"%%\r" and i + 1 < len(lines)]
+
+
 def divide(text):
     """The three parts of the input of a run."""
     lines = text.split(b"\n")
-    ends = [i for i, line in enumerate(lines) if line == b"%%" or line == b"%%\r" and i + 1 < len(lines)]
+    ends = separators(lines)
     if len(ends) != 2:
         raise Fault("prepaid: input: Parts")
     first, second = ends

@@ -12,7 +12,9 @@ use Rattle.command_words.specs.Options.{plan_in, replay_in}
 use Rattle.command_words.specs.RunWords.{run_in}
 use Rattle.command_words.specs.QuoteWishes.{wish_of}
 use Rattle.command_words.specs.QuoteWords.{quote_in}
-use Rattle.command_words.specs.Wishes.{Wish, Audits, Prices, Quotes, Replays, Runs}
+use Rattle.command_words.specs.RateWords.{rate_in}
+use Rattle.rating.specs.SaidOf.{wish_of as rate_wish_of}
+use Rattle.command_words.specs.Wishes.{Wish, Audits, Prices, Quotes, RatesRecords, Replays, Runs}
 use Rattle.command_words.specs.declared.request.Request.{Request}
 use Rattle.command_words.specs.declared.request.Request.TheVariants as request
 use Rattle.command_words.specs.declared.fault.WordsFault.{WordsFault}
@@ -27,6 +29,7 @@ wish_in (Some command) =
     else if bytes_eq command.0 (codes "run") then run_in command.1
     else if bytes_eq command.0 (codes "audit") then Ok (Audits (size_in command.1))
     else if bytes_eq command.0 (codes "quote") then ok_or (option_map (λ quote. Quotes quote) (quote_in command.1)) fault.Arguments
+    else if bytes_eq command.0 (codes "rate") then ok_or (option_map (λ rate. RatesRecords rate) (rate_in command.1)) fault.Arguments
     else Err fault.Arguments
 
 -- the request is what was wished, or the fault is why nothing is
@@ -36,6 +39,7 @@ IsRequestOf wish (Ok (request.Replay account)) = wish ≡ Ok (Replays account.op
 IsRequestOf wish (Ok (request.Run options)) = wish ≡ Ok (Runs (ask_of options))
 IsRequestOf wish (Ok (request.Audit size)) = wish ≡ Ok (Audits size)
 IsRequestOf wish (Ok (request.Quote ask)) = wish ≡ Ok (Quotes (wish_of ask))
+IsRequestOf wish (Ok (request.Rate ask)) = wish ≡ Ok (RatesRecords (rate_wish_of ask))
 IsRequestOf wish (Err fault.Arguments) = wish ≡ Err fault.Arguments
 IsRequestOf wish (Err fault.Config) = wish ≡ Err fault.Config
 IsRequestOf wish _ = ⊥
@@ -66,7 +70,7 @@ pub record AsksInVain (words : List Text) (why : WordsFault) : Type 0 where
 abbrev pub AsksNothing : List Text → Type 0
 AsksNothing words = ((error : ErrorKind) × IsAmong error (errors_in words) × IsMistake error) ⊎ AsksInVain words fault.Arguments
 
--- what is read from the words is what they ask for; want of memory may come at any
+-- what is read from the words is what they ask for; memory may run out at any
 abbrev pub IsRead : List Text → Result Request WordsFault → Type 0
 IsRead words (Ok (request.Help text)) = AsksHelp words
 IsRead words (Ok (request.Version text)) = AsksVersion words
@@ -75,6 +79,7 @@ IsRead words (Ok (request.Replay account)) = AsksFor words (Replays account.open
 IsRead words (Ok (request.Run options)) = AsksFor words (Runs (ask_of options))
 IsRead words (Ok (request.Audit size)) = AsksFor words (Audits size)
 IsRead words (Ok (request.Quote ask)) = AsksFor words (Quotes (wish_of ask))
+IsRead words (Ok (request.Rate ask)) = AsksFor words (RatesRecords (rate_wish_of ask))
 IsRead words (Err fault.Arguments) = AsksNothing words
 IsRead words (Err fault.OutOfMemory) = ⊤
 IsRead words (Err fault.Config) = AsksInVain words fault.Config

@@ -57,6 +57,22 @@ audit_app = with_rules (new_app (codes "audit")) (flag_rule (codes "long") ∷ [
 unfoldable pub quote_app : App
 quote_app = with_rules (new_app (codes "quote")) (required_rule (codes "called") ∷ required_rule (codes "at") ∷ option_rule (codes "for") ∷ option_rule (codes "credit") ∷ [])
 
+-- the names of the columns of `rate`
+abbrev pub name_rules : List Rule
+name_rules = option_rule (codes "called") ∷ option_rule (codes "answer") ∷ option_rule (codes "paid") ∷ []
+
+-- those of its times
+abbrev pub time_rules : List Rule
+time_rules = option_rule (codes "time") ∷ option_rule (codes "end") ∷ option_rule (codes "before") ∷ option_rule (codes "after") ∷ []
+
+-- what it prints
+abbrev pub rate_rules : List Rule
+rate_rules = flag_rule (codes "differing") ∷ flag_rule (codes "summary") ∷ []
+
+-- `rate [--called NAME] [--answer NAME] [--paid NAME] [--time NAME] [--end NAME] [--before NAME] [--after NAME] [--differing] [--summary]`
+unfoldable pub rate_app : App
+rate_app = with_rules (with_rules (with_rules (new_app (codes "rate")) name_rules) time_rules) rate_rules
+
 -- the program itself, which has nothing but commands and its version
 abbrev pub bare_app : App
 bare_app = on_top (λ top. record top { has_version = true; no_binary_name = true; subcommand_required = true }) (new_app (codes "prepaid"))
@@ -64,7 +80,7 @@ bare_app = on_top (λ top. record top { has_version = true; no_binary_name = tru
 -- the program, with its commands
 unfoldable pub program_app : App
 program_app =
-    with_subcommand (with_subcommand (with_subcommand (with_subcommand (with_subcommand bare_app price_app.top) replay_app.top) run_app.top) audit_app.top) quote_app.top
+    with_subcommand (with_subcommand (with_subcommand (with_subcommand (with_subcommand (with_subcommand bare_app price_app.top) replay_app.top) run_app.top) audit_app.top) quote_app.top) rate_app.top
 
 -- the kinds of error that clap has for the words; none where they parse
 unfoldable pub errors_in : List Text → List ErrorKind

@@ -5,5 +5,6 @@ pub mod CommandLine
 pub mod Options
 pub mod QuoteWishes
 pub mod QuoteWords
+pub mod RateWords
 pub mod RunWords
 pub mod Wishes

@@ -9,6 +9,7 @@ use crate::command_line::program_command;
 use crate::fault::WordsFault;
 use crate::options::{price_plan, replay_opening};
 use crate::quote_words::quote_ask;
+use crate::rate_words::rate_ask;
 use crate::request::Request;
 use crate::run_words::run_request;
 use clap::error::ErrorKind;
@@ -19,7 +20,7 @@ use std::convert::AsStr;
 /// What the words after the program's name ask for. `Arguments` where they ask for nothing that the
 /// program does, a number out of its range among them; `Config` where only a time of `run` is out
 /// of its range.
-pub fn read_words<S: AsStr>(alloc: Global, words: &[S]) -> Result<Request, WordsFault>
+pub fn read_words<'a, S: AsStr>(alloc: Global, words: &'a [S]) -> Result<Request<'a>, WordsFault>
     ensures { IsRead (map S.text words.now) result }
 {
     let matches = match program_command(alloc)?.try_get_matches_from(words) {
@@ -30,7 +31,7 @@ pub fn read_words<S: AsStr>(alloc: Global, words: &[S]) -> Result<Request, Words
 }
 
 /// What the command that the words name asks for, if its options say it.
-fn asked(matches: &ArgMatches<'_>) -> Result<Request, WordsFault>
+fn asked<'a>(matches: &ArgMatches<'a>) -> Result<Request<'a>, WordsFault>
     ensures { IsRequestOf (wish_in (subcommand_rows_of matches.now)) result }
 {
     match matches.subcommand() {
@@ -48,13 +49,17 @@ fn asked(matches: &ArgMatches<'_>) -> Result<Request, WordsFault>
             Some(ask) => Ok(Request::Quote(ask)),
             None => Err(WordsFault::Arguments),
         },
+        Some(("rate", options)) => match rate_ask(options) {
+            Some(ask) => Ok(Request::Rate(ask)),
+            None => Err(WordsFault::Arguments),
+        },
         Some(_) | None => Err(WordsFault::Arguments),
     }
 }
 
 /// What is answered where `clap` gives no matches: its help or the version where that was asked
 /// for.
-fn refusal(alloc: Global, error: &Error) -> Result<Request, WordsFault>
+fn refusal<'a>(alloc: Global, error: &Error) -> Result<Request<'a>, WordsFault>
     ensures { IsRefusal (kind_of error.now) result }
 {
     match error.kind() {

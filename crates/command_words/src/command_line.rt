@@ -3,7 +3,7 @@
 ghost use Rattle.std.specs.Prelude.{◌≡◌, false, IfOk};
 ghost use Rattle.clap.specs.Words.{app_of, new_app, rule_of, with_rule};
 ghost use Rattle.clap.specs.declared.builder.command.Command.TheViews.{out-Command as fields_of};
-ghost use Rattle.command_words.specs.CommandLine.{audit_app, bare_app, flag_rule, option_rule, other_rules, output_rules, price_app, program_app, quote_app, replay_app, required_rule, run_app, service_rules, switch_rules, with_rules};
+ghost use Rattle.command_words.specs.CommandLine.{audit_app, bare_app, flag_rule, name_rules, option_rule, other_rules, output_rules, price_app, program_app, quote_app, rate_app, rate_rules, replay_app, required_rule, run_app, service_rules, switch_rules, time_rules, with_rules};
 
 use crate::help;
 use clap::{Arg, ArgAction, Command};
@@ -19,7 +19,8 @@ pub(crate) fn program_command<'a>(alloc: Global) -> Result<Command<'a>, AllocErr
         .subcommand(replay_command(alloc)?)?
         .subcommand(run_command(alloc)?)?
         .subcommand(audit_command(alloc)?)?
-        .subcommand(quote_command(alloc)?)
+        .subcommand(quote_command(alloc)?)?
+        .subcommand(rate_command(alloc)?)
 }
 
 /// The program without its commands.
@@ -116,6 +117,54 @@ fn quote_command<'a>(alloc: Global) -> Result<Command<'a>, AllocError>
     let command = add(command, talk)?;
     let credit = "A credit of which is printed what it affords";
     add(command, option(alloc, "credit", credit))
+}
+
+#[tactic(auto, unfolding(crate::specs::CommandLine::rate_app))]
+fn rate_command<'a>(alloc: Global) -> Result<Command<'a>, AllocError>
+    ensures app { IfOk result (λ command. app_of command ≡ rate_app) }
+    ensures local { IfOk result (λ command. (fields_of command).has_globals ≡ false) }
+{
+    let about = "Prints what each record of a table of calls should have cost";
+    let usage = "prepaid rate [OPTIONS] < FILE";
+    let command = input_command(alloc, "rate", about, usage, help::RATE);
+    let command = add_name_options(alloc, command)?;
+    let command = add_time_options(alloc, command)?;
+    let differing = "Prints only the rows that differ or have a fault";
+    let command = add(command, flag(alloc, "differing", differing))?;
+    let summary = "Prints what was counted, on standard error";
+    add(command, flag(alloc, "summary", summary))
+}
+
+/// The names of the columns.
+fn add_name_options<'a>(alloc: Global, command: Command<'a>) -> Result<Command<'a>, AllocError>
+    requires { (fields_of command).has_globals ≡ false }
+    ensures app { IfOk result (λ more. app_of more
+        ≡ with_rules (app_of command.entry) name_rules) }
+    ensures local { IfOk result (λ more. (fields_of more).has_globals ≡ false) }
+{
+    let called = "The column of the number called";
+    let command = add(command, named(alloc, "called", "NAME", called))?;
+    let answer = "The column of the answer";
+    let command = add(command, named(alloc, "answer", "NAME", answer))?;
+    let paid = "The column of what was charged";
+    add(command, named(alloc, "paid", "NAME", paid))
+}
+
+/// Those of its times.
+fn add_time_options<'a>(alloc: Global, command: Command<'a>) -> Result<Command<'a>, AllocError>
+    requires { (fields_of command).has_globals ≡ false }
+    ensures app { IfOk result (λ more. app_of more
+        ≡ with_rules (app_of command.entry) time_rules) }
+    ensures local { IfOk result (λ more. (fields_of more).has_globals ≡ false) }
+{
+    let time = "The column of how long it lasted";
+    let command = add(command, named(alloc, "time", "NAME", time))?;
+    let end = "The column of when it ended";
+    let command = add(command, named(alloc, "end", "NAME", end))?;
+    let before = "The column of the time before the switch";
+    let command = add(command, named(alloc, "before", "NAME", before))?;
+    let after = "The column of the time after it";
+    add(command, named(alloc, "after", "NAME", after))
 }
 
 /// What the service asks for.

@@ -214,3 +214,64 @@ Kinds:
   Free            Free units are digits only, 0 to 864000
   Repeated        A prefix with the same start stands there already
   NoMidnightBand  A prefix has no row from 00:00";
+
+/// Behind the options of `rate`.
+pub(crate) const RATE: &str = "\
+Each row is printed again with the columns prefix, before, after, price, difference and fault.
+The difference is the price less what was charged. Moments and times are in units of 100 ms,
+money in the smallest coin, a rate is money a minute.
+Input, for example:
+
+  prefix,from,fee,rate
+  49,00:00,50,1000
+  %%
+  called,answer,time,paid
+  4930,100,300,550
+
+Columns are called, answer and paid where no option names another; paid may be missing. The
+times are before and after where the header has both, else time, else end. The header has a
+column once.
+
+Exit status:
+  0  all was printed, and no row differs or has a fault
+  1  the words or the input are refused
+  2  the input or memory failed; without a line, the output failed
+  3  all was printed, and a row differs or has a fault
+
+Behind the rows, with --summary, a line on standard error says what was counted:
+  prepaid: rated: 2 rows, 1 differ, 0 faults, charged 1100, by the tariff 1150, over 0, under 50
+      over: how much more was charged than the tariff says, under: how much less
+
+A fault is one line on standard error, and then nothing is printed, but where the input or
+memory failed in the middle of the rows:
+  prepaid: arguments
+      No options of rate: mostly a file name (use < FILE), an option given twice, --before
+      without --after, or two ways to find the time
+  prepaid: input: TooLong
+      The tariff has more than 16777216 bytes
+  prepaid: input: Parts
+      No line is %% alone: it stands between the tariff and the records
+  prepaid: tariff row N: KIND
+      Rows count from 1, which is the header; empty lines don't count
+  prepaid: records row N: KIND
+      Only row 1 and Header: a column that is looked for isn't there, or is there twice
+  prepaid: run: Device, OutOfMemory
+      Standard input or memory failed
+
+Kinds:
+  Csv             Another number of fields than the header, perhaps an open quote
+  Header          Nearly always the separator, or columns that a spreadsheet added
+  TooManyRows     More than 10000 rows besides the header
+  Digits          A prefix is 0 to 15 digits
+  From            A time of day is HH:MM, 00:00 to 23:59
+  Money           A fee or a rate is digits only, 0 to 1000000000: no plus, no point
+  Free            Free units are digits only, 0 to 864000
+  Repeated        A prefix with the same start stands there already
+  NoMidnightBand  A prefix has no row from 00:00
+
+Faults of a row, in its column fault; the next row is rated all the same:
+  TooLong  More than 65536 bytes
+  Csv      Another number of fields than the header, perhaps an open quote
+  Number   Digits only, within the range: no plus, no point; a number called is 1 to 15 digits
+  Order    The end is below the answer, or more than a day behind it
+  noroute  The number called begins with no prefix of the tariff";

@@ -8,6 +8,7 @@ mod fault;
 mod help;
 mod options;
 mod quote_words;
+mod rate_words;
 mod request;
 mod run_words;
 

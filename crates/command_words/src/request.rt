@@ -6,12 +6,13 @@ ghost use Rattle.tariff_core.specs.declared.times.TheConstants.{DAY, LAST_MOMENT
 
 use book_texts::BookSize;
 use cap_values::Number;
+use rating::RateAsk;
 use run_options::RunOptions;
 use tariff_core::{DAY, LAST_MOMENT, MAX_MONEY, Plan};
 
 /// What the words ask for.
 #[derive(Drop)]
-pub enum Request {
+pub enum Request<'a> {
     /// The text of the help.
     Help(String),
     /// The text of the version.
@@ -26,6 +27,8 @@ pub enum Request {
     Audit(BookSize),
     /// What a call to a number costs.
     Quote(QuoteAsk),
+    /// What each record of a table should have cost.
+    Rate(RateAsk<'a>),
 }
 
 /// What `quote` is asked for.

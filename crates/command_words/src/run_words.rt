@@ -19,7 +19,7 @@ const MAX_WORKERS: u64 = 99;
 
 /// The run that the options ask for. `Config` where a time is out of its range, however large;
 /// `Arguments` where an option has no number or word of its own.
-pub(crate) fn run_request(options: &ArgMatches<'_>) -> Result<Request, WordsFault>
+pub(crate) fn run_request<'a>(options: &ArgMatches<'_>) -> Result<Request<'a>, WordsFault>
     ensures { IsRequestOf (run_in (rows_of (found_of options.now))) result }
 {
     let Some(ask) = run_ask(options) else {

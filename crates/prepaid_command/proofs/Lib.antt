@@ -1,4 +1,4 @@
-pub mod FrontLemmas
+pub mod AnswerLemmas
 pub mod InputLemmas
 pub mod KindLemmas
 pub mod Known
@@ -6,4 +6,3 @@ pub mod LineLemmas
 pub mod QuoteLemmas
 pub mod ReplayLemmas
 pub mod ReportLemmas
-pub mod WordLemmas

@@ -1,5 +1,5 @@
 -- What the program answers to words and an input.
-use Rattle.std.specs.Prelude.{◌≡◌, ◌⊎◌, ◌++◌, ℕ, true, List, [], MatchResult, Option, Result, Ok, Err, ⊤, IfSome, codes}
+use Rattle.std.specs.Prelude.{◌≡◌, ◌⊎◌, ◌++◌, ℕ, true, List, [], MatchResult, Option, Some, None, Result, Ok, Err, ⊤, IfSome, codes}
 use Rattle.std.specs.Io.KnownBytes.{Appends, Keeps}
 use Rattle.std.specs.Result.{result_map_both}
 use Rattle.book_texts.specs.Audits.{Audited, IsAuditOf}
@@ -8,7 +8,7 @@ use Rattle.book_texts.specs.Sizes.{most_rows}
 use Rattle.book_texts.specs.declared.size.BookSize.{BookSize}
 use Rattle.command_words.specs.Arguments.{AsksFor, AsksHelp, AsksInVain, AsksNothing, AsksVersion}
 use Rattle.command_words.specs.QuoteWishes.{QuoteWish}
-use Rattle.command_words.specs.Wishes.{Wish, Audits, Prices, Quotes, Replays, Runs}
+use Rattle.command_words.specs.Wishes.{Wish, Audits, Prices, Quotes, RatesRecords, Replays, Runs}
 use Rattle.command_words.specs.declared.fault.WordsFault.TheVariants as words_fault
 use Rattle.run_command.specs.Answers.{IsRunAnswer, RunSaid}
 use Rattle.run_command.specs.declared.error.RunError.{RunError}
@@ -19,8 +19,14 @@ use Rattle.table_core.specs.Judging.{after}
 use Rattle.table_core.specs.Rows.{rows_of}
 use Rattle.tariff_core.specs.Bands.{Band}
 use Rattle.tariff_core.specs.Rates.{Rates}
-use Rattle.prepaid_command.specs.Faults.{line_of, meaning_in, meaning_of_part, of_run, status_of}
-use Rattle.prepaid_command.specs.Fronts.{AppendsFront}
+use Rattle.prepaid_command.specs.Faults.{line_of, meaning_in, meaning_of_part, of_rate, of_run, status_of}
+use Rattle.prepaid_command.specs.Summaries.{status_of_rating, summary_of}
+use Rattle.rating.specs.Asks.{RateWish}
+use Rattle.rating.specs.Ends.{IsInPart, IsPrinted as IsRatedWhole}
+use Rattle.rating.specs.Texts.{input_of}
+use Rattle.rating.specs.declared.fault.RateFault.{RateFault}
+use Rattle.rating.specs.declared.tally.Tally.{Tally}
+use Rattle.rating.specs.Fronts.{AppendsFront}
 use Rattle.prepaid_command.specs.Input.{sized, sized_as}
 use Rattle.prepaid_command.specs.PriceLines.{price_lines}
 use Rattle.prepaid_command.specs.Quotes.{IsQuoteText}
@@ -81,13 +87,14 @@ abbrev pub IsQuoteOfInput : QuoteWish → List ℕ → Result Telling Fault → 
 IsQuoteOfInput wish input answer =
     MatchResult (after (sized input) (λ text. meaning_of_part (tariff_in text))) (λ bands. IsToldQuote bands wish answer) (λ why. answer ≡ Err why)
 
--- what is made of an input as it was wished
+-- what is made of an input as it was wished, where it is printed once it is whole
 abbrev pub IsAnswerTo : Wish → List ℕ → Result Telling Fault → Type 0
 IsAnswerTo (Prices plan) input answer = price_of_input plan input ≡ answer
 IsAnswerTo (Replays opening limit) input answer = replay_of_input opening limit input ≡ answer
 IsAnswerTo (Runs ask) input answer = IsRunOfInput ask input answer
 IsAnswerTo (Audits size) input answer = IsAuditOfInput size input answer
 IsAnswerTo (Quotes wish) input answer = IsQuoteOfInput wish input answer
+IsAnswerTo (RatesRecords wish) input answer = ⊥
 
 -- the words ask for what has this answer
 pub record IsAnswered (words : List (List ℕ)) (input : List ℕ) (answer : Result Telling Fault) : Type 0 where
@@ -95,7 +102,7 @@ pub record IsAnswered (words : List (List ℕ)) (input : List ℕ) (answer : Res
   pub asked : AsksFor words wish
   pub answered : IsAnswerTo wish input answer
 
--- an answer to the words and the input: the help, the version or what is asked for, or the first fault. A failed reader and want of memory may come at any
+-- an answer to the words and the input: the help, the version or what is asked for, or the first fault. A failed reader and memory that runs out may come at any
 abbrev pub IsAnswer : List (List ℕ) → List ℕ → Result Telling Fault → Type 0
 IsAnswer words input (Ok telling) =
     ((AsksHelp words ⊎ AsksVersion words) × (telling.passes ≡ true)) ⊎ IsAnswered words input (Ok telling)
@@ -138,3 +145,45 @@ pub record Answers (words : List (List ℕ)) (input : Option (List ℕ)) (status
   pub answer : Result Telling Fault
   pub answered : IfSome input (λ text. IsAnswer words text answer)
   pub told : IsTold answer status old new
+
+-- ---- records that are rated as they come
+
+-- what is said of a fault to the error writer: its line or a front of it, at its status; of an output that failed nothing, at status 2
+abbrev pub IsSaid : Option Fault → ℕ → Option (List ℕ) → Option (List ℕ) → Type 0
+IsSaid None status old new = (status ≡ 2) × Keeps old new
+IsSaid (Some why) status old new = (status ≡ status_of why) × AppendsFront old new (line_of why ++ codes "\n")
+
+-- the line of a failed input or of memory that ran out, or nothing where the output failed
+abbrev pub IsOfFailure : Option (List ℕ) → Option (List ℕ) → Type 0
+IsOfFailure old new = Keeps old new ⊎ AppendsFront old new (line_of fault.Device ++ codes "\n") ⊎ AppendsFront old new (line_of (fault.Run run.OutOfMemory) ++ codes "\n")
+
+-- all rows were rated and printed: the status says whether all are right, and the summary went to the error writer where it was asked for, or a front of it
+pub record IsRated (wish : RateWish) (text : List ℕ) (status : ℕ) (old new : Written) : Type 0 where
+  pub tally : Tally
+  pub printed : IsRatedWhole wish.differing (input_of wish.names text) tally old.output new.output
+  pub status_is : status ≡ status_of_rating tally
+  pub line : AppendsFront old.faults new.faults (summary_of wish tally)
+
+-- the tariff or the header has a fault, which is told, and the output stays as it was
+pub record IsRefused (wish : RateWish) (text : List ℕ) (status : ℕ) (old new : Written) : Type 0 where
+  pub why : RateFault
+  pub refused : input_of wish.names text ≡ Err why
+  pub fault : Fault
+  pub fault_is : of_rate why ≡ Some fault
+  pub reported : IsReported fault status old new
+
+-- the input, memory or the output failed, at status 2: a front of the text was printed, or nothing, and of a line about it a front, or nothing
+pub record IsBroken (wish : RateWish) (text : List ℕ) (status : ℕ) (old new : Written) : Type 0 where
+  pub status_is : status ≡ 2
+  pub front : Keeps old.output new.output ⊎ IsInPart wish.differing (input_of wish.names text) old.output new.output
+  pub line : IsOfFailure old.faults new.faults
+
+-- how records that are rated as they come were told: whole, refused, or broken off
+abbrev pub IsRatedBy : RateWish → List ℕ → ℕ → Written → Written → Type 0
+IsRatedBy wish text status old new = IsRated wish text status old new ⊎ IsRefused wish text status old new ⊎ IsBroken wish text status old new
+
+-- the words ask for records to be rated, and so they were
+pub record RatesAsAsked (words : List (List ℕ)) (input : Option (List ℕ)) (status : ℕ) (old new : Written) : Type 0 where
+  pub wish : RateWish
+  pub asked : AsksFor words (RatesRecords wish)
+  pub rated : IfSome input (λ text. IsRatedBy wish text status old new)

@@ -1,15 +1,18 @@
 -- The faults of the program: their lines, their statuses, and how an answer meets its meaning.
-use Rattle.std.specs.Prelude.{◌≡◌, ℕ, List, ◌++◌, Result, Ok, Err, ⊤, codes}
+use Rattle.std.specs.Prelude.{◌≡◌, ℕ, List, ◌++◌, Option, Some, None, Result, Ok, Err, ⊤, codes}
 use Rattle.command_words.specs.declared.fault.WordsFault.{WordsFault}
 use Rattle.command_words.specs.declared.fault.WordsFault.TheVariants as words
 use Rattle.run_command.specs.declared.error.RunError.{RunError}
 use Rattle.run_command.specs.declared.error.RunError.TheVariants as error
 use Rattle.run_texts.specs.declared.input_fault.InputFault.{InputFault}
 use Rattle.run_texts.specs.declared.input_fault.InputFault.TheVariants as input
+use Rattle.rating.specs.declared.fault.RateFault.{RateFault}
+use Rattle.rating.specs.declared.fault.RateFault.TheVariants as rate
 use Rattle.runs_core.specs.RunFaults.{name_of}
 use Rattle.runs_core.specs.declared.run_fault.RunFault.TheVariants as run
 use Rattle.table_core.specs.Faults.{text_of}
 use Rattle.table_core.specs.declared.fault.RowFault.{RowFault}
+use Rattle.table_core.specs.declared.fault.RowKind.TheVariants as kind
 use Rattle.table_core.specs.declared.fault.TableFault.{TableFault}
 use Rattle.table_core.specs.declared.fault.TableFault.TheVariants as table
 use Rattle.tariff_core.specs.TariffFaults.{text_of as tariff_text_of}
@@ -25,6 +28,7 @@ name_of_part part.Ops = codes "ops"
 name_of_part part.Setup = codes "setup"
 name_of_part part.Script = codes "script"
 name_of_part part.Book = codes "book"
+name_of_part part.Records = codes "records"
 
 -- the line that tells a fault, without its end
 abbrev pub line_of : Fault → List ℕ
@@ -69,6 +73,13 @@ of_run_input (input.Script row) = fault.Table part.Script row
 of_run_input input.Device = fault.Device
 of_run_input input.OutOfMemory = fault.Run run.OutOfMemory
 
+-- the fault of records that aren't rated to their end; an output that failed has none
+abbrev pub of_rate : RateFault → Option Fault
+of_rate (rate.Input why) = Some (of_run_input why)
+of_rate rate.TooLong = Some fault.TooLong
+of_rate rate.Header = Some (fault.Table part.Records (record { row = 1; kind = kind.Header }))
+of_rate rate.Output = None
+
 -- what a part of the input of a run means, its faults told as the program's
 abbrev pub meaning_of_part : {X : Type 0} → Result X InputFault → Result X Fault
 meaning_of_part (Ok x) = Ok x
@@ -79,7 +90,7 @@ abbrev pub of_run : RunError → Fault
 of_run (error.Input why) = of_run_input why
 of_run (error.Run why) = fault.Run why
 
--- a failed reader and want of memory may come at any words and any input
+-- the input may fail, and memory run out, at any words and any input
 abbrev pub MayAlwaysCome : Fault → Type 0
 MayAlwaysCome fault.Device = ⊤
 MayAlwaysCome (fault.Run run.OutOfMemory) = ⊤

@@ -2,7 +2,6 @@ pub mod Answers
 pub mod AskingOf
 pub mod Asks
 pub mod Faults
-pub mod Fronts
 pub mod Input
 pub mod PriceLines
 pub mod Quotes
@@ -10,4 +9,5 @@ pub mod Refused
 pub mod ReplayLines
 pub mod Replays
 pub mod Reports
+pub mod Summaries
 pub mod Tellings

@@ -1,10 +1,9 @@
 -- The lines that `quote` prints.
-use Rattle.std.specs.Prelude.{◌≡◌, ◌⊎◌, ◌-◌, ◌/◌, ◌%◌, ℕ, List, [], ◌∷◌, ◌++◌, Option, Some, None, codes, min}
+use Rattle.std.specs.Prelude.{◌≡◌, ◌⊎◌, ◌/◌, ◌%◌, ℕ, List, [], ◌∷◌, ◌++◌, Option, Some, None, codes}
 use Rattle.std.specs.Fmt.{decimal}
 use Rattle.table_core.specs.Decimals.{digits_text}
 use Rattle.tariff_core.specs.Afford.{units_afforded}
 use Rattle.tariff_core.specs.Bands.{Band}
-use Rattle.tariff_core.specs.Price.{price_of}
 use Rattle.tariff_core.specs.RatesOf.{rates_of}
 use Rattle.tariff_core.specs.Rates.{Rates}
 use Rattle.tariff_core.specs.Routes.{HasNoRoute, IsQuote}
@@ -12,6 +11,7 @@ use Rattle.tariff_core.specs.Times.{no_times}
 use Rattle.tariff_core.specs.declared.route.Route.{Route}
 use Rattle.tariff_core.specs.declared.times.TheConstants.{DAY}
 use Rattle.command_words.specs.QuoteWishes.{QuoteWish}
+use Rattle.rating.specs.Charges.{price_of_call}
 
 -- the digits of a prefix, and `-` for none
 abbrev pub prefix_text : List ℕ → List ℕ
@@ -38,15 +38,6 @@ band_line prefix start plan = codes "prefix " ++ (prefix_text prefix ++ (codes "
 abbrev pub switch_line : Option ℕ → Option ℕ → List ℕ
 switch_line (Some at) (Some rate) = codes "switch " ++ (decimal at ++ (codes " rate " ++ (decimal rate ++ codes "\n")))
 switch_line _ _ = []
-
--- of a call that is answered at a moment and lasts so long, how much of it lies before the switch
-abbrev pub before_switch : ℕ → ℕ → Option ℕ → ℕ
-before_switch at talk None = talk
-before_switch at talk (Some switch) = min talk (switch - at)
-
--- what such a call costs
-abbrev pub price_of_call : Rates → ℕ → Option ℕ → ℕ → ℕ
-price_of_call plan at switch talk = price_of plan (before_switch at talk switch) (talk - before_switch at talk switch)
 
 -- `price N` of a call that lasts so long, where that is asked for
 abbrev pub price_line : Rates → ℕ → Option ℕ → Option ℕ → List ℕ

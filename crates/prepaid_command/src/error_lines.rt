@@ -1,14 +1,17 @@
 //! The lines that go to the error writer. They take no memory.
 
 ghost use Rattle.std.specs.Prelude.{◌≡◌, ◌++◌, [], codes, IfOk, OnOk};
-ghost use Rattle.prepaid_command.specs.Faults.{line_of};
+ghost use Rattle.rating.specs.Fronts.{AppendsFront};
+ghost use Rattle.prepaid_command.specs.Faults.{line_of, status_of};
 ghost use Rattle.prepaid_command.specs.Refused.{kinds_of, refused_line, with_kind};
 
 use crate::Fault;
 use account_core::AccountFault;
 use arrayvec::ArrayString;
+use rating::write_text;
 use run_command::Refusals;
 use std::fmt::{self, Write};
+use std::io;
 
 /// The most bytes of a line: more than any line has.
 pub(crate) const MOST_BYTES: usize = 256;
@@ -60,4 +63,16 @@ fn add_kind(line: &mut ArrayString<MOST_BYTES>, count: u64, fault: AccountFault)
     } else {
         write!(line, ", {count} {fault}")
     }
+}
+
+/// The status of a fault, whose line goes to the error writer. The line takes no memory.
+pub(crate) fn report<E: io::Write>(faults: &mut E, fault: Fault) -> u8
+    ensures status { result ≡ status_of fault }
+    ensures line { AppendsFront (E.contents faults.old) (E.contents faults.new)
+        (line_of fault ++ codes "\n") }
+{
+    if let Ok(line) = fault_line(fault) {
+        write_text(faults, line.as_str().as_bytes());
+    }
+    fault.status()
 }

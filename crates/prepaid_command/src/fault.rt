@@ -6,13 +6,14 @@ ghost use Rattle.prepaid_command.specs.Faults.{line_of, name_of_part, of_run, of
 ghost use Rattle.prepaid_command.specs.declared.fault.Fault.TheVariants as out;
 
 use command_words::WordsFault;
+use rating::RateFault;
 use run_command::RunError;
 use run_texts::InputFault;
 use runs_core::RunFault;
 use std::alloc::{AllocError, AllocFailed};
 use std::error::Error;
 use std::fmt;
-use table_core::{RowFault, TableFault};
+use table_core::{RowFault, RowKind, TableFault};
 use tariff_core::TariffFault;
 
 /// A part of the input that is a table.
@@ -28,6 +29,8 @@ pub enum Part {
     Script,
     /// The books of `audit`.
     Book,
+    /// The records of `rate`.
+    Records,
 }
 
 impl fmt::Display for Part {
@@ -40,6 +43,7 @@ impl fmt::Display for Part {
             Part::Setup => f.write_str("setup"),
             Part::Script => f.write_str("script"),
             Part::Book => f.write_str("book"),
+            Part::Records => f.write_str("records"),
         }
     }
 }
@@ -66,7 +70,7 @@ pub enum Fault {
 }
 
 impl Fault {
-    ghost use Rattle.prepaid_command.specs.Faults.{in_part, of_run_input, status_of};
+    ghost use Rattle.prepaid_command.specs.Faults.{in_part, of_rate, of_run_input, status_of};
 
     /// The exit status: 1 for a fault of the words or the input, 2 where the run itself failed.
     pub fn status(self) -> u8
@@ -89,6 +93,24 @@ impl Fault {
             InputFault::Script(fault) => Fault::Table(Part::Script, fault),
             InputFault::Device => Fault::Device,
             InputFault::OutOfMemory => Fault::Run(RunFault::OutOfMemory),
+        }
+    }
+
+    /// The fault of records that weren't rated to their end; none where the output failed.
+    pub fn of_rate(fault: RateFault) -> Option<Fault>
+        ensures { result ≡ of_rate fault }
+    {
+        match fault {
+            RateFault::Input(fault) => Some(Fault::of_run_input(fault)),
+            RateFault::TooLong => Some(Fault::TooLong),
+            RateFault::Header => Some(Fault::Table(
+                Part::Records,
+                RowFault {
+                    row: 1,
+                    kind: RowKind::Header,
+                },
+            )),
+            RateFault::Output => None,
         }
     }
 

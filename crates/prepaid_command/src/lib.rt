@@ -8,9 +8,9 @@ mod input;
 mod price_lines;
 mod program;
 mod quoting;
+mod rating_rows;
 mod replaying;
 mod tables;
-mod writing;
 
 pub use fault::{Fault, Part};
 pub use input::MAX_INPUT;

@@ -1,27 +1,28 @@
 //! The program, from words and bytes to bytes.
 
-ghost use Rattle.std.specs.Prelude.{◌≡◌, ◌⊎◌, ◌++◌, map, IfSome, codes};
+ghost use Rattle.std.specs.Prelude.{◌≡◌, ◌⊎◌, map, IfSome};
 ghost use Rattle.std.specs.Io.KnownBytes.{Keeps};
 ghost use Rattle.std.specs.Result.{result_map_both};
 ghost use Rattle.tariff_core.specs.RatesOf.{rates_of};
 ghost use Rattle.command_words.specs.QuoteWishes.{wish_of};
 ghost use Rattle.run_options.specs.Options.{ask_of};
-ghost use Rattle.prepaid_command.specs.Answers.{Answers, IsAnswer, IsCutOff, IsPrinted, IsAuditOfInput, IsAuditOfTable, IsQuoteOfInput, IsRunOfInput, price_of_input, replay_of_input};
-ghost use Rattle.prepaid_command.specs.Faults.{Gives, GivesOne, line_of, status_of};
-ghost use Rattle.prepaid_command.specs.Fronts.{AppendsFront};
+ghost use Rattle.prepaid_command.specs.Answers.{Answers, IsCutOff, IsPrinted, IsTold, IsAuditOfInput, IsAuditOfTable, IsQuoteOfInput, IsRunOfInput, RatesAsAsked, price_of_input, replay_of_input};
+ghost use Rattle.prepaid_command.specs.Faults.{Gives, GivesOne};
+ghost use Rattle.rating.specs.Fronts.{AppendsFront};
 ghost use Rattle.prepaid_command.specs.Refused.{refused_line};
 ghost use Rattle.prepaid_command.specs.Tellings.{telling_of};
 
 use crate::answer::Answer;
-use crate::error_lines::{fault_line, refused_line};
+use crate::error_lines::{refused_line, report};
 use crate::fault::{Fault, Part};
 use crate::input::read_input;
 use crate::price_lines::{print_reports, read_reports};
 use crate::quoting::print_quote;
+use crate::rating_rows::rate_input;
 use crate::replaying::replay;
-use crate::writing::write_text;
 use book_texts::{BookSize, audit_books};
 use command_words::{Opening, QuoteAsk, Request, read_words};
+use rating::write_text;
 use run_command::{Ran, Refusals, run};
 use run_options::RunOptions;
 use run_texts::read_tariff;
@@ -32,13 +33,19 @@ use std::sync::Wait;
 use std::thread::Threads;
 use tariff_core::Plan;
 
-/// Runs the program over the words after its name, and gives the exit status: 0 where all of the
-/// answer went to `output`, 3 where this is an audit that found an account's history wrong, 1 for a
-/// fault of the words or the input, 2 where the run failed (want of memory, an input or an output
-/// that failed). A fault goes to `faults` as one line, and then nothing goes to `output`. Where the
-/// accounts of a run refused anything, a line about it goes to `faults` behind the answer. Where
-/// `output` failed, what went to it is a front of the answer, and nothing goes to `faults`; a
-/// failing `faults` has a front of the line, and changes no status.
+/// Runs the program over the words after its name, and gives the exit status:
+///
+/// - 0: all of the answer went to `output`.
+/// - 1: a fault of the words or the input.
+/// - 2: the run failed: memory ran out, or an input or an output failed.
+/// - 3: all of the answer went to `output`, and an audit found an account's history wrong, or a
+///   rating a row.
+///
+/// A fault goes to `faults` as one line, and then nothing goes to `output`; but the rows of `rate`
+/// are printed as they come, so where its input or memory fails in the middle, `output` has a front
+/// of them. Where the accounts of a run refused anything, a line about it goes to `faults` behind
+/// the answer. Where `output` failed, what went to it is a front of the answer, and nothing goes to
+/// `faults`; a failing `faults` has a front of the line, and changes no status.
 pub fn command<R, S: AsStr, I: Read + Drop, O: Write, E: Write>(
     rt: &R,
     words: &[S],
@@ -50,30 +57,38 @@ where
     R: AllocGlobal + Wait + Threads + Sync,
     ensures answers { Answers (map S.text words.now) (I.remaining input) result
         (record { output = O.contents output.old; faults = E.contents faults.old })
+        (record { output = O.contents output.new; faults = E.contents faults.new })
+        ⊎ RatesAsAsked (map S.text words.now) (I.remaining input) result
+        (record { output = O.contents output.old; faults = E.contents faults.old })
         (record { output = O.contents output.new; faults = E.contents faults.new }) }
     ensures silent { result ≡ 1 → Keeps (O.contents output.old) (O.contents output.new) }
 {
-    match answer(rt, words, input) {
-        Ok(answer) => print(output, faults, &answer),
-        Err(fault) => report(faults, fault),
+    let alloc = rt.alloc();
+    match read_words(alloc, words) {
+        Ok(Request::Help(text)) => tell(output, faults, Ok(Answer::plain(text))),
+        Ok(Request::Version(text)) => tell(output, faults, Ok(Answer::plain(text))),
+        Ok(Request::Price(plan)) => tell(output, faults, price_reports(alloc, &plan, input)),
+        Ok(Request::Replay(account)) => {
+            tell(output, faults, replay_operations(alloc, account, input))
+        }
+        Ok(Request::Run(options)) => tell(output, faults, run_script(rt, alloc, &options, input)),
+        Ok(Request::Audit(size)) => tell(output, faults, audit_input(alloc, size, input)),
+        Ok(Request::Quote(ask)) => tell(output, faults, quote_input(alloc, &ask, input)),
+        Ok(Request::Rate(ask)) => rate_input(alloc, &ask, input, output, faults),
+        Err(why) => tell(output, faults, Err(Fault::from(why))),
     }
 }
 
-/// What answers the words and the input.
-fn answer<R, S: AsStr, I: Read + Drop>(rt: &R, words: &[S], input: I) -> Result<Answer, Fault>
-where
-    R: AllocGlobal + Wait + Threads + Sync,
-    ensures { IfSome (I.remaining input) (λ text. IsAnswer (map S.text words.now) text
-        (result_map_both telling_of (λ fault. fault) result)) }
+/// Prints an answer or reports a fault, and gives the status.
+fn tell<O: Write, E: Write>(output: &mut O, faults: &mut E, answer: Result<Answer, Fault>) -> u8
+    ensures told { IsTold (result_map_both telling_of (λ fault. fault) answer) result
+        (record { output = O.contents output.old; faults = E.contents faults.old })
+        (record { output = O.contents output.new; faults = E.contents faults.new }) }
+    ensures silent { result ≡ 1 → Keeps (O.contents output.old) (O.contents output.new) }
 {
-    let alloc = rt.alloc();
-    match read_words(alloc, words)? {
-        Request::Help(text) | Request::Version(text) => Ok(Answer::plain(text)),
-        Request::Price(plan) => price_reports(alloc, &plan, input),
-        Request::Replay(account) => replay_operations(alloc, account, input),
-        Request::Run(options) => run_script(rt, alloc, &options, input),
-        Request::Audit(size) => audit_input(alloc, size, input),
-        Request::Quote(ask) => quote_input(alloc, &ask, input),
+    match answer {
+        Ok(answer) => print(output, faults, &answer),
+        Err(fault) => report(faults, fault),
     }
 }
 
@@ -191,16 +206,4 @@ fn tell_refusals<E: Write>(faults: &mut E, refusals: &Refusals)
     if let Ok(line) = refused_line(refusals) {
         write_text(faults, line.as_str().as_bytes());
     }
-}
-
-/// The status of a fault, whose line goes to the error writer. The line takes no memory.
-fn report<E: Write>(faults: &mut E, fault: Fault) -> u8
-    ensures status { result ≡ status_of fault }
-    ensures line { AppendsFront (E.contents faults.old) (E.contents faults.new)
-        (line_of fault ++ codes "\n") }
-{
-    if let Ok(line) = fault_line(fault) {
-        write_text(faults, line.as_str().as_bytes());
-    }
-    fault.status()
 }

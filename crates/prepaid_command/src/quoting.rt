@@ -1,14 +1,15 @@
 //! The lines that `quote` prints.
 
-ghost use Rattle.std.specs.Prelude.{◌≡◌, ◌+◌, ◌-◌, ◌++◌, ◌≤◌, ◌<◌, IfOk, IfSome, OnOk, string_bytes};
+ghost use Rattle.std.specs.Prelude.{◌≡◌, ◌+◌, ◌++◌, ◌≤◌, ◌<◌, IfOk, IfSome, OnOk, string_bytes};
 ghost use Rattle.tariff_core.specs.RatesOf.{rates_of};
 ghost use Rattle.command_words.specs.QuoteWishes.{wish_of};
-ghost use Rattle.prepaid_command.specs.Quotes.{IsQuoteText, afford_line, band_line, before_switch, plan_text, prefix_text, price_line, quote_lines, switch_line, time_text, two_digits};
+ghost use Rattle.prepaid_command.specs.Quotes.{IsQuoteText, afford_line, band_line, plan_text, prefix_text, price_line, quote_lines, switch_line, time_text, two_digits};
 
 use command_words::QuoteAsk;
+use rating::{Charge, charge_call};
 use std::alloc::{AllocError, Global};
 use table_core::write_digits;
-use tariff_core::{DAY, HORIZON, LAST_MOMENT, Plan, Quote, Route, Tariff, Times, afford, price};
+use tariff_core::{DAY, HORIZON, LAST_MOMENT, Plan, Quote, Route, Tariff, Times, afford};
 
 /// What a call to a number costs at a moment: the band and the switch, and the price of a call and
 /// the units that a credit affords where they are asked for; `no route` where no prefix fits.
@@ -40,8 +41,7 @@ fn write_quote(text: &mut String, ask: &QuoteAsk, quote: &Quote<'_>) -> Result<(
     write_band(text, quote.prefix, quote.start, plan)?;
     write_switch(text, &quote.route)?;
     if let Some(talk) = ask.talk {
-        let before = before_switch(ask.at, talk, quote.route.switch_at);
-        let price = price(plan, before, talk - before);
+        let Charge { price, .. } = charge_call(&quote.route, ask.at, talk);
         writeln!(text, "price {price}")?;
     }
     if let Some(credit) = ask.credit {
@@ -103,17 +103,5 @@ fn write_switch(text: &mut String, route: &Route) -> Result<(), AllocError>
     match (route.switch_at, route.plan.after) {
         (Some(at), Some(rate)) => writeln!(text, "switch {at} rate {rate}"),
         _ => Ok(()),
-    }
-}
-
-/// How much of a call lies before the switch.
-fn before_switch(at: u64, talk: u32, switch_at: Option<u64>) -> u32
-    requires { IfSome switch_at (λ switch. at < switch) }
-    ensures value { result ≡ before_switch at talk switch_at }
-    ensures within { result ≤ talk }
-{
-    match switch_at {
-        Some(switch) => u64::from(talk).min(switch - at) as u32,
-        None => talk,
     }
 }

@@ -59,7 +59,7 @@ pub fn replay<I: Read + Drop>(
     Ok(text)
 }
 
-/// Adds the line of an answer. Want of memory has no line: it ends the replay.
+/// Adds the line of an answer. Memory that runs out has no line: it ends the replay.
 fn write_answer(text: &mut String, answer: Result<Reply, AccountFault>) -> Result<(), TableFault>
     ensures line { OnOk result (string_bytes text.new ≡ string_bytes text.old ++ told_line answer) }
     ensures told { OnOk result (answer ≢ Err AccountFault.OutOfMemory) }

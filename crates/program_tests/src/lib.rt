@@ -25,6 +25,8 @@ mod program;
 #[cfg(test)]
 mod quotes;
 #[cfg(test)]
+mod ratings;
+#[cfg(test)]
 mod replays;
 #[cfg(test)]
 mod runs;

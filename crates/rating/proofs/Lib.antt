@@ -1,4 +1,5 @@
 pub mod ColumnLemmas
+pub mod CutLemmas
 pub mod FrontLemmas
 pub mod LineLemmas
 pub mod PartLemmas

@@ -6,6 +6,7 @@ pub mod Columns
 pub mod Ends
 pub mod Faults
 pub mod Fronts
+pub mod Laws
 pub mod Lines
 pub mod Parts
 pub mod Rated

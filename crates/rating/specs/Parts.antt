@@ -44,7 +44,7 @@ abbrev pub TakesByte : Option (List ℕ) → Option (List ℕ) → Option ℕ �
 TakesByte old new None = IsAtEnd old × Keeps old new
 TakesByte old new (Some byte) = Consumes old new (byte ∷ [])
 
--- a fault that a failed reader and want of memory have
+-- a fault of a reader that failed, or of memory that ran out
 abbrev pub MayAlwaysCome : RateFault → Type 0
 MayAlwaysCome (fault.Input input.Device) = ⊤
 MayAlwaysCome (fault.Input input.OutOfMemory) = ⊤

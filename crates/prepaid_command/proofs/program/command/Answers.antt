@@ -1,18 +1,29 @@
-use Rattle.std.proofs.Common.{Ok, Err}
-use Rattle.prepaid_command.proofs.FrontLemmas.{still_held}
+use Rattle.std.proofs.Common.{inl, inr}
+use Rattle.std.specs.Result.{result_map_both}
+use Rattle.tariff_core.specs.RatesOf.{rates_of}
+use Rattle.command_words.specs.QuoteWishes.{wish_of}
+use Rattle.prepaid_command.proofs.AnswerLemmas.{helped, priced, quoted, refused}
 use Rattle.prepaid_command.specs.Tellings.{telling_of}
 use Rattle.prepaid_command.proofs.program.command.Goals as goal
 
-pub returns-in-Ok-clause-answers : goal.returns-in-Ok-clause-answers
-returns-in-Ok-clause-answers g c = record {
-  answer = Ok (telling_of c.in-Ok.answer);
-  answered = c.in-Ok.ensures;
-  told = c.print.ensures.told;
-}
+pub returns-in-Ok-Help-clause-answers : goal.returns-in-Ok-Help-clause-answers
+returns-in-Ok-Help-clause-answers g c = inl (helped _ _ _ _ (g.I.Read.remaining c.args.input) (telling_of c.plain.result) _ (inl (rw c.in-Ok-Help.field-0-is at c.in-Ok-Help.ensures)) c.plain.ensures c.tell.ensures.told)
+
+pub returns-in-Ok-Version-clause-answers : goal.returns-in-Ok-Version-clause-answers
+returns-in-Ok-Version-clause-answers g c =
+    inl (helped _ _ _ _ (g.I.Read.remaining c.args.input) (telling_of c.plain-in-Ok-Version.result) _ (inr (rw c.in-Ok-Version.field-0-is at c.in-Ok-Version.ensures)) c.plain-in-Ok-Version.ensures
+    c.tell-in-Ok-Version.ensures.told)
+
+pub returns-in-Ok-Price-clause-answers : goal.returns-in-Ok-Price-clause-answers
+returns-in-Ok-Price-clause-answers g c =
+    inl (priced _ _ _ _ (g.I.Read.remaining c.args.input) telling_of (rates_of c.in-Ok-Price.plan) c.price_reports.result (rw c.in-Ok-Price.field-0-is at c.in-Ok-Price.ensures) c.price_reports.ensures
+    c.tell-in-Ok-Price.ensures.told)
+
+pub returns-in-Ok-Quote-clause-answers : goal.returns-in-Ok-Quote-clause-answers
+returns-in-Ok-Quote-clause-answers g c =
+    inl (quoted _ _ _ _ (g.I.Read.remaining c.args.input) (wish_of c.in-Ok-Quote.ask) (result_map_both telling_of (λ fault. fault) c.quote_input.result)
+    (rw c.in-Ok-Quote.field-0-is at c.in-Ok-Quote.ensures) c.quote_input.ensures c.tell-in-Ok-Quote.ensures.told)
 
 pub returns-in-Err-clause-answers : goal.returns-in-Err-clause-answers
-returns-in-Err-clause-answers g c = record {
-  answer = Err c.in-Err.fault;
-  answered = c.in-Err.ensures;
-  told = record { status_is = c.report.ensures.status; line = c.report.ensures.line; output = still_held (g.O.Write.contents c.args.output.now) };
-}
+returns-in-Err-clause-answers g c =
+    inl (refused _ _ _ _ (g.I.Read.remaining c.args.input) c.in-Err.why c.from.result c.in-Err.ensures c.from.ensures c.tell-in-Err.ensures.told)

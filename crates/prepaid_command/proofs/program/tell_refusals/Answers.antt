@@ -1,4 +1,4 @@
-use Rattle.prepaid_command.proofs.FrontLemmas.{some_written}
+use Rattle.rating.proofs.FrontLemmas.{some_written}
 use Rattle.prepaid_command.proofs.program.tell_refusals.Goals as goal
 
 pub returns-in-Ok : goal.returns-in-Ok

@@ -1,0 +1,31 @@
+-- What the options of `rate` say.
+use Rattle.std.specs.Prelude.{ℕ, List, Option, Some, None, codes, option_map, unwrap_or}
+use Rattle.clap.specs.Words.{Row, Text, first_of}
+use Rattle.rating.specs.Asks.{NamesWish, RateWish, TimesWish, ByEnd, BySplit, ByTime, ByUsualNames}
+use Rattle.command_words.specs.Options.{has_flag}
+
+-- by which columns the times of a call are found: those of their usual names where no option says otherwise, and only in one way where one does
+abbrev pub times_by : Option Text → Option Text → Option Text → Option Text → Option TimesWish
+times_by None None None None = Some ByUsualNames
+times_by (Some name) None None None = Some (ByTime name)
+times_by None (Some name) None None = Some (ByEnd name)
+times_by None None (Some before) (Some after) = Some (BySplit before after)
+times_by _ _ _ _ = None
+
+-- the columns of the times
+abbrev pub times_in : List Row → Option TimesWish
+times_in options =
+    times_by (first_of (codes "time") options) (first_of (codes "end") options) (first_of (codes "before") options) (first_of (codes "after") options)
+
+-- the names of the columns, the times among them
+abbrev pub names_in : List Row → TimesWish → NamesWish
+names_in options times = record {
+  called = unwrap_or (first_of (codes "called") options) (codes "called");
+  answer = unwrap_or (first_of (codes "answer") options) (codes "answer");
+  times = times;
+  paid = first_of (codes "paid") options;
+}
+
+-- what the options ask for
+unfoldable pub rate_in : List Row → Option RateWish
+rate_in options = option_map (λ times. record { names = names_in options times; differing = has_flag options (codes "differing"); summary = has_flag options (codes "summary") }) (times_in options)

@@ -1,0 +1,109 @@
+//! The command `rate`.
+
+ghost use Rattle.std.specs.Prelude.{◌≡◌, ◌++◌, ◌⊎◌, [], IfOk, IfSome, OnOk, if◌then◌else◌};
+ghost use Rattle.std.specs.Io.KnownBytes.{Keeps};
+ghost use Rattle.rating.specs.Fronts.{AppendsFront};
+ghost use Rattle.rating.specs.SaidOf.{wish_of};
+ghost use Rattle.rating.specs.Tallies.{IsBounded};
+ghost use Rattle.prepaid_command.specs.Answers.{IsRatedBy, IsSaid};
+ghost use Rattle.prepaid_command.specs.Faults.{of_rate};
+ghost use Rattle.prepaid_command.specs.Summaries.{counts_text, status_of_rating, sums_text, summary_line};
+
+use crate::error_lines::report;
+use crate::fault::Fault;
+use arrayvec::ArrayString;
+use rating::{RateAsk, RateFault, Tally, rate, write_text};
+use std::alloc::Global;
+use std::fmt::{self, Write as WriteText};
+use std::io::{Read, Write};
+
+/// The most bytes of a summary: more than any has.
+const MOST_BYTES: usize = 384;
+
+/// Rates the records in the input as they come, and gives the status: 0 where no row differs or has
+/// a fault, else 3; 1 for a fault of the tariff or the header, and then nothing is printed; 2 where
+/// the input, memory or the output failed, and then the output has a front of the text.
+pub(crate) fn rate_input<I: Read + Drop, O: Write, E: Write>(
+    alloc: Global,
+    ask: &RateAsk<'_>,
+    input: I,
+    output: &mut O,
+    faults: &mut E,
+) -> u8
+    ensures rated { IfSome (I.remaining input) (λ text. IsRatedBy (wish_of ask.now) text result
+        (record { output = O.contents output.old; faults = E.contents faults.old })
+        (record { output = O.contents output.new; faults = E.contents faults.new })) }
+    ensures silent { result ≡ 1 → Keeps (O.contents output.old) (O.contents output.new) }
+{
+    match rate(alloc, ask, input, output) {
+        Ok(tally) => tell_tally(faults, ask.summary, &tally),
+        Err(why) => tell_fault(faults, why),
+    }
+}
+
+/// Writes the summary, where it is wanted, and gives the status of rows that were all printed.
+fn tell_tally<E: Write>(faults: &mut E, summary: bool, tally: &Tally) -> u8
+    requires { IsBounded tally.now }
+    ensures status { result ≡ status_of_rating tally.now }
+    ensures line { AppendsFront (E.contents faults.old) (E.contents faults.new)
+        (if summary then summary_line tally.now else []) }
+{
+    if summary {
+        write_summary(faults, tally);
+    }
+    if tally.passes() { 0 } else { 3 }
+}
+
+/// Reports why records weren't rated to their end, and gives the status: 2, and nothing is said,
+/// where the output failed.
+fn tell_fault<E: Write>(faults: &mut E, why: RateFault) -> u8
+    ensures { IsSaid (of_rate why) result (E.contents faults.old) (E.contents faults.new) }
+{
+    match Fault::of_rate(why) {
+        Some(fault) => report(faults, fault),
+        None => 2,
+    }
+}
+
+/// Writes the summary.
+fn write_summary<E: Write>(faults: &mut E, tally: &Tally)
+    ensures { AppendsFront (E.contents faults.old) (E.contents faults.new)
+        (summary_line tally.now) }
+{
+    if let Ok(line) = summary_line(tally) {
+        write_text(faults, line.as_str().as_bytes());
+    }
+}
+
+/// The line of the summary. It takes no memory.
+fn summary_line(tally: &Tally) -> Result<ArrayString<MOST_BYTES>, fmt::Error>
+    ensures { IfOk result (λ line. line.bytes ≡ summary_line tally.now) }
+{
+    let mut line = ArrayString::new();
+    add_counts(&mut line, tally)?;
+    add_sums(&mut line, tally)?;
+    Ok(line)
+}
+
+/// Adds how many rows there were.
+fn add_counts(line: &mut ArrayString<MOST_BYTES>, tally: &Tally) -> fmt::Result
+    ensures { OnOk result (line.new.bytes ≡ line.old.bytes ++ counts_text tally.now) }
+{
+    let (rows, differing, faults) = (tally.rows, tally.differing, tally.faults);
+    write!(
+        line,
+        "prepaid: rated: {rows} rows, {differing} differ, {faults} faults, "
+    )
+}
+
+/// Adds what they come to, and the end of the line.
+fn add_sums(line: &mut ArrayString<MOST_BYTES>, tally: &Tally) -> fmt::Result
+    ensures { OnOk result (line.new.bytes ≡ line.old.bytes ++ sums_text tally.now) }
+{
+    let (paid, price) = (tally.paid, tally.price);
+    let (over, under) = (tally.over, tally.under);
+    writeln!(
+        line,
+        "charged {paid}, by the tariff {price}, over {over}, under {under}"
+    )
+}
