@@ -5,10 +5,10 @@ PREFIX ?= /usr/local
 JOBS = $(if $(filter -j% --jobserver%,$(MAKEFLAGS)),2,$(shell nproc))
 SOURCES := crates.txt $(shell find crates -path '*/out' -prune -o -name '*.rt' -print -o -name '*.antt' -print)
 
-.PHONY: all quick run test edits install bench recipes
+.PHONY: all quick run test edits install dist bench recipes
 
-# Proves and builds bin/prepaid. With -j4 crates are proved side by side that don't stand on one another: a process
-# takes 0.7 to 1.1 GB.
+# Proves and builds bin/prepaid; out/proved/prepaid says by which toolchain. With -j4 crates are proved side by side
+# that don't stand on one another: a process takes 0.7 to 1.1 GB.
 all: bin/prepaid
 
 # The crates, those of them that a crate uses, and its files.
@@ -27,7 +27,8 @@ $(foreach crate,$(filter-out prepaid,$(crates)),$(eval $(call library,$(crate)))
 
 bin/prepaid: $(call files,prepaid) $(addprefix out/proved/,$(call used,prepaid))
 	cd crates/prepaid && rt run --jobs $(JOBS) -- --help > /dev/null
-	mkdir -p bin
+	mkdir -p bin out/proved
+	rt version > out/proved/prepaid
 	cp crates/prepaid/out/prepaid $@
 
 # Builds bin/prepaid-unproved, a native program without its proofs, which says so in --version.
@@ -41,30 +42,50 @@ bin/prepaid-unproved: $(SOURCES) tests/quick.py
 run: $(if $(wildcard bin/prepaid),,quick)
 	@$(or $(wildcard bin/prepaid),bin/prepaid-unproved) run < examples/evening.txt
 
+# The commit, and whether the tree is that commit's.
+TREE = $(shell git rev-parse HEAD) $(if $(shell git status --porcelain),changed,clean)
+
 # Proves everything from nothing, tries the edits that must fail, and runs the tests and the programs;
 # then holds the words of the man page and the completions against the formats, runs the commands of the
-# pages as they stand, compares runs in parts with whole ones, refuses memory to each call that takes any,
-# and compares the program with its model.
+# pages as they stand, makes packages and uses them, compares runs in parts with whole ones, refuses memory
+# to each call that takes any, and compares the program with its model. Once all has passed, out/passed.txt
+# says so of the commit; make expands TREE before the first line runs.
 test:
-	tests/edits_test.py
 	mkdir -p out
+	rm -f out/passed.txt
+	tests/edits_test.py
 	set -o pipefail; rt ci | tee out/gate.txt
 	tests/words_test.py --program crates/prepaid/out/prepaid
 	tests/docs_test.py --program crates/prepaid/out/prepaid
+	tests/dist_test.py --program crates/prepaid/out/prepaid
 	tests/divide_test.py --program crates/prepaid/out/prepaid
 	tests/refused_growths.sh
 	tests/random.sh --program crates/prepaid/out/prepaid
+	@printf '%s\n' '$(TREE)' "$$(tail -n 1 out/gate.txt)" > out/passed.txt
 	@tail -n 1 out/gate.txt
 
 # Tries the other edits in groups; of one crate by make edits CRATE=account_core.
 edits:
 	tests/edits.py $(CRATE)
 
+docs = $(DESTDIR)$(PREFIX)/share/doc/prepaid
+ZSH_FUNCTIONS ?= $(PREFIX)/share/zsh/site-functions
+
+# Installs the program, the man page, the completions, the examples, and the pages that tell how the program is used
+# with the one that they link to. There the commands say `prepaid`.
 install: bin/prepaid
 	install -D -m 755 bin/prepaid $(DESTDIR)$(PREFIX)/bin/prepaid
 	install -D -m 644 man/prepaid.1 $(DESTDIR)$(PREFIX)/share/man/man1/prepaid.1
 	install -D -m 644 completions/prepaid.bash $(DESTDIR)$(PREFIX)/share/bash-completion/completions/prepaid
-	install -D -m 644 completions/_prepaid $(DESTDIR)$(PREFIX)/share/zsh/site-functions/_prepaid
+	install -D -m 644 completions/_prepaid $(DESTDIR)$(ZSH_FUNCTIONS)/_prepaid
+	install -D -m 755 -t $(docs)/examples $(wildcard examples/*.py)
+	install -D -m 644 -t $(docs)/examples $(filter-out %.py,$(wildcard examples/*))
+	install -D -m 644 -t $(docs) docs/FORMATS.md docs/RECIPES.md docs/SCALING.md docs/SPEED.md docs/balance.svg
+	sed -i 's,bin/prepaid,prepaid,g' $(docs)/RECIPES.md $(docs)/SCALING.md
+
+# Packs the proved program with all that `make install` installs: a tarball and a Debian package, in out/dist.
+dist:
+	@TREE='$(TREE)' dist/pack.sh
 
 # Runs each recipe, those too that want sqlite3 or gnuplot: it says what is missing and how it is installed.
 recipes: bin/prepaid

@@ -1,0 +1,310 @@
+#!/usr/bin/env python3
+"""Makes packages of a program, and uses them where the repository is out of reach: tests/dist_test.py [--program FILE]
+
+`make`, `make test` and `make dist` run in a repository made for this, which has what is packed, and stand-ins for the
+toolchain and the tests. It shows what `make dist` refuses, what a package says of its program, and that a commit gives
+the same bytes again. Then that repository is taken away. The tarball and the Debian package must hold what they should,
+byte for byte. Each is unpacked, and the commands of its pages run in an empty folder and an empty environment. A byte of
+each file is changed, which the checksums must find.
+"""
+import argparse
+import glob
+import io
+import os
+import re
+import shutil
+import subprocess
+import sys
+import tarfile
+import tempfile
+
+from docs_test import blocks, lacks
+
+ROOT = os.path.dirname(os.path.dirname(os.path.abspath(__file__)))
+SYSTEM = "/usr/local/bin:/usr/bin:/bin"
+# The moment of the commits, in seconds.
+COMMITTED = 1_000_000_000
+COPIED = ["Makefile", "README.md", ".gitignore", "completions", "dist", "docs", "examples", "man"]
+PAGES = ["FORMATS.md", "RECIPES.md", "SCALING.md", "SPEED.md"]
+PROVED, SUMS = (f"share/doc/prepaid/{it}" for it in ("PROVED", "SHA256SUMS"))
+TOOLCHAIN = "#!/bin/sh\ncase $1 in version) echo 'a toolchain' ;; ci) echo '3 passed, 0 failed' ;; esac\n"
+TEST = """#!/bin/sh
+[ "$0" != "$COMMITTING" ] || git commit --quiet --allow-empty --message 'another commit'
+[ "$0" != "$FAILING" ]
+"""
+# The packages that have the libraries which a program needs, and the family of the versions of each one's symbols.
+LIBRARIES = {"libc6": "GLIBC", "libgcc-s1": "GCC"}
+NO_GATE = "none has passed on this commit"
+
+
+def hold(holds, what):
+    """Ends with a failure where something doesn't hold."""
+    if not holds:
+        sys.exit(f"dist: FAILED: {what}")
+
+
+def read(path):
+    with open(path, "rb") as it:
+        return it.read()
+
+
+def write(path, text, mode=0o644):
+    os.makedirs(os.path.dirname(path), exist_ok=True)
+    with open(path, "wb") as it:
+        it.write(text if isinstance(text, bytes) else text.encode())
+    os.chmod(path, mode)
+
+
+def printed(*words, **more):
+    return subprocess.run(words, check=True, capture_output=True, **more).stdout
+
+
+class Repository:
+    """A repository with what is packed, and with stand-ins for the toolchain and the tests."""
+
+    def __init__(self, folder):
+        self.top = f"{folder}/repository"
+        identity = {"NAME": "somebody", "EMAIL": "somebody@one.example", "DATE": f"{COMMITTED} +0000"}
+        self.environment = {"PATH": f"{folder}/stand-ins:{SYSTEM}", "HOME": folder, "DPKG_DEB_COMPRESSOR_LEVEL": "0"}
+        self.environment |= {f"GIT_{who}_{it}": identity[it] for who in ("AUTHOR", "COMMITTER") for it in identity}
+        for name in COPIED:
+            copy = shutil.copytree if os.path.isdir(f"{ROOT}/{name}") else shutil.copy
+            os.makedirs(self.top, exist_ok=True)
+            copy(f"{ROOT}/{name}", f"{self.top}/{name}")
+        for path in glob.glob(f"{ROOT}/tests/*.*"):
+            write(f"{self.top}/tests/{os.path.basename(path)}", TEST, 0o755)
+        write(f"{folder}/stand-ins/rt", TOOLCHAIN, 0o755)
+        write(f"{self.top}/crates.txt", "prepaid:\n")
+        write(f"{self.top}/crates/prepaid/src/main.rt", "")
+        self.run("git", "init", "--quiet")
+        self.run("git", "add", "--all")
+        self.run("git", "commit", "--quiet", "--message", "a commit")
+
+    def run(self, *words, **more):
+        return subprocess.run(words, cwd=self.top, env=self.environment | more, capture_output=True, text=True)
+
+    def make(self, *words, **more):
+        ran = self.run("make", *words, **more)
+        hold(ran.returncode == 0, f"make {' '.join(words)}: {ran.stdout}{ran.stderr}")
+
+    def build(self, program):
+        """Makes bin/prepaid of a program, as `make` does."""
+        write(f"{self.top}/crates/prepaid/out/prepaid", program, 0o755)
+        shutil.rmtree(f"{self.top}/bin", ignore_errors=True)
+        self.make()
+
+    def refuses(self, fault):
+        ran = self.run("make", "dist")
+        hold(ran.returncode and ran.stderr.startswith(f"make dist: {fault}"), f"not refused by '{fault}': {ran.stderr}")
+        hold(not os.path.exists(f"{self.top}/out/dist"), f"what is refused by '{fault}' leaves packages")
+
+    def says(self, state, gate):
+        """Makes the packages, and tries what they say of their program; returns the day of its version."""
+        self.make("dist")
+        day = printed(f"{self.top}/bin/prepaid", "--version").decode().split()[1]
+        commit = self.run("git", "rev-parse", "HEAD").stdout.strip()
+        words = ("tar", "xzOf", f"out/dist/prepaid-{day}.tar.gz", f"prepaid-{day}/{PROVED}")
+        said = self.run(*words).stdout
+        wanted = f"version: {day}\ncommit: {commit}\ntree: {state}\ntoolchain: a toolchain\ngate: {gate}\n"
+        hold(said == wanted, f"a package says\n{said}in place of\n{wanted}")
+        return day
+
+
+def try_refusals(repository, program):
+    """No package is made but of a proved program, which is that of the sources."""
+    repository.refuses("bin/prepaid isn't there")
+    repository.build("#!/bin/sh\necho 'prepaid 2026-11-26 (unproved)'\n")
+    repository.refuses("bin/prepaid isn't proved: its version is prepaid 2026-11-26 (unproved)")
+    repository.build(program)
+    os.remove(f"{repository.top}/out/proved/prepaid")
+    repository.refuses("nothing says which toolchain proved bin/prepaid")
+    repository.build(program)
+    os.utime(f"{repository.top}/bin/prepaid", (0, 0))
+    repository.refuses("bin/prepaid isn't there, or is older than its sources")
+    repository.build(program)
+
+
+def try_gates(repository):
+    """A package tells of a gate that has passed as a whole, which began on its commit, with no change beside it."""
+    stray, passed = (f"{repository.top}/{it}" for it in ("stray", "out/passed.txt"))
+    repository.make("test", COMMITTING="tests/random.sh")
+    repository.says("clean", NO_GATE)
+    write(stray, "")
+    repository.make("test")
+    repository.says("changed", NO_GATE)
+    os.remove(stray)
+    hold(repository.run("make", "test", FAILING="tests/random.sh").returncode, "make test passes where a test fails")
+    hold(not os.path.exists(passed), "a gate whose last test fails has passed")
+    repository.make("test")
+    return repository.says("clean", "3 passed, 0 failed")
+
+
+def try_bytes(repository):
+    """The same commit gives the same bytes at another time, in another time zone, and with another umask."""
+    first = {path: read(path) for path in glob.glob(f"{repository.top}/out/dist/*")}
+    for path in glob.glob(f"{repository.top}/[!b]*/**", recursive=True):
+        os.utime(path, (COMMITTED, COMMITTED))
+    others = {"TZ": "Asia/Tokyo", "LC_ALL": "de_DE.UTF-8", "PREFIX": "/elsewhere", "DESTDIR": "/elsewhere"}
+    others["ZSH_FUNCTIONS"] = "/elsewhere"
+    ran = repository.run("sh", "-c", "umask 077 && make dist", **others)
+    hold(ran.returncode == 0, ran.stderr)
+    again = {path: read(path) for path in glob.glob(f"{repository.top}/out/dist/*")}
+    hold(len(first) == 3 and first == again, f"of {len(first)} files not all have the same bytes again")
+
+
+def wanted(program, zsh):
+    """What is packed, but for what tells of the program and for the checksums: of each file its mode and its bytes."""
+    files = {"bin/prepaid": (0o755, program), "share/man/man1/prepaid.1": (0o644, read(f"{ROOT}/man/prepaid.1"))}
+    files["share/bash-completion/completions/prepaid"] = 0o644, read(f"{ROOT}/completions/prepaid.bash")
+    files[f"share/zsh/{zsh}/_prepaid"] = 0o644, read(f"{ROOT}/completions/_prepaid")
+    files["share/doc/prepaid/balance.svg"] = 0o644, read(f"{ROOT}/docs/balance.svg")
+    for name in PAGES:
+        files[f"share/doc/prepaid/{name}"] = 0o644, read(f"{ROOT}/docs/{name}").replace(b"bin/prepaid", b"prepaid")
+    for name in os.listdir(f"{ROOT}/examples"):
+        mode = 0o755 if name.endswith(".py") else 0o644
+        files[f"share/doc/prepaid/examples/{name}"] = mode, read(f"{ROOT}/examples/{name}")
+    return files
+
+
+def try_files(name, data, top, files):
+    """A tar holds these files below a folder, what tells of the program, and checksums."""
+    found = {}
+    with tarfile.open(fileobj=io.BytesIO(data)) as tar:
+        for it in tar:
+            hold((it.uid, it.gid, it.mtime) == (0, 0, COMMITTED), f"{name}: owner or moment of {it.name}")
+            if it.isfile():
+                found[os.path.relpath(it.name, top)] = it.mode, tar.extractfile(it).read()
+            else:
+                hold(it.isdir() and it.mode == 0o755, f"{name}: {it.name}")
+    for path in (PROVED, SUMS):
+        hold(found.pop(path, (0,))[0] == 0o644, f"{name}: {path}")
+    wrong = sorted(it for it in {*found, *files} if found.get(it) != files.get(it))
+    hold(not wrong, f"{name}: {', '.join(wrong)}")
+
+
+def needed(program):
+    """The packages that a program needs by its symbols, each with the newest version of a symbol."""
+    symbols, newest = printed("objdump", "-T", program, text=True), {}
+    for name, family in LIBRARIES.items():
+        versions = [[int(part) for part in it.split(".")] for it in re.findall(rf"\b{family}_([\d.]+)", symbols)]
+        if versions:
+            newest[name] = ".".join(str(part) for part in max(versions))
+    return newest
+
+
+def try_control(package, program, day):
+    """The package's version, machine, needs and description are those of the program and the pages."""
+    told = printed("dpkg-deb", "--field", package, text=True)
+    fields = dict(it.split(": ", 1) for it in re.split(r"\n(?! )", told.strip()))
+    hold(fields["Package"] == "prepaid" and fields["Version"] == day.replace("-", "."), told)
+    hold(fields["Architecture"] == printed("dpkg", "--print-architecture", text=True).strip(), told)
+    needs = dict(re.findall(r"([^ ,]+) \(>= ([^)]+)\)", fields.get("Depends", "")))
+    hold(needs.keys() == needed(program).keys(), told)
+    for name, least in needed(program).items():
+        right = subprocess.run(["dpkg", "--compare-versions", needs[name], "ge", least])
+        hold(right.returncode == 0, f"{told}where the program needs {name} {least}")
+    short, *long = fields["Description"].split("\n ")
+    hold(f"\nprepaid \\- {short}\n" in read(f"{ROOT}/man/prepaid.1").decode(), told)
+    hold(f"\n{' '.join(long)}\n" in read(f"{ROOT}/README.md").decode(), told)
+
+
+def try_sums(folder, sums):
+    """A folder has a right checksum of each file beside that of the checksums, which finds a byte that is changed."""
+    names = [it.split("  ")[1] for it in read(f"{folder}/{sums}").decode().splitlines()]
+    paths = (os.path.join(at, name) for at, _, files in os.walk(folder) for name in files)
+    there = {os.path.relpath(path, folder) for path in paths}
+    hold({*names, sums} == there, f"{sums}: {', '.join(sorted({*names, sums} ^ there))}")
+    words = ["sha256sum", "--check", "--strict", "--quiet", sums]
+    ran = subprocess.run(words, cwd=folder, capture_output=True, text=True)
+    hold(ran.returncode == 0, f"{sums}: {ran.stdout}{ran.stderr}")
+    for name in names:
+        data = read(path := f"{folder}/{name}")
+        at, mode = len(data) // 2, os.stat(path).st_mode
+        write(path, data[:at] + bytes([data[at] ^ 1]) + data[at + 1 :], mode)
+        ran = subprocess.run(words, cwd=folder, capture_output=True, text=True)
+        hold(ran.returncode and ran.stdout == f"{name}: FAILED\n", f"{sums} doesn't find a change of {name}")
+        write(path, data, mode)
+
+
+def away(log):
+    """The words that run a command where the repository is out of reach; where nothing can hide it, those that put down
+    the files that are opened; where that can't be done either, none."""
+    hidden = ["unshare", "--map-root-user", "--mount", "sh", "-c", 'mount -t tmpfs none "$0" && exec "$@"', ROOT]
+    traced = ["strace", "-f", "-A", "-e", "trace=%file", "-o", log]
+    if shutil.which("unshare"):
+        if subprocess.run([*hidden, "test", "!", "-e", f"{ROOT}/Makefile"], capture_output=True).returncode == 0:
+            return hidden
+    if shutil.which("strace") and subprocess.run([*traced, "true"], capture_output=True).returncode == 0:
+        return traced
+    print("dist: neither unshare nor strace runs here: that a package needs no file of the repository wasn't tried")
+    return []
+
+
+def try_use(prefix, folder, before, program):
+    """Runs what was unpacked in an empty folder, beside a copy of its examples; returns how many commands ran."""
+    docs = f"{prefix}/share/doc/prepaid"
+    shutil.copytree(f"{docs}/examples", f"{folder}/examples")
+
+    def said(words):
+        run = [*before, "env", "-i", f"PATH={prefix}/bin:{SYSTEM}", "bash", "-c", words]
+        return subprocess.run(run, cwd=folder, text=True, stdout=subprocess.PIPE, stderr=subprocess.STDOUT).stdout
+
+    for words in ("--version", "--help", "run --workers 1 < examples/evening.txt"):
+        own = printed("bash", "-c", f"{program} {words}", cwd=ROOT, text=True)
+        hold(said(f"prepaid {words}") == own, f"prepaid {words}: {said(f'prepaid {words}')}")
+    commands = [(page, *it) for page in PAGES for it in blocks(f"{docs}/{page}") if not lacks(it[1])]
+    for page, number, words, told in commands:
+        says = said(words)
+        hold(says == told, f"{page}:{number}: {words}\nprints\n{says}where the page has\n{told}")
+    bash = f"{prefix}/share/bash-completion/completions/prepaid"
+    hold(said(f"bash -n {bash} && source {bash} && complete -p prepaid") == "complete -F _prepaid prepaid\n", bash)
+    if shutil.which("man"):
+        page = said(f"MANWIDTH=80 man --warnings -l {prefix}/share/man/man1/prepaid.1")
+        hold(page.startswith("PREPAID(1) ") and "warning" not in page, f"the man page reads {page}")
+    return len(commands)
+
+
+def try_packages(folder, packages, day, program):
+    """Tries the packages that were made, and returns how many commands of their pages ran."""
+    tarball, (package,) = f"{packages}/prepaid-{day}.tar.gz", glob.glob(f"{packages}/prepaid_{day}_*.deb")
+    data = read(program)
+    try_files("tarball", read(tarball), f"prepaid-{day}", wanted(data, "site-functions"))
+    files = printed("dpkg-deb", "--fsys-tarfile", package)
+    try_files("package", files, "usr", wanted(data, "vendor-completions"))
+    try_control(package, program, day)
+    try_sums(packages, "SHA256SUMS")
+    for name in ("from_tarball", "from_package", "in_tarball", "in_package"):
+        os.mkdir(f"{folder}/{name}")
+    printed("tar", "xzf", tarball, "-C", f"{folder}/from_tarball", "--strip-components=1")
+    printed("dpkg", "-x", package, f"{folder}/from_package")
+    before, count = away(f"{folder}/opened"), 0
+    for prefix, empty in (("from_tarball", "in_tarball"), ("from_package/usr", "in_package")):
+        count += try_use(f"{folder}/{prefix}", f"{folder}/{empty}", before, program)
+        try_sums(f"{folder}/{prefix}", SUMS)
+    if os.path.exists(f"{folder}/opened"):
+        hold(f'"{ROOT}/'.encode() not in read(f"{folder}/opened"), "a package needs files of the repository")
+    return count
+
+
+def main():
+    asked = argparse.ArgumentParser(description=__doc__, formatter_class=argparse.RawDescriptionHelpFormatter)
+    asked.add_argument("--program", default="bin/prepaid")
+    words = asked.parse_args()
+    os.chdir(ROOT)
+    program = os.path.abspath(words.program)
+    if not all(shutil.which(it) for it in ("dpkg-deb", "dpkg-shlibdeps")):
+        print("dist: passed over: dpkg-deb or dpkg-shlibdeps isn't here: apt-get install dpkg-dev")
+        return
+    with tempfile.TemporaryDirectory() as folder:
+        repository = Repository(folder)
+        try_refusals(repository, read(program))
+        day = try_gates(repository)
+        try_bytes(repository)
+        packages = shutil.move(f"{repository.top}/out/dist", f"{folder}/packages")
+        shutil.rmtree(repository.top)
+        count = try_packages(folder, packages, day, program)
+    print(f"dist: a tarball and a package, the same again, and used by {count} commands of their pages: ok")
+
+
+if __name__ == "__main__":
+    main()
