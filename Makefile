@@ -1,14 +1,13 @@
 # The three commands of the README are `make run`, `make` and `make test`.
 SHELL := bash
 PREFIX ?= /usr/local
-# How many processors the proof of one crate may take: all, or two where crates are proved side by side.
-JOBS = $(if $(filter -j% --jobserver%,$(MAKEFLAGS)),2,$(shell nproc))
+# How many processors the proof of a crate may take.
+JOBS = $(shell nproc)
 SOURCES := crates.txt $(shell find crates -path '*/out' -prune -o -name '*.rt' -print -o -name '*.antt' -print)
 
 .PHONY: all quick run test edits install dist bench recipes
 
-# Proves and builds bin/prepaid; out/proved/prepaid says by which toolchain. With -j4 crates are proved side by side
-# that don't stand on one another: a process takes 0.7 to 1.1 GB.
+# Proves and builds bin/prepaid; out/proved/prepaid says by which toolchain. A process takes 0.7 to 1.1 GB.
 all: bin/prepaid
 
 # The crates, those of them that a crate uses, and its files.
@@ -91,10 +90,11 @@ dist:
 recipes: bin/prepaid
 	tests/docs_test.py --all docs/RECIPES.md
 
-# Times price, audit, replay and run beside plain programs, and shared accounts beside plain ones.
+# Times price, audit, replay, run and rate beside plain programs, and shared accounts beside plain ones.
 bench: bin/prepaid
 	bench/price.sh
 	bench/audit.sh
 	bench/replay.sh
 	bench/run.sh
 	bench/shared.sh
+	bench/rate.sh
