@@ -201,7 +201,7 @@ def said_in_help(program):
     for name in names:
         text, _, faults = told("help", name).partition("\nA fault is")
         lines |= {it for line in re.findall(r"^  (prepaid: .*)$", faults, re.M) for it in continued(line)}
-        kinds |= set(re.findall(r"^  ([A-Z]\w+)  ", faults.partition("\nKinds:")[2], re.M))
+        kinds |= set(re.findall(r"^  ([A-Z]\w+)  ", faults.partition("\nKinds:")[2].partition("\n\n")[0], re.M))
         text = text.split("Input, ")[0]
         commands[name] = set(re.findall(r"^ +(?:-h, )?(--[a-z]+)", text, re.M))
         commands[name] |= HELP if "-h, --help" in text else set()
@@ -210,6 +210,12 @@ def said_in_help(program):
     if not VERSION <= set(told("--help").replace(",", " ").split()):
         raise SystemExit("help: no version")
     return commands, left, {re.sub(PARTS, "PART row", it) for it in lines}, kinds
+
+
+def faults_of_rows(program):
+    """The faults that a row of a rating may have, in the order of the help."""
+    text = subprocess.run([program, "help", "rate"], capture_output=True, text=True, check=True).stdout
+    return re.findall(r"^  (\w+)  ", text.partition("\nFaults of a row")[2], re.M)
 
 
 def ranges_in_help(program):
@@ -391,6 +397,7 @@ def main():
     usages = usages_in_man(manual)
     same("help", "usage", usages_in_help(program, set(usages) - {"help"}), {it: usages[it] for it in usages if it != "help"})
     same("help", "kinds of faults", of_help[3], kinds - OF_RUN)
+    same("help", "faults of a row", faults_of_rows(program), re.findall(r"`(\w+)`", re.search(r"are: the first of (.*?) \|", formats)[1]))
     same("help", "left out", of_help[1], {it: defaults[it] for it in defaults if it[0] == "run" or it in of_help[1]})
     same("help", "ranges", ranges_in_help(program), ranges_in_formats(formats, values))
     for name, (found, told) in (("bash", of_bash), ("zsh", of_zsh)):
