@@ -7,8 +7,8 @@ of several accounts in the order of the accounts. The lines of the parts are tak
 import re
 import sys
 
-ACCOUNT = re.compile(r"account (\d+) opening \d+ available \d+ entries \d+\n")
-CALL = re.compile(r"call (\d+) account (\d+) paid \d+ (?:returned|forfeit|holding)\n")
+ACCOUNT = re.compile(r"account (\d+) opening (\d+) available (\d+) entries (\d+)\n")
+CALL = re.compile(r"call (\d+) account (\d+) paid (\d+) (?:returned|forfeit|holding)\n")
 
 
 class Wrong(Exception):

@@ -18,7 +18,7 @@ import sys
 import tempfile
 
 # Programs that a page may want beside a shell and what every system has, and the package of each.
-WANTED = {"sqlite3": "sqlite3", "gnuplot": "gnuplot-nox"}
+WANTED = {"sqlite3": "sqlite3"}
 
 
 def blocks(page):
