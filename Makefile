@@ -5,7 +5,7 @@ PREFIX ?= /usr/local
 JOBS = $(shell nproc)
 SOURCES := crates.txt $(shell find crates -path '*/out' -prune -o -name '*.rt' -print -o -name '*.antt' -print)
 
-.PHONY: all quick run test edits install dist bench recipes
+.PHONY: all quick run report picture test edits install dist bench recipes
 
 # Proves and builds bin/prepaid; out/proved/prepaid says by which toolchain. A process takes 0.7 to 1.1 GB.
 all: bin/prepaid
@@ -38,17 +38,30 @@ bin/prepaid-unproved: $(SOURCES) tests/quick.py
 	@tests/quick.py $@
 
 # Plays an evening of calls: by bin/prepaid, or, before that is built, by the program without its proofs.
+play = $(or $(wildcard bin/prepaid),bin/prepaid-unproved) run < examples/evening.txt
 run: $(if $(wildcard bin/prepaid),,quick)
-	@$(or $(wildcard bin/prepaid),bin/prepaid-unproved) run < examples/evening.txt
+	@$(play)
+
+# Writes a report of this evening, out/report.html, from the tables in out/evening. Each table is of a run of its own:
+# with one worker all of them are the same.
+report: $(if $(wildcard bin/prepaid),,quick)
+	@mkdir -p out/evening
+	@$(play) --workers 1 > out/evening/lines.txt
+	@for table in book calls trace; do $(play) --workers 1 --$$table > out/evening/$$table.csv || exit; done
+	@examples/report.py --output out/report.html out/evening
+
+# Writes the picture of the README anew.
+picture: report
+	@examples/report.py --picture 101 --output docs/balance.svg out/evening
 
 # The commit, and whether the tree is that commit's.
 TREE = $(shell git rev-parse HEAD) $(if $(shell git status --porcelain),changed,clean)
 
 # Proves everything from nothing, tries the edits that must fail, and runs the tests and the programs;
 # then holds the words of the man page and the completions against the formats, runs the commands of the
-# pages as they stand, makes packages and uses them, compares runs in parts with whole ones, refuses memory
-# to each call that takes any, and compares the program with its model. Once all has passed, out/passed.txt
-# says so of the commit; make expands TREE before the first line runs.
+# pages as they stand, makes packages and uses them, compares reports with their tables and runs in parts with
+# whole ones, refuses memory to each call that takes any, and compares the program with its model. Once all has
+# passed, out/passed.txt says so of the commit; make expands TREE before the first line runs.
 test:
 	mkdir -p out
 	rm -f out/passed.txt
@@ -57,6 +70,7 @@ test:
 	tests/words_test.py --program crates/prepaid/out/prepaid
 	tests/docs_test.py --program crates/prepaid/out/prepaid
 	tests/dist_test.py --program crates/prepaid/out/prepaid
+	tests/report_test.py --program crates/prepaid/out/prepaid
 	tests/divide_test.py --program crates/prepaid/out/prepaid
 	tests/refused_growths.sh
 	tests/random.sh --program crates/prepaid/out/prepaid
@@ -86,7 +100,7 @@ install: bin/prepaid
 dist:
 	@TREE='$(TREE)' dist/pack.sh
 
-# Runs each recipe, those too that want sqlite3 or gnuplot: it says what is missing and how it is installed.
+# Runs each recipe, those too that want sqlite3: it says what is missing and how it is installed.
 recipes: bin/prepaid
 	tests/docs_test.py --all docs/RECIPES.md
 
