@@ -4,4 +4,4 @@
 mod rows;
 mod table;
 
-pub use table::trace_table;
+pub use table::{trace_table, write_rows};

@@ -28,8 +28,10 @@ pub fn trace_table(
     Ok(text)
 }
 
-/// Adds the row of an item, and those of its answer, if it has one.
-fn write_rows(
+/// Adds to a text the row of an item of this number in a run, and then those of its answer, if it
+/// has one, as `trace_table` has them. Where memory runs out, some of the rows may stand in the
+/// text.
+pub fn write_rows(
     text: &mut String,
     number: usize,
     post: &(u64, Body),

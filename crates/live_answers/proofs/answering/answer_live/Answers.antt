@@ -1,0 +1,29 @@
+use Rattle.std.proofs.Common.{◌∙◌, [], rules, sym, ap, subst, subst₂}
+use Rattle.live_answers.proofs.Chain.{answered, writes_on}
+use Rattle.live_answers.proofs.answering.answer_live.Goals as goal
+use Rattle.live_answers.specs.Live.{heard_in}
+use Rattle.live_answers.specs.Runs.{Answers}
+use Rattle.live_answers.specs.Said.{said_of}
+use Rattle.runs_core.specs.Hearing.{all_heard}
+use Rattle.table_core.proofs.Known.{if_known}
+
+pub returns : goal.returns
+returns g c =
+    let remaining = g.I.Read.remaining in
+    let contents = g.O.Write.contents in
+    let logged = g.L.Write.contents in
+    let made = c.new-driver.ensures in
+    let ran = c.in_ok-books.ensures.run in
+    let driver = c.serve.new.driver in
+    let on = writes_on remaining contents logged [] _ ran.heard driver ran.rounds in
+    let to_output = sym (on.output ∙ made.same_output) in
+    let to_log = sym (on.log ∙ made.same_log) in
+    record {
+      answers = all_heard ran.heard;
+      run = ran.run;
+      lines = if_known (remaining c.args.input) _ (λ text known.
+          let done = answered remaining contents logged _ ran.heard driver text ran.rounds made.given made.lines (ap said_of made.said) (ap remaining made.input ∙ known) in
+          let from_there = rw (made.output, made.log) at done in
+          let said = subst (λ why. Answers why (heard_in text) (all_heard ran.heard) driver.given.items (contents c.args.output.now) (contents driver.output.now) (logged c.args.log.now) (logged driver.log.now)) (sym c.fault.ensures) from_there in
+          subst₂ (λ o l. Answers c.fault.result (heard_in text) (all_heard ran.heard) driver.given.items (contents c.args.output.now) (contents o) (logged c.args.log.now) (logged l)) (search rules) (search rules) said);
+    }

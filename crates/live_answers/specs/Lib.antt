@@ -1,0 +1,10 @@
+pub mod Cuts
+pub mod Kinds
+pub mod Lines
+pub mod Live
+pub mod Rounds
+pub mod Rows
+pub mod Runs
+pub mod Said
+pub mod Stages
+pub mod Standing

@@ -1,0 +1,35 @@
+-- The rows that a live run prints of a line, and what it logs of it.
+use Rattle.std.specs.Prelude.{◌+◌, ℕ, Option, Some, None, List, [], ◌++◌, Ok, Err, codes, min}
+use Rattle.std.specs.Fmt.{decimal}
+use Rattle.live_answers.specs.Kinds.{name_of}
+use Rattle.live_answers.specs.Standing.{LineView}
+use Rattle.live_answers.specs.declared.kind.LineKind.{LineKind}
+use Rattle.message_rows.specs.Messages.{MessageView}
+use Rattle.run_trace.specs.Tables.{answer_rows, head_text, row}
+use Rattle.run_values.specs.declared.post.Answer.{Answer}
+
+-- the row of the message of a number, and those of its answer, as in a trace
+abbrev pub message_rows : ℕ → MessageView → Option Answer → List ℕ
+message_rows number message answer =
+    row (head_text message.at number message.speech.call) message.speech.from message.speech.said
+    ++ answer_rows (head_text message.at number message.speech.call) answer
+
+-- the row of what is wrong with the line of a number
+abbrev pub fault_row : ℕ → LineKind → List ℕ
+fault_row line kind = codes ",,,service,fault," ++ (name_of kind ++ (codes "," ++ (decimal line ++ codes ",,\n")))
+
+-- the rows of the line of a number, whose message has its own number and this answer
+abbrev pub rows_of_line : ℕ → ℕ → Option Answer → LineView → List ℕ
+rows_of_line line number answer None = []
+rows_of_line line number answer (Some (Ok message)) = message_rows number message answer
+rows_of_line line number answer (Some (Err kind)) = fault_row line kind
+
+-- what is logged of a line: the line, where it is accepted
+abbrev pub put_down : List ℕ → LineView → List ℕ
+put_down line None = []
+put_down line (Some (Ok message)) = line
+put_down line (Some (Err kind)) = []
+
+-- the number of the next line, which stays at the largest number of 64 bits
+abbrev pub next_line : ℕ → ℕ
+next_line line = min (line + 1) 18446744073709551615

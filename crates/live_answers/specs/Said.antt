@@ -1,0 +1,19 @@
+-- What the code says of a line.
+use Rattle.std.specs.Prelude.{◌≤◌, Some, None, Ok, Err, ⊤}
+use Rattle.live_answers.specs.Standing.{LineView}
+use Rattle.live_answers.specs.declared.judging.Said.{Said}
+use Rattle.live_answers.specs.declared.judging.Said.TheVariants as said
+use Rattle.message_rows.specs.Views.{view_of}
+use Rattle.tariff_core.specs.declared.times.TheConstants.{HORIZON}
+
+-- what is said, as a trace prints it
+abbrev pub said_of : Said → LineView
+said_of said.Nothing = None
+said_of (said.Message message) = Some (Ok (view_of message))
+said_of (said.Fault kind) = Some (Err kind)
+
+-- the moment of a message is within the horizon
+abbrev pub IsInRange : Said → Type 0
+IsInRange said.Nothing = ⊤
+IsInRange (said.Message message) = message.at ≤ HORIZON
+IsInRange (said.Fault kind) = ⊤

@@ -1,0 +1,47 @@
+-- What a line says, after those before it.
+use Rattle.std.specs.Prelude.{◌-◌, ℕ, Option, Some, None, List, Result, Ok, Err, if◌then◌else◌, length, nat_lt, slice_get}
+use Rattle.std.specs.Result.{result_map_both}
+use Rattle.live_answers.specs.declared.kind.LineKind.{LineKind}
+use Rattle.live_answers.specs.declared.kind.LineKind.TheVariants as kind
+use Rattle.live_answers.specs.declared.line.TheConstants.{MAX_LINE}
+use Rattle.message_rows.specs.Lines.{line_message}
+use Rattle.message_rows.specs.Messages.{MessageView}
+use Rattle.run_values.specs.declared.post.Body.{Body}
+use Rattle.table_core.specs.Judging.{after}
+use Rattle.table_core.specs.declared.fault.RowKind.{RowKind}
+use Rattle.table_core.specs.declared.fault.RowKind.TheVariants as row
+
+-- what a line says: nothing where it is empty, else a message, or what is wrong with it
+abbrev pub LineView : Type 0
+LineView = Option (Result MessageView LineKind)
+
+-- a message whose number, where it has one, is the next
+abbrev pub numbered : ℕ → MessageView → Option ℕ → Result MessageView RowKind
+numbered next message None = Ok message
+numbered next message (Some number) = if nat_lt next number then Err row.Order else if nat_lt number next then Err row.Repeated else Ok message
+
+-- a message that may be the next, where the last one was at this moment
+abbrev pub placed : ℕ → ℕ → MessageView → Result MessageView RowKind
+placed next last message = if nat_lt message.at last then Err row.Order else numbered next message message.number
+
+-- what was read, where it may be the next
+abbrev pub standing : ℕ → ℕ → Option (Result MessageView RowKind) → LineView
+standing next last None = None
+standing next last (Some read) = Some (result_map_both (λ message. message) kind.Row (after read (placed next last)))
+
+-- what a line says where so many messages were accepted, the last of them at this moment
+abbrev pub said_after : ℕ → ℕ → List ℕ → LineView
+said_after next last line = if nat_lt MAX_LINE (length line) then Some (Err kind.TooLong) else standing next last (line_message line)
+
+-- the moment of an item, and 0 where there is none
+abbrev pub moment_of : Option (ℕ × Body) → ℕ
+moment_of None = 0
+moment_of (Some item) = item.0
+
+-- the moment of the last item, 0 before the first
+abbrev pub last_moment : List (ℕ × Body) → ℕ
+last_moment given = moment_of (slice_get given (length given - 1))
+
+-- what a line says after what was given
+abbrev pub said_in : List (ℕ × Body) → List ℕ → LineView
+said_in given line = said_after (length given) (last_moment given) line

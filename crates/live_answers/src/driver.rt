@@ -1,0 +1,63 @@
+//! What a live run keeps.
+
+ghost use Rattle.std.specs.Prelude.{◌≤◌, All};
+ghost use Rattle.tariff_core.specs.declared.times.TheConstants.{HORIZON};
+
+use crate::judging::Said;
+use crate::stage::Stage;
+use run_values::Body;
+use std::alloc::Global;
+
+/// Drives a live run: in each round it prints what the last line said, with the answer to its
+/// message, takes one line more, and gives the message of that, or nothing.
+#[derive(Drop)]
+pub(crate) struct LiveDriver<'o, 'l, I, O, L> {
+    pub alloc: Global,
+    /// Where the lines come from.
+    pub input: I,
+    /// Where the rows go.
+    pub output: &'o mut O,
+    /// Where the lines of accepted messages are kept.
+    pub log: &'l mut L,
+    /// All that was given.
+    pub given: Vec<(u64, Body)>,
+    /// The number of the last line.
+    pub lines: u64,
+    /// What it said, which is printed before the next one is taken: its message is the last item.
+    pub said: Said,
+    pub stage: Stage,
+    ghost moments: { All (λ item. item.0 ≤ HORIZON) given.items },
+}
+
+impl<'o, 'l, I, O, L> LiveDriver<'o, 'l, I, O, L> {
+    ghost use Rattle.std.specs.Prelude.{◌≡◌, []};
+    ghost use Rattle.live_answers.specs.declared.judging.Said.TheVariants as says;
+
+    /// A driver before its first line, behind the header of the messages, which is line 1.
+    pub(crate) fn new(
+        alloc: Global,
+        input: I,
+        output: &'o mut O,
+        log: &'l mut L,
+    ) -> LiveDriver<'o, 'l, I, O, L>
+        ensures input { result.input ≡ input }
+        ensures output { result.output.now ≡ output.old }
+        ensures same_output { result.output.ghost_name ≡ output.entry.ghost_name }
+        ensures log { result.log.now ≡ log.old }
+        ensures same_log { result.log.ghost_name ≡ log.entry.ghost_name }
+        ensures given { result.given.items ≡ [] }
+        ensures lines { result.lines ≡ 1 }
+        ensures said { result.said ≡ says.Nothing }
+    {
+        LiveDriver {
+            alloc,
+            input,
+            output,
+            log,
+            given: Vec::new(alloc),
+            lines: 1,
+            said: Said::Nothing,
+            stage: Stage::Open,
+        }
+    }
+}

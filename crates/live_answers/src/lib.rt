@@ -1,0 +1,17 @@
+//! The service live: messages are answered as they come, each on a line of its own.
+#![tactic(auto)]
+
+mod answering;
+mod driver;
+mod fault;
+mod hearing;
+mod judging;
+mod kind;
+mod line;
+mod saying;
+mod stage;
+
+pub use answering::{Answered, answer_live};
+pub use kind::LineKind;
+pub use line::MAX_LINE;
+pub use stage::LiveFault;
