@@ -1,5 +1,5 @@
 -- What a live run comes to.
-use Rattle.std.specs.Prelude.{◌≡◌, ◌≤◌, ◌++◌, ℕ, Option, Some, None, List, drop, length, map, take, IfSome}
+use Rattle.std.specs.Prelude.{◌≡◌, ◌≤◌, ◌++◌, ℕ, Option, Some, None, List, drop, length, map, take, IfSome, ⊤}
 use Rattle.std.specs.Io.KnownBytes.{Appends}
 use Rattle.live_answers.specs.Live.{Heard, given_of, heard_in, item_view, live_text, logged_of}
 use Rattle.live_answers.specs.declared.stage.LiveFault.{LiveFault}
@@ -9,6 +9,8 @@ use Rattle.run_values.specs.Setups.{Setup}
 use Rattle.run_values.specs.declared.post.Answer.{Answer}
 use Rattle.run_values.specs.declared.post.Body.{Body}
 use Rattle.runs_core.specs.Runs.{IsRun}
+use Rattle.runs_core.specs.declared.run_fault.RunFault.{RunFault}
+use Rattle.runs_core.specs.declared.run_fault.RunFault.TheVariants as run
 use Rattle.shared_account.specs.Closed.{Closed}
 use Rattle.shared_account.specs.Seen.{StoodIn}
 
@@ -45,3 +47,12 @@ pub record IsAnswered (setup : Setup) (input output_old output_new log_old log_n
   pub run : IsRun StoodIn setup 1 given answers books
   -- and it has answered the lines of its input
   pub lines : IfSome input (λ text. Answers fault (heard_in text) answers given output_old output_new log_old log_new)
+
+-- what can end a live run without books: it has one worker, and no gate closes
+abbrev pub MayEnd : RunFault → Type 0
+MayEnd run.OutOfMemory = ⊤
+MayEnd run.Workers = ⊥
+MayEnd run.GateClosed = ⊥
+MayEnd run.Mismatch = ⊤
+MayEnd run.Channel = ⊤
+MayEnd run.Thread = ⊤

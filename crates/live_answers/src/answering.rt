@@ -1,7 +1,7 @@
 //! A live run, from its first line to its books.
 
-ghost use Rattle.std.specs.Prelude.{◌≡◌, IfOk};
-ghost use Rattle.live_answers.specs.Runs.{IsAnswered};
+ghost use Rattle.std.specs.Prelude.{IfErr, IfOk};
+ghost use Rattle.live_answers.specs.Runs.{IsAnswered, MayEnd};
 
 use crate::LiveFault;
 use crate::driver::LiveDriver;
@@ -25,6 +25,24 @@ pub struct Answered {
 }
 
 /// Serves the messages of an input, each on a line of its own, by one worker, until the input ends.
+/// The lines stand behind a header, which is line 1.
+///
+/// A line is a row of a trace that a switch or an operator says, as `message_rows::read_line` reads
+/// it, ended by LF, or by the end of the input. It is accepted where its moment is not below that of
+/// the last accepted one, and where its number, if it has one, is how many were accepted before it.
+/// An accepted line is written to the log, with its LF, and flushed; then it is handled, and its row
+/// and those of its answer are written to the output, as `run_trace::trace_table` has them, and
+/// flushed. Only then is the next line read. A line that isn't accepted changes nothing: its row
+/// `,,,service,fault,KIND,LINE,,` goes to the output. KIND is `TooLong` where it has more than
+/// `MAX_LINE` bytes; else what `read_line` says of it; else `Order` for its moment, or for a number
+/// that is too high; else `Repeated`. An empty line is passed over.
+///
+/// Where the input, the output or the log fails, the run ends with its books, and `fault` says which
+/// it was: what is in the log was given, but for a front of one more line where the log failed.
+///
+/// * `answered`: the books are those of a run of one worker (`IsRun`) to which the accepted messages
+///   were given, and output and log have grown by just what the lines and the answers come to.
+/// * `fault`: the errors are those of `runs_core::serve`, but for `Workers` and `GateClosed`.
 pub fn answer_live<R: Wait + Threads + Sync, I: BufRead + Drop, O: Write, L: Write>(
     rt: &R,
     alloc: Global,
@@ -33,10 +51,11 @@ pub fn answer_live<R: Wait + Threads + Sync, I: BufRead + Drop, O: Write, L: Wri
     output: &mut O,
     log: &mut L,
 ) -> Result<Answered, RunFault>
-    ensures { IfOk result (λ answered. IsAnswered setup.now (I.remaining input)
+    ensures answered { IfOk result (λ answered. IsAnswered setup.now (I.remaining input)
         (O.contents output.old) (O.contents output.new)
         (L.contents log.old) (L.contents log.new)
         answered.given.items answered.books.items answered.fault) }
+    ensures fault { IfErr result MayEnd }
 {
     let mut driver = LiveDriver::new(alloc, input, output, log);
     let books = serve(rt, alloc, setup, &mut driver, 1, &OpenGate)?;

@@ -7,11 +7,13 @@ mod fault;
 mod hearing;
 mod judging;
 mod kind;
+mod laws;
 mod line;
 mod saying;
 mod stage;
 
 pub use answering::{Answered, answer_live};
 pub use kind::LineKind;
+pub use laws::limits_in_numbers;
 pub use line::MAX_LINE;
 pub use stage::LiveFault;

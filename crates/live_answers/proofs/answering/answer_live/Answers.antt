@@ -7,8 +7,8 @@ use Rattle.live_answers.specs.Said.{said_of}
 use Rattle.runs_core.specs.Hearing.{all_heard}
 use Rattle.table_core.proofs.Known.{if_known}
 
-pub returns : goal.returns
-returns g c =
+pub returns-clause-answered : goal.returns-clause-answered
+returns-clause-answered g c =
     let remaining = g.I.Read.remaining in
     let contents = g.O.Write.contents in
     let logged = g.L.Write.contents in
