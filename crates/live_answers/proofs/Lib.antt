@@ -1,3 +1,4 @@
+pub mod Again
 pub mod Chain
 pub mod Growing
 pub mod LineLemmas

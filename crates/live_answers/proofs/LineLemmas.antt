@@ -59,7 +59,8 @@ cut_twice n end room shown is = by_size (cases_lt room end)
 
 -- ---- the LF of a line
 
-is_whole : (line whole : List ℕ) → line ≡ take 4097 whole → length line ≤ 4096 → line ≡ whole
+-- a line that isn't too long is whole
+pub is_whole : (line whole : List ℕ) → line ≡ take 4097 whole → length line ≤ 4096 → line ≡ whole
 is_whole line whole is short = is ∙ take_all 4097 whole (omega (arith, short, ap length is, length-take 4097 whole))
 
 long_either_way : (ends : Bool) (whole : List ℕ) → 4097 ≤ length whole → take 4097 (if ends then whole else whole ++ 10 ∷ []) ≡ take 4097 whole

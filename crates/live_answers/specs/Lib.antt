@@ -1,5 +1,6 @@
 pub mod Cuts
 pub mod Kinds
+pub mod Laws
 pub mod Lines
 pub mod Live
 pub mod Rounds

@@ -1,9 +1,17 @@
-//! The limit of a line in plain numbers, as the contract of a function that does nothing.
+//! The laws of a live run, each the contract of a function that does nothing.
 
 ghost use Rattle.std.specs.Prelude.{◌≡◌};
+ghost use Rattle.live_answers.specs.Laws.{LogsAreHeardAgain};
 ghost use Rattle.live_answers.specs.declared.line.TheConstants.{MAX_LINE};
 
 /// The limit of a line in plain numbers.
 pub fn limits_in_numbers()
     ensures most_bytes { MAX_LINE ≡ 4096 }
+{}
+
+/// Nothing that was logged is lost, and nothing is made: an input of the lines of a log, with more
+/// lines behind them, has just the messages that were accepted, under the same numbers, and what is
+/// behind the log says what it says behind all the lines that were logged and that weren't.
+pub fn logs_are_heard_again()
+    ensures { LogsAreHeardAgain }
 {}

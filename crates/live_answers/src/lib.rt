@@ -14,6 +14,6 @@ mod stage;
 
 pub use answering::{Answered, answer_live};
 pub use kind::LineKind;
-pub use laws::limits_in_numbers;
+pub use laws::{limits_in_numbers, logs_are_heard_again};
 pub use line::MAX_LINE;
 pub use stage::LiveFault;
