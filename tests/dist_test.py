@@ -125,7 +125,7 @@ def try_refusals(repository, program):
 
 
 def try_gates(repository):
-    """A package tells of a gate that has passed as a whole, which began on its commit, with no change beside it."""
+    """A package names a gate that has passed as a whole, which began on its commit, with no change beside it."""
     stray, passed = (f"{repository.top}/{it}" for it in ("stray", "out/passed.txt"))
     repository.make("test", COMMITTING="tests/random.sh")
     repository.says("clean", NO_GATE)
@@ -153,7 +153,7 @@ def try_bytes(repository):
 
 
 def wanted(program, zsh):
-    """What is packed, but for what tells of the program and for the checksums: of each file its mode and its bytes."""
+    """What is packed, but for what describes the program and for the checksums: of each file its mode and its bytes."""
     files = {"bin/prepaid": (0o755, program), "share/man/man1/prepaid.1": (0o644, read(f"{ROOT}/man/prepaid.1"))}
     files["share/bash-completion/completions/prepaid"] = 0o644, read(f"{ROOT}/completions/prepaid.bash")
     files[f"share/zsh/{zsh}/_prepaid"] = 0o644, read(f"{ROOT}/completions/_prepaid")
@@ -167,7 +167,7 @@ def wanted(program, zsh):
 
 
 def try_files(name, data, top, files):
-    """A tar holds these files below a folder, what tells of the program, and checksums."""
+    """A tar holds these files below a folder, what describes the program, and checksums."""
     found = {}
     with tarfile.open(fileobj=io.BytesIO(data)) as tar:
         for it in tar:
