@@ -57,15 +57,16 @@ picture: report
 # The commit, and whether the tree is that commit's.
 TREE = $(shell git rev-parse HEAD) $(if $(shell git status --porcelain),changed,clean)
 
-# Proves everything from nothing, tries the edits that must fail, and runs the tests and the programs;
-# then holds the words of the man page and the completions against the formats, runs the commands of the
-# pages as they stand, makes packages and uses them, compares reports with their tables and runs in parts with
-# whole ones, refuses memory to each call that takes any, and compares the program with its model. Once all has
-# passed, out/passed.txt says so of the commit; make expands TREE before the first line runs.
+# Compares the page of definitions with their comments, proves everything from nothing, tries the edits that must
+# fail, and runs the tests and the programs; then holds the words of the man page and the completions against the
+# formats, runs the commands of the pages as they stand, makes packages and uses them, compares reports with their
+# tables and runs in parts with whole ones, refuses memory to each call that takes any, and compares the program
+# with its model. Once all has passed, out/passed.txt says so of the commit; make expands TREE before the first line.
 test:
 	mkdir -p out
 	rm -f out/passed.txt
 	tests/edits_test.py
+	tests/definitions.py
 	set -o pipefail; rt ci | tee out/gate.txt
 	tests/words_test.py --program crates/prepaid/out/prepaid
 	tests/docs_test.py --program crates/prepaid/out/prepaid
