@@ -103,24 +103,10 @@ unfolding refusal
 memory_kind limit h asked is =
     unranged_has (is_in_range asked) (known (call_of asked) h) asked (over_limit limit (length h + owed h) (needed_by (known (call_of asked) h) asked)) is
 
-pub fault_kind : (account : Ledger) (asked : Asked) (why : AccountFault) → IsRefusal account asked why → IsFaultOf asked why
+fault_kind : (account : Ledger) (asked : Asked) (why : AccountFault) → IsRefusal account asked why → IsFaultOf asked why
 fault_kind account asked why (inl is) = refusal_kind account.limit (reverse account.history) asked why is
 fault_kind account asked why (inr is) =
     let F : AccountFault → Type 0 = IsFaultOf asked in subst F (sym is.1) (memory_kind account.limit (reverse account.history) asked is.0)
-
-pub kind_of : (account : Ledger) (asked : Asked) (told : Result Reply AccountFault) → IfErr told (IsRefusal account asked) → IfErr told (IsFaultOf asked)
-kind_of account asked (Ok answered) refused = tt
-kind_of account asked (Err why) refused = fault_kind account asked why refused
-
--- a call that a gate or an account has refused
-pub refused_kind : (account : Ledger) (asked : Asked) (why : AccountFault) → (why ≡ fault.GateClosed) ⊎ IsRefusal account asked why → IsFaultOf asked why
-refused_kind account asked why (inl gate) = let F : AccountFault → Type 0 = IsFaultOf asked in subst F (sym gate) tt
-refused_kind account asked why (inr is) = fault_kind account asked why is
-
-pub refusals_kind : (account : Ledger) (asked : Asked) (told : Result Reply AccountFault) → IfErr told (λ why. (why ≡ fault.GateClosed) ⊎ IsRefusal account asked why)
-    → IfErr told (IsFaultOf asked)
-refusals_kind account asked (Ok answered) refused = tt
-refusals_kind account asked (Err why) refused = refused_kind account asked why refused
 
 -- ---- every refusal of an account
 

@@ -4,7 +4,7 @@ ghost use Rattle.std.specs.Prelude.{◌≡◌, ◌≢◌, ◌≤◌, ◌++◌, �
 ghost use Rattle.std.specs.BTreeMap.{is_at};
 ghost use Rattle.std.specs.Map.{lookup};
 ghost use Rattle.std.specs.Ordering.{nat_cmp};
-ghost use Rattle.shared_account.specs.Kinds.{IsFaultOf, IsReplyTo, IsReturn};
+ghost use Rattle.shared_account.specs.Kinds.{IsReplyTo, IsReturn};
 ghost use Rattle.shared_account.specs.Own.{of_call};
 ghost use Rattle.shared_account.specs.Room.{stage_in};
 ghost use Rattle.account_core.specs.Asked.{call_of, Credits, IsCredit, IsOfCall};
@@ -109,7 +109,6 @@ impl Seat {
         ensures refused { IfErr result (λ fault. IsRefusal account.old (asked_of op) fault) }
         ensures ungated { result ≢ Err AccountFault.GateClosed }
         ensures kind { IfOk result (λ reply. IsReplyTo (asked_of op) reply) }
-        ensures fault { IfErr result (λ fault. IsFaultOf (asked_of op) fault) }
         ensures returning { IsReturn (asked_of op) → IsClosing (reverse self.old.mine) (asked_of op)
             → IfErr result (λ fault. fault ≡ AccountFault.NotOpen) }
         ensures closing { IsClosing (reverse account.old.history) (asked_of op)

@@ -34,7 +34,7 @@ pub trait Shared: Sync + Drop {
     ghost use Rattle.account_core.specs.Places.{IsClosing};
     ghost use Rattle.account_core.specs.declared.fault.AccountFault.TheVariants as out;
     ghost use Rattle.shared_account.specs.Closed.{Closed, IsBookOf};
-    ghost use Rattle.shared_account.specs.Kinds.{IsFaultOf, IsReplyTo, IsReturn};
+    ghost use Rattle.shared_account.specs.Kinds.{IsReplyTo, IsReturn};
     ghost use Rattle.shared_account.specs.Refusals.{IsAlone, IsRefusedAt};
     ghost use Rattle.shared_account.specs.Seats.{Reads, are_all};
     ghost use Rattle.shared_account.specs.Terms.{Terms};
@@ -115,7 +115,6 @@ pub trait Shared: Sync + Drop {
         ensures closing { IsAlone (was seat.new) (call_of (asked_of op))
             → IsClosing (reverse (reads.mine seat.old)) (asked_of op)
             → IfErr result (λ fault. fault ≡ out.GateClosed) }
-        ensures fault { IfErr result (λ fault. IsFaultOf (asked_of op) fault) }
         ensures gate { result ≡ Err out.GateClosed → G.may_shut gate.now }
         ensures returning { IsReturn (asked_of op)
             → IsClosing (reverse (reads.mine seat.old)) (asked_of op)

@@ -2,7 +2,7 @@
 
 ghost use Rattle.std.specs.Prelude.{◌≡◌, ◌≢◌, ◌≤◌, ◌↔◌, ◌⊎◌, ◌++◌, ◌∷◌, List, [], false, map, reverse, All, OnErr, IfOk, IfErr};
 ghost use Rattle.shared_account.specs.Closed.{IsBookOf};
-ghost use Rattle.shared_account.specs.Kinds.{IsFaultOf, IsReplyTo, IsReturn};
+ghost use Rattle.shared_account.specs.Kinds.{IsReplyTo, IsReturn};
 ghost use Rattle.shared_account.specs.Refusals.{IsRefusedAt};
 ghost use Rattle.shared_account.specs.Seats.{are_all, fresh_seats};
 ghost use Rattle.account_core.specs.Events.{EntryData, asked_of};
@@ -111,7 +111,6 @@ impl SharedAccount {
         ensures kept { OnErr result (seat.new ≡ seat.old) }
         ensures refused { IfErr result (λ fault. (fault ≡ AccountFault.GateClosed)
             ⊎ IsRefusedAt (λ _ _. Unit {0}) seat.old.mine (asked_of op) fault) }
-        ensures fault { IfErr result (λ fault. IsFaultOf (asked_of op) fault) }
         ensures gate { result ≡ Err AccountFault.GateClosed → G.may_shut gate.now }
         ensures returning { IsReturn (asked_of op) → IsClosing (reverse seat.old.mine) (asked_of op)
             → IfErr result (λ fault.

@@ -4,7 +4,7 @@ ghost use Rattle.std.specs.Prelude.{◌≡◌, ◌⊎◌, ◌++◌, ◌∷◌, [
 ghost use Rattle.account_core.specs.Events.{asked_of};
 ghost use Rattle.account_core.specs.Ledger.{event_by};
 ghost use Rattle.account_core.specs.Places.{IsClosing};
-ghost use Rattle.shared_account.specs.Kinds.{IsFaultOf, IsReplyTo, IsReturn};
+ghost use Rattle.shared_account.specs.Kinds.{IsReplyTo, IsReturn};
 ghost use Rattle.shared_account.specs.Refusals.{IsRefusedAt};
 ghost use Rattle.std.specs.Coded.{Coded-set};
 
@@ -58,7 +58,6 @@ impl<S: Shared, R: Wait, G: Gate> Port for SharedPort<'_, S, R, G> {
         ensures refused { IfErr result (λ fault. (fault ≡ AccountFault.GateClosed)
             ⊎ IsRefusedAt (S.was self.new.seat.now)
             (S.reads.mine self.old.seat.now) (asked_of op) fault) }
-        ensures fault { IfErr result (λ fault. IsFaultOf (asked_of op) fault) }
         ensures gate { result ≡ Err AccountFault.GateClosed → G.may_shut self.old.gate.now }
         ensures returning { IsReturn (asked_of op)
             → IsClosing (reverse (S.reads.mine self.old.seat.now)) (asked_of op)

@@ -5,7 +5,7 @@ use Rattle.account_core.specs.Events.{asked_of}
 use Rattle.account_core.specs.Ledger.{IsRefusal, answer_of}
 use Rattle.account_core.specs.Places.{IsClosing}
 use Rattle.shared_account.proofs.Owning.{closing_alike}
-use Rattle.shared_account.proofs.Refusing.{fits_of, kind_of, returning_of}
+use Rattle.shared_account.proofs.Refusing.{fits_of, returning_of}
 use Rattle.shared_account.proofs.seat.Seat.apply_to.Goals as goal
 
 pub returns-in-Credit-clause-kind : goal.returns-in-Credit-clause-kind
@@ -13,20 +13,10 @@ returns-in-Credit-clause-kind c =
     let answered : IfOk c.apply_credit.result (λ reply. reply ≡ answer_of c.args.account.now (asked_of c.args.op)) = search rules in
     IfOk-weaker c.apply_credit.result _ _ (fits_of c.args.account.now (asked_of c.args.op)) answered
 
-pub returns-in-Credit-clause-fault : goal.returns-in-Credit-clause-fault
-returns-in-Credit-clause-fault c =
-    let refused : IfErr c.apply_credit.result (IsRefusal c.args.account.now (asked_of c.args.op)) = search rules in
-    kind_of c.args.account.now (asked_of c.args.op) c.apply_credit.result refused
-
 pub returns-in-Reserve-clause-kind : goal.returns-in-Reserve-clause-kind
 returns-in-Reserve-clause-kind c =
     let answered : IfOk c.apply_of_call.result (λ reply. reply ≡ answer_of c.args.account.now (asked_of c.args.op)) = search rules in
     IfOk-weaker c.apply_of_call.result _ _ (fits_of c.args.account.now (asked_of c.args.op)) answered
-
-pub returns-in-Reserve-clause-fault : goal.returns-in-Reserve-clause-fault
-returns-in-Reserve-clause-fault c =
-    let refused : IfErr c.apply_of_call.result (IsRefusal c.args.account.now (asked_of c.args.op)) = search rules in
-    kind_of c.args.account.now (asked_of c.args.op) c.apply_of_call.result refused
 
 pub returns-in-Reserve-clause-returning : goal.returns-in-Reserve-clause-returning
 returns-in-Reserve-clause-returning c =

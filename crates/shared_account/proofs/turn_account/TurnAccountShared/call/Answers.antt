@@ -3,14 +3,11 @@ use Rattle.shared_account.proofs.Calls.{ends_kindly}
 use Rattle.account_core.specs.Ledger.{event_by}
 use Rattle.shared_account.specs.TurnViews.{own_of}
 use Rattle.shared_account.proofs.Seeing.{closes_alone}
-use Rattle.shared_account.proofs.Refusing.{refusals_kind, returned_by}
+use Rattle.shared_account.proofs.Refusing.{returned_by}
 use Rattle.shared_account.proofs.turn_account.TurnAccountShared.call.Goals as goal
 
 pub returns-clause-kind : goal.returns-clause-kind
 returns-clause-kind g c = ends_kindly _ _ _ _ _ (asked_of c.args.op) c.call.result c.call.ensures.legal c.call.ensures.ends
-
-pub returns-clause-fault : goal.returns-clause-fault
-returns-clause-fault g c = refusals_kind c.call.new.seat.view (asked_of c.args.op) c.call.result c.call.ensures.refused
 
 pub returns-clause-returning : goal.returns-clause-returning
 returns-clause-returning g c return closing = returned_by c.call.new.seat.view (asked_of c.args.op) c.call.result c.call.ensures.refused c.call.ensures.closing return
