@@ -1,5 +1,5 @@
-//! The tests of the public calls of `table_core`, `tariff_core` and `cap_values`. They stand apart
-//! from these crates, so that none of them is proved a second time for its tests.
+//! The tests of the public calls of `table_core`, `tariff_core`, `moment_texts` and `cap_values`.
+//! They stand apart from these crates, so that none of them is proved a second time for its tests.
 #![tactic(auto)]
 
 #[cfg(test)]
@@ -10,6 +10,8 @@ mod failing;
 mod faults;
 #[cfg(test)]
 mod looking;
+#[cfg(test)]
+mod moments;
 #[cfg(test)]
 mod prices;
 #[cfg(test)]

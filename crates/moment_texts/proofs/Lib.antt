@@ -1,0 +1,2 @@
+pub mod CalendarLemmas
+pub mod ReadBack

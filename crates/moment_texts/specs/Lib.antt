@@ -1,0 +1,5 @@
+pub mod Calendar
+pub mod Fields
+pub mod Laws
+pub mod Printing
+pub mod Reading
