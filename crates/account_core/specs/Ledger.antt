@@ -27,7 +27,7 @@ refusal_of ledger asked = refusal ledger.limit (reverse ledger.history) asked
 abbrev pub event_by : ℕ → Asked → Reply → EntryData
 event_by seat asked reply = record { seat = seat; asked = asked; reply = reply }
 
--- the fault is that of the operation, and want of memory only where it has none
+-- the fault is that of the operation, and out of memory only where it has none
 abbrev pub IsRefusal : Ledger → Asked → AccountFault → Type 0
 IsRefusal ledger asked why =
     (refusal_of ledger asked ≡ Some why) ⊎ ((refusal_of ledger asked ≡ None) × (why ≡ fault.OutOfMemory))

@@ -101,7 +101,7 @@ impl Account {
     }
 
     /// Judges an operation: the first half of `apply`, for a caller that has its own room to make
-    /// before the second. A fault is as in `apply`, but for want of memory.
+    /// before the second. A fault is as in `apply`, but for `OutOfMemory`.
     #[inline(always)]
     pub fn admit(&self, op: Op) -> Result<Admitted, AccountFault>
         ensures admitted { IfOk result (λ admitted.
@@ -114,7 +114,7 @@ impl Account {
     }
 
     /// Answers an operation that the account admits as it is, and enters it for a seat: the second
-    /// half of `apply`. The only error is want of memory, which changes nothing, and which a Return
+    /// half of `apply`. The only error is out of memory, which changes nothing, and which a Return
     /// of an open call, and its first Settle since its last grant, never meet.
     #[inline(always)]
     pub fn enter(&mut self, seat: u32, admitted: Admitted) -> Result<Reply, AllocError>
@@ -134,7 +134,7 @@ impl Account {
         Ok(entry.reply)
     }
 
-    /// Why an operation would be refused now, if it would be for any reason but want of memory. One
+    /// Why an operation would be refused now, if it would be for any reason but `OutOfMemory`. One
     /// that closes a call, a Return or the first Settle since its last grant, never is.
     pub fn refusal(&self, op: &Op) -> Option<AccountFault>
         ensures value { result ≡ refusal_of self.now (asked_of op.now) }
@@ -282,7 +282,7 @@ impl Teller {
     }
 
     /// Answers an operation that is admitted, and gives its entry for a seat. The only error is
-    /// want of memory, as in `Account::enter`.
+    /// out of memory, as in `Account::enter`.
     #[inline(always)]
     fn enter(&mut self, seat: u32, admitted: Admitted) -> Result<Entry, AllocError>
         requires { (ledger : Ledger) × Admits ledger self.old admitted }

@@ -17,7 +17,7 @@ impl Account {
     /// Whether a list of entries, oldest first, is a legal history of an opening credit of 0 to
     /// `MAX_MONEY` and a last moment, if there is one: each operation was admissible in its place,
     /// and its reply is the answer of an account there. The seats and the length of the list aren't
-    /// judged. The only error is want of memory, which is taken for each call that is new.
+    /// judged. The only error is out of memory: some is taken for each call that is new.
     pub fn check(
         alloc: Global,
         opening: u64,
@@ -76,7 +76,7 @@ impl HistoryCheck {
         }
     }
 
-    /// Takes one entry more, from any seat. The only error is want of memory, which is taken for
+    /// Takes one entry more, from any seat. The only error is out of memory: some is taken for
     /// the first entry and for a call that is new; the check is then still that of the entries
     /// before.
     #[inline(always)]

@@ -15,7 +15,7 @@ told_of fault.Unknown = entry.Row kind.Unknown
 told_of fault.OutOfRange = entry.Row kind.Number
 told_of fault.OutOfMemory = entry.OutOfMemory
 
--- a fault of a row is the one that it comes to; want of memory may come at any row
+-- a fault of a row is the one that it comes to; out of memory may come at any row
 abbrev pub Refuses : EntryFault → Result Setup RowKind → Type 0
 Refuses (entry.Row kind) meaning = meaning ≡ Err kind
 Refuses entry.OutOfMemory meaning = ⊤

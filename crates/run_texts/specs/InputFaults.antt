@@ -8,7 +8,7 @@ use Rattle.tariff_core.specs.declared.tariff_fault.TariffFault.{TariffFault}
 use Rattle.tariff_core.specs.declared.tariff_fault.TariffKind.{TariffKind}
 use Rattle.tariff_core.specs.declared.tariff_fault.TariffKind.TheVariants as kind
 
--- the fault of a tariff by its kind: want of memory and a failed reader are no faults of its rows
+-- the fault of a tariff by its kind: out of memory and a failed reader are no faults of its rows
 abbrev pub of_tariff_by : TariffKind → TariffFault → InputFault
 of_tariff_by kind.OutOfMemory fault = input.OutOfMemory
 of_tariff_by kind.Device fault = input.Device
@@ -30,7 +30,7 @@ of_script (table.Row refused) = input.Script refused
 of_script table.Device = input.Device
 of_script table.OutOfMemory = input.OutOfMemory
 
--- a fault of the input is the one that its meaning has; a failed reader and want of memory may come at any
+-- a fault of the input is the one that its meaning has; a failed reader and out of memory may come at any
 abbrev pub Refuses : {Y : Type 0} → InputFault → Result Y InputFault → Type 0
 Refuses input.Device meaning = ⊤
 Refuses input.OutOfMemory meaning = ⊤

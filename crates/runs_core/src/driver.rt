@@ -35,7 +35,7 @@ pub trait Driver {
         ensures { result ≡ ended self.now };
 
     /// Takes the answers to the items of the round before, in their order, and gives more items, or
-    /// none; false where it has ended, and then it gives none. After want of memory it isn't used
+    /// none; false where it has ended, and then it gives none. Where memory ran out, it isn't used
     /// again.
     fn round(&mut self, answers: &[Answer]) -> Result<bool, AllocError>
         ensures grows { IfOk result (λ _.

@@ -91,7 +91,7 @@ impl Seat {
     /// Asks an account under the seat's number, and keeps the same entry in the seat's list.
     ///
     /// A fault changes neither the account nor the seat, and faults come as in `Account::apply`:
-    /// want of memory, be it the account's or the seat's, comes last. A Return of an open call, and
+    /// `OutOfMemory`, be it the account's or the seat's, comes last. A Return of an open call, and
     /// its first Settle since its last grant, always succeed where the seat's own entries show the
     /// same, and so where the call's entries in the account are those in the seat's list.
     #[inline(always)]

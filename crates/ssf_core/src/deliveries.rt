@@ -23,7 +23,7 @@ pub struct Delivery {
 }
 
 /// Sends operations on their way, one after the other, all to be delivered to one call at one
-/// moment. After want of memory some of them may be on their way.
+/// moment. Where memory ran out, some of them may be on their way.
 pub fn send(
     deliveries: &mut VecDeque<Delivery>,
     at: Moment,

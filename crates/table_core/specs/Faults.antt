@@ -35,7 +35,7 @@ IsOfReading (fault.Row refused) = ⊥
 IsOfReading fault.Device = ⊤
 IsOfReading fault.OutOfMemory = ⊤
 
--- a refused row is the one that the table's meaning refuses; a failed reader and want of memory may come at any table
+-- a refused row is the one that the table's meaning refuses; a failed reader and out of memory may come at any table
 abbrev pub Refuses : {Y : Type 0} → TableFault → Result Y RowFault → Type 0
 Refuses (fault.Row refused) meaning = meaning ≡ Err refused
 Refuses fault.Device meaning = ⊤
