@@ -13,7 +13,7 @@ _prepaid()
         words=''
     else
         case ${COMP_WORDS[1]} in
-            price) words='--fee --before --after --free --help -h' ;;
+            price) words='--fee --before --after --free --first --step --help -h' ;;
             replay) words='--opening --limit --help -h' ;;
             run) words='--workers --wanted --least --tssf --tccd --delay --default --book --calls --trace --help -h' ;;
             audit) words='--long --help -h' ;;

@@ -39,6 +39,8 @@ NEEDS = {
 # then.
 LEFT_OUT = [
     ("price", "--free", [], NEEDS["price"][1], "1"),
+    ("price", "--first", [], NEEDS["price"][1], "601"),
+    ("price", "--step", [], NEEDS["price"][1], "601"),
     ("replay", "--limit", [], NEEDS["replay"][1], "3"),
     ("run", "--wanted", ["--book"], call(10), "601"),
     ("run", "--least", ["--book"], call(10), "51"),

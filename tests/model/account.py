@@ -11,6 +11,11 @@ class Plan:
     before: int
     after: "int | None" = None
     free: int = 0
+    first: int = 0
+    step: int = 1
+
+    def has_steps(self):
+        return (self.first, self.step) != (0, 1)
 
 
 @dataclasses.dataclass(frozen=True)
@@ -23,14 +28,24 @@ class Times:
         return self.before + self.after
 
 
+def billed(plan, charged):
+    """What is billed of units that are charged for: the first ones whole, and those beyond in whole steps."""
+    if charged == 0:
+        return 0
+    steps = -(-max(0, charged - plan.first) // plan.step)
+    return plan.first + steps * plan.step
+
+
 def price(plan, before, after):
-    """Nothing for no time, else the fee and both rates beyond the free units, rounded up once."""
+    """Nothing for no time, else the fee and what is billed at both rates, rounded up once."""
     if before + after == 0:
         return 0
     # the time before the switch uses the free units up first
-    free_after = max(0, plan.free - before)
-    charged = max(0, before - plan.free) * plan.before + max(0, after - free_after) * (plan.after or 0)
-    return plan.fee + -(-charged // 600)
+    charged, later = max(0, before - plan.free), max(0, after - max(0, plan.free - before))
+    # and a step that begins before the switch is billed whole before it
+    early = billed(plan, charged)
+    late = billed(plan, charged + later) - early
+    return plan.fee + -(-(early * plan.before + late * (plan.after or 0)) // 600)
 
 
 def lawful(plan, old, new, granted):
@@ -44,8 +59,8 @@ def lawful(plan, old, new, granted):
 
 
 def ceiling(plan, old, units):
-    """The greatest price over all lawful times, which is at an end of the stretch: where the switch comes
-    among the free units, it doesn't matter when, and after them each rate only adds."""
+    """The greatest price over all lawful times, which is at an end of the stretch: what is billed in all depends on
+    the whole time alone, and the dearer rate is best had for all of it."""
     ends = [Times(old.before + units, old.after, old.switched), Times(old.before, old.after + units, True)]
     return max(price(plan, it.before, it.after) for it in ends if lawful(plan, old, it, old.total() + units))
 

@@ -29,7 +29,7 @@ MOST_ROWS, MOST_LONG_ROWS = 1_000_000, 4_294_967_293
 NO_LIMIT = 2**32
 ARGUMENTS = Fault("prepaid: arguments")
 TAKEN = {
-    "price": {"--fee", "--before", "--after", "--free"},
+    "price": {"--fee", "--before", "--after", "--free", "--first", "--step"},
     "replay": {"--opening", "--limit"},
     "audit": {"--long"},
     "rate": {"--called", "--answer", "--time", "--end", "--paid", "--before", "--after", "--differing"},
@@ -95,7 +95,8 @@ def whole(text):
 def do_price(given, text):
     after = number(given, "--after", most=MAX_RATE) if "--after" in given else None
     fee, before, free = number(given, "--fee", most=MAX_RATE), number(given, "--before", most=MAX_RATE), number(given, "--free", 0, DAY)
-    plan = Plan(fee, before, after, free)
+    first, step = number(given, "--first", 0, DAY), number(given, "--step", 1, DAY, 1)
+    plan = Plan(fee, before, after, free, first, step)
     lines, total = [], 0
     for times in read_reports(whole(text), plan):
         now = price(plan, times.before, times.after)
@@ -121,7 +122,8 @@ def do_quote(given, text):
     plan, switch = found
     prefix = max((it for it in tariff if called.startswith(it)), key=len)
     start = max(it[0] for it in tariff[prefix] if it[0] <= now % DAY)
-    lines = [f"prefix {prefix or '-'} from {start // 36000:02}:{start // 600 % 60:02} fee {plan.fee} rate {plan.before} free {plan.free}\n"]
+    steps = f" first {plan.first} step {plan.step}" if plan.has_steps() else ""
+    lines = [f"prefix {prefix or '-'} from {start // 36000:02}:{start // 600 % 60:02} fee {plan.fee} rate {plan.before} free {plan.free}{steps}\n"]
     if switch is not None:
         lines.append(f"switch {switch} rate {plan.after}\n")
     if talk is not None:

@@ -50,11 +50,20 @@ def free_units(it):
     return it.choice([0, 0, 1, 100, 300, 599, 600, it.randrange(1300), DAY - 1, DAY])
 
 
+def steps(it):
+    """A first step and the further ones, now and then out of range."""
+    if it.random() < 0.01:
+        return it.choice([(DAY + 1, 1), (0, 0), (0, DAY + 1), ("", 1), (0, "")])
+    return it.choice([0, 0, 1, 300, 600, it.randrange(1300), DAY - 1, DAY]), it.choice([1, 1, 6, 60, 600, it.randrange(1, 1300), DAY])
+
+
 def prices(it):
     words = ["price", "--fee", it.choice([0, 50, it.randrange(1000), 10**9]), "--before", rate(it)]
     has_after = it.random() < 0.7
     words += ["--after", rate(it)] if has_after else []
     words += ["--free", DAY + 1 if it.random() < 0.05 else free_units(it)] if it.random() < 0.6 else []
+    for name, units in zip(("--first", "--step"), steps(it)):
+        words += [name, units] if it.random() < 0.4 else []
     before = after = 0
     rows = [("before", "after")]
     for _ in range(it.randrange(9)):
@@ -120,16 +129,17 @@ def operations(it):
     header = it.choice(OPS)
     rows, more = [header], len(header) - len(OPS[0])
     first = it.choice([0, 0, 10**12, 2 * 10**12 - 11])
-    plans = [(it.choice([it.randrange(100), it.randrange(100), 10**9]), rate(it), it.choice(["", rate(it)]), free_units(it)) for _ in range(2)]
+    plans = [(it.choice([it.randrange(100), it.randrange(100), 10**9]), rate(it), it.choice(["", rate(it)]), (free_units(it), *steps(it))) for _ in range(2)]
     for _ in range(it.randrange(25)):
         seat, call = it.choice([0, 1, 15]), it.choice([1, 1, 2, 3, 2**64 - 1])
         what = it.choice(["credit", "reserve", "reserve", "settle", "settle", "return"])
         time = it.choice([0, 100, 300, 600, 601, it.randrange(1300), DAY])
         if what == "credit":
-            x = "", it.choice([0, 1, 600, it.randrange(3000), MAX_MONEY]), *[it.choice(["", "", *(first + at for at in (0, 5, 10))])][: more == 2]
+            x = "", it.choice([0, 1, 600, it.randrange(3000), MAX_MONEY]), *[it.choice(["", "", *(first + at for at in (0, 5, 10))])][: more >= 2]
         elif what == "reserve":
-            *rates, free = it.choice(plans)
-            x = call, *rates, it.choice([0, 1, 600, it.randrange(700), DAY]), it.choice([0, 1, 50, DAY]), *[free, first + it.choice([0, 4, 5, 6, 11])][:more]
+            *rates, (free, *billed) = it.choice(plans)
+            times = it.choice([0, 1, 600, it.randrange(700), DAY]), it.choice([0, 1, 50, DAY])
+            x = call, *rates, *times, *[free, first + it.choice([0, 4, 5, 6, 11]), *billed][:more]
         elif what == "settle" and it.random() < 0.5:
             x = call, it.randrange(9), "n", time
         elif what == "settle":
@@ -190,7 +200,7 @@ def tariff(it):
         for start in sorted({0, *(it.randrange(1440) for _ in range(it.choice([0, 0, 1, 2])))}):
             free = free_units(it) if it.random() < 0.98 else DAY + 1
             row = prefix, f"{start // 60:02}:{start % 60:02}", it.choice([0, 50, it.randrange(300), it.randrange(300), 10**9]), rate(it), free
-            rows.append(row[: len(header)])
+            rows.append([*row, *steps(it)][: len(header)])
             starts.append(start * 600)
     return table(rows), starts
 
@@ -243,10 +253,13 @@ def books(it):
     words, text = runs(it, few=True)
     status, book, _, _ = command([*(word for word in words if word not in TABLES), "--book"], text)
     rows = [line.split(",") for line in book.split("\n")[:-1]] if status == 0 else [list(BOOK[2])]
-    less = it.choice([0, 0, 0, 0, 1, 2])
+    more = len(rows[0]) - len(BOOK[2])
+    less = it.choice([0, 0, 0, 0, more, more + 1, more + 2])
     if less:
-        # without x7, or x6 and x7, which are in front of the reply and its three columns; there x2 is of a reserve or a settle alone
+        # without x8 and x9, and then without x7, or x6 and x7, which are in front of the reply and its three columns
         rows = [row[: -4 - less] + row[-4:] for row in rows]
+    if less > more:
+        # there x2 is of a reserve or a settle alone
         rows = [[*row[:5], "", *row[6:]] if row[2] in ("opening", "credit") and it.random() < 0.95 else row for row in rows]
     for _ in range(it.choice([0, 1, 1, 1, 2])):
         at = it.randrange(1, len(rows)) if len(rows) > 1 else 0

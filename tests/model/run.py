@@ -6,11 +6,10 @@ from . import calls, trace
 from .account import Account
 from .service import is_stray, talk
 from .switch import Refused, Switch
-from .tables import Fault, route
+from .tables import BOOK, Fault, has_steps, route
 
 # The faults of an account, in the order in which it judges them.
 FAULTS = ("GateClosed", "OutOfRange", "NotOpen", "CallUsed", "HistoryFull", "OutOfMemory")
-HEADER = "account,seat,op,call,x1,x2,x3,x4,x5,x6,x7,reply,y1,y2,y3"
 
 
 @dataclasses.dataclass
@@ -28,18 +27,18 @@ def shown(it):
     return "" if it is None else str(it)
 
 
-def op_fields(op):
-    """The fields op to x7 of a row of a book."""
+def op_fields(op, columns):
+    """The fields op to x7 of a row of a book, or to x9, where there are so many columns."""
     kind = op[0]
     if kind == "credit":
         x = ["", *op[1:]]
     elif kind == "reserve":
-        x = [op[1], op[2].fee, op[2].before, op[2].after, op[3], op[4], op[2].free, op[5]]
+        x = [op[1], op[2].fee, op[2].before, op[2].after, op[3], op[4], op[2].free, op[5], *[op[2].first, op[2].step][: columns - 9]]
     elif kind == "settle":
         x = [op[1], op[2], *op[3]]
     else:
         x = [op[1]]
-    return ",".join([kind, *map(shown, x + [None] * (8 - len(x)))])
+    return ",".join([kind, *map(shown, x + [None] * (columns - 1 - len(x)))])
 
 
 def reply_fields(reply):
@@ -59,13 +58,15 @@ class Run:
         self.accounts = {it: Account(*accounts[it]) for it in sorted(accounts)}
         self.switches, self.talks, self.deliveries, self.number = {}, {}, [], 0
         self.told, self.traced = {}, []
+        # the columns of an operation in the book
+        self.columns = 11 if has_steps(tariff) else 9
         # whether workers met at an account in one round, so that the order of their operations is open
         self.is_contended, self.met, self.refused = False, {}, collections.Counter()
         self.orders = None if book is None else {it: [] for it in accounts}
         for line in book.splitlines()[1:] if book else []:
             account, seat, *fields = line.split(",")
             if fields and fields[0] != "opening" and account.isdigit() and int(account) in self.orders:
-                self.orders[int(account)].append((seat, ",".join(fields[:9])))
+                self.orders[int(account)].append((seat, ",".join(fields[: self.columns])))
 
     def play(self, script):
         rows = collections.deque(script)
@@ -147,7 +148,7 @@ class Run:
         if self.orders is None or self.accounts[account].fault(op):
             return True
         order = self.orders[account]
-        if not order or order[0] != (str(seat), op_fields(op)):
+        if not order or order[0] != (str(seat), op_fields(op, self.columns)):
             return False
         order.pop(0)
         return True
@@ -208,10 +209,10 @@ class Run:
         return trace.table(self.traced)
 
     def book(self):
-        rows = [HEADER]
+        rows = [",".join(BOOK[3 if self.columns == 11 else 2])]
         for number, account in self.accounts.items():
-            rows.append(f"{number},,opening,,{account.opening},{shown(self.openings[number][1])}" + "," * 9)
-            rows += [f"{number},{seat},{op_fields(op)},{reply_fields(reply)}" for seat, op, reply in account.entries]
+            rows.append(f"{number},,opening,,{account.opening},{shown(self.openings[number][1])}" + "," * self.columns)
+            rows += [f"{number},{seat},{op_fields(op, self.columns)},{reply_fields(reply)}" for seat, op, reply in account.entries]
         return "".join(f"{it}\n" for it in rows)
 
 

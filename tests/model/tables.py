@@ -7,9 +7,9 @@ MAX_RATE = 10**9
 LAST_MOMENT = 10**12
 HORIZON = 2 * 10**12
 # The headers that a table may have, the oldest first.
-OPS = [["seat", "op", "call", "x1", "x2", "x3", "x4", "x5", *more] for more in ([], ["x6"], ["x6", "x7"])]
+OPS = [["seat", "op", "call", "x1", "x2", "x3", "x4", "x5", *more] for more in ([], ["x6"], ["x6", "x7"], ["x6", "x7", "x8", "x9"])]
 BOOK = [["account", *ops, "reply", "y1", "y2", "y3"] for ops in OPS]
-TARIFF = [["prefix", "from", "fee", "rate", *more] for more in ([], ["free"])]
+TARIFF = [["prefix", "from", "fee", "rate", *more] for more in ([], ["free"], ["free", "first", "step"])]
 SETUP = [["kind", "key", "value", *more] for more in ([], ["until"])]
 SCRIPT = [["moment", "call", "what", "x", "y", *more] for more in ([], ["z"])]
 
@@ -108,7 +108,8 @@ def last_moment(x):
 def operation(op, call, x):
     """Whether the words of an operation are known, its numbers, the fields that must be empty, and what is asked.
 
-    x is x1 to x5, or to x6, where a reserve has its free units, or to x7, where it has its moment.
+    x is x1 to x5, or to x6, where a reserve has its free units, or to x7, where it has its moment, or to x9, where it has
+    its billing steps.
     """
     word = op.decode("latin-1")
     if word == "credit":
@@ -121,8 +122,9 @@ def operation(op, call, x):
         rates = decimal(x[0], MAX_RATE), decimal(x[1], MAX_RATE), second
         times, free = (decimal(x[3], DAY), decimal(x[4], DAY)), decimal(x[5], DAY) if len(x) > 5 else 0
         at = decimal(x[6], HORIZON) if len(x) > 6 else 0
-        numbers = [number, *rates[:2], 0 if x[2] == b"" else second, *times, free, at]
-        return True, numbers, [], ("reserve", number, Plan(*rates, free), *times, at)
+        steps = (decimal(x[7], DAY), decimal(x[8], DAY, 1)) if len(x) > 8 else (0, 1)
+        numbers = [number, *rates[:2], 0 if x[2] == b"" else second, *times, free, at, *steps]
+        return True, numbers, [], ("reserve", number, Plan(*rates, free, *steps), *times, at)
     if word == "settle" and x[1] in (b"n", b"s"):
         mail, time = decimal(x[0], 2**64 - 1), decimal(x[2], DAY)
         if x[1] == b"n":
@@ -179,22 +181,29 @@ def read_book(text, most):
 
 
 def read_tariff(text):
-    """The bands of each prefix: start, fee, rate, free units, in units of 100 ms and by rising start."""
-    bands, first = {}, {}
-    for row, (prefix, start, fee, rate, *free), fail in rows_of("tariff", text, TARIFF, 10_000):
+    """The bands of each prefix by rising start, in units of 100 ms, each with its fee, its rate, its free units and its steps."""
+    bands, rows = {}, {}
+    for row, (prefix, start, fee, rate, *more), fail in rows_of("tariff", text, TARIFF, 10_000):
         at = re.fullmatch(rb"([01][0-9]|2[0-3]):([0-5][0-9])", start)
         money = decimal(fee, MAX_RATE), decimal(rate, MAX_RATE)
-        units = decimal(free[0], DAY) if free else 0
-        fail(("Digits", not re.fullmatch(rb"[0-9]{0,15}", prefix)), ("From", not at), ("Money", None in money), ("Free", units is None))
+        free = decimal(more[0], DAY) if more else 0
+        first, step = (decimal(more[1], DAY), decimal(more[2], DAY, 1)) if more[1:] else (0, 1)
+        fail(("Digits", not re.fullmatch(rb"[0-9]{0,15}", prefix)), ("From", not at), ("Money", None in money))
+        fail(("Free", free is None), ("First", first is None), ("Step", step is None))
         moment = (int(at[1]) * 60 + int(at[2])) * 600
         of_prefix = bands.setdefault(prefix.decode(), {})
         fail(("Repeated", moment in of_prefix))
-        first.setdefault(prefix.decode(), row)
-        of_prefix[moment] = *money, units
-    for prefix, row in first.items():
+        rows.setdefault(prefix.decode(), row)
+        of_prefix[moment] = *money, free, first, step
+    for prefix, row in rows.items():
         if 0 not in bands[prefix]:
             raise Fault(f"prepaid: tariff row {row}: NoMidnightBand")
     return {prefix: sorted((start, *band) for start, band in it.items()) for prefix, it in bands.items()}
+
+
+def has_steps(tariff):
+    """Whether any band bills in steps."""
+    return any(band[4:] != (0, 1) for bands in tariff.values() for band in bands)
 
 
 def route(tariff, called, now):
@@ -204,11 +213,11 @@ def route(tariff, called, now):
         return None
     bands, time = tariff[prefix], now % DAY
     at = max(i for i, band in enumerate(bands) if band[0] <= time)
-    _, fee, rate, free = bands[at]
+    _, fee, rate, *more = bands[at]
     if len(bands) == 1:
-        return Plan(fee, rate, None, free), None
-    start, _, second, _ = bands[(at + 1) % len(bands)]
-    return Plan(fee, rate, second, free), now + ((start - time) % DAY or DAY)
+        return Plan(fee, rate, None, *more), None
+    start, _, second, *_ = bands[(at + 1) % len(bands)]
+    return Plan(fee, rate, second, *more), now + ((start - time) % DAY or DAY)
 
 
 def read_setup(text):

@@ -14,10 +14,15 @@ pub(crate) struct KeptPlan {
     before: u32,
     after: Option<u32>,
     free: u32,
+    first: u32,
+    step: u32,
     ghost fee_in_range: { fee ≤ MAX_RATE },
     ghost before_in_range: { before ≤ MAX_RATE },
     ghost after_in_range: { unwrap_or after 0 ≤ MAX_RATE },
     ghost free_within_day: { free ≤ DAY },
+    ghost first_within_day: { first ≤ DAY },
+    ghost step_positive: { 1 ≤ step },
+    ghost step_within_day: { step ≤ DAY },
 }
 
 impl KeptPlan {
@@ -37,6 +42,8 @@ impl KeptPlan {
             before: plan.before as u32,
             after,
             free: plan.free,
+            first: plan.first,
+            step: plan.step,
         }
     }
 
@@ -53,6 +60,8 @@ impl KeptPlan {
             before: u64::from(self.before),
             after,
             free: self.free,
+            first: self.first,
+            step: self.step,
         }
     }
 }

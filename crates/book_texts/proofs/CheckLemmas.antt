@@ -133,10 +133,12 @@ list_comes before (Some kind) (Err why) checks are ordered = (are.0, (are.1, ord
 -- a row that is as wide as its header has the columns of the header's version
 pub has_columns : (header : ℕ) (fields : Fields) → header < length books_headers → length fields ≡ width_at books_headers header
     → HasColumns (version_at header) fields
-has_columns zero fields one wide = ((omega (arith, wide), λ other. absurd (other refl), λ three. cc), omega (arith, wide))
-has_columns (suc zero) fields one wide = ((omega (arith, wide), λ two. omega (arith, wide), λ three. cc), omega (arith, wide))
-has_columns (suc (suc zero)) fields one wide = ((omega (arith, wide), λ two. omega (arith, wide), λ three. omega (arith, wide)), omega (arith, wide))
-has_columns (suc (suc (suc header))) fields one wide = absurd (omega (arith, one))
+has_columns zero fields one wide = ((omega (arith, wide), λ later. absurd (later refl), λ later. absurd (later refl), λ four. cc), omega (arith, wide))
+has_columns (suc zero) fields one wide = ((omega (arith, wide), λ two. omega (arith, wide), λ later other. absurd (other refl), λ four. cc), omega (arith, wide))
+has_columns (suc (suc zero)) fields one wide = ((omega (arith, wide), λ two. omega (arith, wide), λ later other. omega (arith, wide), λ four. cc), omega (arith, wide))
+has_columns (suc (suc (suc zero))) fields one wide =
+    ((omega (arith, wide), λ two. omega (arith, wide), λ later other. omega (arith, wide), λ four. omega (arith, wide)), omega (arith, wide))
+has_columns (suc (suc (suc (suc header)))) fields one wide = absurd (omega (arith, one))
 
 -- a fault that the table's reader passes on is that of the meaning
 pub fault_told : (known : Option (List ℕ)) (answer : Result (Vec (ℕ × HistoryCheck)) TableFault) (why : TableFault) (P : List ℕ → Type 0) (meaning : List ℕ → Result Books RowFault)

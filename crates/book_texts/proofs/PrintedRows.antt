@@ -1,5 +1,5 @@
 -- The table of books is the lines of plain rows.
-use Rattle.std.proofs.Common.{◌≡◌, ℕ, ◌≤◌, true, false, Option, Some, None, List, [], ◌∷◌, map, refl, sym, append_assoc, arith}
+use Rattle.std.proofs.Common.{◌≡◌, ℕ, ◌≤◌, true, false, Option, Some, None, List, [], ◌∷◌, ◌++◌, map, refl, sym, ap, append_assoc, arith}
 use Rattle.std.specs.Prelude.{IfSome}
 use Rattle.std.specs.Fmt.{decimal}
 use Rattle.std.specs.List.{All, flat_map}
@@ -11,58 +11,88 @@ use Rattle.account_core.specs.Events.{EntryData}
 use Rattle.account_core.specs.Laws.{IsReplyInRange}
 use Rattle.account_core.specs.declared.entry.Reply.{Reply}
 use Rattle.account_core.specs.declared.entry.Reply.TheVariants as reply
-use Rattle.entry_rows.specs.Columns.{Answer, Operation, answer_of, no_answer, number_or_empty, opening_of, operation_of}
+use Rattle.entry_rows.specs.Columns.{Answer, Operation, answer_of, in_fourth, no_answer, number_or_empty, opening_of, operation_of}
+use Rattle.entry_rows.specs.declared.version.Version.{Version}
+use Rattle.entry_rows.specs.declared.version.Version.TheVariants as version
 use Rattle.entry_rows.specs.Fits.{FitsAsked, FitsEvent, IsInterval, IsMoment, IsRate}
 use Rattle.shared_account.specs.Closed.{Closed}
 use Rattle.table_core.specs.Printed.{DecimalsArePlain, IsPlain, IsPlainRow, line_of, lines_of}
 use Rattle.table_core.specs.Rows.{Fields}
 use Rattle.tariff_core.specs.declared.times.TimeInfo.TheVariants as info
-use Rattle.book_texts.specs.BookTexts.{book_rows, book_text, entry_row, row}
-use Rattle.book_texts.specs.Books.{books_header}
+use Rattle.book_texts.specs.BookTexts.{book_rows, book_text, entry_row, header, row}
+use Rattle.book_texts.specs.Books.{fourth_header, third_header}
 use Rattle.book_texts.specs.Printable.{FitsBook}
 
 -- ---- fields
 
+-- the columns of version 4, and those that follow in each version
+abbrev pub steps_fields : Version → List ℕ → List ℕ → Fields → Fields
+steps_fields version.Four first step others = first ∷ step ∷ others
+steps_fields version first step others = others
+
 abbrev pub row_fields : List ℕ → List ℕ → Operation → Answer → Fields
-row_fields account seat o a = account ∷ seat ∷ o.op ∷ o.call ∷ o.x1 ∷ o.x2 ∷ o.x3 ∷ o.x4 ∷ o.x5 ∷ o.x6 ∷ o.x7 ∷ a.reply ∷ a.y1 ∷ a.y2 ∷ a.y3 ∷ []
+row_fields account seat o a =
+    account ∷ seat ∷ o.op ∷ o.call ∷ o.x1 ∷ o.x2 ∷ o.x3 ∷ o.x4 ∷ o.x5 ∷ o.x6 ∷ o.x7 ∷ steps_fields o.version o.x8 o.x9 (a.reply ∷ a.y1 ∷ a.y2 ∷ a.y3 ∷ [])
 
-abbrev pub entry_fields : ℕ → EntryData → Fields
-entry_fields account event = row_fields (decimal account) (decimal event.seat) (operation_of event.asked) (answer_of event.reply)
+abbrev pub entry_fields : Version → ℕ → EntryData → Fields
+entry_fields version account event = row_fields (decimal account) (decimal event.seat) (operation_of version event.asked) (answer_of event.reply)
 
-abbrev pub opening_fields : Closed → Fields
-opening_fields book = row_fields (decimal book.account) [] (opening_of book.opening book.until) no_answer
+abbrev pub opening_fields : Version → Closed → Fields
+opening_fields version book = row_fields (decimal book.account) [] (opening_of version book.opening book.until) no_answer
 
-abbrev pub book_fields : Closed → List Fields
-book_fields book = opening_fields book ∷ map (entry_fields book.account) book.history
+abbrev pub book_fields : Version → Closed → List Fields
+book_fields version book = opening_fields version book ∷ map (entry_fields version book.account) book.history
 
-abbrev pub table_fields : List Closed → List Fields
-table_fields books = books_header ∷ flat_map book_fields books
+abbrev pub header_fields : Version → Fields
+header_fields version.Four = fourth_header
+header_fields version = third_header
+
+abbrev pub table_fields : Version → List Closed → List Fields
+table_fields version books = header_fields version ∷ flat_map (book_fields version) books
 
 -- ---- lines
 
 row_line : (account : ℕ) (seat : List ℕ) (o : Operation) (a : Answer) → row account seat o a ≡ line_of (row_fields (decimal account) seat o a)
-row_line account seat o a = simp append_assoc
+row_line account seat o a = by o.version refl
+  where
+    by : (version : Version) → o.version ≡ version → row account seat o a ≡ line_of (row_fields (decimal account) seat o a)
+    by version.One is = rw is (simp append_assoc)
+    by version.Two is = rw is (simp append_assoc)
+    by version.Three is = rw is (simp append_assoc)
+    by version.Four is = rw is (simp append_assoc)
 
-entry_lines : (account : ℕ) (history : List EntryData) → flat_map (entry_row account) history ≡ flat_map line_of (map (entry_fields account) history)
-entry_lines account [] = refl
-entry_lines account (event ∷ history) =
-    rw (row_line account (decimal event.seat) (operation_of event.asked) (answer_of event.reply), entry_lines account history) refl
+entry_lines : (version : Version) (account : ℕ) (history : List EntryData)
+    → flat_map (entry_row version account) history ≡ flat_map line_of (map (entry_fields version account) history)
+entry_lines version account [] = refl
+entry_lines version account (event ∷ history) =
+    rw (row_line account (decimal event.seat) (operation_of version event.asked) (answer_of event.reply), entry_lines version account history) refl
 
-book_lines : (book : Closed) → book_rows book ≡ flat_map line_of (book_fields book)
-book_lines book = rw (row_line book.account [] (opening_of book.opening book.until) no_answer, entry_lines book.account book.history) refl
+book_lines : (version : Version) (book : Closed) → book_rows version book ≡ flat_map line_of (book_fields version book)
+book_lines version book =
+    rw (row_line book.account [] (opening_of version book.opening book.until) no_answer, entry_lines version book.account book.history) refl
 
-all_lines : (books : List Closed) → flat_map book_rows books ≡ flat_map line_of (flat_map book_fields books)
-all_lines [] = refl
-all_lines (book ∷ books) =
-    rw (book_lines book, all_lines books) (sym (flat_map-append line_of (book_fields book) (flat_map book_fields books)))
+all_lines : (version : Version) (books : List Closed) → flat_map (book_rows version) books ≡ flat_map line_of (flat_map (book_fields version) books)
+all_lines version [] = refl
+all_lines version (book ∷ books) =
+    rw (book_lines version book, all_lines version books) (sym (flat_map-append line_of (book_fields version book) (flat_map (book_fields version) books)))
 
-pub text_lines : (books : List Closed) → book_text books ≡ lines_of (table_fields books)
+header_line : (version : Version) → header version ≡ line_of (header_fields version)
+header_line version.One = refl
+header_line version.Two = refl
+header_line version.Three = refl
+header_line version.Four = refl
+
+pub text_lines : (version : Version) (books : List Closed) → book_text version books ≡ lines_of (table_fields version books)
 unfolding book_text
-text_lines books = rw (all_lines books) refl
+text_lines version books =
+    rw (all_lines version books) (ap (λ first. first ++ flat_map line_of (flat_map (book_fields version) books)) (header_line version))
 
-pub unmarked : (rows : List Fields) → strip_bom (lines_of (books_header ∷ rows)) ≡ lines_of (books_header ∷ rows)
+pub unmarked : (version : Version) (rows : List Fields) → strip_bom (lines_of (header_fields version ∷ rows)) ≡ lines_of (header_fields version ∷ rows)
 unfolding strip_bom
-unmarked rows = refl
+unmarked version.One rows = refl
+unmarked version.Two rows = refl
+unmarked version.Three rows = refl
+unmarked version.Four rows = refl
 
 -- ---- plain fields
 
@@ -76,6 +106,8 @@ pub record IsPlainOperation (o : Operation) : Type 0 where
   pub x5 : IsPlain o.x5
   pub x6 : IsPlain o.x6
   pub x7 : IsPlain o.x7
+  pub x8 : IsPlain o.x8
+  pub x9 : IsPlain o.x9
 
 pub record IsPlainAnswer (a : Answer) : Type 0 where
   pub reply : IsPlain a.reply
@@ -84,11 +116,33 @@ pub record IsPlainAnswer (a : Answer) : Type 0 where
   pub y3 : IsPlain a.y3
 
 row_plain : (account seat : List ℕ) (o : Operation) (a : Answer) → IsPlain account → IsPlain seat → IsPlainOperation o → IsPlainAnswer a → IsPlainRow (row_fields account seat o a)
-row_plain account seat o a of_account of_seat op answer = record {
-  several = omega arith;
-  plain = All-from_recursion IsPlain (row_fields account seat o a)
-      (of_account, (of_seat, (op.op, (op.call, (op.x1, (op.x2, (op.x3, (op.x4, (op.x5, (op.x6, (op.x7, (answer.reply, (answer.y1, (answer.y2, (answer.y3, tt)))))))))))))));
-}
+row_plain account seat o a of_account of_seat op answer = by o.version refl
+  where
+    short : Fields
+    short = account ∷ seat ∷ o.op ∷ o.call ∷ o.x1 ∷ o.x2 ∷ o.x3 ∷ o.x4 ∷ o.x5 ∷ o.x6 ∷ o.x7 ∷ a.reply ∷ a.y1 ∷ a.y2 ∷ a.y3 ∷ []
+
+    shorter : IsPlainRow short
+    shorter = record {
+      several = omega arith;
+      plain = All-from_recursion IsPlain short
+          (of_account, (of_seat, (op.op, (op.call, (op.x1, (op.x2, (op.x3, (op.x4, (op.x5, (op.x6, (op.x7, (answer.reply, (answer.y1, (answer.y2, (answer.y3, tt)))))))))))))));
+    }
+
+    long : Fields
+    long = account ∷ seat ∷ o.op ∷ o.call ∷ o.x1 ∷ o.x2 ∷ o.x3 ∷ o.x4 ∷ o.x5 ∷ o.x6 ∷ o.x7 ∷ o.x8 ∷ o.x9 ∷ a.reply ∷ a.y1 ∷ a.y2 ∷ a.y3 ∷ []
+
+    longer : IsPlainRow long
+    longer = record {
+      several = omega arith;
+      plain = All-from_recursion IsPlain long
+          (of_account, (of_seat, (op.op, (op.call, (op.x1, (op.x2, (op.x3, (op.x4, (op.x5, (op.x6, (op.x7, (op.x8, (op.x9, (answer.reply, (answer.y1, (answer.y2, (answer.y3, tt)))))))))))))))));
+    }
+
+    by : (version : Version) → o.version ≡ version → IsPlainRow (row_fields account seat o a)
+    by version.One is = rw is shorter
+    by version.Two is = rw is shorter
+    by version.Three is = rw is shorter
+    by version.Four is = rw is longer
 
 module _ (plain : DecimalsArePlain) where
   optional_rate : (number : Option ℕ) → IfSome number IsRate → IsPlain (number_or_empty number)
@@ -103,10 +157,16 @@ module _ (plain : DecimalsArePlain) where
   optional_moment None fits = refl
   optional_moment (Some number) fits = plain number (omega (arith, fits))
 
-  operation_plain : (asked : Asked) → FitsAsked asked → IsPlainOperation (operation_of asked)
-  operation_plain (Credits amount until) fits =
-      record { op = refl; call = refl; x1 = plain amount (omega (arith, fits.0)); x2 = optional_moment until fits.1; x3 = refl; x4 = refl; x5 = refl; x6 = refl; x7 = refl }
-  operation_plain (Reserves call plan wanted least at) fits = record {
+  fourth : (version : Version) (number : ℕ) → number ≤ 864000 → IsPlain (in_fourth version number)
+  fourth version.One number fits = refl
+  fourth version.Two number fits = refl
+  fourth version.Three number fits = refl
+  fourth version.Four number fits = plain number (omega (arith, fits))
+
+  operation_plain : (version : Version) (asked : Asked) → FitsAsked asked → IsPlainOperation (operation_of version asked)
+  operation_plain version (Credits amount until) fits =
+      record { op = refl; call = refl; x1 = plain amount (omega (arith, fits.0)); x2 = optional_moment until fits.1; x3 = refl; x4 = refl; x5 = refl; x6 = refl; x7 = refl; x8 = refl; x9 = refl }
+  operation_plain version (Reserves call plan wanted least at) fits = record {
     op = refl;
     call = plain call (omega (arith, fits.0));
     x1 = plain plan.fee (omega (arith, fits.1.fee));
@@ -116,8 +176,10 @@ module _ (plain : DecimalsArePlain) where
     x5 = plain least (omega (arith, fits.3));
     x6 = plain plan.free (omega (arith, fits.1.free));
     x7 = plain at (omega (arith, fits.4));
+    x8 = fourth version plan.first fits.1.least;
+    x9 = fourth version plan.step fits.1.step.1;
   }
-  operation_plain (Settles call number (info.NoSwitch t)) fits = record {
+  operation_plain version (Settles call number (info.NoSwitch t)) fits = record {
     op = refl;
     call = plain call (omega (arith, fits.0));
     x1 = plain number (omega (arith, fits.1));
@@ -127,8 +189,10 @@ module _ (plain : DecimalsArePlain) where
     x5 = refl;
     x6 = refl;
     x7 = refl;
+    x8 = refl;
+    x9 = refl;
   }
-  operation_plain (Settles call number (info.Switch since interval)) fits = record {
+  operation_plain version (Settles call number (info.Switch since interval)) fits = record {
     op = refl;
     call = plain call (omega (arith, fits.0));
     x1 = plain number (omega (arith, fits.1));
@@ -138,8 +202,10 @@ module _ (plain : DecimalsArePlain) where
     x5 = refl;
     x6 = refl;
     x7 = refl;
+    x8 = refl;
+    x9 = refl;
   }
-  operation_plain (Returns call) fits = record { op = refl; call = plain call (omega (arith, fits)); x1 = refl; x2 = refl; x3 = refl; x4 = refl; x5 = refl; x6 = refl; x7 = refl }
+  operation_plain version (Returns call) fits = record { op = refl; call = plain call (omega (arith, fits)); x1 = refl; x2 = refl; x3 = refl; x4 = refl; x5 = refl; x6 = refl; x7 = refl; x8 = refl; x9 = refl }
 
   answer_plain : (answer : Reply) → IsReplyInRange answer → IsPlainAnswer (answer_of answer)
   answer_plain (reply.Credited available) fits = record { reply = refl; y1 = refl; y2 = refl; y3 = plain available (omega (arith, fits)) }
@@ -158,33 +224,58 @@ module _ (plain : DecimalsArePlain) where
 
   -- ---- plain rows
 
-  entries_plain : (account : ℕ) (history : List EntryData) → account ≤ 4294967295 → All FitsEvent history → All IsPlainRow (map (entry_fields account) history)
-  entries_plain account [] small fit = All-nil IsPlainRow
-  entries_plain account (event ∷ history) small fit =
+  entries_plain : (version : Version) (account : ℕ) (history : List EntryData) → account ≤ 4294967295 → All FitsEvent history
+      → All IsPlainRow (map (entry_fields version account) history)
+  entries_plain version account [] small fit = All-nil IsPlainRow
+  entries_plain version account (event ∷ history) small fit =
       let fits : FitsEvent event = All-head FitsEvent event history fit in
-      All-cons IsPlainRow (entry_fields account event) (map (entry_fields account) history)
-      (row_plain _ _ _ _ (plain account (omega (arith, small))) (plain event.seat (omega (arith, fits.seat))) (operation_plain event.asked fits.asked) (answer_plain event.reply fits.reply))
-      (entries_plain account history small (All-tail FitsEvent event history fit))
+      All-cons IsPlainRow (entry_fields version account event) (map (entry_fields version account) history)
+      (row_plain _ _ _ _ (plain account (omega (arith, small))) (plain event.seat (omega (arith, fits.seat))) (operation_plain version event.asked fits.asked)
+      (answer_plain event.reply fits.reply))
+      (entries_plain version account history small (All-tail FitsEvent event history fit))
 
-  opening_plain : (book : Closed) → FitsBook book → IsPlainRow (opening_fields book)
-  opening_plain book fits =
-      row_plain _ [] (opening_of book.opening book.until) no_answer (plain book.account (omega (arith, fits.account))) refl
-      (record { op = refl; call = refl; x1 = plain book.opening (omega (arith, fits.opening)); x2 = optional_moment book.until fits.until; x3 = refl; x4 = refl; x5 = refl; x6 = refl; x7 = refl })
+  opening_plain : (version : Version) (book : Closed) → FitsBook book → IsPlainRow (opening_fields version book)
+  opening_plain version book fits =
+      row_plain _ [] (opening_of version book.opening book.until) no_answer (plain book.account (omega (arith, fits.account))) refl
+      (record {
+        op = refl;
+        call = refl;
+        x1 = plain book.opening (omega (arith, fits.opening));
+        x2 = optional_moment book.until fits.until;
+        x3 = refl;
+        x4 = refl;
+        x5 = refl;
+        x6 = refl;
+        x7 = refl;
+        x8 = refl;
+        x9 = refl;
+      })
       (record { reply = refl; y1 = refl; y2 = refl; y3 = refl })
 
-  books_plain : (books : List Closed) → All FitsBook books → All IsPlainRow (flat_map book_fields books)
-  books_plain [] fit = All-nil IsPlainRow
-  books_plain (book ∷ books) fit =
+  books_plain : (version : Version) (books : List Closed) → All FitsBook books → All IsPlainRow (flat_map (book_fields version) books)
+  books_plain version [] fit = All-nil IsPlainRow
+  books_plain version (book ∷ books) fit =
       let fits : FitsBook book = All-head FitsBook book books fit in
-      All-append IsPlainRow (book_fields book) (flat_map book_fields books)
-      (All-cons IsPlainRow (opening_fields book) (map (entry_fields book.account) book.history) (opening_plain book fits) (entries_plain book.account book.history fits.account fits.history))
-      (books_plain books (All-tail FitsBook book books fit))
+      All-append IsPlainRow (book_fields version book) (flat_map (book_fields version) books)
+      (All-cons IsPlainRow (opening_fields version book) (map (entry_fields version book.account) book.history) (opening_plain version book fits)
+      (entries_plain version book.account book.history fits.account fits.history))
+      (books_plain version books (All-tail FitsBook book books fit))
 
-  header_plain : IsPlainRow books_header
-  header_plain = record {
+  third_plain : IsPlainRow third_header
+  third_plain = record {
     several = omega arith;
-    plain = All-from_recursion IsPlain books_header (refl, (refl, (refl, (refl, (refl, (refl, (refl, (refl, (refl, (refl, (refl, (refl, (refl, (refl, (refl, tt)))))))))))))));
+    plain = All-from_recursion IsPlain third_header (refl, (refl, (refl, (refl, (refl, (refl, (refl, (refl, (refl, (refl, (refl, (refl, (refl, (refl, (refl, tt)))))))))))))));
   }
 
-  pub table_plain : (books : List Closed) → All FitsBook books → All IsPlainRow (table_fields books)
-  table_plain books fit = All-cons IsPlainRow books_header (flat_map book_fields books) header_plain (books_plain books fit)
+  header_plain : (version : Version) → IsPlainRow (header_fields version)
+  header_plain version.One = third_plain
+  header_plain version.Two = third_plain
+  header_plain version.Three = third_plain
+  header_plain version.Four = record {
+    several = omega arith;
+    plain = All-from_recursion IsPlain fourth_header
+        (refl, (refl, (refl, (refl, (refl, (refl, (refl, (refl, (refl, (refl, (refl, (refl, (refl, (refl, (refl, (refl, (refl, tt)))))))))))))))));
+  }
+
+  pub table_plain : (version : Version) (books : List Closed) → All FitsBook books → All IsPlainRow (table_fields version books)
+  table_plain version books fit = All-cons IsPlainRow (header_fields version) (flat_map (book_fields version) books) (header_plain version) (books_plain version books fit)

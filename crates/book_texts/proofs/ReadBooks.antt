@@ -1,13 +1,13 @@
 -- The rows that are printed of books are read back.
-use Rattle.std.proofs.Common.{◌≡◌, ℕ, ◌+◌, ◌<◌, ◌≤◌, ◌^◌, Bool, true, false, List, [], ◌∷◌, ◌++◌, length, map, Option, Some, None, Ok, refl, ap, ◌∙◌, append_assoc, append-nil, add-zero, arith}
+use Rattle.std.proofs.Common.{◌≡◌, ℕ, ◌+◌, ◌<◌, ◌≤◌, ◌^◌, Bool, true, false, List, [], ◌∷◌, ◌++◌, length, map, Option, Some, None, Result, Ok, refl, ap, ◌∙◌, append_assoc, append-nil, add-zero, arith}
 use Rattle.std.specs.BTreeMap.{insert_entry, is_at}
 use Rattle.std.specs.Fmt.{decimal}
-use Rattle.std.specs.List.{All, AllByRecursion, flat_map}
+use Rattle.std.specs.List.{All, AllByRecursion, flat_map, list_any}
 use Rattle.std.specs.List.Sorted.{IsStrictlySortedBy}
 use Rattle.std.specs.Map.{lookup, set_value}
 use Rattle.std.specs.Ordering.{nat_cmp}
 use Rattle.std.specs.Str.{bytes_eq}
-use Rattle.std.specs.Prelude.{codes, IfSome}
+use Rattle.std.specs.Prelude.{◌||◌, codes, if◌then◌else◌, IfSome}
 use Rattle.std.specs.declared.cmp.Ordering.TheVariants as order
 use Rattle.std.proofs.lemmas.Bool.Decides.{nat_tests}
 use Rattle.std.proofs.lemmas.Fmt.{decimal_nonempty}
@@ -16,18 +16,23 @@ use Rattle.account_core.specs.Answers.{IsLegal}
 use Rattle.account_core.specs.Asked.{Asked, Credits, Reserves, Returns, Settles}
 use Rattle.account_core.specs.Events.{EntryData}
 use Rattle.entry_rows.specs.Column.{is_empty, moment_of, money_of, number_of, optional_moment_of, seat_of}
-use Rattle.entry_rows.specs.Columns.{Answer, answer_of, number_or_empty, operation_at, operation_of}
+use Rattle.entry_rows.specs.Columns.{Answer, Operation, answer_of, no_answer, number_or_empty, opening_of, operation_at, operation_of}
 use Rattle.entry_rows.specs.Fits.{FitsEvent, IsMoment, IsMoney}
-use Rattle.entry_rows.specs.Laws.{OperationsAreRead, RepliesAreRead}
+use Rattle.entry_rows.specs.Laws.{OperationsAreRead, Prints, RepliesAreRead}
+use Rattle.entry_rows.specs.Versions.{version_at}
+use Rattle.entry_rows.specs.declared.version.Version.{Version}
 use Rattle.entry_rows.specs.declared.version.Version.TheVariants as version
 use Rattle.shared_account.specs.Closed.{Closed}
 use Rattle.table_core.specs.Printed.{DecimalsArePlain, DecimalsAreRead, TablesAreRead}
 use Rattle.table_core.specs.Rows.{Fields}
 use Rattle.table_core.specs.Tables.{rows_from, table_of}
 use Rattle.table_core.proofs.TableLemmas.{no_fault}
+use Rattle.table_core.specs.declared.fault.RowFault.{RowFault}
+use Rattle.tariff_core.specs.Rates.{are_steps}
 use Rattle.tariff_core.specs.declared.times.TimeInfo.TheVariants as info
 use Rattle.book_texts.specs.Audits.{AreVerdicts, IsAuditOf, audited}
 use Rattle.book_texts.specs.BookRows.{Enters, Opens, account_of, columns_in, entry_in, opening_in, said_in}
+use Rattle.book_texts.specs.BookTexts.{asks_steps, history_has_steps, version_of}
 use Rattle.book_texts.specs.Books.{Books, Told, books_form, row_at}
 use Rattle.book_texts.specs.Laws.{BooksAreRead, PrintedBooksPass}
 use Rattle.book_texts.specs.Printable.{ArePrintable, FitsBook, row_count, told_by}
@@ -84,25 +89,125 @@ none_before (book ∷ books) = (tt, none_before books)
 not_empty : (number : ℕ) → number < 2 ^ 64 → is_empty (decimal number) ≡ false
 not_empty number small = let some : 0 < length (decimal number) = decimal_nonempty number small in grind (arith, nat_tests)
 
-not_opening : (asked : Asked) → bytes_eq (operation_of asked).op (codes "opening") ≡ false
-not_opening (Credits amount until) = refl
-not_opening (Reserves call plan wanted least at) = refl
-not_opening (Settles call number (info.NoSwitch t)) = refl
-not_opening (Settles call number (info.Switch since interval)) = refl
-not_opening (Returns call) = refl
+not_opening : (version : Version) (asked : Asked) → bytes_eq (operation_of version asked).op (codes "opening") ≡ false
+not_opening version (Credits amount until) = refl
+not_opening version (Reserves call plan wanted least at) = refl
+not_opening version (Settles call number (info.NoSwitch t)) = refl
+not_opening version (Settles call number (info.Switch since interval)) = refl
+not_opening version (Returns call) = refl
 
--- what is printed of an operation is its columns in version 3
-same_operation : (account seat : List ℕ) (asked : Asked) (a : Answer) → operation_at version.Three (row_fields account seat (operation_of asked) a) 2 ≡ operation_of asked
-same_operation account seat (Credits amount until) a = refl
-same_operation account seat (Reserves call plan wanted least at) a = refl
-same_operation account seat (Settles call number (info.NoSwitch t)) a = refl
-same_operation account seat (Settles call number (info.Switch since interval)) a = refl
-same_operation account seat (Returns call) a = refl
+-- a version in which a table is printed
+abbrev IsPrinted : Version → Type 0
+IsPrinted version.Three = Unit {0}
+IsPrinted version.Four = Unit {0}
+IsPrinted version = ⊥
 
-one_row : (most number : ℕ) (books next : Books) (fields : Fields) (rest : List Fields) → length fields ≡ 15 → number ≤ most + 1 → row_at version.Three books fields ≡ Ok next
-    → rows_from (books_form most) 2 15 number books (fields ∷ rest) ≡ rows_from (books_form most) 2 15 (number + 1) next rest
+-- what is printed of an operation is its columns in that version
+same_operation : (version : Version) → IsPrinted version → (account seat : List ℕ) (asked : Asked) (a : Answer)
+    → operation_at version (row_fields account seat (operation_of version asked) a) 2 ≡ operation_of version asked
+same_operation version.One printed account seat asked a = absurd printed
+same_operation version.Two printed account seat asked a = absurd printed
+same_operation version.Three printed account seat (Credits amount until) a = refl
+same_operation version.Three printed account seat (Reserves call plan wanted least at) a = refl
+same_operation version.Three printed account seat (Settles call number (info.NoSwitch t)) a = refl
+same_operation version.Three printed account seat (Settles call number (info.Switch since interval)) a = refl
+same_operation version.Three printed account seat (Returns call) a = refl
+same_operation version.Four printed account seat (Credits amount until) a = refl
+same_operation version.Four printed account seat (Reserves call plan wanted least at) a = refl
+same_operation version.Four printed account seat (Settles call number (info.NoSwitch t)) a = refl
+same_operation version.Four printed account seat (Settles call number (info.Switch since interval)) a = refl
+same_operation version.Four printed account seat (Returns call) a = refl
+
+-- the operation of a printed row has the version of its table
+own_version : (version : Version) (asked : Asked) → (operation_of version asked).version ≡ version
+own_version version (Credits amount until) = refl
+own_version version (Reserves call plan wanted least at) = refl
+own_version version (Settles call number (info.NoSwitch t)) = refl
+own_version version (Settles call number (info.Switch since interval)) = refl
+own_version version (Returns call) = refl
+
+-- where the header of a printed version is, and how many columns it has
+abbrev header_place : Version → ℕ
+header_place version.Four = 3
+header_place version = 2
+
+abbrev columns_of : Version → ℕ
+columns_of version.Four = 17
+columns_of version = 15
+
+placed : (version : Version) → IsPrinted version → version_at (header_place version) ≡ version
+placed version.One printed = absurd printed
+placed version.Two printed = absurd printed
+placed version.Three printed = refl
+placed version.Four printed = refl
+
+wide : (version : Version) (account seat : List ℕ) (o : Operation) (a : Answer) → o.version ≡ version → length (row_fields account seat o a) ≡ columns_of version
+wide version.One account seat o a is = rw is refl
+wide version.Two account seat o a is = rw is refl
+wide version.Three account seat o a is = rw is refl
+wide version.Four account seat o a is = rw is refl
+
+one_row : (version : Version) → IsPrinted version → (most number : ℕ) (books next : Books) (fields : Fields) (rest : List Fields) → length fields ≡ columns_of version
+    → number ≤ most + 1 → row_at version books fields ≡ Ok next
+    → rows_from (books_form most) (header_place version) (columns_of version) number books (fields ∷ rest)
+    ≡ rows_from (books_form most) (header_place version) (columns_of version) (number + 1) next rest
 unfolding rows_from
-one_row most number books next fields rest width within is = rw (no_fault most 15 number fields width within, is) refl
+one_row version printed most number books next fields rest width within is =
+    rw (no_fault most (columns_of version) number fields width within, placed version printed, is) refl
+
+-- ---- what has no steps is printed whole in version 3
+
+no_steps : (first step : ℕ) → are_steps first step ≡ false → (first ≡ 0) × (step ≡ 1)
+no_steps first step none = (grind (arith, nat_tests), grind (arith, nat_tests))
+
+whole : (asked : Asked) → asks_steps asked ≡ false → Prints version.Three asked
+whole (Credits amount until) none = tt
+whole (Reserves call plan wanted least at) none = no_steps plan.first plan.step none
+whole (Settles call number info) none = tt
+whole (Returns call) none = tt
+
+or_parts : (a b : Bool) → (a || b) ≡ false → (a ≡ false) × (b ≡ false)
+or_parts true b none = absurd cc
+or_parts false b none = (refl, none)
+
+-- each operation of a history is printed whole
+abbrev PrintsAll : Version → List EntryData → Type 0
+PrintsAll version history = AllByRecursion (λ event. Prints version event.asked) history
+
+history_whole : (history : List EntryData) → history_has_steps history ≡ false → PrintsAll version.Three history
+history_whole [] none = tt
+history_whole (event ∷ history) none =
+    let parts = or_parts (asks_steps event.asked) (history_has_steps history) none in
+    (whole event.asked parts.0, history_whole history parts.1)
+
+history_fourth : (history : List EntryData) → PrintsAll version.Four history
+history_fourth [] = tt
+history_fourth (event ∷ history) = (tt, history_fourth history)
+
+abbrev PrintsBooks : Version → List Closed → Type 0
+PrintsBooks version books = AllByRecursion (λ book. PrintsAll version book.history) books
+
+books_whole : (books : List Closed) → list_any (λ book. history_has_steps book.history) books ≡ false → PrintsBooks version.Three books
+books_whole [] none = tt
+books_whole (book ∷ books) none =
+    let parts = or_parts (history_has_steps book.history) (list_any (λ b. history_has_steps b.history) books) none in
+    (history_whole book.history parts.0, books_whole books parts.1)
+
+books_fourth : (books : List Closed) → PrintsBooks version.Four books
+books_fourth [] = tt
+books_fourth (book ∷ books) = (history_fourth book.history, books_fourth books)
+
+-- the version that is chosen is one in which a table is printed, and prints all
+pub record Chosen (version : Version) (books : List Closed) : Type 0 where
+  pub printed : IsPrinted version
+  pub prints : PrintsBooks version books
+
+chosen : (steps : Bool) (books : List Closed) → Chosen (version_of steps books) books
+chosen steps books = by (steps || list_any (λ book. history_has_steps book.history) books) refl
+  where
+    by : (b : Bool) → (steps || list_any (λ book. history_has_steps book.history) books) ≡ b → Chosen (if b then version.Four else version.Three) books
+    by true is = record { printed = tt; prints = books_fourth books }
+    by false is = record { printed = tt; prints = books_whole books (or_parts steps _ is).1 }
 
 module _ (reads : DecimalsAreRead) (operations : OperationsAreRead) (replies : RepliesAreRead) where
   number_read : (most number : ℕ) → most < 2 ^ 64 → number ≤ most → number_of most (decimal number) ≡ Ok number
@@ -124,64 +229,117 @@ module _ (reads : DecimalsAreRead) (operations : OperationsAreRead) (replies : R
   optional_moment_read None fits = refl
   optional_moment_read (Some moment) fits = rw (not_empty moment (omega (arith, fits)), moment_read moment fits) refl
 
-  entry_said : (account : ℕ) (event : EntryData) → account ≤ 4294967295 → FitsEvent event → said_in (columns_in version.Three (entry_fields account event)) ≡ Ok (Enters account event)
-  unfolding entry_in
-  entry_said account event small fits =
-      let asked = operations event.asked fits.asked in
-      let reply = replies event.reply fits.reply in
-      rw (same_operation (decimal account) (decimal event.seat) event.asked (answer_of event.reply), not_opening event.asked, asked.known, reply.known, account_read account small, seat_read event.seat fits.seat, asked.read, reply.read, asked.blank, reply.blank) refl
-
-  opening_said : (book : Closed) → FitsBook book → said_in (columns_in version.Three (opening_fields book)) ≡ Ok (Opens book.account book.opening book.until)
+  opening_said : (version : Version) → IsPrinted version → (book : Closed) → FitsBook book
+      → said_in (columns_in version (opening_fields version book)) ≡ Ok (Opens book.account book.opening book.until)
   unfolding opening_in
-  opening_said book fits = rw (account_read book.account fits.account, money_read book.opening fits.opening, optional_moment_read book.until fits.until) refl
+  opening_said version.One printed book fits = absurd printed
+  opening_said version.Two printed book fits = absurd printed
+  opening_said version.Three printed book fits =
+      rw (account_read book.account fits.account, money_read book.opening fits.opening, optional_moment_read book.until fits.until) refl
+  opening_said version.Four printed book fits =
+      rw (account_read book.account fits.account, money_read book.opening fits.opening, optional_moment_read book.until fits.until) refl
 
-  opening_at : (book : Closed) (front : Books) → FitsBook book → IsAbove book.account front
-      → row_at version.Three front (opening_fields book) ≡ Ok (front ++ (book.account, record { opening = book.opening; until = book.until; history = [] }) ∷ [])
-  unfolding row_at
-  opening_at book front fits above = rw (opening_said book fits, not_told book.account front above, opened_last book.account front _ above) refl
+  entry_said : (version : Version) → IsPrinted version → (account : ℕ) (event : EntryData) → account ≤ 4294967295 → FitsEvent event → Prints version event.asked
+      → said_in (columns_in version (entry_fields version account event)) ≡ Ok (Enters account event)
+  unfolding entry_in
+  entry_said version.One printed account event small fits prints = absurd printed
+  entry_said version.Two printed account event small fits prints = absurd printed
+  entry_said version.Three printed account event small fits prints =
+      let asked = operations version.Three event.asked fits.asked prints in
+      let reply = replies event.reply fits.reply in
+      rw (
+        same_operation version.Three tt (decimal account) (decimal event.seat) event.asked (answer_of event.reply),
+        own_version version.Three event.asked,
+        not_opening version.Three event.asked,
+        asked.known,
+        reply.known,
+        account_read account small,
+        seat_read event.seat fits.seat,
+        asked.read,
+        reply.read,
+        asked.blank,
+        reply.blank,
+      ) refl
+  entry_said version.Four printed account event small fits prints =
+      let asked = operations version.Four event.asked fits.asked prints in
+      let reply = replies event.reply fits.reply in
+      rw (
+        same_operation version.Four tt (decimal account) (decimal event.seat) event.asked (answer_of event.reply),
+        own_version version.Four event.asked,
+        not_opening version.Four event.asked,
+        asked.known,
+        reply.known,
+        account_read account small,
+        seat_read event.seat fits.seat,
+        asked.read,
+        reply.read,
+        asked.blank,
+        reply.blank,
+      ) refl
 
-  entry_at : (account opening : ℕ) (until : Option ℕ) (before : List EntryData) (event : EntryData) (front : Books) → account ≤ 4294967295 → FitsEvent event → IsAbove account front
-      → row_at version.Three (front ++ (account, record { opening = opening; until = until; history = before }) ∷ []) (entry_fields account event)
-      ≡ Ok (front ++ (account, record { opening = opening; until = until; history = before ++ event ∷ [] }) ∷ [])
-  unfolding row_at
-  entry_at account opening until before event front small fits above =
-      rw (entry_said account event small fits, told_last account front _ above, set_last account front _ _ above) refl
+  module _ (version : Version) (printed : IsPrinted version) where
+    opening_at : (book : Closed) (front : Books) → FitsBook book → IsAbove book.account front
+        → row_at version front (opening_fields version book) ≡ Ok (front ++ (book.account, record { opening = book.opening; until = book.until; history = [] }) ∷ [])
+    unfolding row_at
+    opening_at book front fits above = rw (opening_said version printed book fits, not_told book.account front above, opened_last book.account front _ above) refl
 
-  -- ---- books
+    entry_at : (account opening : ℕ) (until : Option ℕ) (before : List EntryData) (event : EntryData) (front : Books) → account ≤ 4294967295 → FitsEvent event
+        → Prints version event.asked → IsAbove account front
+        → row_at version (front ++ (account, record { opening = opening; until = until; history = before }) ∷ []) (entry_fields version account event)
+        ≡ Ok (front ++ (account, record { opening = opening; until = until; history = before ++ event ∷ [] }) ∷ [])
+    unfolding row_at
+    entry_at account opening until before event front small fits prints above =
+        rw (entry_said version printed account event small fits prints, told_last account front _ above, set_last account front _ _ above) refl
 
-  entries_from : (most account opening : ℕ) (until : Option ℕ) (front : Books) → account ≤ 4294967295 → IsAbove account front → (history before : List EntryData) (number : ℕ) (rest : List Fields)
-      → All FitsEvent history → number + length history ≤ most + 2
-      → rows_from (books_form most) 2 15 number (front ++ (account, record { opening = opening; until = until; history = before }) ∷ []) (map (entry_fields account) history ++ rest)
-      ≡ rows_from (books_form most) 2 15 (number + length history) (front ++ (account, record { opening = opening; until = until; history = before ++ history }) ∷ []) rest
-  entries_from most account opening until front small above [] before number rest fit room = rw (add-zero number, append-nil before) refl
-  entries_from most account opening until front small above (event ∷ history) before number rest fit room =
-      let counted : (number + 1) + length history ≡ number + length (event ∷ history) = omega arith in
-      let more = entries_from most account opening until front small above history (before ++ event ∷ []) (number + 1) rest (All-tail FitsEvent event history fit) (omega arith) in
-      one_row most number _ _ (entry_fields account event) (map (entry_fields account) history ++ rest) refl (omega arith)
-      (entry_at account opening until before event front small (All-head FitsEvent event history fit) above)
-      ∙ rw (counted, append_assoc before (event ∷ []) history) at more
+    -- ---- books
 
-  books_from : (most : ℕ) (books : List Closed) (front : Books) (number : ℕ) → AreAbove books front → IsStrictlySortedBy nat_cmp (map (λ book. book.account) books) → All FitsBook books
-      → number + row_count books ≤ most + 2 → rows_from (books_form most) 2 15 number front (flat_map book_fields books) ≡ Ok (front ++ map told_by books)
-  unfolding IsStrictlySortedBy rows_from
-  books_from most [] front number above rising fit room = rw (append-nil front) refl
-  books_from most (book ∷ books) front number above rising fit room =
-      let fits : FitsBook book = All-head FitsBook book books fit in
-      let rest = flat_map book_fields books in
-      let opened = one_row most number front _ (opening_fields book) (map (entry_fields book.account) book.history ++ rest) refl (omega arith) (opening_at book front fits above.0) in
-      let entered = entries_from most book.account book.opening book.until front fits.account above.0 book.history [] (number + 1) rest fits.history (omega arith) in
-      let others = books_from most books (front ++ told_by book ∷ []) ((number + 1) + length book.history) (all_above book books front above.1 rising.0) rising.1
-      (All-tail FitsBook book books fit) (omega arith) in
-      opened ∙ entered ∙ rw (append_assoc front (told_by book ∷ []) (map told_by books)) at others
+    -- the rows from a number on
+    abbrev from : ℕ → ℕ → Books → List Fields → Result Books RowFault
+    from most number books rows = rows_from (books_form most) (header_place version) (columns_of version) number books rows
 
-  table_read : (most : ℕ) (books : List Closed) → ArePrintable most books → table_of (books_form most) (table_fields books) ≡ Ok (map told_by books)
+    entries_from : (most account opening : ℕ) (until : Option ℕ) (front : Books) → account ≤ 4294967295 → IsAbove account front → (history before : List EntryData) (number : ℕ)
+        (rest : List Fields) → All FitsEvent history → PrintsAll version history → number + length history ≤ most + 2
+        → from most number (front ++ (account, record { opening = opening; until = until; history = before }) ∷ []) (map (entry_fields version account) history ++ rest)
+        ≡ from most (number + length history) (front ++ (account, record { opening = opening; until = until; history = before ++ history }) ∷ []) rest
+    entries_from most account opening until front small above [] before number rest fit prints room = rw (add-zero number, append-nil before) refl
+    entries_from most account opening until front small above (event ∷ history) before number rest fit prints room =
+        let counted : (number + 1) + length history ≡ number + length (event ∷ history) = omega arith in
+        let more = entries_from most account opening until front small above history (before ++ event ∷ []) (number + 1) rest (All-tail FitsEvent event history fit) prints.1 (omega arith) in
+        one_row version printed most number _ _ (entry_fields version account event) (map (entry_fields version account) history ++ rest)
+        (wide version (decimal account) (decimal event.seat) (operation_of version event.asked) (answer_of event.reply) (own_version version event.asked)) (omega arith)
+        (entry_at account opening until before event front small (All-head FitsEvent event history fit) prints.0 above)
+        ∙ rw (counted, append_assoc before (event ∷ []) history) at more
+
+    books_from : (most : ℕ) (books : List Closed) (front : Books) (number : ℕ) → AreAbove books front → IsStrictlySortedBy nat_cmp (map (λ book. book.account) books)
+        → All FitsBook books → PrintsBooks version books → number + row_count books ≤ most + 2
+        → from most number front (flat_map (book_fields version) books) ≡ Ok (front ++ map told_by books)
+    unfolding IsStrictlySortedBy rows_from
+    books_from most [] front number above rising fit prints room = rw (append-nil front) refl
+    books_from most (book ∷ books) front number above rising fit prints room =
+        let fits : FitsBook book = All-head FitsBook book books fit in
+        let rest = flat_map (book_fields version) books in
+        let opened = one_row version printed most number front _ (opening_fields version book) (map (entry_fields version book.account) book.history ++ rest)
+        (wide version (decimal book.account) [] (opening_of version book.opening book.until) no_answer refl) (omega arith) (opening_at book front fits above.0) in
+        let entered = entries_from most book.account book.opening book.until front fits.account above.0 book.history [] (number + 1) rest fits.history prints.0 (omega arith) in
+        let others = books_from most books (front ++ told_by book ∷ []) ((number + 1) + length book.history) (all_above book books front above.1 rising.0) rising.1
+        (All-tail FitsBook book books fit) prints.1 (omega arith) in
+        opened ∙ entered ∙ rw (append_assoc front (told_by book ∷ []) (map told_by books)) at others
+
+  table_read : (version : Version) → IsPrinted version → (most : ℕ) (books : List Closed) → ArePrintable most books → PrintsBooks version books
+      → table_of (books_form most) (table_fields version books) ≡ Ok (map told_by books)
   unfolding table_of
-  table_read most books are = books_from most books [] 2 (none_before books) are.rising are.fit (omega (arith, are.room))
+  table_read version.One printed most books are prints = absurd printed
+  table_read version.Two printed most books are prints = absurd printed
+  table_read version.Three printed most books are prints = books_from version.Three printed most books [] 2 (none_before books) are.rising are.fit prints (omega (arith, are.room))
+  table_read version.Four printed most books are prints = books_from version.Four printed most books [] 2 (none_before books) are.rising are.fit prints (omega (arith, are.room))
 
   module _ (plain : DecimalsArePlain) (tables : TablesAreRead) where
     pub books_read : BooksAreRead
-    books_read most books are =
-        rw (text_lines books, tables (table_fields books) (table_plain plain books are.fit) (unmarked (flat_map book_fields books))) (table_read most books are)
+    books_read most steps books are =
+        let version = version_of steps books in
+        let is = chosen steps books in
+        rw (text_lines version books, tables (table_fields version books) (table_plain plain version books are.fit) (unmarked version (flat_map (book_fields version) books)))
+        (table_read version is.printed most books are is.prints)
 
     -- ---- verdicts
 
@@ -195,6 +353,6 @@ module _ (reads : DecimalsAreRead) (operations : OperationsAreRead) (replies : R
         rw (are.0.0, are.0.1.1 (All-head Legal book books legal), each_passes books verdicts (All-tail Legal book books legal) are.1) refl
 
     pub books_pass : PrintedBooksPass
-    books_pass most books audit are legal gives =
-        let is_audit : IsAuditOf (map told_by books) audit = rw (books_read most books are) at gives in
+    books_pass most steps books audit are legal gives =
+        let is_audit : IsAuditOf (map told_by books) audit = rw (books_read most steps books are) at gives in
         is_audit.told ∙ ap audited (each_passes books is_audit.verdicts legal is_audit.are)

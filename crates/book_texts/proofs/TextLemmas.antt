@@ -1,11 +1,14 @@
 -- One more book among the texts so far.
-use Rattle.std.proofs.Common.{◌≡◌, ℕ, ◌+◌, ◌<◌, List, [], ◌∷◌, ◌++◌, length, get_or, take, reverse, sym, ap, ◌∙◌, append_assoc, subst}
+use Rattle.std.proofs.Common.{◌≡◌, ℕ, ◌+◌, ◌<◌, List, [], ◌∷◌, ◌++◌, length, get_or, map, take, refl, reverse, sym, ap, ◌∙◌, append_assoc, subst}
 use Rattle.std.proofs.lemmas.List.{append-nil, take_more}
 use Rattle.std.proofs.lemmas.List.Concat.{flat_map-append}
 use Rattle.std.proofs.lemmas.List.Elements.{All-more}
-use Rattle.std.specs.List.{All, flat_map}
+use Rattle.std.specs.List.{All, flat_map, list_any}
 use Rattle.account_core.specs.Available.{available}
+use Rattle.account_core.specs.Events.{asked_of, entry_data}
+use Rattle.account_core.specs.declared.entry.Entry.{Entry}
 use Rattle.shared_account.specs.Closed.{Closed}
+use Rattle.book_texts.specs.BookTexts.{asks_steps, history_has_steps}
 use Rattle.book_texts.specs.RunTexts.{account_line, account_text}
 
 -- the next item of a list
@@ -35,3 +38,8 @@ account_printed books i book text account opening credit entries within is numbe
 pub all_so_far : {X : Type 0} (P : X → Type 0) (items : List X) (i : ℕ) (item : X) → i < length items → item ≡ get_or items i item
     → All P (take i items) → P item → All P (take (i + 1) items)
 all_so_far P items i item within is so_far here = All-more P items i item within so_far (subst P is here)
+
+-- an entry of the code bills in steps where what it says does
+pub steps_of_entries : (entries : List Entry) → list_any (λ entry. asks_steps (asked_of entry.op)) entries ≡ history_has_steps (map entry_data entries)
+steps_of_entries [] = refl
+steps_of_entries (entry ∷ entries) = rw (steps_of_entries entries) refl

@@ -1,31 +1,49 @@
 -- The table of books.
-use Rattle.std.specs.Prelude.{ℕ, List, [], ◌++◌, codes}
+use Rattle.std.specs.Prelude.{◌||◌, ℕ, Bool, false, List, [], ◌++◌, codes, if◌then◌else◌}
 use Rattle.std.specs.Fmt.{decimal}
-use Rattle.std.specs.List.{flat_map}
+use Rattle.std.specs.List.{flat_map, list_any}
+use Rattle.account_core.specs.Asked.{Asked, Reserves}
 use Rattle.account_core.specs.Events.{EntryData}
+use Rattle.tariff_core.specs.Rates.{has_steps}
 use Rattle.shared_account.specs.Closed.{Closed}
 use Rattle.entry_rows.specs.Columns.{Answer, Operation, answer_of, answer_text, field, no_answer, opening_of, operation_of, operation_text}
+use Rattle.entry_rows.specs.declared.version.Version.{Version}
+use Rattle.entry_rows.specs.declared.version.Version.TheVariants as version
 
 -- a row: the account's number, the seat, what was asked and what was answered
 abbrev pub row : ℕ → List ℕ → Operation → Answer → List ℕ
 row account seat operation answer = field (decimal account) (field seat (operation_text operation ++ answer_text answer))
 
 -- the row that opens an account
-abbrev pub opening_row : Closed → List ℕ
-opening_row book = row book.account [] (opening_of book.opening book.until) no_answer
+abbrev pub opening_row : Version → Closed → List ℕ
+opening_row version book = row book.account [] (opening_of version book.opening book.until) no_answer
 
 -- the row of an entry
-abbrev pub entry_row : ℕ → EntryData → List ℕ
-entry_row account event = row account (decimal event.seat) (operation_of event.asked) (answer_of event.reply)
+abbrev pub entry_row : Version → ℕ → EntryData → List ℕ
+entry_row version account event = row account (decimal event.seat) (operation_of version event.asked) (answer_of event.reply)
 
 -- the opening of a book, and its entries
-abbrev pub book_rows : Closed → List ℕ
-book_rows book = opening_row book ++ flat_map (entry_row book.account) book.history
+abbrev pub book_rows : Version → Closed → List ℕ
+book_rows version book = opening_row version book ++ flat_map (entry_row version book.account) book.history
 
--- the header of a book
-abbrev pub header : List ℕ
-header = codes "account,seat,op,call,x1,x2,x3,x4,x5,x6,x7,reply,y1,y2,y3\n"
+-- the header of a table of books
+abbrev pub header : Version → List ℕ
+header version.Four = codes "account,seat,op,call,x1,x2,x3,x4,x5,x6,x7,x8,x9,reply,y1,y2,y3\n"
+header version = codes "account,seat,op,call,x1,x2,x3,x4,x5,x6,x7,reply,y1,y2,y3\n"
 
--- the table of books, version 3: a header, and the rows of each book in order
-unfoldable pub book_text : List Closed → List ℕ
-book_text books = header ++ flat_map book_rows books
+-- the table of books in version 3 or 4: a header, and the rows of each book in order
+unfoldable pub book_text : Version → List Closed → List ℕ
+book_text version books = header version ++ flat_map (book_rows version) books
+
+-- whether an operation bills in steps: a Reserve whose plan does
+abbrev pub asks_steps : Asked → Bool
+asks_steps (Reserves call plan wanted least at) = has_steps plan
+asks_steps asked = false
+
+-- whether any operation of a history does
+abbrev pub history_has_steps : List EntryData → Bool
+history_has_steps history = list_any (λ event. asks_steps event.asked) history
+
+-- the version of the table of books: 4 where the tariff has steps or an operation has, else 3
+abbrev pub version_of : Bool → List Closed → Version
+version_of steps books = if steps || list_any (λ book. history_has_steps book.history) books then version.Four else version.Three

@@ -67,14 +67,20 @@ second_header =
     ∷ codes "reply" ∷ codes "y1" ∷ codes "y2" ∷ codes "y3" ∷ []
 
 -- the same with `x7` behind `x6`: version 3
-abbrev pub books_header : List (List ℕ)
-books_header =
+abbrev pub third_header : List (List ℕ)
+third_header =
     codes "account" ∷ codes "seat" ∷ codes "op" ∷ codes "call" ∷ codes "x1" ∷ codes "x2" ∷ codes "x3" ∷ codes "x4" ∷ codes "x5" ∷ codes "x6" ∷ codes "x7"
     ∷ codes "reply" ∷ codes "y1" ∷ codes "y2" ∷ codes "y3" ∷ []
 
+-- the same with `x8` and `x9` behind `x7`: version 4
+abbrev pub fourth_header : List (List ℕ)
+fourth_header =
+    codes "account" ∷ codes "seat" ∷ codes "op" ∷ codes "call" ∷ codes "x1" ∷ codes "x2" ∷ codes "x3" ∷ codes "x4" ∷ codes "x5" ∷ codes "x6" ∷ codes "x7"
+    ∷ codes "x8" ∷ codes "x9" ∷ codes "reply" ∷ codes "y1" ∷ codes "y2" ∷ codes "y3" ∷ []
+
 -- the headers of all versions, the oldest first
 abbrev pub books_headers : List (List (List ℕ))
-books_headers = first_header ∷ second_header ∷ books_header ∷ []
+books_headers = first_header ∷ second_header ∷ third_header ∷ fourth_header ∷ []
 
 -- at most so many rows; each says something of an account
 abbrev pub books_form : ℕ → TableForm Books RowKind RowFault

@@ -1,11 +1,11 @@
 -- What is true of the texts of books, in words of their own.
-use Rattle.std.specs.Prelude.{◌≡◌, ℕ, true, List, map, Ok}
+use Rattle.std.specs.Prelude.{◌≡◌, ℕ, Bool, true, List, map, Ok}
 use Rattle.std.specs.List.{All}
 use Rattle.account_core.specs.Answers.{IsLegal}
 use Rattle.shared_account.specs.Closed.{Closed}
 use Rattle.table_core.specs.Rows.{rows_of}
 use Rattle.book_texts.specs.Audits.{Audited, GivesAudit, audited}
-use Rattle.book_texts.specs.BookTexts.{book_text}
+use Rattle.book_texts.specs.BookTexts.{book_text, version_of}
 use Rattle.book_texts.specs.Books.{books_of}
 use Rattle.book_texts.specs.Printable.{ArePrintable, told_by}
 use Rattle.book_texts.specs.RunTexts.{IsRunText}
@@ -16,10 +16,11 @@ BooksHaveOneText = (books : List Closed) (one other : List ℕ) → IsRunText bo
 
 -- the table that is printed of books is read back to the opening and the history of each
 abbrev pub BooksAreRead : Type 0
-BooksAreRead = (most : ℕ) (books : List Closed) → ArePrintable most books → books_of most (rows_of (book_text books)) ≡ Ok (map told_by books)
+BooksAreRead =
+    (most : ℕ) (steps : Bool) (books : List Closed) → ArePrintable most books → books_of most (rows_of (book_text (version_of steps books) books)) ≡ Ok (map told_by books)
 
 -- where their histories are legal, an audit of that table says yes for each
 abbrev pub PrintedBooksPass : Type 0
 PrintedBooksPass =
-    (most : ℕ) (books : List Closed) (audit : Audited) → ArePrintable most books → All (λ book. IsLegal book.opening book.until book.history) books
-    → GivesAudit (Ok audit) (books_of most (rows_of (book_text books))) → audit ≡ audited (map (λ book. (book.account, true)) books)
+    (most : ℕ) (steps : Bool) (books : List Closed) (audit : Audited) → ArePrintable most books → All (λ book. IsLegal book.opening book.until book.history) books
+    → GivesAudit (Ok audit) (books_of most (rows_of (book_text (version_of steps books) books))) → audit ≡ audited (map (λ book. (book.account, true)) books)

@@ -6,7 +6,7 @@ use Rattle.account_core.specs.Events.{EntryData}
 use Rattle.entry_rows.specs.Fits.{FitsPlan, IsWide}
 use Rattle.shared_account.specs.Closed.{Closed}
 
--- a call and the number of a report have 64 bits, and a plan has fees, rates and free units as plans may have them
+-- a call and the number of a report have 64 bits, and a plan has fees, rates, free units and steps as plans may have them
 abbrev pub IsTypedAsked : Asked → Type 0
 IsTypedAsked (Credits amount until) = Unit {0}
 IsTypedAsked (Reserves call plan wanted least at) = IsWide call × FitsPlan plan

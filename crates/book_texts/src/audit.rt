@@ -29,7 +29,7 @@ pub struct Audit {
     pub passes: bool,
 }
 
-/// Whether the history of each account of a table of books, version 1 to 3, is legal from its
+/// Whether the history of each account of a table of books, version 1 to 4, is legal from its
 /// opening. No row is kept, but a check of each account, with what it knows of each of its calls.
 ///
 /// Rows are judged in order as they are read, a row in this order: `Csv` where it has another
@@ -101,6 +101,10 @@ fn check_books<I: Read + Drop>(
         &[
             "account", "seat", "op", "call", "x1", "x2", "x3", "x4", "x5", "x6", "x7", "reply",
             "y1", "y2", "y3",
+        ],
+        &[
+            "account", "seat", "op", "call", "x1", "x2", "x3", "x4", "x5", "x6", "x7", "x8", "x9",
+            "reply", "y1", "y2", "y3",
         ],
     ];
     let mut table = Table::open(alloc, reader, headers, size.most_rows())?;

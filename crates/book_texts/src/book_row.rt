@@ -132,7 +132,7 @@ fn has_no_answer(row: &ByteRecord, at: usize) -> bool
 /// Where the columns of the reply begin.
 fn reply_place(version: Version) -> usize
     ensures value { result ≡ reply_place version }
-    ensures few { result ≤ 11 }
+    ensures few { result ≤ 13 }
 {
     OP + version.width()
 }

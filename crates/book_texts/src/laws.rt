@@ -46,7 +46,7 @@ pub(crate) fn op_is_typed(op: Op)
     }
 }
 
-/// The fee, the rates and the free units of a plan are in their ranges.
+/// The fee, the rates, the free units and the steps of a plan are in their ranges.
 fn plan_is_typed(plan: Plan)
     ensures { FitsPlan (rates_of plan) }
 {
@@ -55,5 +55,7 @@ fn plan_is_typed(plan: Plan)
         before: _,
         after: _,
         free: _,
+        first: _,
+        step: _,
     } = plan;
 }

@@ -21,9 +21,11 @@ flag_rule name = record (new_rule name) { long = Some name; action = Some SetTru
 abbrev pub with_rules : App → List Rule → App
 with_rules app rules = fold with_rule app rules
 
--- `price --fee N --before N [--after N] [--free N]`
+-- `price --fee N --before N [--after N] [--free N] [--first N] [--step N]`
 unfoldable pub price_app : App
-price_app = with_rules (new_app (codes "price")) (required_rule (codes "fee") ∷ required_rule (codes "before") ∷ option_rule (codes "after") ∷ option_rule (codes "free") ∷ [])
+price_app = with_rules (new_app (codes "price"))
+    (required_rule (codes "fee") ∷ required_rule (codes "before") ∷ option_rule (codes "after") ∷ option_rule (codes "free") ∷ option_rule (codes "first")
+    ∷ option_rule (codes "step") ∷ [])
 
 -- `replay --opening N [--limit N]`
 unfoldable pub replay_app : App

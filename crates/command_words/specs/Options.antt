@@ -32,21 +32,34 @@ is_yes (Some text) = bytes_eq text (codes "true")
 abbrev pub has_flag : List Row → Text → Bool
 has_flag options name = is_yes (first_of name options)
 
+-- a number that is no less than the least
+abbrev pub at_least : ℕ → ℕ → Option ℕ
+at_least least number = if nat_le least number then Some number else None
+
 -- the free units of `price`: a day at most, and none where that is left out
 abbrev pub free_in : List Row → Option ℕ
 free_in options = option_map (λ free. unwrap_or free 0) (optional_number_in options (codes "free") DAY)
 
--- the plan of `price`: fee and rates, each at most `MAX_RATE`, and free units
+-- the least units that `price` bills: a day at most, and none where that is left out
+abbrev pub first_in : List Row → Option ℕ
+first_in options = option_map (λ first. unwrap_or first 0) (optional_number_in options (codes "first") DAY)
+
+-- the units of a billing step of `price`: 1 to a day, and 1 where that is left out
+abbrev pub step_in : List Row → Option ℕ
+step_in options = option_and_then (λ step. at_least 1 (unwrap_or step 1)) (optional_number_in options (codes "step") DAY)
+
+-- a fee and rates, with the free units and the billing steps of `price`
+abbrev pub plan_of : List Row → ℕ → ℕ → Option ℕ → Option Rates
+plan_of options fee before after = option_and_then (λ free. option_and_then (λ first.
+    option_map (λ step. record { fee = fee; before = before; after = after; free = free; first = first; step = step }) (step_in options))
+    (first_in options)) (free_in options)
+
+-- the plan of `price`: fee and rates, each at most `MAX_RATE`, free units and billing steps
 abbrev pub plan_in : List Row → Option Rates
-plan_in options = option_and_then (λ fee. option_and_then (λ before. option_and_then (λ after.
-    option_map (λ free. record { fee = fee; before = before; after = after; free = free }) (free_in options))
+plan_in options = option_and_then (λ fee. option_and_then (λ before. option_and_then (λ after. plan_of options fee before after)
     (optional_number_in options (codes "after") MAX_RATE)) (number_in options (codes "before") MAX_RATE)) (number_in options (codes "fee") MAX_RATE)
 
 -- the limit of a history: 3 to 1,000,000, which it is where it is left out
-abbrev pub at_least : ℕ → ℕ → Option ℕ
-at_least least number = if nat_le least number then Some number else None
-
--- the limit of a history, in its range
 abbrev pub limit_in : List Row → Option ℕ
 limit_in options = option_and_then (λ limit. at_least MIN_LIMIT (unwrap_or limit MAX_LIMIT)) (optional_number_in options (codes "limit") MAX_LIMIT)
 

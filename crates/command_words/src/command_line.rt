@@ -51,7 +51,11 @@ fn price_command<'a>(alloc: Global) -> Result<Command<'a>, AllocError>
     let after = option(alloc, "after", "The rate a minute after the switch");
     let command = add(command, after)?;
     let free = "How long the call is free, in units of 100 ms [default: 0]";
-    add(command, option(alloc, "free", free))
+    let command = add(command, option(alloc, "free", free))?;
+    let first = "How long the least time is that is billed, in units of 100 ms [default: 0]";
+    let command = add(command, option(alloc, "first", first))?;
+    let step = "In which steps the time beyond is billed, in units of 100 ms [default: 1]";
+    add(command, option(alloc, "step", step))
 }
 
 #[tactic(auto, unfolding(crate::specs::CommandLine::replay_app))]

@@ -129,6 +129,8 @@ Kinds:
   From            A time of day is HH:MM, 00:00 to 23:59
   Money           A fee or a rate is digits only, 0 to 1000000000: no plus, no point
   Free            Free units are digits only, 0 to 864000
+  First           The least time that is billed is digits only, 0 to 864000
+  Step            A billing step is digits only, 1 to 864000
   NoMidnightBand  A prefix has no row from 00:00
   What            A kind is account or subscriber; what happens is start, answer, busy,
                   noanswer, routefail, abandon, disconnect or recharge
@@ -212,6 +214,8 @@ Kinds:
   From            A time of day is HH:MM, 00:00 to 23:59
   Money           A fee or a rate is digits only, 0 to 1000000000: no plus, no point
   Free            Free units are digits only, 0 to 864000
+  First           The least time that is billed is digits only, 0 to 864000
+  Step            A billing step is digits only, 1 to 864000
   Repeated        A prefix with the same start stands there already
   NoMidnightBand  A prefix has no row from 00:00";
 
@@ -266,6 +270,8 @@ Kinds:
   From            A time of day is HH:MM, 00:00 to 23:59
   Money           A fee or a rate is digits only, 0 to 1000000000: no plus, no point
   Free            Free units are digits only, 0 to 864000
+  First           The least time that is billed is digits only, 0 to 864000
+  Step            A billing step is digits only, 1 to 864000
   Repeated        A prefix with the same start stands there already
   NoMidnightBand  A prefix has no row from 00:00
 

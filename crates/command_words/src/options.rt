@@ -20,8 +20,12 @@ pub(crate) fn price_plan(options: &ArgMatches<'_>) -> Option<Plan>
     let before = number(options, "before", MAX_RATE)?;
     let after = optional_number(options, "after", MAX_RATE)?;
     let free = optional_number(options, "free", u64::from(DAY))?;
+    let first = optional_number(options, "first", u64::from(DAY))?;
+    let step = optional_number(options, "step", u64::from(DAY))?;
     let plan = Plan::new(fee, before, after).ok()?;
-    plan.with_free(free.unwrap_or(0) as u32).ok()
+    let plan = plan.with_free(free.unwrap_or(0) as u32).ok()?;
+    plan.with_steps(first.unwrap_or(0) as u32, step.unwrap_or(1) as u32)
+        .ok()
 }
 
 /// The account that the options of `replay` open.

@@ -7,13 +7,16 @@ use Rattle.std.proofs.lemmas.Fmt.{decimal_nonempty}
 use Rattle.account_core.specs.Asked.{Credits, Reserves, Returns, Settles}
 use Rattle.account_core.specs.declared.entry.Reply.TheVariants as reply
 use Rattle.table_core.specs.Printed.{DecimalsAreRead}
+use Rattle.tariff_core.specs.Rates.{Rates}
 use Rattle.tariff_core.specs.declared.times.TimeInfo.{TimeInfo}
 use Rattle.tariff_core.specs.declared.times.TimeInfo.TheVariants as info
-use Rattle.entry_rows.specs.Column.{any_number_of, interval_of, is_empty, moment_of, money_of, number_of, optional_moment_of, optional_rate_of, rate_of, units_of}
-use Rattle.entry_rows.specs.Columns.{number_or_empty, operation_of}
-use Rattle.entry_rows.specs.Fits.{FitsReport, IsInterval, IsMoment, IsMoney, IsRate, IsTime, IsWide}
+use Rattle.entry_rows.specs.Column.{any_number_of, interval_of, is_empty, moment_of, money_of, number_of, optional_moment_of, optional_rate_of, rate_of, step_units_of, units_of}
+use Rattle.entry_rows.specs.Columns.{in_fourth, number_or_empty, operation_of}
+use Rattle.entry_rows.specs.Fits.{FitsAsked, FitsReport, IsInterval, IsMoment, IsMoney, IsRate, IsTime, IsWide}
 use Rattle.entry_rows.specs.Laws.{IsReadAsOp, OperationsAreRead, RepliesAreRead}
-use Rattle.entry_rows.specs.Operations.{plan_in, reserve_in}
+use Rattle.entry_rows.specs.Operations.{at_of, first_of, free_of, plan_in, reserve_in, step_of}
+use Rattle.entry_rows.specs.declared.version.Version.{Version}
+use Rattle.entry_rows.specs.declared.version.Version.TheVariants as version
 use Rattle.entry_rows.specs.declared.words.OpWord.TheVariants as op_word
 use Rattle.entry_rows.specs.declared.words.ReplyWord.TheVariants as reply_word
 
@@ -56,28 +59,33 @@ module _ (reads : DecimalsAreRead) where
   interval None fits = refl
   interval (Some number) fits = rw (not_empty number (omega (arith, fits.1)), time number fits.1, counted number fits.0) refl
 
+  step : (number : ℕ) → IsInterval number → step_units_of (decimal number) ≡ Ok number
+  step number fits = rw (time number fits.1, counted number fits.0) refl
+
   -- ---- operations
 
-  settle_read : (call number : ℕ) (report : TimeInfo) → IsWide call → IsWide number → FitsReport report
-      → IsReadAsOp (Settles call number report) (operation_of (Settles call number report))
-  settle_read call number (info.NoSwitch t) call_fits number_fits fits = record {
+  settle_read : (version : Version) (call number : ℕ) (report : TimeInfo) → IsWide call → IsWide number → FitsReport report
+      → IsReadAsOp (Settles call number report) (operation_of version (Settles call number report))
+  settle_read version call number (info.NoSwitch t) call_fits number_fits fits = record {
     word = op_word.SettleNoSwitch;
     known = refl;
     read = rw (time t fits, wide call call_fits, wide number number_fits) refl;
     blank = refl;
   }
-  settle_read call number (info.Switch since between) call_fits number_fits fits = record {
+  settle_read version call number (info.Switch since between) call_fits number_fits fits = record {
     word = op_word.SettleSwitch;
     known = refl;
     read = rw (time since fits.0, interval between fits.1, wide call call_fits, wide number number_fits) refl;
     blank = refl;
   }
 
-  pub operations_read : OperationsAreRead
+  -- a version from the third on, in which a plan's steps are read as they are
+  reserve_read : (version : Version) (call : ℕ) (plan : Rates) (wanted least at : ℕ) → FitsAsked (Reserves call plan wanted least at)
+      → free_of version (decimal plan.free) ≡ Ok plan.free → at_of version (decimal at) ≡ Ok at
+      → first_of version (in_fourth version plan.first) ≡ Ok plan.first → step_of version (in_fourth version plan.step) ≡ Ok plan.step
+      → IsReadAsOp (Reserves call plan wanted least at) (operation_of version (Reserves call plan wanted least at))
   unfolding plan_in reserve_in
-  operations_read (Credits amount until) fits =
-      record { word = op_word.Credit; known = refl; read = rw (money amount fits.0, optional_moment until fits.1) refl; blank = refl }
-  operations_read (Reserves call plan wanted least at) fits = record {
+  reserve_read version call plan wanted least at fits free moment_is first beyond = record {
     word = op_word.Reserve;
     known = refl;
     read = rw (
@@ -85,15 +93,31 @@ module _ (reads : DecimalsAreRead) where
       rate plan.fee fits.1.fee,
       rate plan.before fits.1.first,
       optional_rate plan.after fits.1.second,
-      time plan.free fits.1.free,
+      free,
+      first,
+      beyond,
       time wanted fits.2,
       time least fits.3,
-      moment at fits.4,
+      moment_is,
     ) refl;
     blank = refl;
   }
-  operations_read (Settles call number report) fits = settle_read call number report fits.0 fits.1 fits.2
-  operations_read (Returns call) fits = record { word = op_word.Return; known = refl; read = rw (wide call fits) refl; blank = refl }
+
+  pub operations_read : OperationsAreRead
+  operations_read version.One asked fits prints = absurd prints
+  operations_read version.Two asked fits prints = absurd prints
+  operations_read version.Three (Credits amount until) fits prints =
+      record { word = op_word.Credit; known = refl; read = rw (money amount fits.0, optional_moment until fits.1) refl; blank = refl }
+  operations_read version.Four (Credits amount until) fits prints =
+      record { word = op_word.Credit; known = refl; read = rw (money amount fits.0, optional_moment until fits.1) refl; blank = refl }
+  operations_read version.Three (Reserves call plan wanted least at) fits prints =
+      reserve_read version.Three call plan wanted least at fits (time plan.free fits.1.free) (moment at fits.4) (rw prints.0 refl) (rw prints.1 refl)
+  operations_read version.Four (Reserves call plan wanted least at) fits prints =
+      reserve_read version.Four call plan wanted least at fits (time plan.free fits.1.free) (moment at fits.4) (time plan.first fits.1.least) (step plan.step fits.1.step)
+  operations_read version.Three (Settles call number report) fits prints = settle_read version.Three call number report fits.0 fits.1 fits.2
+  operations_read version.Four (Settles call number report) fits prints = settle_read version.Four call number report fits.0 fits.1 fits.2
+  operations_read version.Three (Returns call) fits prints = record { word = op_word.Return; known = refl; read = rw (wide call fits) refl; blank = refl }
+  operations_read version.Four (Returns call) fits prints = record { word = op_word.Return; known = refl; read = rw (wide call fits) refl; blank = refl }
 
   -- ---- replies
 

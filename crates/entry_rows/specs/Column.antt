@@ -61,3 +61,11 @@ counted_interval (Some interval) = if interval == 0 then Err kind.Number else Ok
 -- a tariff interval of a report, 1 to a day, or none where the field is empty
 abbrev pub interval_of : List ℕ → Result (Option ℕ) RowKind
 interval_of text = after (optional_of DAY text) counted_interval
+
+-- a billing step, which is at least 1
+abbrev pub counted_units : ℕ → Result ℕ RowKind
+counted_units units = if units == 0 then Err kind.Number else Ok units
+
+-- the units of a billing step, 1 to a day
+abbrev pub step_units_of : List ℕ → Result ℕ RowKind
+step_units_of text = after (units_of text) counted_units

@@ -10,7 +10,7 @@ use Rattle.table_core.specs.Fields.{field_in}
 use Rattle.entry_rows.specs.declared.version.Version.{Version}
 use Rattle.entry_rows.specs.declared.version.Version.TheVariants as version
 
--- what is asked, and with what; x6 and x7 are empty in the versions that have no such column
+-- what is asked, and with what; x6 to x9 are empty in the versions that have no such column
 pub record Operation : Type 0 where
   pub version : Version
   pub op : List ℕ
@@ -22,6 +22,8 @@ pub record Operation : Type 0 where
   pub x5 : List ℕ
   pub x6 : List ℕ
   pub x7 : List ℕ
+  pub x8 : List ℕ
+  pub x9 : List ℕ
 
 -- what is answered
 pub record Answer : Type 0 where
@@ -33,19 +35,36 @@ pub record Answer : Type 0 where
 -- a row has the columns of an operation whose word stands at a place
 abbrev pub HasOperation : Version → List (List ℕ) → ℕ → Type 0
 HasOperation of_table fields at =
-    (at + 6 < length fields) × (of_table ≢ version.One → at + 7 < length fields) × (of_table ≡ version.Three → at + 8 < length fields)
+    (at + 6 < length fields) × (of_table ≢ version.One → at + 7 < length fields)
+    × (of_table ≢ version.One → of_table ≢ version.Two → at + 8 < length fields) × (of_table ≡ version.Four → at + 10 < length fields)
 
 -- the column behind x5
 abbrev pub x6_at : Version → List (List ℕ) → ℕ → List ℕ
 x6_at version.One fields at = []
 x6_at version.Two fields at = field_in fields (at + 7)
 x6_at version.Three fields at = field_in fields (at + 7)
+x6_at version.Four fields at = field_in fields (at + 7)
 
 -- the column behind x6
 abbrev pub x7_at : Version → List (List ℕ) → ℕ → List ℕ
 x7_at version.One fields at = []
 x7_at version.Two fields at = []
 x7_at version.Three fields at = field_in fields (at + 8)
+x7_at version.Four fields at = field_in fields (at + 8)
+
+-- the column behind x7
+abbrev pub x8_at : Version → List (List ℕ) → ℕ → List ℕ
+x8_at version.One fields at = []
+x8_at version.Two fields at = []
+x8_at version.Three fields at = []
+x8_at version.Four fields at = field_in fields (at + 9)
+
+-- the column behind x8
+abbrev pub x9_at : Version → List (List ℕ) → ℕ → List ℕ
+x9_at version.One fields at = []
+x9_at version.Two fields at = []
+x9_at version.Three fields at = []
+x9_at version.Four fields at = field_in fields (at + 10)
 
 -- the columns of an operation, and of an answer, in the fields of a row, where their word stands at a place
 abbrev pub operation_at : Version → List (List ℕ) → ℕ → Operation
@@ -60,6 +79,8 @@ operation_at version fields at = record {
   x5 = field_in fields (at + 6);
   x6 = x6_at version fields at;
   x7 = x7_at version fields at;
+  x8 = x8_at version fields at;
+  x9 = x9_at version fields at;
 }
 
 -- the columns that each version has
@@ -75,9 +96,9 @@ answer_at fields at = record {
   y3 = field_in fields (at + 3);
 }
 
--- a field that isn't named is empty; what is printed is of version 3
-abbrev pub no_operation : Operation
-no_operation = record { version = version.Three; op = []; call = []; x1 = []; x2 = []; x3 = []; x4 = []; x5 = []; x6 = []; x7 = [] }
+-- a field that isn't named is empty
+abbrev pub no_operation : Version → Operation
+no_operation version = record { version = version; op = []; call = []; x1 = []; x2 = []; x3 = []; x4 = []; x5 = []; x6 = []; x7 = []; x8 = []; x9 = [] }
 
 -- a reply with nothing in its fields
 abbrev pub no_answer : Answer
@@ -89,21 +110,26 @@ number_or_empty None = []
 number_or_empty (Some number) = decimal number
 
 -- the opening credit stands where an operation would, with its last moment, if it has one
-abbrev pub opening_of : ℕ → Option ℕ → Operation
-opening_of opening until = record no_operation { op = codes "opening"; x1 = decimal opening; x2 = number_or_empty until }
+abbrev pub opening_of : Version → ℕ → Option ℕ → Operation
+opening_of version opening until = record (no_operation version) { op = codes "opening"; x1 = decimal opening; x2 = number_or_empty until }
 
 -- a Settle in the fields of a row
-abbrev pub settle_of : ℕ → ℕ → TimeInfo → Operation
-settle_of call number (info.NoSwitch t) =
-    record no_operation { op = codes "settle"; call = decimal call; x1 = decimal number; x2 = codes "n"; x3 = decimal t }
-settle_of call number (info.Switch since interval) =
-    record no_operation { op = codes "settle"; call = decimal call; x1 = decimal number; x2 = codes "s"; x3 = decimal since; x4 = number_or_empty interval }
+abbrev pub settle_of : Version → ℕ → ℕ → TimeInfo → Operation
+settle_of version call number (info.NoSwitch t) =
+    record (no_operation version) { op = codes "settle"; call = decimal call; x1 = decimal number; x2 = codes "n"; x3 = decimal t }
+settle_of version call number (info.Switch since interval) =
+    record (no_operation version) { op = codes "settle"; call = decimal call; x1 = decimal number; x2 = codes "s"; x3 = decimal since; x4 = number_or_empty interval }
+
+-- a number in a column that only version 4 has
+abbrev pub in_fourth : Version → ℕ → List ℕ
+in_fourth version.Four number = decimal number
+in_fourth version number = []
 
 -- an operation in the fields of a row
-abbrev pub operation_of : Asked → Operation
-operation_of (Credits amount until) = record no_operation { op = codes "credit"; x1 = decimal amount; x2 = number_or_empty until }
-operation_of (Reserves call plan wanted least at) = record {
-  version = version.Three;
+abbrev pub operation_of : Version → Asked → Operation
+operation_of version (Credits amount until) = record (no_operation version) { op = codes "credit"; x1 = decimal amount; x2 = number_or_empty until }
+operation_of version (Reserves call plan wanted least at) = record {
+  version = version;
   op = codes "reserve";
   call = decimal call;
   x1 = decimal plan.fee;
@@ -113,9 +139,11 @@ operation_of (Reserves call plan wanted least at) = record {
   x5 = decimal least;
   x6 = decimal plan.free;
   x7 = decimal at;
+  x8 = in_fourth version plan.first;
+  x9 = in_fourth version plan.step;
 }
-operation_of (Settles call number info) = settle_of call number info
-operation_of (Returns call) = record no_operation { op = codes "return"; call = decimal call }
+operation_of version (Settles call number info) = settle_of version call number info
+operation_of version (Returns call) = record (no_operation version) { op = codes "return"; call = decimal call }
 
 -- a reply in the fields of a row
 abbrev pub answer_of : Reply → Answer
@@ -132,9 +160,15 @@ answer_of (reply.Returned paid available) = record no_answer { reply = codes "re
 abbrev pub field : List ℕ → List ℕ → List ℕ
 field text rest = text ++ (codes "," ++ rest)
 
--- the fields of an operation, each with a comma behind it
+-- the columns that version 4 has behind x7
+abbrev pub steps_text : Version → List ℕ → List ℕ → List ℕ
+steps_text version.Four first step = field first (field step [])
+steps_text version first step = []
+
+-- the fields of an operation, each with a comma behind it: x8 and x9 in version 4 alone
 abbrev pub operation_text : Operation → List ℕ
-operation_text o = field o.op (field o.call (field o.x1 (field o.x2 (field o.x3 (field o.x4 (field o.x5 (field o.x6 (field o.x7 []))))))))
+operation_text o =
+    field o.op (field o.call (field o.x1 (field o.x2 (field o.x3 (field o.x4 (field o.x5 (field o.x6 (field o.x7 (steps_text o.version o.x8 o.x9)))))))))
 
 -- those of an answer, which end the line
 abbrev pub answer_text : Answer → List ℕ

@@ -26,7 +26,7 @@ IsMoney money = money ≤ MAX_MONEY
 abbrev pub IsRate : ℕ → Type 0
 IsRate rate = rate ≤ MAX_RATE
 
--- an interval before a switch: some time
+-- an interval before a switch, or a billing step: some time
 abbrev pub IsInterval : ℕ → Type 0
 IsInterval interval = (1 ≤ interval) × (interval ≤ DAY)
 
@@ -40,6 +40,8 @@ pub record FitsPlan (plan : Rates) : Type 0 where
   pub first : IsRate plan.before
   pub second : IfSome plan.after IsRate
   pub free : IsTime plan.free
+  pub least : IsTime plan.first
+  pub step : IsInterval plan.step
 
 -- the times of a report fit their columns
 abbrev pub FitsReport : TimeInfo → Type 0

@@ -1,6 +1,6 @@
 -- What is printed is read back.
-use Rattle.std.specs.Prelude.{◌≡◌, true, Ok}
-use Rattle.account_core.specs.Asked.{Asked}
+use Rattle.std.specs.Prelude.{◌≡◌, true, Ok, ⊤}
+use Rattle.account_core.specs.Asked.{Asked, Reserves}
 use Rattle.account_core.specs.Laws.{IsReplyInRange}
 use Rattle.account_core.specs.declared.entry.Reply.{Reply}
 use Rattle.entry_rows.specs.Columns.{Answer, Operation, answer_of, operation_of}
@@ -8,6 +8,8 @@ use Rattle.entry_rows.specs.Fits.{FitsAsked}
 use Rattle.entry_rows.specs.Operations.{asked_in, is_asked_blank}
 use Rattle.entry_rows.specs.Replies.{is_reply_blank, reply_in}
 use Rattle.entry_rows.specs.Words.{op_word_in, reply_word_in}
+use Rattle.entry_rows.specs.declared.version.Version.{Version}
+use Rattle.entry_rows.specs.declared.version.Version.TheVariants as version
 use Rattle.entry_rows.specs.declared.words.OpWord.{OpWord}
 use Rattle.entry_rows.specs.declared.words.ReplyWord.{ReplyWord}
 
@@ -25,9 +27,16 @@ pub record IsReadAsReply (reply : Reply) (columns : Answer) : Type 0 where
   pub read : reply_in word columns ≡ Ok reply
   pub blank : is_reply_blank word columns ≡ true
 
--- the columns that are printed of an operation are read as it
+-- a version in which an operation is printed whole: each in the fourth, and in the third each that has no billing steps
+abbrev pub Prints : Version → Asked → Type 0
+Prints version.Four asked = ⊤
+Prints version.Three (Reserves call plan wanted least at) = (plan.first ≡ 0) × (plan.step ≡ 1)
+Prints version.Three asked = ⊤
+Prints version asked = ⊥
+
+-- the columns that are printed of an operation, in such a version, are read as it
 abbrev pub OperationsAreRead : Type 0
-OperationsAreRead = (asked : Asked) → FitsAsked asked → IsReadAsOp asked (operation_of asked)
+OperationsAreRead = (version : Version) (asked : Asked) → FitsAsked asked → Prints version asked → IsReadAsOp asked (operation_of version asked)
 
 -- the columns that are printed of a reply are read as it
 abbrev pub RepliesAreRead : Type 0

@@ -6,7 +6,7 @@ use Rattle.table_core.specs.declared.fault.RowKind.{RowKind}
 use Rattle.tariff_core.specs.Rates.{Rates}
 use Rattle.tariff_core.specs.declared.times.TimeInfo.{TimeInfo}
 use Rattle.tariff_core.specs.declared.times.TimeInfo.TheVariants as info
-use Rattle.entry_rows.specs.Column.{any_number_of, interval_of, is_empty, moment_of, money_of, optional_moment_of, optional_rate_of, rate_of, units_of}
+use Rattle.entry_rows.specs.Column.{any_number_of, interval_of, is_empty, moment_of, money_of, optional_moment_of, optional_rate_of, rate_of, step_units_of, units_of}
 use Rattle.entry_rows.specs.Columns.{Operation}
 use Rattle.entry_rows.specs.declared.version.Version.{Version}
 use Rattle.entry_rows.specs.declared.version.Version.TheVariants as version
@@ -20,6 +20,7 @@ abbrev pub until_of : Version → List ℕ → Result (Option ℕ) RowKind
 until_of version.One text = Ok None
 until_of version.Two text = Ok None
 until_of version.Three text = optional_moment_of text
+until_of version.Four text = optional_moment_of text
 
 -- `credit`: x1 the amount, and the last moment
 abbrev pub credit_in : Operation → Result Asked RowKind
@@ -30,21 +31,35 @@ abbrev pub free_of : Version → List ℕ → Result ℕ RowKind
 free_of version.One text = Ok 0
 free_of version.Two text = units_of text
 free_of version.Three text = units_of text
+free_of version.Four text = units_of text
 
 -- x7 of a reserve is its moment, and 0 before version 3
 abbrev pub at_of : Version → List ℕ → Result ℕ RowKind
 at_of version.One text = Ok 0
 at_of version.Two text = Ok 0
 at_of version.Three text = moment_of text
+at_of version.Four text = moment_of text
 
--- x1 to x3 of a reserve: the fee and the rates
+-- x8 of a reserve is the least that is billed, and 0 before version 4
+abbrev pub first_of : Version → List ℕ → Result ℕ RowKind
+first_of version.Four text = units_of text
+first_of version text = Ok 0
+
+-- x9 of a reserve is its billing step, and 1 before version 4
+abbrev pub step_of : Version → List ℕ → Result ℕ RowKind
+step_of version.Four text = step_units_of text
+step_of version text = Ok 1
+
+-- x1 to x3 of a reserve: the fee and the rates; x6 its free units, x8 and x9 its billing steps
 unfoldable pub plan_in : Operation → Result Rates RowKind
 plan_in o =
     after (rate_of o.x1) (λ fee.
     after (rate_of o.x2) (λ first.
     after (optional_rate_of o.x3) (λ second.
     after (free_of o.version o.x6) (λ free.
-    Ok (record { fee = fee; before = first; after = second; free = free })))))
+    after (first_of o.version o.x8) (λ least.
+    after (step_of o.version o.x9) (λ step.
+    Ok (record { fee = fee; before = first; after = second; free = free; first = least; step = step })))))))
 
 -- `reserve`: the call, its plan, x4 the time wanted, x5 the least, and the moment
 unfoldable pub reserve_in : Operation → Result Asked RowKind
@@ -82,21 +97,22 @@ asked_in word.Return o = return_in o
 
 -- ---- columns that must be empty
 
--- x6 and x7 are empty
+-- x6 to x9 are empty
 abbrev pub are_added_empty : Operation → Bool
-are_added_empty o = is_empty o.x6 && is_empty o.x7
+are_added_empty o = is_empty o.x6 && is_empty o.x7 && is_empty o.x8 && is_empty o.x9
 
--- x3 to x7 are empty
+-- x3 to x9 are empty
 abbrev pub are_last_empty : Operation → Bool
 are_last_empty o = is_empty o.x3 && is_empty o.x4 && is_empty o.x5 && are_added_empty o
 
--- x2 is empty, but in version 3
+-- x2 is empty, but from version 3 on
 abbrev pub has_no_until : Version → List ℕ → Bool
 has_no_until version.One text = is_empty text
 has_no_until version.Two text = is_empty text
 has_no_until version.Three text = true
+has_no_until version.Four text = true
 
--- the columns are empty that neither an opening nor a credit uses: the call, x2 but in version 3, and x3 to x7
+-- the columns are empty that neither an opening nor a credit uses: the call, x2 but from version 3 on, and x3 to x9
 abbrev pub is_money_blank : Operation → Bool
 is_money_blank o = is_empty o.call && has_no_until o.version o.x2 && are_last_empty o
 

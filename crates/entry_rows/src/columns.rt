@@ -1,32 +1,39 @@
 //! What is written of an operation and of a reply, in the columns of the table of books.
 
-ghost use Rattle.std.specs.Prelude.{◌≡◌, ◌++◌, OnOk, string_bytes};
+ghost use Rattle.std.specs.Prelude.{◌≡◌, ◌++◌, [], OnOk, string_bytes};
 ghost use Rattle.account_core.specs.Events.{asked_of};
-ghost use Rattle.entry_rows.specs.Columns.{answer_of, answer_text, opening_of, operation_of, operation_text, settle_of};
+ghost use Rattle.entry_rows.specs.Columns.{answer_of, answer_text, in_fourth, opening_of, operation_of, operation_text, settle_of, steps_text};
 
-use crate::Field;
+use crate::{Field, Version};
 use account_core::{Op, Reply};
 use std::alloc::AllocError;
-use tariff_core::TimeInfo;
+use tariff_core::{Plan, TimeInfo};
 
-/// Adds the columns of an opening, from op to x7, each with a comma behind it.
-pub fn write_opening(text: &mut String, opening: u64, until: Option<u64>) -> Result<(), AllocError>
+/// Adds the columns of an opening, from op to x7, in version 4 to x9, each with a comma behind it.
+pub fn write_opening(
+    text: &mut String,
+    version: Version,
+    opening: u64,
+    until: Option<u64>,
+) -> Result<(), AllocError>
     ensures { OnOk result (string_bytes text.new ≡ string_bytes text.old
-        ++ operation_text (opening_of opening until)) }
+        ++ operation_text (opening_of version opening until)) }
 {
     let until = Field(until);
-    write!(text, "opening,,{opening},{until},,,,,,")
+    write!(text, "opening,,{opening},{until},,,,,,")?;
+    write_no_steps(text, version)
 }
 
-/// Adds the columns of an operation, from op to x7, each with a comma behind it.
-pub fn write_operation(text: &mut String, op: Op) -> Result<(), AllocError>
+/// Adds the columns of an operation, from op to x7, in version 4 to x9, each with a comma behind it.
+pub fn write_operation(text: &mut String, version: Version, op: Op) -> Result<(), AllocError>
     ensures { OnOk result (string_bytes text.new ≡ string_bytes text.old
-        ++ operation_text (operation_of (asked_of op))) }
+        ++ operation_text (operation_of version (asked_of op))) }
 {
     match op {
         Op::Credit { amount, until } => {
             let until = Field(until);
-            write!(text, "credit,,{amount},{until},,,,,,")
+            write!(text, "credit,,{amount},{until},,,,,,")?;
+            write_no_steps(text, version)
         }
         Op::Reserve {
             call,
@@ -40,25 +47,61 @@ pub fn write_operation(text: &mut String, op: Op) -> Result<(), AllocError>
             write!(
                 text,
                 "reserve,{call},{fee},{before},{after},{wanted},{least},{free},{at},"
-            )
+            )?;
+            write_steps(text, version, plan)
         }
-        Op::Settle { call, number, info } => write_settle(text, call, number, info),
-        Op::Return { call } => write!(text, "return,{call},,,,,,,,"),
+        Op::Settle { call, number, info } => write_settle(text, version, call, number, info),
+        Op::Return { call } => {
+            write!(text, "return,{call},,,,,,,,")?;
+            write_no_steps(text, version)
+        }
+    }
+}
+
+/// Adds x8 and x9 of a reserve, where the version has them.
+fn write_steps(text: &mut String, version: Version, plan: Plan) -> Result<(), AllocError>
+    ensures { OnOk result (string_bytes text.new ≡ string_bytes text.old
+        ++ steps_text version (in_fourth version plan.first) (in_fourth version plan.step)) }
+{
+    match version {
+        Version::Four => {
+            let (first, step) = (plan.first, plan.step);
+            write!(text, "{first},{step},")
+        }
+        _ => Ok(()),
+    }
+}
+
+/// Adds x8 and x9 of a row that isn't a reserve, where the version has them.
+fn write_no_steps(text: &mut String, version: Version) -> Result<(), AllocError>
+    ensures { OnOk result (string_bytes text.new ≡ string_bytes text.old
+        ++ steps_text version [] []) }
+{
+    match version {
+        Version::Four => write!(text, ",,"),
+        _ => Ok(()),
     }
 }
 
 /// Adds the columns of a settle.
-fn write_settle(text: &mut String, call: u64, number: u64, info: TimeInfo) -> Result<(), AllocError>
+fn write_settle(
+    text: &mut String,
+    version: Version,
+    call: u64,
+    number: u64,
+    info: TimeInfo,
+) -> Result<(), AllocError>
     ensures { OnOk result (string_bytes text.new ≡ string_bytes text.old
-        ++ operation_text (settle_of call number info)) }
+        ++ operation_text (settle_of version call number info)) }
 {
     match info {
-        TimeInfo::NoSwitch { t } => write!(text, "settle,{call},{number},n,{t},,,,,"),
+        TimeInfo::NoSwitch { t } => write!(text, "settle,{call},{number},n,{t},,,,,")?,
         TimeInfo::Switch { since, interval } => {
             let interval = Field::short(interval);
-            write!(text, "settle,{call},{number},s,{since},{interval},,,,")
+            write!(text, "settle,{call},{number},s,{since},{interval},,,,")?;
         }
     }
+    write_no_steps(text, version)
 }
 
 /// Adds the columns of a reply, from reply to y3, and the end of the line.

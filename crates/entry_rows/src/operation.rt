@@ -1,4 +1,4 @@
-//! An operation in the fields of a row: its word, its call, and x1 to x7.
+//! An operation in the fields of a row: its word, its call, and x1 to x9.
 
 ghost use Rattle.std.specs.Prelude.{◌≡◌, ◌+◌, ◌<◌, ◌≤◌, length, IfOk};
 ghost use Rattle.std.specs.Result.{result_map_both};
@@ -7,10 +7,10 @@ ghost use Rattle.table_core.specs.Fields.{field_in};
 ghost use Rattle.account_core.specs.Events.{asked_of};
 ghost use Rattle.tariff_core.specs.RatesOf.{rates_of};
 ghost use Rattle.entry_rows.specs.Column.{interval_of, units_of};
-ghost use Rattle.entry_rows.specs.Columns.{HasOperation, first_operation_at, operation_at, x6_at, x7_at};
-ghost use Rattle.entry_rows.specs.Operations.{are_added_empty, are_last_empty, asked_in, at_of, credit_in, free_of, has_no_until, is_asked_blank, is_money_blank, no_switch_in, plan_in, reserve_in, return_in, settle_in, switch_in, until_of};
+ghost use Rattle.entry_rows.specs.Columns.{HasOperation, first_operation_at, operation_at, x6_at, x7_at, x8_at, x9_at};
+ghost use Rattle.entry_rows.specs.Operations.{are_added_empty, are_last_empty, asked_in, at_of, credit_in, first_of, free_of, has_no_until, is_asked_blank, is_money_blank, no_switch_in, plan_in, reserve_in, return_in, settle_in, step_of, switch_in, until_of};
 
-use crate::places::{CALL, X1, X2, X3, X4, X5, X6, X7};
+use crate::places::{CALL, X1, X2, X3, X4, X5, X6, X7, X8, X9};
 use crate::version::Version;
 use crate::words::OpWord;
 use account_core::Op;
@@ -48,7 +48,7 @@ fn read_credit(row: &ByteRecord, at: usize, version: Version) -> Result<Op, RowK
 }
 
 /// The last moment of an opening or of a credit whose columns begin at `at`, 0 to `HORIZON`: in x2
-/// of version 3, where it may be left out, and none before; else `Number`.
+/// from version 3 on, where it may be left out, and none before; else `Number`.
 pub fn read_until(row: &ByteRecord, at: usize, version: Version) -> Result<Option<u64>, RowKind>
     requires table { at ≤ 16 }
     requires fields { at + 3 < length (fields_of row.now) }
@@ -56,7 +56,7 @@ pub fn read_until(row: &ByteRecord, at: usize, version: Version) -> Result<Optio
 {
     match version {
         Version::One | Version::Two => Ok(None),
-        Version::Three => optional(row, at + X2, HORIZON),
+        Version::Three | Version::Four => optional(row, at + X2, HORIZON),
     }
 }
 
@@ -94,11 +94,15 @@ fn read_plan(row: &ByteRecord, at: usize, version: Version) -> Result<Plan, RowK
     let before = number(row, at + X2, MAX_RATE)?;
     let after = optional(row, at + X3, MAX_RATE)?;
     let free = read_free(row, at, version)?;
+    let first = read_first(row, at, version)?;
+    let step = read_step(row, at, version)?;
     Ok(Plan {
         fee,
         before,
         after,
         free,
+        first,
+        step,
     })
 }
 
@@ -111,7 +115,7 @@ fn read_moment(row: &ByteRecord, at: usize, version: Version) -> Result<u64, Row
 {
     match version {
         Version::One | Version::Two => Ok(0),
-        Version::Three => number(row, at + X7, HORIZON),
+        Version::Three | Version::Four => number(row, at + X7, HORIZON),
     }
 }
 
@@ -124,7 +128,37 @@ fn read_free(row: &ByteRecord, at: usize, version: Version) -> Result<u32, RowKi
 {
     match version {
         Version::One => Ok(0),
-        Version::Two | Version::Three => read_units(row, at + X6),
+        Version::Two | Version::Three | Version::Four => read_units(row, at + X6),
+    }
+}
+
+/// The least that is billed of a reserve: 0 before version 4, and given there.
+fn read_first(row: &ByteRecord, at: usize, version: Version) -> Result<u32, RowKind>
+    requires table { at ≤ 16 }
+    requires fields { HasOperation version (fields_of row.now) at }
+    ensures value { result ≡ first_of version (x8_at version (fields_of row.now) at) }
+    ensures within_day { IfOk result (λ first. first ≤ DAY) }
+{
+    match version {
+        Version::One | Version::Two | Version::Three => Ok(0),
+        Version::Four => read_units(row, at + X8),
+    }
+}
+
+/// The billing step of a reserve: 1 before version 4, and given there, at least 1.
+fn read_step(row: &ByteRecord, at: usize, version: Version) -> Result<u32, RowKind>
+    requires table { at ≤ 16 }
+    requires fields { HasOperation version (fields_of row.now) at }
+    ensures value { result ≡ step_of version (x9_at version (fields_of row.now) at) }
+    ensures positive { IfOk result (λ step. 1 ≤ step) }
+    ensures within_day { IfOk result (λ step. step ≤ DAY) }
+{
+    match version {
+        Version::One | Version::Two | Version::Three => Ok(1),
+        Version::Four => match read_units(row, at + X9)? {
+            0 => Err(RowKind::Number),
+            step => Ok(step),
+        },
     }
 }
 
@@ -212,7 +246,7 @@ pub fn is_op_blank(row: &ByteRecord, at: usize, version: Version, word: OpWord) 
 }
 
 /// Whether the columns are empty that neither an opening nor a credit uses whose columns begin at
-/// `at`: the call, x2 but in version 3, and x3 to x7.
+/// `at`: the call, x2 but from version 3 on, and x3 to x9.
 pub fn is_money_blank(row: &ByteRecord, at: usize, version: Version) -> bool
     requires table { at ≤ 16 }
     requires fields { HasOperation version (fields_of row.now) at }
@@ -221,7 +255,7 @@ pub fn is_money_blank(row: &ByteRecord, at: usize, version: Version) -> bool
     is_blank(row, at + CALL) && has_no_until(row, at, version) && are_last_blank(row, at, version)
 }
 
-/// Whether x2 is empty, but in version 3.
+/// Whether x2 is empty, but from version 3 on.
 fn has_no_until(row: &ByteRecord, at: usize, version: Version) -> bool
     requires table { at ≤ 16 }
     requires fields { at + 3 < length (fields_of row.now) }
@@ -229,11 +263,11 @@ fn has_no_until(row: &ByteRecord, at: usize, version: Version) -> bool
 {
     match version {
         Version::One | Version::Two => is_blank(row, at + X2),
-        Version::Three => true,
+        Version::Three | Version::Four => true,
     }
 }
 
-/// Whether x3 to x7 are empty of an operation whose columns begin at `at`.
+/// Whether x3 to x9 are empty of an operation whose columns begin at `at`.
 fn are_last_blank(row: &ByteRecord, at: usize, version: Version) -> bool
     requires table { at ≤ 16 }
     requires fields { HasOperation version (fields_of row.now) at }
@@ -245,7 +279,7 @@ fn are_last_blank(row: &ByteRecord, at: usize, version: Version) -> bool
         && are_added_blank(row, at, version)
 }
 
-/// Whether x6 and x7 are empty, where there are such columns.
+/// Whether x6 to x9 are empty, where there are such columns.
 fn are_added_blank(row: &ByteRecord, at: usize, version: Version) -> bool
     requires table { at ≤ 16 }
     requires fields { HasOperation version (fields_of row.now) at }
@@ -255,5 +289,11 @@ fn are_added_blank(row: &ByteRecord, at: usize, version: Version) -> bool
         Version::One => true,
         Version::Two => is_blank(row, at + X6),
         Version::Three => is_blank(row, at + X6) && is_blank(row, at + X7),
+        Version::Four => {
+            is_blank(row, at + X6)
+                && is_blank(row, at + X7)
+                && is_blank(row, at + X8)
+                && is_blank(row, at + X9)
+        }
     }
 }

@@ -16,6 +16,10 @@ pub const X5: usize = 6;
 pub const X6: usize = 7;
 /// See `X1`; only from version 3 on.
 pub const X7: usize = 8;
+/// See `X1`; only from version 4 on.
+pub const X8: usize = 9;
+/// See `X8`.
+pub const X9: usize = 10;
 
 /// The time granted, or the money paid.
 pub const Y1: usize = 1;

@@ -12,6 +12,8 @@ pub enum Version {
     Two,
     /// To `x7`, where a reserve has its moment; a credit has its last moment, or none, in `x2`.
     Three,
+    /// To `x9`, where a reserve has its billing steps: the least that is billed, and the step beyond.
+    Four,
 }
 
 impl Version {
@@ -23,19 +25,21 @@ impl Version {
         match header {
             0 => Version::One,
             1 => Version::Two,
-            _ => Version::Three,
+            2 => Version::Three,
+            _ => Version::Four,
         }
     }
 
     /// How many columns an operation has, its word included.
     pub fn width(self) -> usize
         ensures value { result ≡ width_of self }
-        ensures few { result ≤ 9 }
+        ensures few { result ≤ 11 }
     {
         match self {
             Version::One => 7,
             Version::Two => 8,
             Version::Three => 9,
+            Version::Four => 11,
         }
     }
 }

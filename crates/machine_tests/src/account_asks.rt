@@ -43,6 +43,8 @@ pub(crate) const TWO_RATES: Plan = Plan {
     before: 1000,
     after: Some(400),
     free: 0,
+    first: 0,
+    step: 1,
 };
 
 const ONE_RATE: Plan = Plan {
@@ -50,6 +52,8 @@ const ONE_RATE: Plan = Plan {
     before: 1000,
     after: None,
     free: 0,
+    first: 0,
+    step: 1,
 };
 
 /// The two rates with free units.
@@ -58,6 +62,8 @@ const WITH_FREE: Plan = Plan {
     before: 1000,
     after: Some(400),
     free: 300,
+    first: 0,
+    step: 1,
 };
 
 /// A call reserves units, and 50 at least, at moment 0.

@@ -53,6 +53,8 @@ const PLAN: Plan = Plan {
     before: 1000,
     after: Some(400),
     free: 0,
+    first: 0,
+    step: 1,
 };
 
 /// The tariff switches after 600 units.

@@ -21,10 +21,12 @@ use Rattle.prepaid_command.specs.Replays.{history_after, line_of_ask, replay_lin
 -- a row that is as wide as its header has the columns of the header's version
 pub has_operation : (header : ℕ) (fields : Fields) → header < length asks_headers → length fields ≡ width_at asks_headers header
     → HasOperation (version_at header) fields 1
-has_operation zero fields one wide = (omega (arith, wide), λ other. absurd (other refl), λ three. cc)
-has_operation (suc zero) fields one wide = (omega (arith, wide), λ two. omega (arith, wide), λ three. cc)
-has_operation (suc (suc zero)) fields one wide = (omega (arith, wide), λ two. omega (arith, wide), λ three. omega (arith, wide))
-has_operation (suc (suc (suc header))) fields one wide = absurd (omega (arith, one))
+has_operation zero fields one wide = (omega (arith, wide), λ later. absurd (later refl), λ later. absurd (later refl), λ four. cc)
+has_operation (suc zero) fields one wide = (omega (arith, wide), λ two. omega (arith, wide), λ later other. absurd (other refl), λ four. cc)
+has_operation (suc (suc zero)) fields one wide = (omega (arith, wide), λ two. omega (arith, wide), λ later other. omega (arith, wide), λ four. cc)
+has_operation (suc (suc (suc zero))) fields one wide =
+    (omega (arith, wide), λ two. omega (arith, wide), λ later other. omega (arith, wide), λ four. omega (arith, wide))
+has_operation (suc (suc (suc (suc header)))) fields one wide = absurd (omega (arith, one))
 
 -- ---- one more ask
 

@@ -35,13 +35,15 @@ asking_in seat_text columns =
 abbrev pub ask_in : Version → List (List ℕ) → Result Asking RowKind
 ask_in version fields = asking_in (field_in fields 0) (operation_at version fields 1)
 
--- `seat,op,call,x1,x2,x3,x4,x5`, the same with `x6`, and with `x7` too
+-- `seat,op,call,x1,x2,x3,x4,x5`; later headers have `x6` too, then `x7`, then `x8` and `x9`
 abbrev pub first_header : List (List ℕ)
 first_header = codes "seat" ∷ codes "op" ∷ codes "call" ∷ codes "x1" ∷ codes "x2" ∷ codes "x3" ∷ codes "x4" ∷ codes "x5" ∷ []
 
 -- the headers of a table of operations, the oldest first
 abbrev pub asks_headers : List (List (List ℕ))
-asks_headers = first_header ∷ (first_header ++ codes "x6" ∷ []) ∷ (first_header ++ codes "x6" ∷ codes "x7" ∷ []) ∷ []
+asks_headers =
+    first_header ∷ (first_header ++ codes "x6" ∷ []) ∷ (first_header ++ codes "x6" ∷ codes "x7" ∷ [])
+    ∷ (first_header ++ codes "x6" ∷ codes "x7" ∷ codes "x8" ∷ codes "x9" ∷ []) ∷ []
 
 -- 10,000 rows at most; each row asks something
 abbrev pub asks_form : TableForm (List Asking) RowKind RowFault

@@ -1,11 +1,11 @@
 -- The lines that `quote` prints.
-use Rattle.std.specs.Prelude.{◌≡◌, ◌⊎◌, ◌/◌, ◌%◌, ℕ, List, [], ◌∷◌, ◌++◌, Option, Some, None, codes}
+use Rattle.std.specs.Prelude.{◌≡◌, ◌⊎◌, ◌/◌, ◌%◌, ℕ, List, [], ◌∷◌, ◌++◌, Option, Some, None, codes, if◌then◌else◌}
 use Rattle.std.specs.Fmt.{decimal}
 use Rattle.table_core.specs.Decimals.{digits_text}
 use Rattle.tariff_core.specs.Afford.{units_afforded}
 use Rattle.tariff_core.specs.Bands.{Band}
 use Rattle.tariff_core.specs.RatesOf.{rates_of}
-use Rattle.tariff_core.specs.Rates.{Rates}
+use Rattle.tariff_core.specs.Rates.{Rates, has_steps}
 use Rattle.tariff_core.specs.Routes.{HasNoRoute, IsQuote}
 use Rattle.tariff_core.specs.Times.{no_times}
 use Rattle.tariff_core.specs.declared.route.Route.{Route}
@@ -26,11 +26,16 @@ two_digits number = decimal (number / 10) ++ decimal (number % 10)
 abbrev pub time_text : ℕ → List ℕ
 time_text time = two_digits (time / 36000) ++ (codes ":" ++ two_digits ((time / 600) % 60))
 
--- `fee F rate R free U`, and the end of its line
-abbrev pub plan_text : Rates → List ℕ
-plan_text plan = codes " fee " ++ (decimal plan.fee ++ (codes " rate " ++ (decimal plan.before ++ (codes " free " ++ (decimal plan.free ++ codes "\n")))))
+-- ` first F step S`, where a plan bills in steps
+abbrev pub steps_text : Rates → List ℕ
+steps_text plan = if has_steps plan then codes " first " ++ (decimal plan.first ++ (codes " step " ++ decimal plan.step)) else []
 
--- `prefix P from HH:MM fee F rate R free U`
+-- `fee F rate R free U`, its steps, if it has any, and the end of its line
+abbrev pub plan_text : Rates → List ℕ
+plan_text plan =
+    codes " fee " ++ (decimal plan.fee ++ (codes " rate " ++ (decimal plan.before ++ (codes " free " ++ (decimal plan.free ++ (steps_text plan ++ codes "\n"))))))
+
+-- `prefix P from HH:MM fee F rate R free U`, and steps behind it
 abbrev pub band_line : List ℕ → ℕ → Rates → List ℕ
 band_line prefix start plan = codes "prefix " ++ (prefix_text prefix ++ (codes " from " ++ (time_text start ++ plan_text plan)))
 

@@ -3,7 +3,7 @@
 ghost use Rattle.std.specs.Prelude.{◌≡◌, ◌+◌, ◌++◌, ◌≤◌, ◌<◌, IfOk, IfSome, OnOk, string_bytes};
 ghost use Rattle.tariff_core.specs.RatesOf.{rates_of};
 ghost use Rattle.command_words.specs.QuoteWishes.{wish_of};
-ghost use Rattle.prepaid_command.specs.Quotes.{IsQuoteText, afford_line, band_line, plan_text, prefix_text, price_line, quote_lines, switch_line, time_text, two_digits};
+ghost use Rattle.prepaid_command.specs.Quotes.{IsQuoteText, afford_line, band_line, plan_text, prefix_text, price_line, quote_lines, steps_text, switch_line, time_text, two_digits};
 
 use command_words::QuoteAsk;
 use rating::{Charge, charge_call};
@@ -66,7 +66,21 @@ fn write_band(text: &mut String, prefix: &[u8], start: u32, plan: &Plan) -> Resu
         free,
         ..
     } = plan;
-    writeln!(text, " fee {fee} rate {before} free {free}")
+    write!(text, " fee {fee} rate {before} free {free}")?;
+    write_steps(text, plan)?;
+    writeln!(text)
+}
+
+/// Adds the billing steps of a plan, where it has any.
+fn write_steps(text: &mut String, plan: &Plan) -> Result<(), AllocError>
+    ensures { OnOk result (string_bytes text.new ≡ string_bytes text.old
+        ++ steps_text (rates_of plan.now)) }
+{
+    if !plan.has_steps() {
+        return Ok(());
+    }
+    let Plan { first, step, .. } = plan;
+    write!(text, " first {first} step {step}")
 }
 
 /// Adds the digits of a prefix, or `-` where it has none.

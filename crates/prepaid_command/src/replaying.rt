@@ -45,6 +45,9 @@ pub fn replay<I: Read + Drop>(
         &[
             "seat", "op", "call", "x1", "x2", "x3", "x4", "x5", "x6", "x7",
         ],
+        &[
+            "seat", "op", "call", "x1", "x2", "x3", "x4", "x5", "x6", "x7", "x8", "x9",
+        ],
     ];
     let mut table = Table::open(alloc, reader, headers, MAX_ROWS)?;
     let mut teller = Teller::new(alloc, opening, None, limit);

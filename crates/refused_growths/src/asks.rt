@@ -19,6 +19,8 @@ const TWO_RATES: Plan = Plan {
     before: 1000,
     after: Some(400),
     free: 0,
+    first: 0,
+    step: 1,
 };
 
 /// A call asks for a minute.
@@ -185,7 +187,7 @@ pub(crate) fn ask_all<P: Watched>(port: &mut P) -> Course {
     Ok(outcome)
 }
 
-/// Asks once; and after want of memory, which has to leave all as it was, once more.
+/// Asks once; and where memory ran out, which has to leave all as it was, once more.
 fn ask_twice<P: Watched>(port: &mut P, op: Op, reply: Reply) -> Course {
     let before = port.seen();
     match port.ask(op) {

@@ -16,6 +16,8 @@ const ROUTE: Route = Route {
         before: 1000,
         after: None,
         free: 0,
+        first: 0,
+        step: 1,
     },
     switch_at: None,
 };

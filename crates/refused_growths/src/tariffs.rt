@@ -13,6 +13,8 @@ const AT_MIDNIGHT: Plan = Plan {
     before: 1000,
     after: Some(400),
     free: 0,
+    first: 0,
+    step: 1,
 };
 
 /// Reads a tariff.

@@ -1,7 +1,7 @@
 -- What holds of the table of the books of every run.
-use Rattle.std.specs.Prelude.{◌≡◌, ◌≤◌, ◌+◌, ◌*◌, ℕ, true, List, length, map, Ok}
+use Rattle.std.specs.Prelude.{◌≡◌, ◌≤◌, ◌+◌, ◌*◌, ℕ, Bool, true, List, length, map, Ok}
 use Rattle.book_texts.specs.Audits.{Audited, GivesAudit, audited}
-use Rattle.book_texts.specs.BookTexts.{book_text}
+use Rattle.book_texts.specs.BookTexts.{book_text, version_of}
 use Rattle.book_texts.specs.Books.{books_of}
 use Rattle.book_texts.specs.Printable.{ArePrintable, row_count, told_by}
 use Rattle.run_books.specs.Runs.{IsRecorded}
@@ -11,10 +11,15 @@ use Rattle.shared_account.specs.Closed.{Closed}
 use Rattle.shared_account.specs.Refusals.{Knowing}
 use Rattle.table_core.specs.Rows.{rows_of}
 
--- the table of books, of which so many rows are taken, is read back to the opening and the history of each, and whatever audit there is of it says yes for each account, in order
+-- the text of the table of books, whose tariff has billing steps or not
+abbrev pub text_of : Bool → List Closed → List ℕ
+text_of steps books = book_text (version_of steps books) books
+
+-- the table of books, of which this many rows are taken, is read back to the opening and the history of each, and whatever audit there is of it says yes for each account, in order
 pub record PassTheAudit (most : ℕ) (books : List Closed) : Type 0 where
-  pub read : books_of most (rows_of (book_text books)) ≡ Ok (map told_by books)
-  pub verdicts : (audit : Audited) → GivesAudit (Ok audit) (books_of most (rows_of (book_text books))) → audit ≡ audited (map (λ book. (book.account, true)) books)
+  pub read : (steps : Bool) → books_of most (rows_of (text_of steps books)) ≡ Ok (map told_by books)
+  pub verdicts : (steps : Bool) (audit : Audited) → GivesAudit (Ok audit) (books_of most (rows_of (text_of steps books)))
+      → audit ≡ audited (map (λ book. (book.account, true)) books)
 
 -- the books of a run can be printed into a table that has room for their rows
 abbrev pub RunsArePrintable : (Closed → ℕ → Knowing) → Type 0

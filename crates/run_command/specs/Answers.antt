@@ -1,6 +1,6 @@
 -- What `run` answers to an input.
 use Rattle.std.specs.Prelude.{◌≡◌, ℕ, true, false, List, Result, Ok, Err, ⊤}
-use Rattle.book_texts.specs.BookTexts.{book_text}
+use Rattle.book_texts.specs.BookTexts.{book_text, version_of}
 use Rattle.book_texts.specs.RunTexts.{IsRunText}
 use Rattle.call_records.specs.Records.{Run}
 use Rattle.call_records.specs.Tables.{IsCallText}
@@ -22,14 +22,15 @@ use Rattle.runs_core.specs.Teams.{are_workers}
 use Rattle.runs_core.specs.declared.run_fault.RunFault.{RunFault}
 use Rattle.runs_core.specs.declared.run_fault.RunFault.TheVariants as run
 use Rattle.shared_account.specs.Closed.{Closed}
+use Rattle.tariff_core.specs.Bands.{have_steps}
 use Rattle.run_values.specs.declared.post.Answer.{Answer}
 use Rattle.run_values.specs.declared.post.Body.{Body}
 
--- the text of what a run has come to, where these answers were heard: the lines of its accounts and calls, the table of its books, that of its calls,
+-- the text of what a run has come to, where these answers were heard: the lines of its accounts and calls, the table of its books, of version 4 where its tariff has billing steps, that of its calls,
 -- or the trace of what was given to its workers and of their answers
 abbrev pub IsTextOf : RunOutput → Run → List Answer → List ℕ → Type 0
 IsTextOf output.Lines run heard text = IsRunText run.books text
-IsTextOf output.Book run heard text = text ≡ book_text run.books
+IsTextOf output.Book run heard text = text ≡ book_text (version_of (have_steps run.setup.tariff) run.books) run.books
 IsTextOf output.Calls run heard text = IsCallText run text
 IsTextOf output.Trace run heard text = text ≡ trace_text run.given heard
 
@@ -73,7 +74,7 @@ pub record IsEnded (workers : ℕ) (input : List ℕ) (fault : RunFault) : Type 
   pub read : input_of input ≡ Ok said
   pub may : MayEnd workers fault
 
--- an answer to the input: what a run says, or the first fault of the input, or else a fault of the run. A failed reader and want of memory may come at any
+-- an answer to the input: what a run says, or the first fault of the input, or else a fault of the run. A failed reader and out of memory may come at any
 abbrev pub IsRunAnswer : RunAsk → List ℕ → Result RunSaid RunError → Type 0
 IsRunAnswer ask input (Ok ran) = IsRunOf ask input ran
 IsRunAnswer ask input (Err (error.Run run.OutOfMemory)) = ⊤

@@ -75,7 +75,7 @@ fn print(alloc: Global, output: RunOutput, played: &Played) -> Result<String, Al
     let Listener { player, heard, .. } = &played.listener;
     match output {
         RunOutput::Lines => run_lines(alloc, books),
-        RunOutput::Book => book_table(alloc, books),
+        RunOutput::Book => book_table(alloc, books, played.setup.tariff().has_steps()),
         RunOutput::Calls => {
             let calls = records(alloc, &played.setup, player.given(), books)?;
             call_table(alloc, calls.as_slice())

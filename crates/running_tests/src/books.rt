@@ -167,7 +167,7 @@ fn expect<R: Abort + Wait>(
     let (lines, table) = texts;
     let books = books_of(rt, alloc, accounts)?;
     assert_eq!(rt; run_lines(alloc, books.as_slice())?.as_str(), lines);
-    assert_eq!(rt; book_table(alloc, books.as_slice())?.as_str(), table);
+    assert_eq!(rt; book_table(alloc, books.as_slice(), false)?.as_str(), table);
     Ok(())
 }
 

@@ -309,7 +309,7 @@ fn same_op(first: &Op, second: &Op) -> bool
     }
 }
 
-/// Whether two plans have the same fee, rates and free units.
+/// Whether two plans have the same fee, rates, free units and billing steps.
 fn same_plan(first: &Plan, second: &Plan) -> bool
     ensures { IsTrue result ↔ (rates_of first.now ≡ rates_of second.now) }
 {
@@ -317,4 +317,6 @@ fn same_plan(first: &Plan, second: &Plan) -> bool
         && first.before == second.before
         && first.after == second.after
         && first.free == second.free
+        && first.first == second.first
+        && first.step == second.step
 }

@@ -3,11 +3,11 @@ use Rattle.std.proofs.Common.{◌≡◌, ℕ, zero, suc, ◌+◌, ◌*◌, ◌-�
 use Rattle.std.specs.Prelude.{◌⊎◌, if◌then◌else◌, IsSome, is_some}
 use Rattle.std.proofs.Math.Nat.{le-max_left, le-max_right, max-le, mul-le-mul_left, mul-le-mul_right}
 use Rattle.tariff_core.specs.Ceiling.{are_times, ceiling_of, greatest, may_come, price_if_lawful}
-use Rattle.tariff_core.specs.Price.{charged_after, charged_before, price_at, price_of, second_rate}
+use Rattle.tariff_core.specs.Price.{billed_before, billed_in_all, charged_after, charged_before, cost_of, price_at, price_of, second_rate}
 use Rattle.tariff_core.specs.Rates.{Rates}
 use Rattle.tariff_core.specs.Times.{Elapsed}
 use Rattle.tariff_core.proofs.Lawfuls.{Comes, comes, may_come_by, or_zero}
-use Rattle.tariff_core.proofs.Prices.{cost_grows, price_grows}
+use Rattle.tariff_core.proofs.Prices.{billed_grows, billed_part, price_after, price_before, price_grows}
 
 below_or_last : (n k : ℕ) → k ≤ suc n → (k ≤ n) ⊎ (k ≡ suc n)
 below_or_last n k le = grind arith
@@ -74,8 +74,7 @@ ceiling_least plan old more most h =
 
 -- more time at no less cost has no lower price
 dearer_price : (plan : Rates) (b a b' a' : ℕ) → b + a ≤ b' + a'
-    → charged_before plan b * plan.before + charged_after plan b a * second_rate plan ≤ charged_before plan b' * plan.before + charged_after plan b' a' * second_rate plan
-    → price_of plan b a ≤ price_of plan b' a'
+    → cost_of plan b a ≤ cost_of plan b' a' → price_of plan b a ≤ price_of plan b' a'
 dearer_price plan b a b' a' longer more = price_grows plan.fee (b + a) (b' + a') _ _ longer more
 
 -- the call that goes on before its switch, and the one that goes on after it
@@ -111,8 +110,7 @@ ceiling_switched plan old more switched rated =
     let least = ceiling_least plan old more (price_at plan (switching old more)) (λ new comes_new.
     let facts = comes plan old (old.before + old.after + more) new comes_new in
     let same = (facts.kept switched).1 in
-    dearer_price plan new.before new.after old.before (old.after + more) (omega (arith, facts.within))
-    (cost_grows plan new.before new.after old.before (old.after + more) (omega (arith, same)) (omega (arith, same, facts.within)))) in
+    rw same (price_after plan old.before new.after (old.after + more) (omega (arith, same, facts.within)))) in
     omega (arith, ceiling_covers plan old more (switching old more) (may_switch plan old more rated), least)
 
 -- a plan with one rate: all that is granted lies before a switch
@@ -122,8 +120,7 @@ ceiling_single plan old more unswitched none single =
     let least = ceiling_least plan old more (price_at plan (going_on old more)) (λ new comes_new.
     let facts = comes plan old (old.before + old.after + more) new comes_new in
     let nothing : new.after ≡ 0 = single_after new facts in
-    dearer_price plan new.before new.after (old.before + more) old.after (omega (arith, facts.within))
-    (cost_grows plan new.before new.after (old.before + more) old.after (omega (arith, none, facts.within)) (omega (arith, nothing)))) in
+    rw nothing (price_before plan new.before (old.before + more) old.after (omega (arith, none, facts.within)))) in
     omega (arith, ceiling_covers plan old more (going_on old more) (may_go_on plan old more unswitched none), least)
   where
     single_after : (new : Elapsed) → Comes plan old (old.before + old.after + more) new → new.after ≡ 0
@@ -147,37 +144,48 @@ split_cost x y m n r s from within =
 either : (plan : Rates) (old : Elapsed) (more most : ℕ) (new : Elapsed) → Comes plan old (old.before + old.after + more) new → old.after ≡ 0
     → price_of plan (old.before + more) old.after ≤ most → price_of plan old.before (old.after + more) ≤ most → price_at plan new ≤ most
 either plan old more most new facts none first second =
-    by_cost (split_cost charged later kept beyond plan.before (second_rate plan) (omega (arith, facts.before)) (omega (arith, facts.within)))
+    by_cost (split_cost early late kept beyond plan.before (second_rate plan) grown (omega (arith, within, grown, part, whole)))
   where
-    -- what is charged for of the new times
-    charged : ℕ
-    charged = charged_before plan new.before
+    -- what is billed of the new times, at the first rate and at the second
+    early : ℕ
+    early = billed_before plan new.before
 
-    later : ℕ
-    later = charged_after plan new.before new.after
+    late : ℕ
+    late = billed_in_all plan new.before new.after - early
 
     -- and where all that is granted lies after the switch
     kept : ℕ
-    kept = charged_before plan old.before
+    kept = billed_before plan old.before
 
     beyond : ℕ
-    beyond = charged_after plan old.before more
+    beyond = billed_in_all plan old.before more - kept
 
-    -- all at the first rate: as much is charged for as where all that is granted lies before the switch
-    all_first : charged * plan.before + later * second_rate plan ≤ (kept + beyond) * plan.before
-        → charged * plan.before + later * second_rate plan ≤ charged_before plan (old.before + more) * plan.before + charged_after plan (old.before + more) old.after * second_rate plan
+    grown : kept ≤ early
+    grown = billed_grows plan (charged_before plan old.before) (charged_before plan new.before) (omega (arith, facts.before))
+
+    part : early ≤ billed_in_all plan new.before new.after
+    part = billed_part plan new.before new.after
+
+    whole : kept ≤ billed_in_all plan old.before more
+    whole = billed_part plan old.before more
+
+    within : billed_in_all plan new.before new.after ≤ billed_in_all plan old.before more
+    within =
+        billed_grows plan (charged_before plan new.before + charged_after plan new.before new.after) (charged_before plan old.before + charged_after plan old.before more)
+        (omega (arith, none, facts.before, facts.within))
+
+    -- all at the first rate: as much is billed as where all that is granted lies before the switch
+    all_first : cost_of plan new.before new.after ≤ (kept + beyond) * plan.before → cost_of plan new.before new.after ≤ cost_of plan (old.before + more) old.after
     all_first cheaper =
-        let whole : kept + beyond ≡ charged_before plan (old.before + more) = omega arith in
-        omega (arith, rw whole at cheaper)
+        let charged : charged_before plan old.before + charged_after plan old.before more ≡ charged_before plan (old.before + more) = omega arith in
+        let same : kept + beyond ≡ billed_before plan (old.before + more) = rw (← charged) (omega (arith, whole)) in
+        omega (arith, rw same at cheaper)
 
-    all_second : charged * plan.before + later * second_rate plan ≤ kept * plan.before + beyond * second_rate plan
-        → charged * plan.before + later * second_rate plan ≤ charged_before plan old.before * plan.before + charged_after plan old.before (old.after + more) * second_rate plan
-    all_second cheaper =
-        let nothing : old.after + more ≡ more = omega (arith, none) in
-        rw nothing cheaper
+    all_second : cost_of plan new.before new.after ≤ kept * plan.before + beyond * second_rate plan → cost_of plan new.before new.after ≤ cost_of plan old.before (old.after + more)
+    all_second cheaper = let nothing : old.after + more ≡ more = omega (arith, none) in rw nothing cheaper
 
-    by_cost : (charged * plan.before + later * second_rate plan ≤ (kept + beyond) * plan.before)
-        ⊎ (charged * plan.before + later * second_rate plan ≤ kept * plan.before + beyond * second_rate plan) → price_at plan new ≤ most
+    by_cost : (cost_of plan new.before new.after ≤ (kept + beyond) * plan.before) ⊎ (cost_of plan new.before new.after ≤ kept * plan.before + beyond * second_rate plan)
+        → price_at plan new ≤ most
     by_cost (inl cheaper) = omega (arith, first, dearer_price plan new.before new.after (old.before + more) old.after (omega (arith, facts.within)) (all_first cheaper))
     by_cost (inr cheaper) = omega (arith, second, dearer_price plan new.before new.after old.before (old.after + more) (omega (arith, facts.within)) (all_second cheaper))
 

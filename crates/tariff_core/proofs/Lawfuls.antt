@@ -19,6 +19,24 @@ implies : (a b : Bool) → (a ≡ true → b ≡ true) → (not a || b) ≡ true
 implies true b h = h refl
 implies false b h = refl
 
+-- what the test of lawful times says of them
+pub record Follows (old new : Elapsed) : Type 0 where
+  pub before : old.before ≤ new.before
+  pub after : old.after ≤ new.after
+  pub kept : old.switched ≡ true → new.before ≡ old.before
+
+pub follows : (plan : Rates) (old new : Elapsed) (granted : ℕ) → is_lawful plan old new granted ≡ true → Follows old new
+follows plan old new granted lawful =
+    let (first, within) = and_parts _ (nat_le (new.before + new.after) granted) lawful in
+    let (second, rated) = and_parts _ (not new.switched || is_some plan.after) first in
+    let (third, kept) = and_parts _ (not old.switched || (new.switched && (new.before == old.before))) second in
+    let (before, after) = and_parts (nat_le old.before new.before) (nat_le old.after new.after) third in
+    record {
+      before = leb-true old.before new.before before;
+      after = leb-true old.after new.after after;
+      kept = λ s. eqb-true new.before old.before (and_parts new.switched (new.before == old.before) (implied old.switched _ kept s)).1;
+    }
+
 -- a call with the old times may come to the new ones
 pub record Comes (plan : Rates) (old : Elapsed) (granted : ℕ) (new : Elapsed) : Type 0 where
   pub unswitched : new.switched ≡ false → new.after ≡ 0

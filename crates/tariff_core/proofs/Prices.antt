@@ -1,39 +1,87 @@
--- A price grows with the times.
-use Rattle.std.proofs.Common.{◌≡◌, ℕ, ◌+◌, ◌*◌, ◌≤◌, Bool, true, arith}
+-- A price grows along lawful times.
+use Rattle.std.proofs.Common.{◌≡◌, ℕ, zero, suc, ◌+◌, ◌-◌, ◌*◌, ◌<◌, ◌≤◌, Bool, true, false, refl, inl, inr, arith}
 use Rattle.std.proofs.Math.Nat.{mul-le-mul_right}
 use Rattle.std.proofs.lemmas.Bool.Decides.{nat_tests}
 use Rattle.std.proofs.lemmas.Grind.{div_ceil_times}
-use Rattle.std.specs.Prelude.{if◌then◌else◌, ◌==◌, ◌&&◌, nat_le}
+use Rattle.std.specs.Prelude.{◌⊎◌, if◌then◌else◌, ◌==◌}
 use Rattle.std.specs.Int.{div_ceil}
 use Rattle.tariff_core.specs.Lawful.{is_lawful}
-use Rattle.tariff_core.specs.Price.{charged_after, charged_before, price_at, second_rate}
+use Rattle.tariff_core.specs.Price.{billed, billed_before, billed_in_all, charged_after, charged_before, cost_of, price_at, price_of, second_rate}
 use Rattle.tariff_core.specs.Rates.{Rates}
 use Rattle.tariff_core.specs.Times.{Elapsed}
+use Rattle.tariff_core.proofs.Lawfuls.{follows}
 
-div_ceil_grows : (x y : ℕ) → x ≤ y → div_ceil x 600 ≤ div_ceil y 600
-div_ceil_grows x y le = omega (arith, div_ceil_times x 600 (omega arith), div_ceil_times y 600 (omega arith))
+-- ---- steps
+
+-- p steps that are no more than needed for x aren't more than q steps that cover y, where y is no less than x
+no_more_steps : (step p q x y : ℕ) → x ≤ y → y ≤ q * step → p * step < x + step → (p ≤ q) ⊎ (q + 1 ≤ p) → p ≤ q
+no_more_steps step p q x y longer covers needed (inl order) = order
+no_more_steps step p q x y longer covers needed (inr order) =
+    absurd (omega (arith, longer, covers, needed, mul-le-mul_right {m = q + 1} {n = p} step order))
+
+div_ceil_grows : (step x y : ℕ) → 0 < step → x ≤ y → div_ceil x step ≤ div_ceil y step
+div_ceil_grows step x y positive longer =
+    let order : (div_ceil x step ≤ div_ceil y step) ⊎ (div_ceil y step + 1 ≤ div_ceil x step) = grind arith in
+    no_more_steps step (div_ceil x step) (div_ceil y step) x y longer (div_ceil_times y step positive).0 (div_ceil_times x step positive).1 order
+
+steps_grow : (step x y : ℕ) → x ≤ y → div_ceil x step * step ≤ div_ceil y step * step
+steps_grow zero x y longer = omega arith
+steps_grow (suc step) x y longer = mul-le-mul_right (suc step) (div_ceil_grows (suc step) x y (omega arith) longer)
+
+first_and_more : (first x y p q : ℕ) → x ≤ y → p ≤ q → (if x == 0 then 0 else first + p) ≤ (if y == 0 then 0 else first + q)
+first_and_more first x y p q longer more = grind (arith, nat_tests)
+
+-- no less is billed where more is charged for
+pub billed_grows : (plan : Rates) (x y : ℕ) → x ≤ y → billed plan x ≤ billed plan y
+unfolding billed
+billed_grows plan x y longer = first_and_more plan.first x y _ _ longer (steps_grow plan.step (x - plan.first) (y - plan.first) (omega arith))
+
+-- what is billed at the first rate is a part of what is billed at either
+pub billed_part : (plan : Rates) (b a : ℕ) → billed_before plan b ≤ billed_in_all plan b a
+billed_part plan b a = billed_grows plan (charged_before plan b) (charged_before plan b + charged_after plan b a) (omega arith)
+
+-- ---- prices
 
 -- more time, at no less cost, has no lower price
 pub price_grows : (fee total total' cost cost' : ℕ) → total ≤ total' → cost ≤ cost'
     → (if total == 0 then 0 else fee + div_ceil cost 600) ≤ (if total' == 0 then 0 else fee + div_ceil cost' 600)
-price_grows fee total total' cost cost' longer dearer = let more = div_ceil_grows cost cost' dearer in grind (arith, nat_tests)
+price_grows fee total total' cost cost' longer dearer = let more = div_ceil_grows 600 cost cost' (omega arith) dearer in grind (arith, nat_tests)
 
--- neither the units charged for nor what they cost fall with more time
-pub cost_grows : (plan : Rates) (b a b' a' : ℕ) → b ≤ b' → a ≤ a'
-    → charged_before plan b * plan.before + charged_after plan b a * second_rate plan ≤ charged_before plan b' * plan.before + charged_after plan b' a' * second_rate plan
-cost_grows plan b a b' a' longer later =
-    omega (
-      arith,
-      mul-le-mul_right {m = charged_before plan b} {n = charged_before plan b'} plan.before (omega arith),
-      mul-le-mul_right {m = charged_after plan b a} {n = charged_after plan b' a'} (second_rate plan) (omega arith),
-    )
+-- of one time before the switch, a longer one after it costs no less
+cost_after : (plan : Rates) (b a a' : ℕ) → a ≤ a' → cost_of plan b a ≤ cost_of plan b a'
+cost_after plan b a a' later =
+    let more = billed_grows plan (charged_before plan b + charged_after plan b a) (charged_before plan b + charged_after plan b a') (omega arith) in
+    omega (arith, mul-le-mul_right {m = billed_in_all plan b a - billed_before plan b} {n = billed_in_all plan b a' - billed_before plan b} (second_rate plan) (omega (arith, more)))
 
--- neither time falls where the new times are lawful
-neither_falls : (b b' a a' : ℕ) (x y z : Bool) → (nat_le b b' && nat_le a a' && x && y && z) ≡ true → (b ≤ b') × (a ≤ a')
-neither_falls b b' a a' x y z lawful = grind (arith, nat_tests)
+-- time before the switch alone is billed at the first rate
+cost_unswitched : (plan : Rates) (b : ℕ) → cost_of plan b 0 ≡ billed_before plan b * plan.before
+cost_unswitched plan b =
+    let all : charged_before plan b + charged_after plan b 0 ≡ charged_before plan b = omega arith in
+    let none : billed_before plan b - billed_before plan b ≡ 0 = omega arith in
+    rw (all, none) (omega arith)
 
--- lawful times cost no less than those before them
-pub price_at_grows : (plan : Rates) (old new : Elapsed) (granted : ℕ) → is_lawful plan old new granted ≡ true → price_at plan old ≤ price_at plan new
-price_at_grows plan old new granted lawful =
-    let grown = neither_falls old.before new.before old.after new.after _ _ _ lawful in
-    price_grows plan.fee _ _ _ _ (omega (arith, grown)) (cost_grows plan old.before old.after new.before new.after grown.0 grown.1)
+-- and a longer time before the switch, with any after it, costs no less than that
+cost_before : (plan : Rates) (b b' a' : ℕ) → b ≤ b' → cost_of plan b 0 ≤ cost_of plan b' a'
+cost_before plan b b' a' longer =
+    let more = billed_grows plan (charged_before plan b) (charged_before plan b') (omega arith) in
+    omega (arith, cost_unswitched plan b, mul-le-mul_right {m = billed_before plan b} {n = billed_before plan b'} plan.before more)
+
+pub price_after : (plan : Rates) (b a a' : ℕ) → a ≤ a' → price_of plan b a ≤ price_of plan b a'
+price_after plan b a a' later = price_grows plan.fee (b + a) (b + a') _ _ (omega arith) (cost_after plan b a a' later)
+
+pub price_before : (plan : Rates) (b b' a' : ℕ) → b ≤ b' → price_of plan b 0 ≤ price_of plan b' a'
+price_before plan b b' a' longer = price_grows plan.fee (b + 0) (b' + a') _ _ (omega arith) (cost_before plan b b' a' longer)
+
+-- ---- lawful times
+
+price_follows : (plan : Rates) (b b' a a' : ℕ) (switched : Bool) → b ≤ b' → a ≤ a' → (switched ≡ true → b' ≡ b) → (switched ≡ false → a ≡ 0)
+    → price_of plan b a ≤ price_of plan b' a'
+price_follows plan b b' a a' true longer later kept none = rw (kept refl) (price_after plan b a a' later)
+price_follows plan b b' a a' false longer later kept none = rw (none refl) (price_before plan b b' a' longer)
+
+-- lawful times cost no less than those before them, of which none lies after a switch that wasn't
+pub price_at_grows : (plan : Rates) (old new : Elapsed) (granted : ℕ) → is_lawful plan old new granted ≡ true → (old.switched ≡ false → old.after ≡ 0)
+    → price_at plan old ≤ price_at plan new
+price_at_grows plan old new granted lawful unswitched =
+    let facts = follows plan old new granted lawful in
+    price_follows plan old.before new.before old.after new.after old.switched facts.before facts.after facts.kept unswitched

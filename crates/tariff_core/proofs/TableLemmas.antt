@@ -1,6 +1,7 @@
 -- The rows so far and those that are left are the rows of the table.
 use Rattle.std.proofs.Common.{◌≡◌, ℕ, zero, suc, ◌<◌, ◌+◌, ◌≤◌, Bool, true, false, List, [], ◌∷◌, length, Option, Some, None, Result, Ok, Err, refl, arith}
-use Rattle.std.specs.Prelude.{IsErrAnd, if◌then◌else◌}
+use Rattle.std.specs.Prelude.{IsErrAnd, if◌then◌else◌, map}
+use Rattle.std.specs.List.{list_any}
 use Rattle.table_core.specs.Judging.{after}
 use Rattle.table_core.specs.Rows.{Fields, rows_of}
 use Rattle.table_core.specs.Tables.{below, own_fault, rows_from, table_of, then_rows, unless_own, which_header, width_at}
@@ -10,9 +11,12 @@ use Rattle.table_core.specs.Reading.{header_of, number_of, width_of}
 use Rattle.table_core.specs.declared.table.Table.{Table}
 use Rattle.table_core.proofs.TableLemmas.{IsRead, Stops}
 use Rattle.tariff_core.proofs.Known.{at_known}
-use Rattle.tariff_core.specs.Bands.{Band, has_band}
+use Rattle.tariff_core.specs.Bands.{Band, has_band, have_steps}
+use Rattle.tariff_core.specs.Rates.{are_steps}
+use Rattle.tariff_core.specs.Tariff.{band_of}
 use Rattle.tariff_core.specs.TariffFaults.{fault_from, kind_from}
-use Rattle.tariff_core.specs.TariffTable.{ComesBy, Gives, HasColumns, NotBefore, Refuses, band_in, bands_of, complete, complete_by, header, header_with_free, new_band, new_band_in, tariff_form, without_midnight}
+use Rattle.tariff_core.specs.TariffTable.{ComesBy, Gives, HasColumns, NotBefore, Refuses, band_in, bands_of, complete, complete_by, header, header_with_free, header_with_steps, new_band, new_band_in, tariff_form, without_midnight}
+use Rattle.tariff_core.specs.declared.row.Row.{Row}
 use Rattle.tariff_core.specs.declared.tariff_fault.TariffFault.{TariffFault}
 use Rattle.tariff_core.specs.declared.tariff_fault.TariffKind.{TariffKind}
 use Rattle.tariff_core.specs.declared.tariff_fault.TariffKind.TheVariants as kind
@@ -34,13 +38,21 @@ pub is_new : (which : ℕ) (earlier : List Band) (fields : Fields) (band : Band)
     → has_band band.prefix band.start earlier ≡ false
 is_new which earlier fields band is = is_new_in earlier band (band_in which fields) is
 
+-- ---- rows that bill in steps
+
+-- a row of the code bills in steps where what it says does
+pub steps_of_rows : (rows : List Row) → list_any (λ row. are_steps row.cost.first row.cost.step) rows ≡ have_steps (map band_of rows)
+steps_of_rows [] = refl
+steps_of_rows (row ∷ rows) = rw (steps_of_rows rows) refl
+
 -- ---- the columns of a row
 
 -- a row that is as wide as its header has its columns
-pub has_columns : (which : ℕ) (fields : Fields) → which < 2 → length fields ≡ width_at (header ∷ header_with_free ∷ []) which → HasColumns which fields
-has_columns zero fields one wide = (omega (arith, wide), λ other. absurd (other refl))
-has_columns (suc zero) fields one wide = (omega (arith, wide), λ other. omega (arith, wide))
-has_columns (suc (suc which)) fields one wide = absurd (omega (arith, one))
+pub has_columns : (which : ℕ) (fields : Fields) → which < 3 → length fields ≡ width_at (header ∷ header_with_free ∷ header_with_steps ∷ []) which → HasColumns which fields
+has_columns zero fields one wide = (omega (arith, wide), λ more. absurd (omega (arith, more)), λ more. absurd (omega (arith, more)))
+has_columns (suc zero) fields one wide = (omega (arith, wide), λ more. omega (arith, wide), λ more. absurd (omega (arith, more)))
+has_columns (suc (suc zero)) fields one wide = (omega (arith, wide), λ more. omega (arith, wide), λ more. omega (arith, wide))
+has_columns (suc (suc (suc which))) fields one wide = absurd (omega (arith, one))
 
 -- a fault of the table's own
 pub refused_at : (why : TariffKind) (number : ℕ) (meaning : Result (List Band) TariffFault) → meaning ≡ Err (record { row = number; kind = why }) → Refuses why number meaning
@@ -55,6 +67,8 @@ refused_at kind.OutOfMemory number meaning is = rw is (omega arith)
 refused_at kind.Device number meaning is = rw is (omega arith)
 refused_at kind.TooManyRows number meaning is = is
 refused_at kind.Free number meaning is = is
+refused_at kind.First number meaning is = is
+refused_at kind.Step number meaning is = is
 
 -- ---- where a table that can't be read on may be given up
 
@@ -71,6 +85,8 @@ comes_at kind.OutOfMemory row = omega arith
 comes_at kind.Device row = omega arith
 comes_at kind.TooManyRows row = omega arith
 comes_at kind.Free row = omega arith
+comes_at kind.First row = omega arith
+comes_at kind.Step row = omega arith
 
 comes_later : (why : TariffKind) (low high row : ℕ) → low ≤ high → ComesBy high why row → ComesBy low why row
 comes_later kind.Csv low high row le by = omega (arith, by)
@@ -84,6 +100,8 @@ comes_later kind.OutOfMemory low high row le by = omega (arith, by)
 comes_later kind.Device low high row le by = omega (arith, by)
 comes_later kind.TooManyRows low high row le by = omega (arith, by)
 comes_later kind.Free low high row le by = omega (arith, by)
+comes_later kind.First low high row le by = omega (arith, by)
+comes_later kind.Step low high row le by = omega (arith, by)
 
 not_before_later : (meaning : Result (List Band) TariffFault) (low high : ℕ) → low ≤ high → NotBefore high meaning → NotBefore low meaning
 not_before_later (Ok bands) low high le by = tt
@@ -111,7 +129,7 @@ below_not_before first rows (Some header) =
 pub bands_not_before : (rows : List Fields) → NotBefore 1 (bands_of rows)
 unfolding table_of
 bands_not_before [] = omega arith
-bands_not_before (first ∷ rows) = below_not_before first rows (which_header (header ∷ header_with_free ∷ []) first)
+bands_not_before (first ∷ rows) = below_not_before first rows (which_header tariff_form.headers first)
 
 -- after the rows so far, none up to the next one has a fault
 pub none_before : {R : Type 0} (remaining : R → Option (List ℕ)) (known : Option (List ℕ)) (table : Table R) (read : List Band) (text : List ℕ) → known ≡ Some text
@@ -148,6 +166,8 @@ refused_whole kind.OutOfMemory row meaning is = not_before_whole row meaning is
 refused_whole kind.Device row meaning is = not_before_whole row meaning is
 refused_whole kind.TooManyRows row meaning is = rw is refl
 refused_whole kind.Free row meaning is = rw is refl
+refused_whole kind.First row meaning is = rw is refl
+refused_whole kind.Step row meaning is = rw is refl
 
 -- a fault that is passed on
 pub passed_on : (answer : Result (List Band) TariffFault) (fault : TariffFault) (meaning : Result (List Band) TariffFault)

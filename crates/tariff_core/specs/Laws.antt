@@ -1,5 +1,5 @@
 -- The ceiling and the units afforded, in words of their own.
-use Rattle.std.specs.Prelude.{◌≡◌, ◌+◌, ◌<◌, ◌≤◌, ℕ, true, Some, IsSome, None}
+use Rattle.std.specs.Prelude.{◌≡◌, ◌+◌, ◌-◌, ◌<◌, ◌≤◌, ℕ, true, Some, IsSome, None}
 use Rattle.tariff_core.specs.Afford.{units_afforded}
 use Rattle.tariff_core.specs.Ceiling.{are_times, ceiling_of, may_come}
 use Rattle.tariff_core.specs.Lawful.{is_lawful}
@@ -11,9 +11,9 @@ use Rattle.tariff_core.specs.declared.plan.TheConstants.{MAX_RATE}
 use Rattle.tariff_core.specs.declared.times.TimeInfo.{TimeInfo}
 use Rattle.tariff_core.specs.declared.times.TheConstants.{DAY}
 
--- the plan with the highest fee and the highest rate, and no time free
+-- the plan with the highest fee and the highest rate, no time free, and a whole day billed for the last unit of a day
 abbrev pub dearest_plan : Rates
-dearest_plan = record { fee = MAX_RATE; before = MAX_RATE; after = None; free = 0 }
+dearest_plan = record { fee = MAX_RATE; before = MAX_RATE; after = None; free = 0; first = DAY - 1; step = DAY }
 
 -- a call with these times may be charged under the plan
 pub record MayStand (plan : Rates) (times : Elapsed) : Type 0 where

@@ -16,11 +16,26 @@ charged_before plan before = before - plan.free
 abbrev pub charged_after : Rates → ℕ → ℕ → ℕ
 charged_after plan before after = after - (plan.free - before)
 
--- nothing for no time, else the fee and the units charged for at their rates a minute (600 units of 100 ms), rounded up once
+-- the units that are billed where any number is charged for: the first ones whole, and what lies beyond them in whole steps
+unfoldable pub billed : Rates → ℕ → ℕ
+billed plan charged = if charged == 0 then 0 else plan.first + div_ceil (charged - plan.first) plan.step * plan.step
+
+-- the units billed at the rate before the switch: a step that begins before it is billed whole before it
+abbrev pub billed_before : Rates → ℕ → ℕ
+billed_before plan before = billed plan (charged_before plan before)
+
+-- the units billed at either rate
+abbrev pub billed_in_all : Rates → ℕ → ℕ → ℕ
+billed_in_all plan before after = billed plan (charged_before plan before + charged_after plan before after)
+
+-- what the billed units cost at their rates a minute, in parts of which 600 are one unit of money
+abbrev pub cost_of : Rates → ℕ → ℕ → ℕ
+cost_of plan before after =
+    billed_before plan before * plan.before + (billed_in_all plan before after - billed_before plan before) * second_rate plan
+
+-- nothing for no time, else the fee and what the billed units cost, rounded up once. A minute has 600 units of 100 ms
 abbrev pub price_of : Rates → ℕ → ℕ → ℕ
-price_of plan before after =
-    if before + after == 0 then 0
-    else plan.fee + div_ceil (charged_before plan before * plan.before + charged_after plan before after * second_rate plan) 600
+price_of plan before after = if before + after == 0 then 0 else plan.fee + div_ceil (cost_of plan before after) 600
 
 -- the price of times
 abbrev pub price_at : Rates → Elapsed → ℕ

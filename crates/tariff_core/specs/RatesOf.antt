@@ -2,6 +2,6 @@
 use Rattle.tariff_core.specs.Rates.{Rates}
 use Rattle.tariff_core.specs.declared.plan.Plan.{Plan}
 
--- the fee, the rates and the free units of a plan
+-- the fee, the rates, the free units and the billing steps of a plan
 abbrev pub rates_of : Plan → Rates
-rates_of plan = record { fee = plan.fee; before = plan.before; after = plan.after; free = plan.free }
+rates_of plan = record { fee = plan.fee; before = plan.before; after = plan.after; free = plan.free; first = plan.first; step = plan.step }

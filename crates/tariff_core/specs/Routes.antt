@@ -46,7 +46,7 @@ IsOnly bands prefix band = All (λ other. other.prefix ≡ prefix → other.star
 abbrev pub HasAnother : List Band → List ℕ → Band → Type 0
 HasAnother bands prefix band = Any (λ other. (other.prefix ≡ prefix) × (other.start ≢ band.start)) bands
 
--- where there is another, the plan switches to the rate of the next one when that starts. Its fee and its free units aren't used
+-- where there is another, the plan switches to the rate of the next one when that starts. Its fee, its free units and its steps aren't used
 pub record IsSwitch (bands : List Band) (prefix : List ℕ) (band : Band) (now at : ℕ) (rate : Option ℕ) : Type 0 where
   pub another : HasAnother bands prefix band
   pub next : Band
@@ -59,7 +59,7 @@ abbrev pub Switches : List Band → List ℕ → Band → ℕ → Option ℕ →
 Switches bands prefix band now None rate = IsOnly bands prefix band × (rate ≡ None)
 Switches bands prefix band now (Some at) rate = IsSwitch bands prefix band now at rate
 
--- the route of a called number at a moment: the fee, the rate and the free units of its row at the time of day, and the switch to the next
+-- the route of a called number at a moment: the fee, the rate, the free units and the steps of its row at the time of day, and the switch to the next
 pub record IsRoute (bands : List Band) (called : List ℕ) (now : ℕ) (route : Route) : Type 0 where
   pub prefix : List ℕ
   pub is_prefix : IsPrefixFor bands called prefix
@@ -68,6 +68,8 @@ pub record IsRoute (bands : List Band) (called : List ℕ) (now : ℕ) (route : 
   pub fee : route.plan.fee ≡ band.fee
   pub first_rate : route.plan.before ≡ band.rate
   pub free : route.plan.free ≡ band.free
+  pub first : route.plan.first ≡ band.first
+  pub step : route.plan.step ≡ band.step
   pub switches : Switches bands prefix band now route.switch_at route.plan.after
 
 -- the route of a called number at a moment, with the prefix that counts and the start of its row

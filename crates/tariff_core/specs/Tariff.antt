@@ -11,11 +11,11 @@ use Rattle.tariff_core.specs.declared.prefix.Place.{Place}
 
 -- what a row of the code says
 abbrev pub band_of : Row → Band
-band_of row = record { prefix = digits_of row.place.prefix; start = row.place.start; fee = row.cost.fee; rate = row.cost.rate; free = row.cost.free }
+band_of row = record { prefix = digits_of row.place.prefix; start = row.place.start; fee = row.cost.fee; rate = row.cost.rate; free = row.cost.free; first = row.cost.first; step = row.cost.step }
 
 -- what a place and its cost say
 abbrev pub band_with : Place → Cost → Band
-band_with place cost = record { prefix = digits_of place.prefix; start = place.start; fee = cost.fee; rate = cost.rate; free = cost.free }
+band_with place cost = record { prefix = digits_of place.prefix; start = place.start; fee = cost.fee; rate = cost.rate; free = cost.free; first = cost.first; step = cost.step }
 
 -- what is told of a value, seen by `view`, is what its meaning says
 abbrev pub Tells : {X Y E : Type 0} → (X → Y) → Result X E → Result Y E → Type 0

@@ -22,6 +22,8 @@ code_of kind.OutOfMemory = 8
 code_of kind.Device = 9
 code_of kind.TooManyRows = 10
 code_of kind.Free = 11
+code_of kind.First = 12
+code_of kind.Step = 13
 
 -- the name of a kind
 abbrev pub name_of : TariffKind → List ℕ
@@ -36,6 +38,8 @@ name_of kind.OutOfMemory = codes "OutOfMemory"
 name_of kind.Device = codes "Device"
 name_of kind.TooManyRows = codes "TooManyRows"
 name_of kind.Free = codes "Free"
+name_of kind.First = codes "First"
+name_of kind.Step = codes "Step"
 
 -- `row N: KIND`
 abbrev pub text_of : TariffFault → List ℕ

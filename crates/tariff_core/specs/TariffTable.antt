@@ -1,5 +1,5 @@
 -- The meaning of a tariff table: its rows, or the first fault.
-use Rattle.std.specs.Prelude.{◌≡◌, ◌≢◌, ◌<◌, ◌≤◌, ◌+◌, ◌*◌, ◌==◌, ◌&&◌, ℕ, Bool, List, [], ◌∷◌, ◌++◌, length, Option, Some, None, Result, Ok, Err, ⊤, if◌then◌else◌, nat_le, ok_or, slice_index, take, drop, codes}
+use Rattle.std.specs.Prelude.{◌≡◌, ◌≤◌, ◌+◌, ◌*◌, ◌==◌, ◌&&◌, ℕ, Bool, List, [], ◌∷◌, ◌++◌, length, Option, Some, None, Result, Ok, Err, ⊤, if◌then◌else◌, nat_le, nat_lt, ok_or, slice_index, take, drop, codes}
 use Rattle.std.specs.Char.{is_ascii_digit}
 use Rattle.std.specs.List.{list_all}
 use Rattle.table_core.specs.Decimals.{decimal_of}
@@ -41,19 +41,33 @@ start_in fields = ok_or (time_of (field_in fields 1)) kind.From
 abbrev pub money_in : List (List ℕ) → ℕ → Result ℕ TariffKind
 money_in fields place = ok_or (decimal_of MAX_RATE (field_in fields place)) kind.Money
 
--- a row has the four fields of the older header, or five
+-- a row has the four fields of the first header, five with free units, or seven with steps
 abbrev pub HasColumns : ℕ → List (List ℕ) → Type 0
-HasColumns header fields = (4 ≤ length fields) × (header ≢ 0 → 4 < length fields)
+HasColumns header fields = (4 ≤ length fields) × (1 ≤ header → 5 ≤ length fields) × (2 ≤ header → 7 ≤ length fields)
 
--- the free units in a row: none under the older header, the first
+-- the free units in a row: none under the first header
 abbrev pub free_in : ℕ → List (List ℕ) → Result ℕ TariffKind
 free_in header fields = if header == 0 then Ok 0 else ok_or (decimal_of DAY (field_in fields 4)) kind.Free
+
+-- the least units that are billed: none under the first two headers
+abbrev pub first_in : ℕ → List (List ℕ) → Result ℕ TariffKind
+first_in header fields = if nat_lt header 2 then Ok 0 else ok_or (decimal_of DAY (field_in fields 5)) kind.First
+
+-- a number of units, of which there is one at least
+abbrev pub step_of : Option ℕ → Result ℕ TariffKind
+step_of None = Err kind.Step
+step_of (Some units) = if units == 0 then Err kind.Step else Ok units
+
+-- the units of a step: one under the first two headers
+abbrev pub step_in : ℕ → List (List ℕ) → Result ℕ TariffKind
+step_in header fields = if nat_lt header 2 then Ok 1 else step_of (decimal_of DAY (field_in fields 6))
 
 -- what a row says
 abbrev pub band_in : ℕ → List (List ℕ) → Result Band TariffKind
 band_in header fields =
     after (prefix_in fields) (λ prefix. after (start_in fields) (λ start. after (money_in fields 2) (λ fee. after (money_in fields 3) (λ rate.
-    after (free_in header fields) (λ free. Ok (record { prefix = prefix; start = start; fee = fee; rate = rate; free = free }))))))
+    after (free_in header fields) (λ free. after (first_in header fields) (λ first. after (step_in header fields) (λ step.
+    Ok (record { prefix = prefix; start = start; fee = fee; rate = rate; free = free; first = first; step = step }))))))))
 
 -- the row, where no earlier one has its prefix and its start
 abbrev pub new_band : List Band → Band → Result Band TariffKind
@@ -63,7 +77,7 @@ new_band earlier band = if has_band band.prefix band.start earlier then Err kind
 abbrev pub new_band_in : ℕ → List Band → List (List ℕ) → Result Band TariffKind
 new_band_in header earlier fields = after (band_in header fields) (new_band earlier)
 
--- `prefix,from,fee,rate`, and the same with `free`
+-- `prefix,from,fee,rate`, the same with `free`, and that with `first,step`
 abbrev pub header : List (List ℕ)
 header = codes "prefix" ∷ codes "from" ∷ codes "fee" ∷ codes "rate" ∷ []
 
@@ -71,10 +85,14 @@ header = codes "prefix" ∷ codes "from" ∷ codes "fee" ∷ codes "rate" ∷ []
 abbrev pub header_with_free : List (List ℕ)
 header_with_free = header ++ codes "free" ∷ []
 
+-- the header with two more for steps
+abbrev pub header_with_steps : List (List ℕ)
+header_with_steps = header_with_free ++ codes "first" ∷ codes "step" ∷ []
+
 -- a tariff table of at most 10,000 rows
 abbrev pub tariff_form : TableForm (List Band) TariffKind TariffFault
 tariff_form = record {
-  headers = header ∷ header_with_free ∷ [];
+  headers = header ∷ header_with_free ∷ header_with_steps ∷ [];
   limit = 10000;
   start = [];
   judge = λ header. adds (new_band_in header);
@@ -114,7 +132,7 @@ abbrev pub NotBefore : ℕ → Result (List Band) TariffFault → Type 0
 NotBefore number (Ok bands) = ⊤
 NotBefore number (Err fault) = ComesBy number fault.kind fault.row
 
--- a fault of the table is the one that its meaning has; want of memory and a failed reader come before that
+-- a fault of the table is the one that its meaning has; out of memory and a failed reader come before that
 abbrev pub Refuses : TariffKind → ℕ → Result (List Band) TariffFault → Type 0
 Refuses kind.OutOfMemory row meaning = NotBefore row meaning
 Refuses kind.Device row meaning = NotBefore row meaning

@@ -2,12 +2,14 @@
 
 ghost use Rattle.std.specs.Prelude.{◌≡◌, ◌≤◌, ◌<◌, ◌+◌, ◌++◌, ◌∷◌, [], length, Some, None, IfNone, IfSome, IfOk, OnOk, All};
 ghost use Rattle.std.specs.BTreeMap.{Updates};
-ghost use Rattle.tariff_core.specs.Bands.{has_band};
+ghost use Rattle.std.specs.List.{list_any};
+ghost use Rattle.tariff_core.specs.Rates.{are_steps};
+ghost use Rattle.tariff_core.specs.Bands.{has_band, have_steps};
 ghost use Rattle.tariff_core.specs.Places.{by_place};
 ghost use Rattle.tariff_core.specs.Prefixes.{digits_of};
 ghost use Rattle.tariff_core.specs.Routes.{IsBandAt, IsSoonest};
 ghost use Rattle.tariff_core.specs.Tariff.{Indexes, IsIndexed, Tells, Keeps, band_of};
-ghost use Rattle.tariff_core.specs.TariffTable.{Gives, HasColumns, bands_of, new_band_in, without_midnight, band_in, free_in, is_prefix, time_of};
+ghost use Rattle.tariff_core.specs.TariffTable.{Gives, HasColumns, bands_of, new_band_in, without_midnight, band_in, first_in, free_in, is_prefix, step_in, time_of};
 ghost use Rattle.csv.specs.Records.{fields_of};
 ghost use Rattle.table_core.specs.Rows.{rows_of};
 
@@ -54,6 +56,7 @@ impl Bands {
         let headers: &[&[&str]] = &[
             &["prefix", "from", "fee", "rate"],
             &["prefix", "from", "fee", "rate", "free"],
+            &["prefix", "from", "fee", "rate", "free", "first", "step"],
         ];
         let mut table = match Table::open(alloc, reader, headers, MAX_ROWS) {
             Ok(table) => table,
@@ -98,6 +101,13 @@ impl Bands {
             }
         }
         None
+    }
+
+    /// Whether any row bills in steps.
+    pub fn have_steps(&self) -> bool
+        ensures { result ≡ have_steps self.now }
+    {
+        any_has_steps(self.rows.as_slice())
     }
 
     /// Whether there is a row for a prefix, from a start on.
@@ -147,6 +157,13 @@ impl Bands {
     }
 }
 
+/// Whether any of these rows bills in steps.
+fn any_has_steps(rows: &[Row]) -> bool
+    ensures { result ≡ list_any (λ row. are_steps row.cost.first row.cost.step) rows.now }
+{
+    rows.iter().any(|row| row.has_steps())
+}
+
 /// The row that these fields say, after the rows that are in the index.
 fn judge(
     index: &BTreeMap<Place, Cost>,
@@ -173,7 +190,8 @@ fn keep(rows: &mut Vec<Row>, index: &mut BTreeMap<Place, Cost>, row: Row) -> Res
     Ok(())
 }
 
-/// The row of these fields, under the older header (0) or the one with free units.
+/// The row of these fields, under the first header (0), the one with free units, or the one with
+/// steps too.
 fn read_row(header: usize, fields: &ByteRecord) -> Result<Row, TariffKind>
     requires { HasColumns header (fields_of fields.now) }
     ensures { Tells band_of result (band_in header (fields_of fields.now)) }
@@ -187,13 +205,21 @@ fn read_row(header: usize, fields: &ByteRecord) -> Result<Row, TariffKind>
     let fee = decimal(field(fields, 2), MAX_RATE).ok_or(TariffKind::Money)?;
     let rate = decimal(field(fields, 3), MAX_RATE).ok_or(TariffKind::Money)?;
     let free = free_units(header, fields)?;
+    let first = first_step(header, fields)?;
+    let step = further_step(header, fields)?;
     Ok(Row {
         place: Place { prefix, start },
-        cost: Cost { fee, rate, free },
+        cost: Cost {
+            fee,
+            rate,
+            free,
+            first,
+            step,
+        },
     })
 }
 
-/// The free units of these fields: none under the older header.
+/// The free units of these fields: none under the first header.
 fn free_units(header: usize, fields: &ByteRecord) -> Result<u32, TariffKind>
     requires { HasColumns header (fields_of fields.now) }
     ensures value { result ≡ free_in header (fields_of fields.now) }
@@ -204,6 +230,35 @@ fn free_units(header: usize, fields: &ByteRecord) -> Result<u32, TariffKind>
     }
     let free = decimal(field(fields, 4), u64::from(DAY)).ok_or(TariffKind::Free)?;
     Ok(free as u32)
+}
+
+/// The least units that are billed by these fields: none under the headers without steps.
+fn first_step(header: usize, fields: &ByteRecord) -> Result<u32, TariffKind>
+    requires { HasColumns header (fields_of fields.now) }
+    ensures value { result ≡ first_in header (fields_of fields.now) }
+    ensures within_day { IfOk result (λ first. first ≤ DAY) }
+{
+    if header < 2 {
+        return Ok(0);
+    }
+    let first = decimal(field(fields, 5), u64::from(DAY)).ok_or(TariffKind::First)?;
+    Ok(first as u32)
+}
+
+/// The units of a further step by these fields: one under the headers without steps.
+fn further_step(header: usize, fields: &ByteRecord) -> Result<u32, TariffKind>
+    requires { HasColumns header (fields_of fields.now) }
+    ensures value { result ≡ step_in header (fields_of fields.now) }
+    ensures positive { IfOk result (λ step. 1 ≤ step) }
+    ensures within_day { IfOk result (λ step. step ≤ DAY) }
+{
+    if header < 2 {
+        return Ok(1);
+    }
+    match decimal(field(fields, 6), u64::from(DAY)) {
+        Some(step) if step > 0 => Ok(step as u32),
+        _ => Err(TariffKind::Step),
+    }
 }
 
 fn is_prefix(text: &[u8]) -> bool

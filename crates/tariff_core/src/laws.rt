@@ -10,6 +10,7 @@ ghost use Rattle.tariff_core.specs.declared.pricing.TheConstants.{MAX_PRICE};
 ghost use Rattle.tariff_core.specs.declared.times.TheConstants.{DAY, HORIZON, LAST_MOMENT};
 
 /// The limits in plain numbers. The greatest price is what a day costs under the dearest plan.
+#[tactic(auto, unfolding(crate::specs::Price::billed))]
 pub fn limits_in_numbers()
     ensures day { DAY ≡ 864000 }
     ensures last_moment { LAST_MOMENT ≡ 10 ^ 12 }

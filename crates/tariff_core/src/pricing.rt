@@ -1,25 +1,28 @@
 //! What times cost, the most that granted times can cost, the units that money covers, and which
 //! times may follow.
 
-ghost use Rattle.std.specs.Prelude.{◌≡◌, ◌+◌, ◌≤◌, true, IsSome};
+ghost use Rattle.std.specs.Prelude.{◌≡◌, ◌+◌, ◌*◌, ◌<◌, ◌≤◌, true, IsSome};
 ghost use Rattle.tariff_core.specs.Lawful.{is_lawful};
-ghost use Rattle.tariff_core.specs.Price.{price_of, price_at};
+ghost use Rattle.tariff_core.specs.Price.{billed, price_of, price_at};
 ghost use Rattle.tariff_core.specs.RatesOf.{rates_of};
 ghost use Rattle.tariff_core.specs.Ceiling.{ceiling_of};
 ghost use Rattle.tariff_core.specs.Afford.{units_afforded};
 
 use crate::{DAY, Plan, Times};
 
-/// The most that a call can cost: the highest fee, and a day at the highest rate.
-pub const MAX_PRICE: u64 = 1_441_000_000_000;
+/// The most that a call can cost: the highest fee, and the most units that are billed of a day, one
+/// less than two days, at the highest rate.
+pub const MAX_PRICE: u64 = 2_880_998_333_334;
 
 /// The units of 100 ms in a minute, which rates are given for.
 const MINUTE: u64 = 600;
 
 /// What it costs to have talked `before` units of 100 ms before the tariff switch and `after` units
-/// after it: nothing where nothing was talked, else the fee and each time less its free units at
-/// its rate, rounded up once. The time before the switch uses the free units up first. Without a
-/// second rate the time after the switch costs nothing.
+/// after it: nothing where nothing was talked, else the fee and what is billed of each time at its
+/// rate, rounded up once. The time before the switch uses the free units up first, and a billing
+/// step that begins before the switch is billed whole before it. Without a second rate what is
+/// billed after the switch costs nothing.
+#[tactic(auto, using(crate::proofs::Prices::billed_grows))]
 pub fn price(plan: &Plan, before: u32, after: u32) -> u64
     requires { before + after ≤ DAY }
     ensures exact { result ≡ price_of (rates_of plan.now) before after }
@@ -28,15 +31,30 @@ pub fn price(plan: &Plan, before: u32, after: u32) -> u64
     if before == 0 && after == 0 {
         return 0;
     }
-    let first = before.saturating_sub(plan.free);
-    let second = after.saturating_sub(plan.free.saturating_sub(before));
+    let charged = before.saturating_sub(plan.free);
+    let later = after.saturating_sub(plan.free.saturating_sub(before));
+    let first = billed(plan, charged);
+    let second = billed(plan, charged + later) - first;
     let cost = u64::from(first) * plan.before + u64::from(second) * plan.after.unwrap_or(0);
     plan.fee + cost.div_ceil(MINUTE)
 }
 
+/// The units that are billed where `charged` units are charged for.
+#[tactic(auto, unfolding(crate::specs::Price::billed))]
+fn billed(plan: &Plan, charged: u32) -> u32
+    requires { charged ≤ DAY }
+    ensures exact { result ≡ billed (rates_of plan.now) charged }
+    ensures bounded { result < 2 * DAY }
+{
+    if charged == 0 {
+        return 0;
+    }
+    let beyond = charged.saturating_sub(plan.first);
+    plan.first + beyond.div_ceil(plan.step) * plan.step
+}
+
 /// What a report adds to the price: that of `new` less that of `old`, which the caller has found
 /// lawful one after the other.
-#[tactic(auto, using(crate::proofs::Prices::price_at_grows))]
 pub fn debit(plan: &Plan, old: Times, new: Times) -> u64
     requires { is_lawful (rates_of plan.now) old new DAY ≡ true }
     ensures exact { price_at (rates_of plan.now) old + result ≡ price_at (rates_of plan.now) new }

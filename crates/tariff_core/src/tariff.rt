@@ -2,7 +2,7 @@
 
 ghost use Rattle.std.specs.Prelude.{◌≡◌, ◌+◌, ◌<◌, ◌≤◌, ◌%◌, true, is_some, length, unwrap_or, IfNone, IfSome};
 ghost use Rattle.table_core.specs.Rows.{rows_of};
-ghost use Rattle.tariff_core.specs.Bands.{has_band};
+ghost use Rattle.tariff_core.specs.Bands.{has_band, have_steps};
 ghost use Rattle.tariff_core.specs.Prefixes.{digits_of};
 ghost use Rattle.tariff_core.specs.Routes.{HasAnother, HasNoRoute, IsBandAt, IsNextBand, IsOnly, IsPrefixFor, IsQuote, IsRoute, wait};
 ghost use Rattle.tariff_core.specs.Tariff.{band_of};
@@ -40,13 +40,15 @@ impl Model for Tariff {
 }
 
 impl Tariff {
-    /// The tariff of a CSV table with the header `prefix,from,fee,rate,free`: a prefix of 0 to 15
-    /// ASCII digits, a start `HH:MM`, a fee and a rate a minute up to `MAX_RATE`, and free units of
-    /// 100 ms up to `DAY`. Under the older header `prefix,from,fee,rate` a row has none. At most
-    /// 10,000 rows, no two for one prefix and start, and for each prefix one from `00:00` on.
+    /// The tariff of a CSV table with the header `prefix,from,fee,rate,free,first,step`: a prefix of
+    /// 0 to 15 ASCII digits, a start `HH:MM`, a fee and a rate a minute up to `MAX_RATE`, free units
+    /// of 100 ms up to `DAY`, and the billing steps, `first` up to `DAY` and `step` from 1 to `DAY`.
+    /// Under the older header that ends with `free` each unit is billed by itself, and under
+    /// `prefix,from,fee,rate` there are no free units either. At most 10,000 rows, no two for one
+    /// prefix and start, and for each prefix one from `00:00` on.
     ///
     /// Rows are judged in order as they are read, and within a row the faults in the order Csv,
-    /// TooManyRows, Digits, From, Money, Free, Repeated. NoMidnightBand comes after the last row,
+    /// TooManyRows, Digits, From, Money, Free, First, Step, Repeated. NoMidnightBand comes after the last row,
     /// at the first row of the first prefix that has it. OutOfMemory and Device come at the row
     /// that was being read.
     pub fn read<R: Read + Drop>(alloc: Global, reader: R) -> Result<Tariff, TariffFault>
@@ -62,12 +64,19 @@ impl Tariff {
         }
     }
 
+    /// Whether any row bills in steps.
+    pub fn has_steps(&self) -> bool
+        ensures { result ≡ have_steps self.now }
+    {
+        self.bands.have_steps()
+    }
+
     /// The route of a called number at a moment, in units of 100 ms; none where no prefix of the
     /// table fits.
     ///
     /// The longest prefix counts, and of its bands the latest that has begun at the time of day.
-    /// The next band of the prefix, perhaps on the next day, gives the second rate, and no free
-    /// units.
+    /// The next band of the prefix, perhaps on the next day, gives the second rate, and neither free
+    /// units nor steps.
     pub fn plan(&self, called: &[u8], now: u64) -> Option<Route>
         requires { now ≤ HORIZON }
         ensures none { IfNone result (HasNoRoute self.now called.now) }
@@ -172,6 +181,8 @@ fn route(band: Row, after: Option<u64>, switch_at: Option<u64>) -> Route
     ensures fee { result.plan.fee ≡ band.cost.fee }
     ensures first_rate { result.plan.before ≡ band.cost.rate }
     ensures free { result.plan.free ≡ band.cost.free }
+    ensures first { result.plan.first ≡ band.cost.first }
+    ensures step { result.plan.step ≡ band.cost.step }
     ensures second_rate { result.plan.after ≡ after }
     ensures moment { result.switch_at ≡ switch_at }
 {
@@ -181,6 +192,8 @@ fn route(band: Row, after: Option<u64>, switch_at: Option<u64>) -> Route
             before: band.cost.rate,
             after,
             free: band.cost.free,
+            first: band.cost.first,
+            step: band.cost.step,
         },
         switch_at,
     }

@@ -32,6 +32,10 @@ pub enum TariffKind {
     TooManyRows = 10,
     /// Free units that are not a decimal up to `DAY`.
     Free = 11,
+    /// A first step that is not a decimal up to `DAY`.
+    First = 12,
+    /// A further step that is not a decimal from 1 to `DAY`.
+    Step = 13,
 }
 
 impl TariffKind {
@@ -59,6 +63,8 @@ impl fmt::Display for TariffKind {
             TariffKind::Device => f.write_str("Device"),
             TariffKind::TooManyRows => f.write_str("TooManyRows"),
             TariffKind::Free => f.write_str("Free"),
+            TariffKind::First => f.write_str("First"),
+            TariffKind::Step => f.write_str("Step"),
         }
     }
 }

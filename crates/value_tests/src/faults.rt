@@ -5,7 +5,7 @@ use cap_values::ValueFault;
 use table_core::{RowFault, RowKind, TableFault};
 use tariff_core::{PlanRange, TariffFault, TariffKind, TimeRange};
 
-const KINDS: [(TariffKind, u8, &str); 11] = [
+const KINDS: [(TariffKind, u8, &str); 13] = [
     (TariffKind::Csv, 1, "row 7: Csv"),
     (TariffKind::Header, 2, "row 7: Header"),
     (TariffKind::Digits, 3, "row 7: Digits"),
@@ -17,9 +17,12 @@ const KINDS: [(TariffKind, u8, &str); 11] = [
     (TariffKind::Device, 9, "row 7: Device"),
     (TariffKind::TooManyRows, 10, "row 7: TooManyRows"),
     (TariffKind::Free, 11, "row 7: Free"),
+    (TariffKind::First, 12, "row 7: First"),
+    (TariffKind::Step, 13, "row 7: Step"),
 ];
 
-const PLAN_RANGE: &str = "a fee or a rate is above 1000000000, or the free units are above 864000";
+const PLAN_RANGE: &str =
+    "a fee or a rate is above 1000000000, free units or a step are above 864000, or a step is 0";
 
 const TIME_RANGE: &str = "a time of a report is out of its range";
 

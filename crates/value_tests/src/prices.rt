@@ -21,6 +21,8 @@ const CHEAPER: Plan = Plan {
     before: 1000,
     after: Some(400),
     free: 0,
+    first: 0,
+    step: 1,
 };
 
 /// One rate.
@@ -29,6 +31,8 @@ const SINGLE: Plan = Plan {
     before: 1000,
     after: None,
     free: 0,
+    first: 0,
+    step: 1,
 };
 
 /// Two rates, the second dearer.
@@ -37,6 +41,8 @@ const DEARER: Plan = Plan {
     before: 400,
     after: Some(1000),
     free: 0,
+    first: 0,
+    step: 1,
 };
 
 /// Two rates, the second cheaper, and free units.
@@ -45,6 +51,8 @@ const FREE: Plan = Plan {
     before: 1000,
     after: Some(400),
     free: 300,
+    first: 0,
+    step: 1,
 };
 
 /// Two rates, the second dearer, and free units.
@@ -53,6 +61,8 @@ const FREE_DEARER: Plan = Plan {
     before: 400,
     after: Some(1000),
     free: 300,
+    first: 0,
+    step: 1,
 };
 
 /// The highest fee and the highest rates.
@@ -61,10 +71,81 @@ const DEAREST: Plan = Plan {
     before: MOST,
     after: Some(MOST),
     free: 0,
+    first: 0,
+    step: 1,
 };
 
+/// The highest fee and the highest rates, and a whole day billed for the last unit of a day.
+const DEAREST_IN_STEPS: Plan = Plan {
+    fee: MOST,
+    before: MOST,
+    after: Some(MOST),
+    free: 0,
+    first: 863_999,
+    step: 864_000,
+};
+
+/// Two rates, and each minute that has begun is billed.
+const BY_THE_MINUTE: Plan = Plan {
+    fee: 50,
+    before: 1000,
+    after: Some(400),
+    free: 0,
+    first: 600,
+    step: 600,
+};
+
+/// A free minute, then half a minute at least, and further steps of six seconds.
+const BY_SIX_SECONDS: Plan = Plan {
+    fee: 50,
+    before: 1000,
+    after: Some(400),
+    free: 600,
+    first: 300,
+    step: 60,
+};
+
+/// What money grants of 2000 units that are billed by the minute.
+const MINUTES_AFFORDED: [(u64, u32); 5] = [
+    (1049, 0),
+    (1050, 600),
+    (1500, 600),
+    (2049, 600),
+    (2050, 1200),
+];
+
+/// A first step, further steps, and whether a plan may have them.
+const STEPS: [(u32, u32, bool); 7] = [
+    (0, 1, true),
+    (600, 600, true),
+    (864_000, 864_000, true),
+    (864_001, 1, false),
+    (0, 0, false),
+    (0, 864_001, false),
+    (864_001, 0, false),
+];
+
 /// The times before and after a switch, and their price.
-const PRICES: [(Plan, u32, u32, u64); 14] = [
+const PRICES: [(Plan, u32, u32, u64); 33] = [
+    (DEAREST_IN_STEPS, 864_000, 0, 2_880_998_333_334),
+    (DEAREST_IN_STEPS, 863_999, 0, 1_440_998_333_334),
+    (BY_THE_MINUTE, 0, 0, 0),
+    (BY_THE_MINUTE, 1, 0, 1050),
+    (BY_THE_MINUTE, 600, 0, 1050),
+    (BY_THE_MINUTE, 601, 0, 2050),
+    (BY_THE_MINUTE, 300, 300, 1050),
+    (BY_THE_MINUTE, 300, 301, 1450),
+    (BY_THE_MINUTE, 0, 1, 450),
+    (BY_THE_MINUTE, 600, 1, 1450),
+    (BY_THE_MINUTE, 601, 1, 2050),
+    (BY_SIX_SECONDS, 600, 0, 50),
+    (BY_SIX_SECONDS, 601, 0, 550),
+    (BY_SIX_SECONDS, 900, 0, 550),
+    (BY_SIX_SECONDS, 901, 0, 650),
+    (BY_SIX_SECONDS, 960, 1, 690),
+    (BY_SIX_SECONDS, 300, 300, 50),
+    (BY_SIX_SECONDS, 300, 301, 250),
+    (BY_SIX_SECONDS, 300, 700, 330),
     (DEAREST, 864_000, 0, 1_441_000_000_000),
     (DEAREST, 1, 863_999, 1_441_000_000_000),
     (FREE, 1, 0, 50),
@@ -217,6 +298,10 @@ fn prices_and_affords_times(rt: HostRuntime) {
         let units = afford(&plan, Times::ZERO, 600, money);
         gives(&rt, &money, &units, &want);
     }
+    for &(money, want) in &MINUTES_AFFORDED {
+        let units = afford(&BY_THE_MINUTE, Times::ZERO, 2000, money);
+        gives(&rt, &money, &units, &want);
+    }
 }
 
 #[test]
@@ -237,6 +322,23 @@ fn plans_and_times_keep_their_ranges(rt: HostRuntime) {
             &fits.then_some((50, 1000, Some(400))),
         );
     }
+    for &(first, step, fits) in &STEPS {
+        let made = FREE.with_steps(first, step).ok();
+        let parts = made.map(|plan| (plan.free, plan.first, plan.step));
+        gives(
+            &rt,
+            &(first, step),
+            &parts,
+            &fits.then_some((300, first, step)),
+        );
+        gives(
+            &rt,
+            &(first, step),
+            &rates_of(made),
+            &fits.then_some((50, 1000, Some(400))),
+        );
+    }
+    assert!(rt; BY_THE_MINUTE.has_steps() && BY_SIX_SECONDS.has_steps() && !FREE.has_steps());
     for &(parts, fits) in &TIMES {
         let (before, after, switched) = parts;
         let made = parts_of(Times::new(before, after, switched));

@@ -53,6 +53,19 @@ const ROUTES_WITH_FREE: [(&str, u64, Option<Rates>); 2] = [
     ),
 ];
 
+/// Bands that bill in steps, and one that doesn't.
+const WITH_STEPS: &[u8] = b"prefix,from,fee,rate,free,first,step\n\
+    49,00:00,50,1000,0,600,600\n49,08:00,0,400,0,0,1\n44,00:00,50,1000,600,300,60\n";
+
+/// The first step and the further ones of a route.
+const ROUTES_WITH_STEPS: [(&str, u64, Option<(u32, u32)>); 5] = [
+    ("491", 0, Some((600, 600))),
+    ("491", 288_000, Some((0, 1))),
+    ("491", 864_000, Some((600, 600))),
+    ("44", 0, Some((300, 60))),
+    ("4", 0, None),
+];
+
 const LATEST: u64 = 2_000_000_000_000;
 
 const EMPTY_PREFIX_ROUTES: [(&str, u64, Option<Rates>); 4] = [
@@ -63,7 +76,58 @@ const EMPTY_PREFIX_ROUTES: [(&str, u64, Option<Rates>); 4] = [
 ];
 
 /// Tables, and the row and the kind of the fault of each.
-pub(crate) const REFUSED: [(&str, u32, TariffKind); 28] = [
+pub(crate) const REFUSED: [(&str, u32, TariffKind); 39] = [
+    ("prefix,from,fee,rate,free,first\n", 1, TariffKind::Header),
+    (
+        "prefix,from,fee,rate,free,step,first\n",
+        1,
+        TariffKind::Header,
+    ),
+    (
+        "prefix,from,fee,rate,free,first,step\n44,00:00,1,1,0,600\n",
+        2,
+        TariffKind::Csv,
+    ),
+    (
+        "prefix,from,fee,rate,free,first,step\n44,00:00,1,1,x,x,x\n",
+        2,
+        TariffKind::Free,
+    ),
+    (
+        "prefix,from,fee,rate,free,first,step\n44,00:00,1,1,0,864001,x\n",
+        2,
+        TariffKind::First,
+    ),
+    (
+        "prefix,from,fee,rate,free,first,step\n44,00:00,1,1,0,,1\n",
+        2,
+        TariffKind::First,
+    ),
+    (
+        "prefix,from,fee,rate,free,first,step\n44,00:00,1,1,0,0,0\n",
+        2,
+        TariffKind::Step,
+    ),
+    (
+        "prefix,from,fee,rate,free,first,step\n44,00:00,1,1,0,0,864001\n",
+        2,
+        TariffKind::Step,
+    ),
+    (
+        "prefix,from,fee,rate,free,first,step\n44,00:00,1,1,0,0,\n",
+        2,
+        TariffKind::Step,
+    ),
+    (
+        "prefix,from,fee,rate,free,first,step\n44,00:00,1,1,0,0,1\n44,00:00,1,1,0,0,0\n",
+        3,
+        TariffKind::Step,
+    ),
+    (
+        "prefix,from,fee,rate,free,first,step\n44,00:00,1,1,0,0,1\n44,00:00,1,1,0,600,600\n",
+        3,
+        TariffKind::Repeated,
+    ),
     ("prefix,from,fee,rate,fee\n", 1, TariffKind::Header),
     (
         "prefix,from,fee,rate,free\n44,00:00,1,1\n",
@@ -174,6 +238,7 @@ fn rates_of(route: Option<Route>) -> Option<Rates> {
         before,
         after,
         free,
+        ..
     } = plan;
     Some((fee, before, after, free, switch_at))
 }
@@ -197,6 +262,15 @@ fn routes_by_prefix_and_time(rt: HostRuntime) {
     routes(&rt, TABLE, &ROUTES);
     routes(&rt, WITH_FREE, &ROUTES_WITH_FREE);
     routes(&rt, EMPTY_PREFIX, &EMPTY_PREFIX_ROUTES);
+    let tariff = Tariff::read(rt.alloc(), WITH_STEPS).expect(&rt, "a tariff");
+    for &(called, now, want) in &ROUTES_WITH_STEPS {
+        assert!(rt; now <= LATEST);
+        let route = tariff.plan(called.as_bytes(), now);
+        let steps = route.map(|route| (route.plan.first, route.plan.step));
+        gives(&rt, &(called, now), &steps, &want);
+    }
+    let older = Tariff::read(rt.alloc(), WITH_FREE).expect(&rt, "a tariff");
+    assert!(rt; tariff.has_steps() && !older.has_steps());
 }
 
 #[test]

@@ -8,5 +8,5 @@ use Rattle.book_texts.proofs.table.write_book.Given as goal
 abbrev pub invariant-loop-entry : goal.invariant-loop-entry
 invariant-loop-entry l =
     (string_bytes l.text
-    ≡ string_bytes l.fn.text ++ (opening_row l.book ++ flat_map (entry_row l.book.account) (map entry_data (take l.entry-index l.entry-items))))
+    ≡ string_bytes l.fn.text ++ (opening_row l.version l.book ++ flat_map (entry_row l.version l.book.account) (map entry_data (take l.entry-index l.entry-items))))
     × All (λ entry. IsTypedEntry (entry_data entry)) (take l.entry-index l.entry-items)

@@ -1,6 +1,6 @@
 use Rattle.std.proofs.Common.{Err, refl, arith}
 use Rattle.csv.specs.Records.{fields_of}
-use Rattle.table_core.specs.Reading.{row_of_table}
+use Rattle.table_core.specs.Reading.{header_of, row_of_table}
 use Rattle.table_core.specs.Rows.{rows_of}
 use Rattle.table_core.proofs.TableLemmas.{ended, header_stays, not_opened, opened, refused, row_columns, stopped, taken}
 use Rattle.tariff_core.specs.Tariff.{band_of}
@@ -63,7 +63,7 @@ loop-found-preserved g c =
     record {
       counted = omega (arith, next.number, c.loop-found.invariant.counted, count_more _ _ c.in-Ok-judge.row kept.rows);
       within = omega (arith, next.within, next.same.limit, c.loop-found.invariant.so_far.limit);
-      indexed = keeps_indexed _ _ _ _ c.in-Ok-judge.row c.loop-found.invariant.indexed kept (is_new _ _ (fields_of (row_of_table c.next_row.new.self)) (band_of c.in-Ok-judge.row) read);
+      indexed = keeps_indexed _ _ _ _ c.in-Ok-judge.row c.loop-found.invariant.indexed kept (is_new (header_of c.loop-found.table) _ (fields_of (row_of_table c.next_row.new.self)) (band_of c.in-Ok-judge.row) read);
       so_far = rw (rows_more _ _ c.in-Ok-judge.row kept.rows)
           (taken tariff_form g.R.Read.remaining _ c.loop-found.table c.next_row.new.self _ c.loop-found.invariant.so_far _
           next (rw c.if-not-found.false at c.in-Ok-next_row.ensures.steps) (rw read refl));
