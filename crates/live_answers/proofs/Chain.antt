@@ -10,12 +10,13 @@ use Rattle.live_answers.proofs.LineLemmas.{line_first, no_line}
 use Rattle.live_answers.specs.Lines.{live_lines}
 use Rattle.live_answers.specs.Live.{Heard, given_by, given_of, heard_after, heard_in, item_view, last_after, live_text, logged_of, next_after, text_after}
 use Rattle.live_answers.specs.Rounds.{Hears, LeadsTo, TakesLine, TakesOf, WritesOn, due}
-use Rattle.live_answers.specs.Rows.{next_line, put_down, rows_of_line}
+use Rattle.live_answers.specs.Rows.{counted_line, put_down, rows_of_line}
 use Rattle.live_answers.specs.Runs.{Answers, Logs, Prints}
 use Rattle.live_answers.specs.Said.{said_of}
 use Rattle.live_answers.specs.Stages.{fault_of, has_ended}
 use Rattle.live_answers.specs.Standing.{LineView, last_moment, moment_of, said_in}
 use Rattle.live_answers.specs.declared.driver.LiveDriver.{LiveDriver}
+use Rattle.live_answers.specs.declared.replay.Replay.{Replay}
 use Rattle.live_answers.specs.declared.stage.LiveFault.{LiveFault}
 use Rattle.live_answers.specs.declared.stage.LiveFault.TheVariants as fault
 use Rattle.live_answers.specs.declared.stage.Stage.{Stage}
@@ -76,28 +77,28 @@ last_behind items item =
     ap (λ n. moment_seen (slice_get (items ++ item ∷ []) n)) here ∙ ap moment_seen (behind items (item ∷ []))
 
 -- what stands after a line
-pub record Steps (said : LineView) (old new : List (ℕ × Body)) (all next : List Answer) (line : ℕ) : Type 0 where
+pub record Steps (quiet : ℕ) (said : LineView) (old new : List (ℕ × Body)) (all next : List Answer) (line : ℕ) : Type 0 where
   pub count : length new ≡ next_after (length old) said
   pub last : last_moment new ≡ last_after (last_moment old) said
-  pub rows : rows_of_line line (length new - 1) (slice_get next 0) said ≡ rows_of_line line (length old) (slice_get all (length old)) said
+  pub rows : rows_of_line quiet line (length new - 1) (slice_get next 0) said ≡ rows_of_line quiet line (length old) (slice_get all (length old)) said
 
-step : (said : LineView) (old new : List (ℕ × Body)) (all next : List Answer) (line : ℕ) → map item_view new ≡ map item_view old ++ given_by said
-    → (length new ≡ length old + 1 → slice_get all (length old) ≡ slice_get next 0) → Steps said old new all next line
-step None old new all next line gives at =
+step : (quiet : ℕ) (said : LineView) (old new : List (ℕ × Body)) (all next : List Answer) (line : ℕ) → map item_view new ≡ map item_view old ++ given_by said
+    → (length new ≡ length old + 1 → slice_get all (length old) ≡ slice_get next 0) → Steps quiet said old new all next line
+step quiet None old new all next line gives at =
     let same = gives ∙ append-nil (map item_view old) in
     record {
       count = sym (length-map new item_view) ∙ ap length same ∙ length-map old item_view;
       last = last_so new ∙ ap last_seen same ∙ sym (last_so old);
       rows = refl;
     }
-step (Some (Err kind)) old new all next line gives at =
+step quiet (Some (Err kind)) old new all next line gives at =
     let same = gives ∙ append-nil (map item_view old) in
     record {
       count = sym (length-map new item_view) ∙ ap length same ∙ length-map old item_view;
       last = last_so new ∙ ap last_seen same ∙ sym (last_so old);
       rows = refl;
     }
-step (Some (Ok message)) old new all next line gives at =
+step quiet (Some (Ok message)) old new all next line gives at =
     let one : ℕ × Speech = (message.at, message.speech) in
     let many : length new ≡ length old + 1 =
     sym (length-map new item_view) ∙ ap length gives ∙ length-append (map item_view old) (one ∷ []) ∙ ap (λ n. n + 1) (length-map old item_view) in
@@ -105,8 +106,8 @@ step (Some (Ok message)) old new all next line gives at =
     record {
       count = many;
       last = last_so new ∙ ap last_seen gives ∙ last_behind (map item_view old) one;
-      rows = ap (λ n. rows_of_line line n (slice_get next 0) (Some (Ok message))) place
-          ∙ ap (λ answer. rows_of_line line (length old) answer (Some (Ok message))) (sym (at many));
+      rows = ap (λ n. rows_of_line quiet line n (slice_get next 0) (Some (Ok message))) place
+          ∙ ap (λ answer. rows_of_line quiet line (length old) answer (Some (Ok message))) (sym (at many));
     }
 
 -- the first line of a text that was taken, and those after it
@@ -118,7 +119,7 @@ heard_front known left old text line is takes =
     let rest = live_lines (drop_through 10 text) in
     (left_is, ap (heard_after (length old) (last_moment old)) (line_first text some ∙ ap (λ l. l ∷ rest) (sym line_is)))
 
-none_heard : (next last : ℕ) (text : List ℕ) → text ≡ [] → heard_after next last (live_lines text) ≡ []
+pub none_heard : (next last : ℕ) (text : List ℕ) → text ≡ [] → heard_after next last (live_lines text) ≡ []
 none_heard next last text empty = rw (empty, no_line) refl
 
 -- ---- round after round
@@ -154,7 +155,7 @@ module _ {I O L : Type 0} (remaining : I → Option (List ℕ)) (contents : O �
     pub whole : why ≡ None → length heard ≤ count
     pub takes : map item_view new.given.items ≡ map item_view old.given.items ++ given_of (take count heard)
     pub prints : Prints why (contents old.output.now) (contents new.output.now)
-        (due old answers ++ text_after all old.lines (length old.given.items) (take count heard))
+        (due old answers ++ text_after old.replay all old.lines (length old.given.items) (take count heard))
     pub logs : Logs why (logged old.log.now) (logged new.log.now) (logged_of (take count heard)) (logged_of (take 1 (drop count heard)))
 
   -- the lines that a driver has left
@@ -210,7 +211,7 @@ module _ {I O L : Type 0} (remaining : I → Option (List ℕ)) (contents : O �
   -- a line, and then those after it
   a_round : (why : Option LiveFault) (heard later : List Heard) (all : List Answer) (old : LiveDriver I O L) (answers : List Answer) (between : LiveDriver I O L) (next : List Answer) (new : LiveDriver I O L)
       → (took : TakesLine remaining contents logged old answers between) → heard ≡ record { line = took.line; said = said_in old.given.items took.line } ∷ later
-      → Steps (said_in old.given.items took.line) old.given.items between.given.items all next (next_line old.lines)
+      → Steps old.replay.quiet (said_in old.given.items took.line) old.given.items between.given.items all next (counted_line old.replay (length old.given.items) old.lines)
       → Goes why later all between next new → Goes why heard all old answers new
   a_round why heard later all old answers between next new took is steps goes =
       let was = old.given.items in
@@ -218,14 +219,18 @@ module _ {I O L : Type 0} (remaining : I → Option (List ℕ)) (contents : O �
       let said = said_in was took.line in
       let this : Heard = record { line = took.line; said = said } in
       let some = take goes.count later in
-      let due_next : due between next ≡ rows_of_line (next_line old.lines) (length was) (slice_get all (length was)) said =
-      ap (λ n. rows_of_line n (length now - 1) (slice_get next 0) (said_of between.said)) took.lines
-      ∙ ap (λ s. rows_of_line (next_line old.lines) (length now - 1) (slice_get next 0) s) took.said ∙ steps.rows in
-      let text_next : text_after all between.lines (length now) some ≡ text_after all (next_line old.lines) (next_after (length was) said) some =
-      ap (λ l. text_after all l (length now) some) took.lines ∙ ap (λ n. text_after all (next_line old.lines) n some) steps.count in
-      let text_is : due between next ++ text_after all between.lines (length now) some ≡ text_after all old.lines (length was) (this ∷ some) =
-      ap (λ l. l ++ text_after all between.lines (length now) some) due_next
-      ∙ ap (λ l. rows_of_line (next_line old.lines) (length was) (slice_get all (length was)) said ++ l) text_next in
+      let line = counted_line old.replay (length was) old.lines in
+      let quiet = old.replay.quiet in
+      let due_next : due between next ≡ rows_of_line quiet line (length was) (slice_get all (length was)) said =
+      ap (λ (r : Replay). rows_of_line r.quiet between.lines (length now - 1) (slice_get next 0) (said_of between.said)) took.replay
+      ∙ ap (λ n. rows_of_line quiet n (length now - 1) (slice_get next 0) (said_of between.said)) took.lines
+      ∙ ap (λ s. rows_of_line quiet line (length now - 1) (slice_get next 0) s) took.said ∙ steps.rows in
+      let text_next : text_after between.replay all between.lines (length now) some ≡ text_after old.replay all line (next_after (length was) said) some =
+      ap (λ (r : Replay). text_after r all between.lines (length now) some) took.replay
+      ∙ ap (λ l. text_after old.replay all l (length now) some) took.lines ∙ ap (λ n. text_after old.replay all line n some) steps.count in
+      let text_is : due between next ++ text_after between.replay all between.lines (length now) some ≡ text_after old.replay all old.lines (length was) (this ∷ some) =
+      ap (λ l. l ++ text_after between.replay all between.lines (length now) some) due_next
+      ∙ ap (λ l. rows_of_line quiet line (length was) (slice_get all (length was)) said ++ l) text_next in
       subst (λ h. Goes why h all old answers new) (sym is) (record {
         count = suc goes.count;
         whole = λ none. let most = goes.whole none in omega (arith, most);
@@ -251,7 +256,7 @@ module _ {I O L : Type 0} (remaining : I → Option (List ℕ)) (contents : O �
       let many = as_many was before_next hears.each in
       let one = as_many between.given.items (before_next ++ next) (first_each before_next between next heard new later) in
       let all = before_next ++ all_heard (next ∷ heard) in
-      let steps = step said was between.given.items all next (next_line old.lines) took.gives
+      let steps = step old.replay.quiet said was between.given.items all next (counted_line old.replay (length was) old.lines) took.gives
       (λ longer. at_place before_next next (all_heard heard) (length was) many (one ∙ longer)) in
       let rest = drop_through 10 text in
       let is : left_to old text ≡ record { line = took.line; said = said } ∷ left_to between rest =
@@ -262,21 +267,22 @@ module _ {I O L : Type 0} (remaining : I → Option (List ℕ)) (contents : O �
       (goes_to_end before_next between next heard new rest later left))
 
   -- of a run from its first line on
-  pub answered : (old : LiveDriver I O L) (heard : List (List Answer)) (new : LiveDriver I O L) (text : List ℕ)
-      → LiveRounds [] old heard new → old.given.items ≡ [] → old.lines ≡ 1 → said_of old.said ≡ None → remaining old.input ≡ Some text
-      → Answers (fault_of new.stage) (heard_in text) (all_heard heard) new.given.items (contents old.output.now) (contents new.output.now) (logged old.log.now) (logged new.log.now)
-  answered old [] new text rounds none first nothing known = absurd rounds
-  answered old (answers ∷ heard) new text rounds none first nothing known =
+  pub answered : (replay : Replay) (old : LiveDriver I O L) (heard : List (List Answer)) (new : LiveDriver I O L) (text : List ℕ)
+      → LiveRounds [] old heard new → old.replay ≡ replay → old.given.items ≡ [] → old.lines ≡ 1 → said_of old.said ≡ None → remaining old.input ≡ Some text
+      → Answers replay (fault_of new.stage) (heard_in text) (all_heard heard) new.given.items (contents old.output.now) (contents new.output.now) (logged old.log.now) (logged new.log.now)
+  answered replay old [] new text rounds again none first nothing known = absurd rounds
+  answered replay old (answers ∷ heard) new text rounds again none first nothing known =
       let why = fault_of new.stage in
       let all = all_heard (answers ∷ heard) in
       let goes = goes_to_end [] old answers heard new text rounds known in
       let lines : left_to old text ≡ heard_in text = ap (λ g. heard_after (length g) (last_moment g) (live_lines text)) none in
-      let nothing_due : due old answers ≡ [] = ap (rows_of_line old.lines (length old.given.items - 1) (slice_get answers 0)) nothing in
-      let text_is : due old answers ++ text_after all old.lines (length old.given.items) (take goes.count (left_to old text)) ≡ live_text all (take goes.count (heard_in text)) =
-      ap (λ l. l ++ text_after all old.lines (length old.given.items) (take goes.count (left_to old text))) nothing_due
-      ∙ ap (λ l. text_after all l (length old.given.items) (take goes.count (left_to old text))) first
-      ∙ ap (λ g. text_after all 1 (length g) (take goes.count (left_to old text))) none
-      ∙ ap (λ h. text_after all 1 0 (take goes.count h)) lines in
+      let nothing_due : due old answers ≡ [] = ap (rows_of_line old.replay.quiet old.lines (length old.given.items - 1) (slice_get answers 0)) nothing in
+      let text_is : due old answers ++ text_after old.replay all old.lines (length old.given.items) (take goes.count (left_to old text)) ≡ live_text replay all (take goes.count (heard_in text)) =
+      ap (λ l. l ++ text_after old.replay all old.lines (length old.given.items) (take goes.count (left_to old text))) nothing_due
+      ∙ ap (λ (r : Replay). text_after r all old.lines (length old.given.items) (take goes.count (left_to old text))) again
+      ∙ ap (λ l. text_after replay all l (length old.given.items) (take goes.count (left_to old text))) first
+      ∙ ap (λ g. text_after replay all 1 (length g) (take goes.count (left_to old text))) none
+      ∙ ap (λ h. text_after replay all 1 0 (take goes.count h)) lines in
       record {
         count = goes.count;
         whole = λ ended. subst (λ h. length h ≤ goes.count) lines (goes.whole ended);

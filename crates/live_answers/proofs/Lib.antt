@@ -2,3 +2,5 @@ pub mod Again
 pub mod Chain
 pub mod Growing
 pub mod LineLemmas
+pub mod Replaying
+pub mod Silence

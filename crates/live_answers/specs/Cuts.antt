@@ -1,5 +1,7 @@
 -- What a fault leaves.
 use Rattle.std.specs.Prelude.{ℕ, List, Option, ⊤}
+use Rattle.live_answers.specs.declared.checking.ReplayFault.{ReplayFault}
+use Rattle.live_answers.specs.declared.checking.ReplayFault.TheVariants as replay
 use Rattle.live_answers.specs.declared.fault.Stop.{Stop}
 use Rattle.live_answers.specs.declared.fault.Stop.TheVariants as stop
 use Rattle.live_answers.specs.declared.stage.LiveFault.{LiveFault}
@@ -22,3 +24,8 @@ abbrev pub CutsLog : Option (List ℕ) → Option (List ℕ) → List ℕ → Li
 CutsLog old new text fault.Input = ⊥
 CutsLog old new text fault.Output = ⊥
 CutsLog old new text fault.Log = AppendsFront old new text
+
+-- what stops the check of a log's lines
+abbrev pub replay_fault_of : Stop → ReplayFault
+replay_fault_of (stop.Failed why) = replay.Input
+replay_fault_of stop.OutOfMemory = replay.OutOfMemory

@@ -1,8 +1,9 @@
 -- What a live run gives, prints and logs of the lines of its input.
 use Rattle.std.specs.Prelude.{◌+◌, ℕ, Some, None, List, [], ◌∷◌, ◌++◌, Ok, Err, flat_map, slice_get}
 use Rattle.live_answers.specs.Lines.{live_lines}
-use Rattle.live_answers.specs.Rows.{next_line, put_down, rows_of_line}
+use Rattle.live_answers.specs.Rows.{counted_line, put_down, rows_of_line}
 use Rattle.live_answers.specs.Standing.{LineView, said_after}
+use Rattle.live_answers.specs.declared.replay.Replay.{Replay}
 use Rattle.message_rows.specs.Messages.{Speech, speech_of}
 use Rattle.run_values.specs.declared.post.Answer.{Answer}
 use Rattle.run_values.specs.declared.post.Body.{Body}
@@ -54,11 +55,12 @@ abbrev pub logged_of : List Heard → List ℕ
 logged_of heard = flat_map (λ (one : Heard). put_down one.line one.said) heard
 
 -- what is printed of lines behind a line of a number, where so many messages were accepted before, and these are the answers to all
-abbrev pub text_after : List Answer → ℕ → ℕ → List Heard → List ℕ
-text_after answers line next [] = []
-text_after answers line next (one ∷ heard) =
-    rows_of_line (next_line line) next (slice_get answers next) one.said ++ text_after answers (next_line line) (next_after next one.said) heard
+abbrev pub text_after : Replay → List Answer → ℕ → ℕ → List Heard → List ℕ
+text_after replay answers line next [] = []
+text_after replay answers line next (one ∷ heard) =
+    rows_of_line replay.quiet (counted_line replay next line) next (slice_get answers next) one.said
+    ++ text_after replay answers (counted_line replay next line) (next_after next one.said) heard
 
 -- what a live run prints of its lines behind the header, which is the line 1
-abbrev pub live_text : List Answer → List Heard → List ℕ
-live_text answers heard = text_after answers 1 0 heard
+abbrev pub live_text : Replay → List Answer → List Heard → List ℕ
+live_text replay answers heard = text_after replay answers 1 0 heard

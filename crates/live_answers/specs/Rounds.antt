@@ -4,7 +4,7 @@ use Rattle.std.specs.Io.BufRead.{drop_through, take_through}
 use Rattle.std.specs.Io.KnownBytes.{Appends, IsAtEnd, Keeps}
 use Rattle.live_answers.specs.Lines.{kept}
 use Rattle.live_answers.specs.Live.{given_by, item_view}
-use Rattle.live_answers.specs.Rows.{next_line, put_down, rows_of_line}
+use Rattle.live_answers.specs.Rows.{counted_line, put_down, rows_of_line}
 use Rattle.live_answers.specs.Said.{said_of}
 use Rattle.live_answers.specs.Standing.{said_in}
 use Rattle.live_answers.specs.declared.driver.LiveDriver.{LiveDriver}
@@ -22,7 +22,7 @@ TakesOf old new line = IfSome old (λ text. (0 < length text) × (line ≡ kept 
 module _ {I O L : Type 0} where
   -- what is to be printed of the last line
   abbrev pub due : LiveDriver I O L → List Answer → List ℕ
-  due driver answers = rows_of_line driver.lines (length driver.given.items - 1) (slice_get answers 0) (said_of driver.said)
+  due driver answers = rows_of_line driver.replay.quiet driver.lines (length driver.given.items - 1) (slice_get answers 0) (said_of driver.said)
 
   -- it writes where it wrote before
   pub record WritesOn (before after : LiveDriver I O L) : Type 0 where
@@ -34,7 +34,8 @@ module _ {I O L : Type 0} where
     pub record TakesLine : Type 0 where
       pub line : List ℕ
       pub takes : TakesOf (remaining before.input) (remaining after.input) line
-      pub lines : after.lines ≡ next_line before.lines
+      pub replay : after.replay ≡ before.replay
+      pub lines : after.lines ≡ counted_line before.replay (length before.given.items) before.lines
       pub said : said_of after.said ≡ said_in before.given.items line
       pub gives : map item_view after.given.items ≡ map item_view before.given.items ++ given_by (said_in before.given.items line)
       pub prints : Appends (contents before.output.now) (contents after.output.now) (due before answers)

@@ -1,9 +1,10 @@
 -- The rows that a live run prints of a line, and what it logs of it.
-use Rattle.std.specs.Prelude.{◌+◌, ℕ, Option, Some, None, List, [], ◌++◌, Ok, Err, codes, min}
+use Rattle.std.specs.Prelude.{◌+◌, ℕ, Option, Some, None, List, [], ◌++◌, Ok, Err, codes, min, if◌then◌else◌, nat_lt}
 use Rattle.std.specs.Fmt.{decimal}
 use Rattle.live_answers.specs.Kinds.{name_of}
 use Rattle.live_answers.specs.Standing.{LineView}
 use Rattle.live_answers.specs.declared.kind.LineKind.{LineKind}
+use Rattle.live_answers.specs.declared.replay.Replay.{Replay}
 use Rattle.message_rows.specs.Messages.{MessageView}
 use Rattle.run_trace.specs.Tables.{answer_rows, head_text, row}
 use Rattle.run_values.specs.declared.post.Answer.{Answer}
@@ -18,11 +19,11 @@ message_rows number message answer =
 abbrev pub fault_row : ℕ → LineKind → List ℕ
 fault_row line kind = codes ",,,service,fault," ++ (name_of kind ++ (codes "," ++ (decimal line ++ codes ",,\n")))
 
--- the rows of the line of a number, whose message has its own number and this answer
-abbrev pub rows_of_line : ℕ → ℕ → Option Answer → LineView → List ℕ
-rows_of_line line number answer None = []
-rows_of_line line number answer (Some (Ok message)) = message_rows number message answer
-rows_of_line line number answer (Some (Err kind)) = fault_row line kind
+-- the rows of the line of a number, whose message has its own number and this answer: the first so many messages are quiet
+abbrev pub rows_of_line : ℕ → ℕ → ℕ → Option Answer → LineView → List ℕ
+rows_of_line quiet line number answer None = []
+rows_of_line quiet line number answer (Some (Ok message)) = if nat_lt number quiet then [] else message_rows number message answer
+rows_of_line quiet line number answer (Some (Err kind)) = fault_row line kind
 
 -- what is logged of a line: the line, where it is accepted
 abbrev pub put_down : List ℕ → LineView → List ℕ
@@ -30,6 +31,10 @@ put_down line None = []
 put_down line (Some (Ok message)) = line
 put_down line (Some (Err kind)) = []
 
--- the number of the next line, which stays at the largest number of 64 bits
+-- the number of the line behind one, which stays at the largest number of 64 bits
 abbrev pub next_line : ℕ → ℕ
 next_line line = min (line + 1) 18446744073709551615
+
+-- the same where so many messages were accepted: the lines of a replay aren't counted
+abbrev pub counted_line : Replay → ℕ → ℕ → ℕ
+counted_line replay next line = if nat_lt next replay.messages then line else next_line line

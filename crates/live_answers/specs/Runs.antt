@@ -2,6 +2,7 @@
 use Rattle.std.specs.Prelude.{◌≡◌, ◌≤◌, ◌++◌, ℕ, Option, Some, None, List, drop, length, map, take, IfSome, ⊤}
 use Rattle.std.specs.Io.KnownBytes.{Appends}
 use Rattle.live_answers.specs.Live.{Heard, given_of, heard_in, item_view, live_text, logged_of}
+use Rattle.live_answers.specs.declared.replay.Replay.{Replay}
 use Rattle.live_answers.specs.declared.stage.LiveFault.{LiveFault}
 use Rattle.live_answers.specs.declared.stage.LiveFault.TheVariants as fault
 use Rattle.rating.specs.Fronts.{AppendsFront}
@@ -29,24 +30,24 @@ Logs (Some fault.Output) old new text line = Appends old new text
 Logs (Some fault.Log) old new text line = (count : ℕ) × Appends old new (text ++ take count line)
 
 -- what was done with lines that say this, where these are the answers to all that was given of them
-pub record Answers (fault : Option LiveFault) (heard : List Heard) (answers : List Answer) (given : List (ℕ × Body)) (output_old output_new log_old log_new : Option (List ℕ)) : Type 0 where
+pub record Answers (replay : Replay) (fault : Option LiveFault) (heard : List Heard) (answers : List Answer) (given : List (ℕ × Body)) (output_old output_new log_old log_new : Option (List ℕ)) : Type 0 where
   -- so many lines were taken in: all, where no fault ended the run
   pub count : ℕ
   pub whole : fault ≡ None → length heard ≤ count
   -- what was given are the accepted messages, in order
   pub takes : map item_view given ≡ given_of (take count heard)
   -- each was printed with its answer, and of each line that wasn't accepted what is wrong with it
-  pub prints : Prints fault output_old output_new (live_text answers (take count heard))
+  pub prints : Prints fault output_old output_new (live_text replay answers (take count heard))
   -- and the lines of the accepted messages were logged
   pub logs : Logs fault log_old log_new (logged_of (take count heard)) (logged_of (take 1 (drop count heard)))
 
 -- a live run over an input has come to these books
-pub record IsAnswered (setup : Setup) (input output_old output_new log_old log_new : Option (List ℕ)) (given : List (ℕ × Body)) (books : List Closed) (fault : Option LiveFault) : Type 0 where
+pub record IsAnswered (setup : Setup) (replay : Replay) (input output_old output_new log_old log_new : Option (List ℕ)) (given : List (ℕ × Body)) (books : List Closed) (fault : Option LiveFault) : Type 0 where
   pub answers : List Answer
   -- it is a run of one worker, to which this was given, and which gave these answers
   pub run : IsRun StoodIn setup 1 given answers books
   -- and it has answered the lines of its input
-  pub lines : IfSome input (λ text. Answers fault (heard_in text) answers given output_old output_new log_old log_new)
+  pub lines : IfSome input (λ text. Answers replay fault (heard_in text) answers given output_old output_new log_old log_new)
 
 -- what can end a live run without books: it has one worker, and no gate closes
 abbrev pub MayEnd : RunFault → Type 0

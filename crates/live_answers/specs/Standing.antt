@@ -15,14 +15,19 @@ use Rattle.table_core.specs.declared.fault.RowKind.TheVariants as row
 abbrev pub LineView : Type 0
 LineView = Option (Result MessageView LineKind)
 
--- a message whose number, where it has one, is the next
-abbrev pub numbered : ℕ → MessageView → Option ℕ → Result MessageView RowKind
-numbered next message None = Ok message
-numbered next message (Some number) = if nat_lt next number then Err row.Order else if nat_lt number next then Err row.Repeated else Ok message
+-- a message whose moment is not below that of the last one
+abbrev pub in_time : ℕ → MessageView → Result MessageView RowKind
+in_time last message = if nat_lt message.at last then Err row.Order else Ok message
 
--- a message that may be the next, where the last one was at this moment
+-- a message that may be the next, where so many were accepted, the last of them at this moment: its number, where it has one, is looked at first
+abbrev pub numbered : ℕ → ℕ → MessageView → Option ℕ → Result MessageView RowKind
+numbered next last message None = in_time last message
+numbered next last message (Some number) =
+    if nat_lt number next then Err row.Repeated else if nat_lt next number then Err row.Order else in_time last message
+
+-- a message that may be the next
 abbrev pub placed : ℕ → ℕ → MessageView → Result MessageView RowKind
-placed next last message = if nat_lt message.at last then Err row.Order else numbered next message message.number
+placed next last message = numbered next last message message.number
 
 -- what was read, where it may be the next
 abbrev pub standing : ℕ → ℕ → Option (Result MessageView RowKind) → LineView

@@ -3,8 +3,8 @@
 ghost use Rattle.std.specs.Prelude.{IfErr, IfOk};
 ghost use Rattle.live_answers.specs.Runs.{IsAnswered, MayEnd};
 
-use crate::LiveFault;
 use crate::driver::LiveDriver;
+use crate::{LiveFault, Replay};
 use run_values::{Body, RunSetup};
 use runs_core::{RunFault, serve};
 use shared_account::{Book, OpenGate};
@@ -34,8 +34,12 @@ pub struct Answered {
 /// and those of its answer are written to the output, as `run_trace::trace_table` has them, and
 /// flushed. Only then is the next line read. A line that isn't accepted changes nothing: its row
 /// `,,,service,fault,KIND,LINE,,` goes to the output. KIND is `TooLong` where it has more than
-/// `MAX_LINE` bytes; else what `read_line` says of it; else `Order` for its moment, or for a number
-/// that is too high; else `Repeated`. An empty line is passed over.
+/// `MAX_LINE` bytes; else what `read_line` says of it; else `Repeated` where its number is one that
+/// was accepted before; else `Order`, for a number that is too high, or for its moment. An empty line
+/// is passed over.
+///
+/// A run that was cut off goes on where the lines of its log stand in front of the input: `replay`
+/// says how many they are, and how many of them are heard in silence. LINE doesn't count them.
 ///
 /// Where the input, the output or the log fails, the run ends with its books, and `fault` says which
 /// it was: what is in the log was given, but for a front of one more line where the log failed.
@@ -50,20 +54,22 @@ pub fn answer_live<R: Wait + Threads + Sync, I: BufRead + Drop, O: Write, L: Wri
     input: I,
     output: &mut O,
     log: &mut L,
+    replay: Replay,
 ) -> Result<Answered, RunFault>
-    ensures answered { IfOk result (λ answered. IsAnswered setup.now (I.remaining input)
+    ensures answered { IfOk result (λ answered. IsAnswered setup.now replay (I.remaining input)
         (O.contents output.old) (O.contents output.new)
         (L.contents log.old) (L.contents log.new)
         answered.given.items answered.books.items answered.fault) }
     ensures fault { IfErr result MayEnd }
 {
-    let mut driver = LiveDriver::new(alloc, input, output, log);
+    let mut driver = LiveDriver::new(alloc, input, output, log, replay);
     let books = serve(rt, alloc, setup, &mut driver, 1, &OpenGate)?;
     let LiveDriver {
         alloc: _alloc,
         input: _input,
         output,
         log,
+        replay: _replay,
         given,
         lines: _lines,
         said: _said,

@@ -3,6 +3,7 @@
 ghost use Rattle.std.specs.Prelude.{◌≤◌, All};
 ghost use Rattle.tariff_core.specs.declared.times.TheConstants.{HORIZON};
 
+use crate::Replay;
 use crate::judging::Said;
 use crate::stage::Stage;
 use run_values::Body;
@@ -19,6 +20,8 @@ pub(crate) struct LiveDriver<'o, 'l, I, O, L> {
     pub output: &'o mut O,
     /// Where the lines of accepted messages are kept.
     pub log: &'l mut L,
+    /// What of the input was heard before.
+    pub replay: Replay,
     /// All that was given.
     pub given: Vec<(u64, Body)>,
     /// The number of the last line.
@@ -39,12 +42,14 @@ impl<'o, 'l, I, O, L> LiveDriver<'o, 'l, I, O, L> {
         input: I,
         output: &'o mut O,
         log: &'l mut L,
+        replay: Replay,
     ) -> LiveDriver<'o, 'l, I, O, L>
         ensures input { result.input ≡ input }
         ensures output { result.output.now ≡ output.old }
         ensures same_output { result.output.ghost_name ≡ output.entry.ghost_name }
         ensures log { result.log.now ≡ log.old }
         ensures same_log { result.log.ghost_name ≡ log.entry.ghost_name }
+        ensures replay { result.replay ≡ replay }
         ensures given { result.given.items ≡ [] }
         ensures lines { result.lines ≡ 1 }
         ensures said { result.said ≡ says.Nothing }
@@ -54,6 +59,7 @@ impl<'o, 'l, I, O, L> LiveDriver<'o, 'l, I, O, L> {
             input,
             output,
             log,
+            replay,
             given: Vec::new(alloc),
             lines: 1,
             said: Said::Nothing,

@@ -5,7 +5,7 @@ ghost use Rattle.run_values.specs.declared.post.Body.{Body};
 
 use crate::driver::LiveDriver;
 use crate::fault::Stop;
-use crate::judging::judge;
+use crate::judging::{judge, last_moment};
 use crate::line::take_line;
 use crate::saying::{take_in, tell};
 use crate::stage::Stage;
@@ -34,6 +34,7 @@ impl<I: BufRead, O: Write, L: Write> LiveDriver<'_, '_, I, O, L> {
             self.alloc,
             self.output,
             &self.said,
+            self.replay.quiet,
             self.lines,
             place,
             answers.first(),
@@ -42,8 +43,10 @@ impl<I: BufRead, O: Write, L: Write> LiveDriver<'_, '_, I, O, L> {
         if !take_line(&mut self.input, &mut line)? {
             return Ok(false);
         }
-        self.lines = self.lines.saturating_add(1);
-        self.said = judge(self.alloc, self.given.as_slice(), line.as_slice())?;
+        let next = self.given.len();
+        self.lines = self.replay.next_line(next, self.lines);
+        let last = last_moment(self.given.as_slice());
+        self.said = judge(self.alloc, next as u64, last, line.as_slice())?;
         take_in(self.log, &mut self.given, &self.said, line.as_slice())?;
         Ok(true)
     }

@@ -1,9 +1,9 @@
 //! What a line says, after those before it.
 
-ghost use Rattle.std.specs.Prelude.{◌≡◌, ◌≤◌, IfOk, Some, length};
+ghost use Rattle.std.specs.Prelude.{◌≡◌, ◌≤◌, IfOk, Some};
 ghost use Rattle.std.specs.Result.{result_map_both};
 ghost use Rattle.live_answers.specs.Said.{IsInRange, said_of};
-ghost use Rattle.live_answers.specs.Standing.{last_moment, placed, said_in};
+ghost use Rattle.live_answers.specs.Standing.{in_time, last_moment, placed, said_after};
 ghost use Rattle.live_answers.specs.declared.kind.LineKind.TheVariants as kinds;
 ghost use Rattle.message_rows.specs.Views.{view_of};
 ghost use Rattle.table_core.specs.Judging.{after};
@@ -26,9 +26,9 @@ pub(crate) enum Said {
     Fault(LineKind),
 }
 
-/// What a line says after what was given.
-pub(crate) fn judge(alloc: Global, given: &[(u64, Body)], line: &[u8]) -> Result<Said, AllocError>
-    ensures says { IfOk result (λ said. said_of said ≡ said_in given.now line.now) }
+/// What a line says where so many messages were accepted, the last of them at this moment.
+pub(crate) fn judge(alloc: Global, next: u64, last: u64, line: &[u8]) -> Result<Said, AllocError>
+    ensures says { IfOk result (λ said. said_of said ≡ said_after next last line.now) }
     ensures in_range { IfOk result IsInRange }
 {
     if line.len() > MAX_LINE {
@@ -40,7 +40,7 @@ pub(crate) fn judge(alloc: Global, given: &[(u64, Body)], line: &[u8]) -> Result
     let Some(read) = found else {
         return Ok(Said::Nothing);
     };
-    Ok(said_by(place(given, read)))
+    Ok(said_by(place(next, last, read)))
 }
 
 /// What a line with a row says.
@@ -55,28 +55,35 @@ fn said_by(placed: Result<Message, RowKind>) -> Said
     }
 }
 
-/// What was read, where it may follow what was given.
-fn place(given: &[(u64, Body)], read: Result<Message, RowKind>) -> Result<Message, RowKind>
+/// What was read, where it may be the next: a number that was accepted before is looked at before
+/// the moment, which a row that is sent again may have passed.
+fn place(next: u64, last: u64, read: Result<Message, RowKind>) -> Result<Message, RowKind>
     ensures says { result_map_both view_of (λ kind. kind) result
-        ≡ after (result_map_both view_of (λ kind. kind) read)
-        (placed (length given.now) (last_moment given.now)) }
+        ≡ after (result_map_both view_of (λ kind. kind) read) (placed next last) }
     ensures in_range { IfOk read (λ message. message.at ≤ HORIZON)
         → IfOk result (λ message. message.at ≤ HORIZON) }
 {
     let message = read?;
-    let next = given.len() as u64;
-    if message.at < last_moment(given) {
-        return Err(RowKind::Order);
-    }
     match message.number {
-        Some(number) if number > next => Err(RowKind::Order),
         Some(number) if number < next => Err(RowKind::Repeated),
-        _ => Ok(message),
+        Some(number) if number > next => Err(RowKind::Order),
+        _ => in_time(last, message),
     }
 }
 
+/// A message whose moment is not below that of the last one.
+fn in_time(last: u64, message: Message) -> Result<Message, RowKind>
+    ensures says { result_map_both view_of (λ kind. kind) result ≡ in_time last (view_of message) }
+    ensures in_range { message.at ≤ HORIZON → IfOk result (λ message. message.at ≤ HORIZON) }
+{
+    if message.at < last {
+        return Err(RowKind::Order);
+    }
+    Ok(message)
+}
+
 /// The moment of the last item, 0 before the first.
-fn last_moment(given: &[(u64, Body)]) -> u64
+pub(crate) fn last_moment(given: &[(u64, Body)]) -> u64
     ensures { result ≡ last_moment given.now }
 {
     match given.last() {

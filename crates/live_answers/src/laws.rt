@@ -1,7 +1,7 @@
 //! The laws of a live run, each the contract of a function that does nothing.
 
 ghost use Rattle.std.specs.Prelude.{◌≡◌};
-ghost use Rattle.live_answers.specs.Laws.{LogsAreHeardAgain};
+ghost use Rattle.live_answers.specs.Laws.{LogsAreHeardAgain, ReplaysAreSilent};
 ghost use Rattle.live_answers.specs.declared.line.TheConstants.{MAX_LINE};
 
 /// The limit of a line in plain numbers.
@@ -14,4 +14,10 @@ pub fn limits_in_numbers()
 /// behind the log says what it says behind all the lines that were logged and that weren't.
 pub fn logs_are_heard_again()
     ensures { LogsAreHeardAgain }
+{}
+
+/// A run over a log, all of which is heard in silence, and then over more lines prints just what
+/// these come to, with the numbers that they have behind all messages of the log.
+pub fn replays_are_silent()
+    ensures { ReplaysAreSilent }
 {}

@@ -2,6 +2,7 @@
 #![tactic(auto)]
 
 mod answering;
+mod checking;
 mod driver;
 mod fault;
 mod hearing;
@@ -9,11 +10,14 @@ mod judging;
 mod kind;
 mod laws;
 mod line;
+mod replay;
 mod saying;
 mod stage;
 
 pub use answering::{Answered, answer_live};
+pub use checking::{ReplayFault, check_replay};
 pub use kind::LineKind;
-pub use laws::{limits_in_numbers, logs_are_heard_again};
+pub use laws::{limits_in_numbers, logs_are_heard_again, replays_are_silent};
 pub use line::MAX_LINE;
+pub use replay::Replay;
 pub use stage::LiveFault;

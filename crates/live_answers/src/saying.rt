@@ -20,23 +20,25 @@ use std::io::Write;
 use tariff_core::HORIZON;
 
 /// Prints what a line of a number said: the rows of its message, which is the item of this place,
-/// with those of its answer, or the row of what is wrong with it. All is flushed.
+/// with those of its answer, or the row of what is wrong with it. The first `quiet` messages are not
+/// printed. All is flushed.
 pub(crate) fn tell<O: Write>(
     alloc: Global,
     output: &mut O,
     said: &Said,
+    quiet: usize,
     line: u64,
     place: usize,
     answer: Option<&Answer>,
 ) -> Result<(), Stop>
     ensures told { OnOk result (Appends (O.contents output.old) (O.contents output.new)
-        (rows_of_line line place (option_copied answer.entry) (said_of said.now))) }
+        (rows_of_line quiet line place (option_copied answer.entry) (said_of said.now))) }
     ensures cut { IfErr result (WhereFailed (CutsOutput (O.contents output.old)
         (O.contents output.new)
-        (rows_of_line line place (option_copied answer.entry) (said_of said.now)))) }
+        (rows_of_line quiet line place (option_copied answer.entry) (said_of said.now)))) }
 {
     let mut text = String::new(alloc);
-    write_line_rows(&mut text, said, line, place, answer)?;
+    write_line_rows(&mut text, said, quiet, line, place, answer)?;
     if text.is_empty() || send(output, text.as_bytes()) {
         Ok(())
     } else {
@@ -48,15 +50,17 @@ pub(crate) fn tell<O: Write>(
 fn write_line_rows(
     text: &mut String,
     said: &Said,
+    quiet: usize,
     line: u64,
     place: usize,
     answer: Option<&Answer>,
 ) -> Result<(), AllocError>
     ensures { OnOk result (string_bytes text.new ≡ string_bytes text.old
-        ++ rows_of_line line place (option_copied answer.entry) (said_of said.now)) }
+        ++ rows_of_line quiet line place (option_copied answer.entry) (said_of said.now)) }
 {
     match *said {
         Said::Nothing => Ok(()),
+        Said::Message(_) if place < quiet => Ok(()),
         Said::Message(message) => write_rows(text, place, &(message.at, message.body), answer),
         Said::Fault(kind) => writeln!(text, ",,,service,fault,{kind},{line},,"),
     }

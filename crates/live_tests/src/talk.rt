@@ -3,7 +3,7 @@
 use account_core::MAX_LIMIT;
 use cap_values::Number;
 use dialogue_core::ServiceConfig;
-use live_answers::{LiveFault, answer_live};
+use live_answers::{LiveFault, Replay, answer_live};
 use run_values::{OpeningCredit, RunSetup};
 use std::alloc::Global;
 use std::cell::Cell;
@@ -16,7 +16,7 @@ use tariff_core::Tariff;
 const BAND: &[u8] = b"prefix,from,fee,rate\n49,00:00,50,1000\n";
 
 /// Lines, and what is printed of each before the next one is read.
-const TALK: [(&str, &str); 13] = [
+pub(crate) const TALK: [(&str, &str); 14] = [
     (
         "0,,1,switch,InitialDP,491700001,4930,,\n",
         "0,0,1,switch,InitialDP,491700001,4930,,\n\
@@ -34,10 +34,14 @@ const TALK: [(&str, &str); 13] = [
         "100,1,1,switch,EventReportBCSM,answer,,notify,\n",
         ",,,service,fault,Repeated,6,,\n",
     ),
-    ("99,,1,switch,Ended,,,,\n", ",,,service,fault,Order,7,,\n"),
+    (
+        "0,0,1,switch,InitialDP,491700001,4930,,\n",
+        ",,,service,fault,Repeated,7,,\n",
+    ),
+    ("99,,1,switch,Ended,,,,\n", ",,,service,fault,Order,8,,\n"),
     (
         "400,3,1,switch,ApplyChargingReport,inactive,n,300,\n",
-        ",,,service,fault,Order,8,,\n",
+        ",,,service,fault,Order,9,,\n",
     ),
     (
         "400,2,1,switch,ApplyChargingReport,inactive,n,300,\n",
@@ -45,7 +49,7 @@ const TALK: [(&str, &str); 13] = [
     ),
     (
         "400,,1,service,Continue,,,,\n",
-        ",,,service,fault,What,10,,\n",
+        ",,,service,fault,What,11,,\n",
     ),
     (
         "400,,1,switch,EventReportBCSM,disconnect,1,interrupted,\n",
@@ -64,7 +68,7 @@ const TALK: [(&str, &str); 13] = [
 ];
 
 /// The lines of the talk that are accepted.
-const LOGGED: &str = "\
+pub(crate) const LOGGED: &str = "\
 0,,1,switch,InitialDP,491700001,4930,,
 100,1,1,switch,EventReportBCSM,answer,,notify,\r
 400,2,1,switch,ApplyChargingReport,inactive,n,300,
@@ -141,14 +145,14 @@ impl BufRead for Switch<'_> {
 
 /// Keeps what is written, tells how much of it was flushed, and fails after so many calls.
 #[derive(Drop)]
-struct Kept<'a> {
-    text: Vec<u8>,
+pub(crate) struct Kept<'a> {
+    pub text: Vec<u8>,
     flushed: &'a Cell<usize>,
     calls: usize,
 }
 
 impl<'a> Kept<'a> {
-    fn new(alloc: Global, flushed: &'a Cell<usize>, calls: usize) -> Kept<'a> {
+    pub fn new(alloc: Global, flushed: &'a Cell<usize>, calls: usize) -> Kept<'a> {
         Kept {
             text: Vec::new(alloc),
             flushed,
@@ -218,7 +222,7 @@ impl BufRead for Long<'_> {
 }
 
 /// One account with a subscriber, and a service that asks for 60 seconds each time.
-fn set_up_seven(alloc: Global) -> Result<RunSetup, Fail> {
+pub(crate) fn set_up_seven(alloc: Global) -> Result<RunSetup, Fail> {
     let tariff = Tariff::read(alloc, BAND)?;
     let service = ServiceConfig::new(600, 50, 50)?;
     let opening = OpeningCredit {
@@ -253,7 +257,15 @@ fn answers_each_line_before_it_reads_the_next(rt: HostRuntime) -> Result<(), Fai
     let switch = Switch::new(&printed);
     let mut output = Kept::new(alloc, &printed, usize::MAX);
     let mut log = Kept::new(alloc, &logged, usize::MAX);
-    let run = answer_live(&rt, alloc, &setup, switch, &mut output, &mut log)?;
+    let run = answer_live(
+        &rt,
+        alloc,
+        &setup,
+        switch,
+        &mut output,
+        &mut log,
+        Replay::NONE,
+    )?;
     assert_eq!(rt; run.fault, None);
     assert_eq!(rt; output.text.as_slice(), told(alloc)?.as_bytes());
     assert_eq!(rt; log.text.as_slice(), LOGGED.as_bytes());
@@ -272,7 +284,15 @@ fn a_failed_log_ends_it(rt: HostRuntime) -> Result<(), Fail> {
         let talk = Switch::new(&printed);
         let mut output = Kept::new(alloc, &printed, usize::MAX);
         let mut log = Kept::new(alloc, &logged, calls);
-        let run = answer_live(&rt, alloc, &setup, talk, &mut output, &mut log)?;
+        let run = answer_live(
+            &rt,
+            alloc,
+            &setup,
+            talk,
+            &mut output,
+            &mut log,
+            Replay::NONE,
+        )?;
         assert_eq!(rt; run.fault, Some(LiveFault::Log), "after {calls}");
         assert_eq!(rt; run.given.len(), calls / 2, "after {calls}");
         assert!(rt; told.as_bytes().starts_with(output.text.as_slice()));
@@ -291,7 +311,15 @@ fn a_failed_output_ends_it(rt: HostRuntime) -> Result<(), Fail> {
         let talk = Switch::new(&printed);
         let mut output = Kept::new(alloc, &printed, calls);
         let mut log = Kept::new(alloc, &logged, usize::MAX);
-        let run = answer_live(&rt, alloc, &setup, talk, &mut output, &mut log)?;
+        let run = answer_live(
+            &rt,
+            alloc,
+            &setup,
+            talk,
+            &mut output,
+            &mut log,
+            Replay::NONE,
+        )?;
         let lines = log.text.iter().filter(|byte| **byte == b'\n').count();
         assert_eq!(rt; run.fault, Some(LiveFault::Output), "after {calls}");
         assert_eq!(rt; run.given.len(), lines, "after {calls}");
@@ -323,7 +351,15 @@ fn tells_a_line_that_is_too_long(rt: HostRuntime) -> Result<(), Fail> {
         };
         let mut output = Kept::new(alloc, &printed, usize::MAX);
         let mut log = Kept::new(alloc, &logged, usize::MAX);
-        let run = answer_live(&rt, alloc, &setup, input, &mut output, &mut log)?;
+        let run = answer_live(
+            &rt,
+            alloc,
+            &setup,
+            input,
+            &mut output,
+            &mut log,
+            Replay::NONE,
+        )?;
         let want = format!(in alloc; ",,,service,fault,{kind},2,,\n{row}")?;
         assert_eq!(rt; run.fault, None, "of {left}");
         assert_eq!(rt; output.text.as_slice(), want.as_bytes(), "of {left}");

@@ -22,8 +22,8 @@ returns-clause-answered g c =
       answers = all_heard ran.heard;
       run = ran.run;
       lines = if_known (remaining c.args.input) _ (λ text known.
-          let done = answered remaining contents logged _ ran.heard driver text ran.rounds made.given made.lines (ap said_of made.said) (ap remaining made.input ∙ known) in
+          let done = answered remaining contents logged c.args.replay _ ran.heard driver text ran.rounds made.replay made.given made.lines (ap said_of made.said) (ap remaining made.input ∙ known) in
           let from_there = rw (made.output, made.log) at done in
-          let said = subst (λ why. Answers why (heard_in text) (all_heard ran.heard) driver.given.items (contents c.args.output.now) (contents driver.output.now) (logged c.args.log.now) (logged driver.log.now)) (sym c.fault.ensures) from_there in
-          subst₂ (λ o l. Answers c.fault.result (heard_in text) (all_heard ran.heard) driver.given.items (contents c.args.output.now) (contents o) (logged c.args.log.now) (logged l)) (search rules) (search rules) said);
+          let said = subst (λ why. Answers c.args.replay why (heard_in text) (all_heard ran.heard) driver.given.items (contents c.args.output.now) (contents driver.output.now) (logged c.args.log.now) (logged driver.log.now)) (sym c.fault.ensures) from_there in
+          subst₂ (λ o l. Answers c.args.replay c.fault.result (heard_in text) (all_heard ran.heard) driver.given.items (contents c.args.output.now) (contents o) (logged c.args.log.now) (logged l)) (search rules) (search rules) said);
     }
