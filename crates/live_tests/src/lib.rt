@@ -1,6 +1,8 @@
-//! The tests of a live run: they stand apart so that the crate under them isn't proved a second time
-//! for its tests.
+//! The tests of a live run and its log: they stand apart so that the crates under them aren't proved
+//! a second time for their tests.
 #![tactic(auto)]
 
+#[cfg(test)]
+mod logs;
 #[cfg(test)]
 mod talk;

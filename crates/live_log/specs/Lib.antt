@@ -1,0 +1,4 @@
+pub mod Faults
+pub mod Heads
+pub mod Logs
+pub mod Passing
