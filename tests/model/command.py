@@ -9,6 +9,7 @@ from .tables import (
     MAX_RATE,
     Fault,
     divide,
+    moment,
     read_book,
     read_ops,
     read_reports,
@@ -112,7 +113,9 @@ def do_quote(given, text):
     if time := re.fullmatch("([01][0-9]|2[0-3]):([0-5][0-9])", at):
         now = (int(time[1]) * 60 + int(time[2])) * 600
     else:
-        now = number(given, "--at", most=LAST_MOMENT)
+        now = moment(at.encode(), LAST_MOMENT)
+    if now is None:
+        raise ARGUMENTS
     talk = number(given, "--for", most=DAY) if "--for" in given else None
     credit = number(given, "--credit", most=MAX_MONEY) if "--credit" in given else None
     tariff = read_tariff(whole(text))

@@ -4,13 +4,16 @@ import random
 from .account import DAY, MAX_MONEY
 from .command import FLAGS, TABLES, command
 from .rate import Wrong, line, rated
-from .tables import BOOK, OPS, SCRIPT, SETUP, TARIFF, Fault, read_tariff
+from .tables import BOOK, OPS, SCRIPT, SETUP, TARIFF, Fault, dated, read_tariff
 
 # Fields that are wrong in most places, and right at an end of a range in some.
 FIELDS = (
     "|0|1|-1|+1| 1|1.0|x|00|007|n|s|start|answer|leave|credit|return|opening|reserve|settle|granted|last|more|over|account|subscriber|%%|\"5\"|\"|15|16|2|3|864000|864001|1000000000|1000000001"
     "|1000000000000|1000000000001|1000000000000000|1000000000000001|4294967295|4294967296|18446744073709551615|18446744073709551616"
     "|99999999999999999999|000000000000000000001|123456789012345|1234567890123456|24:00|23:59|23:60|8:00|00:00"
+    "|1970-01-01T00:00:00|1970-01-01 00:00:00.0|1970-01-01|1970-01-01T00:00|1970-01-01T00:00:00.|1970-01-01T00:00:00.00|1970-01-01t00:00:00|1969-12-31T23:59:59.9"
+    "|1972-02-29T00:00:00|1973-02-29T00:00:00|2100-02-29T00:00:00|1970-04-31T00:00:00|1970-13-01T00:00:00|1970-01-01T24:00:00|1970-01-01T00:00:60"
+    "|5138-11-16T09:46:40|5138-11-16T09:46:40.1|9999-12-31T23:59:59.9"
 ).split("|")
 BYTES = b'",\r\n%0a\x00\xff\xef'
 OPERATIONS = ["opening", "credit", "reserve", "settle", "return"]
@@ -73,11 +76,19 @@ def prices(it):
     return list(map(str, words)), table(rows)
 
 
+def written(it, at):
+    """A moment, if there is one: its units, or a date and a time in one of their forms."""
+    if at == "" or it.random() < 0.7:
+        return at
+    text = dated(at, it.choice("T "))
+    return text.removesuffix(".0") if it.random() < 0.5 else text
+
+
 def quotes(it):
     text, starts = tariff(it)
     day = it.choice([0, 0, 1, 10**6]) * DAY
     at = it.choice([f"{it.randrange(1440) // 60:02}:{it.randrange(60):02}", day + it.choice(starts) + it.choice([-1, 0, 1, 300]), 10**12, 10**12 + 1])
-    words = ["quote", "--called", it.choice(NUMBERS), "--at", max(0, at) if isinstance(at, int) else at]
+    words = ["quote", "--called", it.choice(NUMBERS), "--at", written(it, max(0, at)) if isinstance(at, int) else at]
     words += ["--for", it.choice([0, 1, 600, it.randrange(3000), DAY])] if it.random() < 0.6 else []
     words += ["--credit", it.choice([0, 50, 1500, it.randrange(10_000), MAX_MONEY])] if it.random() < 0.6 else []
     return list(map(str, words)), text
@@ -118,7 +129,8 @@ def record(it, text, starts, kind):
         paid = 0
     paid = it.choice(["", paid, paid, paid, paid, paid + 1, max(0, paid - 1), MAX_MONEY])
     end = at + it.choice([talk, talk, talk, talk, talk, -1, DAY + 1])
-    found = {"called": called, "answer": it.choice(["", at, at, at, at]), "time": talk, "end": max(0, end), "before": before, "after": talk - before, "paid": paid}
+    answer, end = written(it, it.choice(["", at, at, at, at])), written(it, max(0, end))
+    found = {"called": called, "answer": answer, "time": talk, "end": end, "before": before, "after": talk - before, "paid": paid}
     notes = {"id": it.randrange(100), "calling": it.choice(NUMBERS), "note": it.choice(["", "a,b", 'say "x"', "two\nlines", " "])}
     return {name: str(value).encode() for name, value in {**found, **notes}.items()}
 
@@ -215,7 +227,7 @@ def setup(it, base, wanted):
     rows, accounts, subscribers = [header], [], []
     for number in it.sample([1, 2, 7, 8, 4294967295], it.randrange(1, 4)):
         opening = it.choice([0, 300, 1500, it.randrange(5000), it.randrange(50_000), MAX_MONEY - it.randrange(900)])
-        rows.append(("account", number, opening, until(it, base, wanted))[: len(header)])
+        rows.append(("account", number, opening, written(it, until(it, base, wanted)))[: len(header)])
         accounts.append(number)
     for number in it.sample(NUMBERS, it.randrange(1, 5)):
         rows.append(("subscriber", number, it.choice(accounts), "")[: len(header)])
@@ -242,10 +254,10 @@ def script(it, given, base, accounts, subscribers):
             rows.append((at, call, word, it.choice([1, 2]) if word == "disconnect" else "", ""))
     for _ in range(it.choice([0, 0, 1, 3])):
         at = it.choice(rows)[0] + it.choice([0, 0, delay, it.randrange(1 + wanted)])
-        rows.append((at, "", "recharge", it.choice(accounts), it.choice([0, 1, 600, it.randrange(3000), MAX_MONEY]), until(it, base, wanted)))
+        rows.append((at, "", "recharge", it.choice(accounts), it.choice([0, 1, 600, it.randrange(3000), MAX_MONEY]), written(it, until(it, base, wanted))))
     # a start stays before what its call meets: sorting keeps the order of one moment
     rows = [row for _, row in sorted(enumerate(rows), key=lambda row: (row[1][0], row[0]))]
-    return table([header, *([*row, ""][: len(header)] for row in rows)])
+    return table([header, *([written(it, row[0]), *row[1:], ""][: len(header)] for row in rows)])
 
 
 def books(it):

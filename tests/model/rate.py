@@ -2,7 +2,7 @@
 import re
 
 from .account import DAY, MAX_MONEY, price
-from .tables import LAST_MOMENT, Fault, decimal, digits, read_tariff, records, route, separators
+from .tables import LAST_MOMENT, Fault, decimal, digits, moment, read_tariff, records, route, separators
 
 MAX_ROW = 65_536
 ADDED = [b"prefix", b"before", b"after", b"price", b"difference", b"fault"]
@@ -65,15 +65,15 @@ def columns(header, given):
     return called, answer, times, paid
 
 
-def number(field, most):
-    found = decimal(field, most)
+def number(field, most, read=decimal):
+    found = read(field, most)
     if found is None:
         raise Wrong("Number")
     return found
 
 
-def optional(field, most):
-    return None if field == b"" else number(field, most)
+def optional(field, most, read=decimal):
+    return None if field == b"" else number(field, most, read)
 
 
 def said(fields, width, places):
@@ -86,9 +86,9 @@ def said(fields, width, places):
     number_called = digits(fields[called])
     if number_called is None:
         raise Wrong("Number")
-    at, times = optional(fields[answer], LAST_MOMENT), None
+    at, times = optional(fields[answer], LAST_MOMENT, moment), None
     if at is not None:
-        times = [number(fields[it], LAST_MOMENT if kind == "end" else DAY) for it in of_times]
+        times = [number(fields[it], *((LAST_MOMENT, moment) if kind == "end" else (DAY,))) for it in of_times]
         if kind == "split" and sum(times) > DAY:
             raise Wrong("Number")
     charged = None if paid is None else optional(fields[paid], MAX_MONEY)

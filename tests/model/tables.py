@@ -1,4 +1,5 @@
 """Tables as bytes: records, fields, the rows of each table, and their faults."""
+import datetime
 import re
 
 from .account import DAY, MAX_MONEY, Plan, Times, lawful
@@ -6,6 +7,7 @@ from .account import DAY, MAX_MONEY, Plan, Times, lawful
 MAX_RATE = 10**9
 LAST_MOMENT = 10**12
 HORIZON = 2 * 10**12
+EPOCH, UNIT = datetime.datetime(1970, 1, 1), datetime.timedelta(milliseconds=100)
 # The headers that a table may have, the oldest first.
 OPS = [["seat", "op", "call", "x1", "x2", "x3", "x4", "x5", *more] for more in ([], ["x6"], ["x6", "x7"], ["x6", "x7", "x8", "x9"])]
 BOOK = [["account", *ops, "reply", "y1", "y2", "y3"] for ops in OPS]
@@ -61,6 +63,23 @@ def decimal(field, most, least=0):
     if not re.fullmatch(rb"[0-9]{1,20}", field):
         return None
     return int(field) if least <= int(field) <= most else None
+
+
+def moment(field, most):
+    """A decimal, or a date and a time of day from 1970 on, within its range, or None."""
+    said = re.fullmatch(rb"([0-9]{4}-[0-9]{2}-[0-9]{2})[T ]([0-9]{2}:[0-9]{2}:[0-9]{2})(?:\.([0-9]))?", field)
+    if not said:
+        return decimal(field, most)
+    try:
+        units = (datetime.datetime.strptime(f"{said[1].decode()} {said[2].decode()}", "%Y-%m-%d %H:%M:%S") - EPOCH) // UNIT + int(said[3] or 0)
+    except ValueError:
+        return None
+    return units if 0 <= units <= most else None
+
+
+def dated(at, mark="T"):
+    """A moment as a date and a time, up to the year 9999."""
+    return f"{(EPOCH + at * UNIT).isoformat(mark, 'seconds')}.{at % 10}"
 
 
 def digits(field):
@@ -227,7 +246,7 @@ def read_setup(text):
         fail(("TooManyRows", kind == b"account" and len(accounts) == 1000), ("What", kind not in (b"account", b"subscriber")))
         if kind == b"account":
             number, opening = decimal(key, 2**32 - 1), decimal(value, MAX_MONEY)
-            last = decimal(until[0], LAST_MOMENT) if any(until) else None
+            last = moment(until[0], LAST_MOMENT) if any(until) else None
             fail(("Number", number is None or opening is None or any(until) and last is None), ("Repeated", number in accounts))
             accounts[number] = opening, last
         else:
@@ -244,16 +263,16 @@ WORDS = ("start", "answer", "busy", "noanswer", "routefail", "abandon", "disconn
 def read_script(text, accounts):
     """What happens: (moment, call, word, x, y) of each row, and z of a recharge."""
     read, started, last = [], set(), 0
-    for _, (moment, call, what, x, y, *z), fail in rows_of("script", text, SCRIPT, 1_000_000):
+    for _, (at, call, what, x, y, *z), fail in rows_of("script", text, SCRIPT, 1_000_000):
         word = what.decode("latin-1")
         fail(("What", word not in WORDS))
-        numbers, empty, until = [decimal(moment, LAST_MOMENT)], [], None
+        numbers, empty, until = [moment(at, LAST_MOMENT)], [], None
         numbers += [] if word == "recharge" else [decimal(call, 2**64 - 1)]
         empty += [call] if word == "recharge" else []
         if word == "start":
             numbers += [digits(x), digits(y)]
         elif word == "recharge":
-            until = decimal(z[0], LAST_MOMENT) if any(z) else None
+            until = moment(z[0], LAST_MOMENT) if any(z) else None
             numbers += [decimal(x, 2**32 - 1), decimal(y, MAX_MONEY), None if any(z) and until is None else 0]
         elif word == "disconnect":
             numbers.append(decimal(x, 2, 1))

@@ -1,8 +1,9 @@
 -- What the options of `quote` say.
 use Rattle.std.specs.Prelude.{ℕ, List, Option, Some, None, codes, if◌then◌else◌, option_and_then, option_map}
+use Rattle.std.specs.Option.{option_or}
 use Rattle.clap.specs.Words.{Row, Text, first_of}
 use Rattle.cap_values.specs.Numbers.{is_number}
-use Rattle.table_core.specs.Decimals.{decimal_of}
+use Rattle.moment_texts.specs.Reading.{moment_of}
 use Rattle.tariff_core.specs.TariffTable.{time_of}
 use Rattle.tariff_core.specs.declared.plan.TheConstants.{MAX_MONEY}
 use Rattle.tariff_core.specs.declared.times.TheConstants.{DAY, LAST_MOMENT}
@@ -14,14 +15,9 @@ use Rattle.command_words.specs.Wishes.{Wish, Quotes}
 abbrev pub called_of : Text → Option (List ℕ)
 called_of text = if is_number text then Some text else None
 
--- the time of day that a text writes, else its number of units
-abbrev pub time_or : Option ℕ → Text → Option ℕ
-time_or (Some time) text = Some time
-time_or None text = decimal_of LAST_MOMENT text
-
--- the moment that a text writes: `HH:MM` of the first day, or a number of units, at most `LAST_MOMENT`
-abbrev pub moment_of : Text → Option ℕ
-moment_of text = time_or (time_of text) text
+-- the moment that is asked for: `HH:MM` of the first day, a number of units, or a date and a time, at most `LAST_MOMENT`
+abbrev pub moment_asked : Text → Option ℕ
+moment_asked text = option_or (time_of text) (moment_of LAST_MOMENT text)
 
 -- the called number
 abbrev pub called_in : List Row → Option (List ℕ)
@@ -29,7 +25,7 @@ called_in options = option_and_then called_of (first_of (codes "called") options
 
 -- the moment
 abbrev pub moment_in : List Row → Option ℕ
-moment_in options = option_and_then moment_of (first_of (codes "at") options)
+moment_in options = option_and_then moment_asked (first_of (codes "at") options)
 
 -- what is asked of a number at a moment
 abbrev pub asked_at : List Row → List ℕ → ℕ → Option QuoteWish

@@ -76,7 +76,8 @@ Kinds:
 /// Behind the options of `run`.
 pub(crate) const RUN: &str = "\
 Times are in units of 100 ms: 1 <= delay <= tccd <= least <= wanted <= 864000, and tssf is 1
-to 864000. Money is in the smallest coin, a rate is money a minute.
+to 864000. A moment is in units of 100 ms from 1 January 1970 on, by the operator's own clock,
+or YYYY-MM-DDTHH:MM:SS. Money is in the smallest coin, a rate is money a minute.
 Input, for example:
 
   prefix,from,fee,rate
@@ -134,8 +135,8 @@ Kinds:
   NoMidnightBand  A prefix has no row from 00:00
   What            A kind is account or subscriber; what happens is start, answer, busy,
                   noanswer, routefail, abandon, disconnect or recharge
-  Number          Digits only, in the smallest coin, within the range: no plus, no point; a party
-                  is 1 to 15 digits
+  Number          Digits only, in the smallest coin, within the range: no plus, no point; a moment
+                  may be YYYY-MM-DDTHH:MM:SS, a day of the calendar; a party is 1 to 15 digits
   Empty           A field has something that the row doesn't take
   Order           This moment is below that of the row before; often the row before is wrong
   Repeated        A prefix with the same start, an account, a subscriber or a start of a call
@@ -183,8 +184,9 @@ Kinds:
 
 /// Behind the options of `quote`.
 pub(crate) const QUOTE: &str = "\
-A moment is in units of 100 ms, or HH:MM of the first day. A time is in units of 100 ms, money
-in the smallest coin, a rate is money a minute.
+A moment is in units of 100 ms from 1 January 1970 on, by the operator's own clock, or
+YYYY-MM-DDTHH:MM:SS, or HH:MM of that first day. A time is in units of 100 ms, money in the
+smallest coin, a rate is money a minute.
 Input, for example:
 
   prefix,from,fee,rate
@@ -223,7 +225,7 @@ Kinds:
 pub(crate) const RATE: &str = "\
 Each row is printed again with the columns prefix, before, after, price, difference and fault.
 The difference is the price less what was charged. Moments and times are in units of 100 ms,
-money in the smallest coin, a rate is money a minute.
+moments also YYYY-MM-DDTHH:MM:SS. Money is in the smallest coin, a rate is money a minute.
 Input, for example:
 
   prefix,from,fee,rate
@@ -278,6 +280,7 @@ Kinds:
 Faults of a row, in its column fault; the next row is rated all the same:
   TooLong  More than 65536 bytes
   Csv      Another number of fields than the header, perhaps an open quote
-  Number   Digits only, within the range: no plus, no point; a number called is 1 to 15 digits
+  Number   Digits only, within the range: no plus, no point; a moment may be
+           YYYY-MM-DDTHH:MM:SS; a number called is 1 to 15 digits
   Order    The end is below the answer, or more than a day behind it
   noroute  The number called begins with no prefix of the tariff";

@@ -4,13 +4,13 @@ ghost use Rattle.std.specs.Prelude.{◌≡◌, ◌≤◌, option_map, IfSome};
 ghost use Rattle.cap_values.specs.NumberDigits.{digits_of};
 ghost use Rattle.clap.specs.Words.{found_of, rows_of};
 ghost use Rattle.command_words.specs.QuoteWishes.{wish_of};
-ghost use Rattle.command_words.specs.QuoteWords.{called_of, moment_of, quote_in};
+ghost use Rattle.command_words.specs.QuoteWords.{called_of, moment_asked, quote_in};
 
 use crate::options::{option_text, optional_number};
 use crate::request::QuoteAsk;
 use cap_values::Number;
 use clap::ArgMatches;
-use table_core::decimal;
+use moment_texts::moment;
 use tariff_core::{DAY, LAST_MOMENT, MAX_MONEY, time_of_day};
 
 /// What the options ask for.
@@ -19,7 +19,7 @@ pub(crate) fn quote_ask(options: &ArgMatches<'_>) -> Option<QuoteAsk>
     ensures { option_map wish_of result ≡ quote_in (rows_of (found_of options.now)) }
 {
     let called = called(option_text(options, "called")?)?;
-    let at = moment(option_text(options, "at")?)?;
+    let at = moment_asked(option_text(options, "at")?)?;
     let talk = optional_number(options, "for", u64::from(DAY))?;
     let credit = optional_number(options, "credit", MAX_MONEY)?;
     Some(QuoteAsk {
@@ -37,13 +37,14 @@ fn called(text: &str) -> Option<Number>
     Number::new(text).ok()
 }
 
-/// The moment that a text writes: `HH:MM` of the first day, or a number of units of 100 ms.
-fn moment(text: &str) -> Option<u64>
-    ensures value { result ≡ moment_of text.now }
+/// The moment that is asked for: `HH:MM` of the first day, a number of units of 100 ms, or a date
+/// and a time.
+fn moment_asked(text: &str) -> Option<u64>
+    ensures value { result ≡ moment_asked text.now }
     ensures within { IfSome result (λ at. at ≤ LAST_MOMENT) }
 {
     match time_of_day(text.as_bytes()) {
         Some(time) => Some(u64::from(time)),
-        None => decimal(text.as_bytes(), LAST_MOMENT),
+        None => moment(text.as_bytes(), LAST_MOMENT),
     }
 }

@@ -8,22 +8,21 @@ use Rattle.cap_values.specs.declared.event.Event.{Event}
 use Rattle.cap_values.specs.declared.event.Event.TheVariants as event
 use Rattle.cap_values.specs.declared.leg.Leg.{Leg}
 use Rattle.cap_values.specs.declared.leg.Leg.TheVariants as leg
-use Rattle.cap_values.specs.declared.message.SsfMsg.{SsfMsg}
 use Rattle.cap_values.specs.declared.message.SsfMsg.TheVariants as message
 use Rattle.cap_values.specs.declared.mode.Mode.{Mode}
 use Rattle.cap_values.specs.declared.mode.Mode.TheVariants as mode
 use Rattle.entry_rows.specs.Columns.{number_or_empty}
-use Rattle.entry_rows.specs.Fits.{FitsReport, IsInterval, IsMoment, IsMoney, IsTime, IsWide}
-use Rattle.message_rows.specs.Laws.{FitsMessage, FitsPost, message_of_post}
+use Rattle.entry_rows.specs.Fits.{IsInterval, IsMoment, IsWide}
+use Rattle.message_rows.specs.Laws.{FitsPost, message_of_post}
 use Rattle.message_rows.specs.Messages.{event_in, interval_in, leg_in, message_in, mode_in, state_in}
+use Rattle.run_texts.specs.Setups.{until_in}
 use Rattle.run_trace.specs.Said.{Said, event_word, leg_number, mode_word, post_said, state_word}
 use Rattle.run_trace.specs.Tables.{call_of, sender_of}
 use Rattle.run_values.specs.declared.post.Body.{Body}
 use Rattle.run_values.specs.declared.post.Body.TheVariants as body
-use Rattle.table_core.specs.Fields.{field_in, is_blank, number_in, optional_in}
+use Rattle.table_core.specs.Fields.{field_in, number_in}
 use Rattle.table_core.specs.Printed.{DecimalsAreRead}
 use Rattle.table_core.specs.Rows.{Fields}
-use Rattle.tariff_core.specs.declared.times.TimeInfo.{TimeInfo}
 use Rattle.tariff_core.specs.declared.times.TimeInfo.TheVariants as info
 
 -- the fields of a row
@@ -68,10 +67,9 @@ module _ (reads : DecimalsAreRead) where
       → number_in fields place most ≡ Ok number
   number_read fields place most number is small within = rw (is, reads most number small within) refl
 
-  optional_read : (fields : Fields) (place most : ℕ) (number : Option ℕ) → field_in fields place ≡ number_or_empty number → most < 2 ^ 64
-      → IfSome number (λ it. it ≤ most) → optional_in fields place most ≡ Ok number
-  optional_read fields place most None is small within = rw is refl
-  optional_read fields place most (Some number) is small within = rw (is, not_empty number (omega (arith, small, within)), reads most number small within) refl
+  until_read : (fields : Fields) (until : Option ℕ) → field_in fields 7 ≡ number_or_empty until → IfSome until (λ it. it ≤ 1000000000000) → until_in fields 7 ≡ Ok until
+  until_read fields None is within = rw is refl
+  until_read fields (Some at) is within = rw (is, not_empty at (omega (arith, within)), reads 1000000000000 at (omega arith) within) refl
 
   leg_read : (fields : Fields) (l : Option Leg) → field_in fields 6 ≡ number_or_empty (leg_number l) → leg_in fields ≡ Ok (leg_number l)
   leg_read fields None is = rw is refl
@@ -140,5 +138,5 @@ module _ (reads : DecimalsAreRead) where
           reads 18446744073709551615 number (omega arith) number_fits,
           reads 4294967295 account (omega arith) fits.body.0,
           reads 1000000000000000 amount (omega arith) fits.body.1,
-          optional_read (post_fields number (at, body.Recharge account amount until)) 7 1000000000000 until refl (omega arith) fits.body.2,
+          until_read (post_fields number (at, body.Recharge account amount until)) until refl fits.body.2,
         ) refl

@@ -1,10 +1,10 @@
 -- The row that a trace prints of a post is one plain row of nine fields.
-use Rattle.std.proofs.Common.{◌≡◌, ℕ, ◌<◌, ◌≤◌, true, false, Option, Some, None, List, [], ◌∷◌, ◌++◌, Ok, length, refl, ap, append-nil, append_assoc, arith}
+use Rattle.std.proofs.Common.{◌≡◌, ℕ, ◌<◌, ◌≤◌, true, false, Option, Some, None, List, [], ◌∷◌, ◌++◌, length, refl, append-nil, append_assoc, arith}
 use Rattle.std.specs.Prelude.{codes, IfSome}
 use Rattle.std.specs.Char.{is_ascii_digit}
 use Rattle.std.specs.Fmt.{decimal}
 use Rattle.std.specs.Int.{IsInRange}
-use Rattle.std.specs.List.{All, join_with_byte, list_all}
+use Rattle.std.specs.List.{join_with_byte, list_all}
 use Rattle.std.specs.Str.Parse.{AllDigits}
 use Rattle.std.proofs.lemmas.Bool.{and_parts}
 use Rattle.std.proofs.lemmas.Bool.Decides.{nat_tests}
@@ -14,19 +14,17 @@ use Rattle.std.proofs.lemmas.Str.Parse.{digit_from_value}
 use Rattle.csv.specs.Reading.{strip_bom}
 use Rattle.csv.specs.Writing.{comma, default_writer, needs_byte}
 use Rattle.cap_values.specs.NumberDigits.{digits_of}
-use Rattle.cap_values.specs.Numbers.{is_number}
 use Rattle.cap_values.specs.declared.event.Event.{Event}
 use Rattle.cap_values.specs.declared.event.Event.TheVariants as event
 use Rattle.cap_values.specs.declared.leg.Leg.{Leg}
 use Rattle.cap_values.specs.declared.leg.Leg.TheVariants as leg
-use Rattle.cap_values.specs.declared.message.SsfMsg.{SsfMsg}
 use Rattle.cap_values.specs.declared.message.SsfMsg.TheVariants as message
 use Rattle.cap_values.specs.declared.mode.Mode.{Mode}
 use Rattle.cap_values.specs.declared.mode.Mode.TheVariants as mode
 use Rattle.cap_values.specs.declared.number.Number.{Number}
 use Rattle.entry_rows.specs.Columns.{number_or_empty}
 use Rattle.entry_rows.specs.Fits.{IsInterval}
-use Rattle.message_rows.specs.Laws.{FitsBody, FitsPost, PostsAreRead, message_of_post}
+use Rattle.message_rows.specs.Laws.{FitsBody, FitsPost, PostsAreRead}
 use Rattle.message_rows.proofs.PostColumns.{post_fields, post_read, row_fields}
 use Rattle.run_trace.specs.Said.{Said, event_word, leg_number, mode_word, post_said, state_word}
 use Rattle.run_trace.specs.Tables.{call_of, head_of, row, sender_of}

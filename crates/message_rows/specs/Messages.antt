@@ -1,5 +1,5 @@
 -- The meaning of a message row: who says what of which call, and when, in the columns and the words of a trace.
-use Rattle.std.specs.Prelude.{◌==◌, ◌&&◌, ℕ, Bool, true, false, Option, Some, None, List, Result, Ok, Err, if◌then◌else◌, codes}
+use Rattle.std.specs.Prelude.{◌&&◌, ℕ, Bool, true, false, Option, Some, None, List, Result, Ok, Err, if◌then◌else◌, codes}
 use Rattle.std.specs.Fmt.{decimal}
 use Rattle.cap_values.specs.declared.event.Event.{Event}
 use Rattle.cap_values.specs.declared.event.Event.TheVariants as event
@@ -9,6 +9,7 @@ use Rattle.entry_rows.specs.Column.{counted_interval}
 use Rattle.entry_rows.specs.Columns.{number_or_empty}
 use Rattle.message_rows.specs.declared.words.Word.{Word}
 use Rattle.message_rows.specs.declared.words.Word.TheVariants as word
+use Rattle.moment_texts.specs.Fields.{moment_in}
 use Rattle.run_texts.specs.Setups.{account_in, amount_in, party_in, until_in}
 use Rattle.run_trace.specs.Said.{Said, alone, event_word, mode_word, post_said, report_said, state_word}
 use Rattle.run_trace.specs.Tables.{call_of, sender_of}
@@ -156,5 +157,5 @@ speech_in fields word.Recharge = recharge_in fields
 -- the message in a row: its words are judged first, then its numbers from the left to the right, then what must be empty
 abbrev pub message_in : Fields → Result MessageView RowKind
 message_in fields =
-    after (word_in fields) (λ word. after (number_in fields 0 HORIZON) (λ at. after (optional_in fields 1 18446744073709551615) (λ number.
+    after (word_in fields) (λ word. after (moment_in fields 0 HORIZON) (λ at. after (optional_in fields 1 18446744073709551615) (λ number.
     after (speech_in fields word) (λ speech. Ok (record { at = at; number = number; speech = speech })))))

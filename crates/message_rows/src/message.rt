@@ -9,6 +9,7 @@ ghost use Rattle.message_rows.specs.Views.{leg_number_of, view_of};
 use crate::words::{Word, read_word};
 use cap_values::{Event, Leg, Mode, SsfMsg};
 use csv::ByteRecord;
+use moment_texts::moment_field;
 use run_texts::{account, amount, party, until};
 use run_values::Body;
 use table_core::{RowKind, is_blank, number, optional};
@@ -29,7 +30,7 @@ pub struct Message {
 ///
 /// The words are those that a trace prints for a switch and for an operator. A moment is 0 to
 /// `HORIZON`; a number may be left out. Judged in this order: `What` where a word is another one;
-/// `Number` where a field isn't a decimal, or the digits of a party, within its range; `Empty`
+/// `Number` where a field isn't a decimal, a moment, or the digits of a party, within its range; `Empty`
 /// where a field that must be empty isn't.
 pub fn read_message(row: &ByteRecord) -> Result<Message, RowKind>
     requires { 8 < length (fields_of row.now) }
@@ -37,7 +38,7 @@ pub fn read_message(row: &ByteRecord) -> Result<Message, RowKind>
     ensures in_range { IfOk result (λ message. message.at ≤ HORIZON) }
 {
     let word = read_word(row)?;
-    let at = number(row, 0, HORIZON)?;
+    let at = moment_field(row, 0, HORIZON)?;
     let number = optional(row, 1, u64::MAX)?;
     let body = read_body(row, word)?;
     Ok(Message { at, number, body })

@@ -8,7 +8,7 @@ use std::test::Fail;
 const CALL: &str = "0,1,start,491700001,4930,\n100,1,answer,,,\n";
 
 /// The last moment of account 7, more rows of the script, and what is written.
-const PLAYED: [(&str, &str, &str); 6] = [
+const PLAYED: [(&str, &str, &str); 8] = [
     (
         "1000000000000",
         "1000000000000,,recharge,7,1,1000000000000\n",
@@ -35,6 +35,16 @@ const PLAYED: [(&str, &str, &str); 6] = [
         "account 7 opening 1500 available 1 entries 6\ncall 1 account 7 paid 1500 returned\n",
     ),
     (
+        "1970-01-01T00:01:09.9",
+        "650,,recharge,7,1,\n",
+        "account 7 opening 1500 available 451 entries 5\ncall 1 account 7 paid 1050 returned\n",
+    ),
+    (
+        "1970-01-01 00:01:09.9",
+        "1970-01-01 00:01:05,,recharge,7,1,1970-01-01T00:03:20.0\n",
+        "account 7 opening 1500 available 1 entries 6\ncall 1 account 7 paid 1500 returned\n",
+    ),
+    (
         "699",
         "650,,recharge,7,1,\n",
         "account 7 opening 1500 available 451 entries 5\ncall 1 account 7 paid 1050 returned\n",
@@ -52,10 +62,15 @@ account,seat,op,call,x1,x2,x3,x4,x5,x6,x7,reply,y1,y2,y3
 ";
 
 /// Rows of the setup and of the script, and the first fault.
-const REFUSED: [(&str, &str, &str); 10] = [
+const REFUSED: [(&str, &str, &str); 11] = [
     ("account,7,1500\n", "", "setup row 2: Csv"),
     ("account,7,1500,x\n", "", "setup row 2: Number"),
     ("account,7,1500,1000000000001\n", "", "setup row 2: Number"),
+    (
+        "account,7,1500,1970-02-30T00:00:00\n",
+        "",
+        "setup row 2: Number",
+    ),
     (
         "account,7,1500,9\nsubscriber,491700001,8,9\n",
         "",

@@ -13,7 +13,7 @@ const TWO_BANDS: &str = "prefix,from,fee,rate\n49,00:00,50,1000\n49,08:00,60,400
 const FREE: &str = "prefix,from,fee,rate,free\n49,00:00,50,1000,600\n,00:00,0,1,0\n,12:34,1,2,3\n";
 
 /// Words, a tariff, and the lines of the quote.
-const QUOTED: [(&str, &str, &str); 13] = [
+const QUOTED: [(&str, &str, &str); 15] = [
     (
         "quote --called 4930 --at 0",
         FLAT,
@@ -33,6 +33,16 @@ const QUOTED: [(&str, &str, &str); 13] = [
         "quote --called 49 --at 287400 --for 600",
         TWO_BANDS,
         "prefix 49 from 00:00 fee 50 rate 1000 free 0\nswitch 288000 rate 400\nprice 1050\n",
+    ),
+    (
+        "quote --called 49 --at 1970-01-01T07:59:00 --for 600",
+        TWO_BANDS,
+        "prefix 49 from 00:00 fee 50 rate 1000 free 0\nswitch 288000 rate 400\nprice 1050\n",
+    ),
+    (
+        "quote --called 49 --at 5138-11-16T09:46:40",
+        FLAT,
+        "prefix 49 from 00:00 fee 50 rate 1000 free 0\n",
     ),
     (
         "quote --called 49 --at 08:00 --credit 1500",
@@ -82,7 +92,7 @@ const QUOTED: [(&str, &str, &str); 13] = [
 ];
 
 /// Words that ask for no quote.
-const REFUSED: [&str; 13] = [
+const REFUSED: [&str; 18] = [
     "quote",
     "quote --called 49",
     "quote --at 0",
@@ -92,6 +102,11 @@ const REFUSED: [&str; 13] = [
     "quote --called 49 --at 24:00",
     "quote --called 49 --at 8:00",
     "quote --called 49 --at 1000000000001",
+    "quote --called 49 --at 5138-11-16T09:46:40.1",
+    "quote --called 49 --at 1970-02-30T00:00:00",
+    "quote --called 49 --at 1970-01-01T24:00:00",
+    "quote --called 49 --at 1970-01-01",
+    "quote --called 49 --at 08:00:00",
     "quote --called 49 --at 0 --for 864001",
     "quote --called 49 --at 0 --credit 1000000000000001",
     "quote --called 49 --at 0 --at 0",

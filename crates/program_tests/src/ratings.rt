@@ -11,7 +11,7 @@ const TARIFF: &str =
     "prefix,from,fee,rate,free\n49,00:00,50,1000,0\n49,08:00,50,400,0\n4915,00:00,0,1900,600\n";
 
 /// Words, records, the status and what is printed.
-const RATED: [(&str, &str, u8, &str); 14] = [
+const RATED: [(&str, &str, u8, &str); 15] = [
     (
         "rate",
         "called,answer,time,paid\n4930,0,600,1050\n",
@@ -47,6 +47,12 @@ const RATED: [(&str, &str, u8, &str); 14] = [
         "called,answer,end,paid\n4930,287700,288300,750\n4930,100,99,0\n4930,100,864101,0\n4930,100,99,x\n4930,100,864100,9\n",
         3,
         "called,answer,end,paid,prefix,before,after,price,difference,fault\n4930,287700,288300,750,49,300,300,750,0,\n4930,100,99,0,,,,,,Order\n4930,100,864101,0,,,,,,Order\n4930,100,99,x,,,,,,Number\n4930,100,864100,9,49,287900,576100,863950,863941,\n",
+    ),
+    (
+        "rate",
+        "called,answer,end,paid\n4930,1970-01-01T07:59:30,1970-01-01 08:00:30.0,750\n4930,1970-02-30T00:00:00,0,0\n4930,0,1970-01-01T24:00:00,0\n",
+        3,
+        "called,answer,end,paid,prefix,before,after,price,difference,fault\n4930,1970-01-01T07:59:30,1970-01-01 08:00:30.0,750,49,300,300,750,0,\n4930,1970-02-30T00:00:00,0,0,,,,,,Number\n4930,0,1970-01-01T24:00:00,0,,,,,,Number\n",
     ),
     (
         "rate",

@@ -3,6 +3,7 @@ use Rattle.std.specs.Prelude.{◌≡◌, ◌+◌, ◌-◌, ◌==◌, ◌≤◌, 
 use Rattle.std.specs.List.{flat_map}
 use Rattle.cap_values.specs.Numbers.{is_number}
 use Rattle.csv.specs.Writing.{comma, default_writer, field_text}
+use Rattle.moment_texts.specs.Reading.{moment_of}
 use Rattle.table_core.specs.Decimals.{decimal_of}
 use Rattle.table_core.specs.Fields.{field_in, is_blank}
 use Rattle.table_core.specs.Judging.{after}
@@ -41,6 +42,10 @@ called_in fields place = if is_number (field_in fields place) then Ok (field_in 
 abbrev pub number_in : Fields → ℕ → ℕ → Result ℕ RateKind
 number_in fields place most = ok_or (decimal_of most (field_in fields place)) kind.Number
 
+-- a moment that must be there
+abbrev pub moment_in : Fields → ℕ → Result ℕ RateKind
+moment_in fields place = ok_or (moment_of LAST_MOMENT (field_in fields place)) kind.Number
+
 -- a number where the field isn't empty
 abbrev pub present : Result ℕ RateKind → Result (Option ℕ) RateKind
 present (Ok number) = Ok (Some number)
@@ -60,17 +65,17 @@ talk_split before after = if nat_lt DAY (before + after) then Err kind.Number el
 -- how long a call lasted that was answered at a moment
 abbrev pub talk_in : Fields → TimeColumns → ℕ → Result Talk RateKind
 talk_in fields (times.Time place) at = after (number_in fields place DAY) (λ time. Ok (talk.Lasts time))
-talk_in fields (times.End place) at = after (number_in fields place LAST_MOMENT) (λ end. talk_until at end)
+talk_in fields (times.End place) at = after (moment_in fields place) (λ end. talk_until at end)
 talk_in fields (times.Split before_place after_place) at =
     after (number_in fields before_place DAY) (λ before. after (number_in fields after_place DAY) (λ after. talk_split before after))
 
--- when a call was answered, if it was, and then how long it lasted; of one that wasn't, the times aren't read
-abbrev pub answered_by : Fields → TimeColumns → Option ℕ → Result (Option Answered) RateKind
-answered_by fields times None = Ok None
-answered_by fields times (Some at) = after (talk_in fields times at) (λ talk. Ok (Some (record { at = at; talk = talk })))
+-- a call that was answered at a moment, and how long it lasted
+abbrev pub answered_at : Fields → Columns → ℕ → Result (Option Answered) RateKind
+answered_at fields columns at = after (talk_in fields columns.times at) (λ talk. Ok (Some (record { at = at; talk = talk })))
 
+-- the same, if it was answered; of one that wasn't, the times aren't read
 abbrev pub answered_in : Fields → Columns → Result (Option Answered) RateKind
-answered_in fields columns = after (optional_in fields columns.answer LAST_MOMENT) (answered_by fields columns.times)
+answered_in fields columns = if is_blank fields columns.answer then Ok None else after (moment_in fields columns.answer) (answered_at fields columns)
 
 -- what was charged, where there is a column for it and it isn't empty
 abbrev pub paid_in : Fields → Option ℕ → Result (Option ℕ) RateKind

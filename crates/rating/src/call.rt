@@ -3,7 +3,7 @@
 ghost use Rattle.std.specs.Prelude.{◌≡◌, ◌<◌, ◌≤◌, length, unwrap_or, IfOk, IfSome};
 ghost use Rattle.std.specs.Result.{result_map_both};
 ghost use Rattle.csv.specs.Records.{fields_of};
-ghost use Rattle.rating.specs.Calls.{IsInRange, IsWithinDay, answered_in, call_in, called_in, number_in, optional_in, paid_in, talk_in, talk_split, talk_until};
+ghost use Rattle.rating.specs.Calls.{IsInRange, IsWithinDay, answered_in, call_in, called_in, moment_in, number_in, optional_in, paid_in, talk_in, talk_split, talk_until};
 ghost use Rattle.rating.specs.Columns.{HasColumns, HasTimes};
 ghost use Rattle.rating.specs.SaidOf.{said_by};
 
@@ -11,6 +11,7 @@ use crate::RateKind;
 use crate::columns::{Columns, TimeColumns};
 use cap_values::MAX_DIGITS;
 use csv::ByteRecord;
+use moment_texts::moment;
 use table_core::{are_digits, decimal, field, is_blank};
 use tariff_core::{DAY, LAST_MOMENT, MAX_MONEY};
 
@@ -81,9 +82,10 @@ fn read_answered(row: &ByteRecord, columns: &Columns) -> Result<Option<Answered>
     ensures value { result ≡ answered_in (fields_of row.now) columns.now }
     ensures within { IfOk result (λ answered. IfSome answered IsInRange) }
 {
-    let Some(at) = optional(row, columns.answer, LAST_MOMENT)? else {
+    if is_blank(row, columns.answer) {
         return Ok(None);
-    };
+    }
+    let at = read_moment(row, columns.answer)?;
     let talk = read_talk(row, columns.times, at)?;
     Ok(Some(Answered { at, talk }))
 }
@@ -96,7 +98,7 @@ fn read_talk(row: &ByteRecord, times: TimeColumns, at: u64) -> Result<Talk, Rate
 {
     match times {
         TimeColumns::Time(place) => Ok(Talk::Lasts(number(row, place, u64::from(DAY))? as u32)),
-        TimeColumns::End(place) => talk_until(at, number(row, place, LAST_MOMENT)?),
+        TimeColumns::End(place) => talk_until(at, read_moment(row, place)?),
         TimeColumns::Split(before, after) => {
             let before = number(row, before, u64::from(DAY))?;
             let after = number(row, after, u64::from(DAY))?;
@@ -139,6 +141,15 @@ fn paid(row: &ByteRecord, place: Option<usize>) -> Result<Option<u64>, RateKind>
         Some(place) => optional(row, place, MAX_MONEY),
         None => Ok(None),
     }
+}
+
+/// The moment in a field.
+fn read_moment(row: &ByteRecord, place: usize) -> Result<u64, RateKind>
+    requires { place < length (fields_of row.now) }
+    ensures value { result ≡ moment_in (fields_of row.now) place }
+    ensures within { IfOk result (λ at. at ≤ LAST_MOMENT) }
+{
+    moment(field(row, place), LAST_MOMENT).ok_or(RateKind::Number)
 }
 
 /// The number in a field, none where it is empty.

@@ -10,6 +10,7 @@ use Rattle.table_core.specs.Tables.{TableForm, table_form, table_of}
 use Rattle.table_core.specs.declared.fault.RowFault.{RowFault}
 use Rattle.table_core.specs.declared.fault.RowKind.{RowKind}
 use Rattle.table_core.specs.declared.fault.RowKind.TheVariants as kind
+use Rattle.moment_texts.specs.Fields.{moment_in}
 use Rattle.run_texts.specs.Happenings.{ScriptEvent, Happens, Meets, Recharges, Starts}
 use Rattle.run_texts.specs.Setups.{account_in, amount_in, party_in, until_in}
 use Rattle.run_texts.specs.declared.script.Word.{Word}
@@ -73,7 +74,7 @@ happens_in fields word.Recharge = recharge_in fields
 
 -- what happens in a row, and its moment of 0 to 10^12
 abbrev pub read_in : List (List ℕ) → Result ScriptEvent RowKind
-read_in fields = after (word_in fields) (λ word. after (number_in fields 0 LAST_MOMENT) (λ at. after (happens_in fields word) (λ what. Ok (record { at = at; what = what }))))
+read_in fields = after (word_in fields) (λ word. after (moment_in fields 0 LAST_MOMENT) (λ at. after (happens_in fields word) (λ what. Ok (record { at = at; what = what }))))
 
 -- ---- rows; the earlier ones newest first
 

@@ -6,13 +6,14 @@ use Rattle.std.specs.List.{list_any}
 use Rattle.std.specs.Ordering.{nat_cmp}
 use Rattle.std.specs.Str.{bytes_eq}
 use Rattle.cap_values.specs.Numbers.{is_number}
-use Rattle.table_core.specs.Fields.{field_in, has_word, is_blank, number_in, optional_in}
+use Rattle.table_core.specs.Fields.{field_in, has_word, is_blank, number_in}
 use Rattle.table_core.specs.Judging.{after}
 use Rattle.table_core.specs.Rows.{Fields}
 use Rattle.table_core.specs.Tables.{TableForm, table_form, table_of}
 use Rattle.table_core.specs.declared.fault.RowFault.{RowFault}
 use Rattle.table_core.specs.declared.fault.RowKind.{RowKind}
 use Rattle.table_core.specs.declared.fault.RowKind.TheVariants as kind
+use Rattle.moment_texts.specs.Fields.{optional_moment_in}
 use Rattle.run_values.specs.Setups.{has_account}
 use Rattle.run_values.specs.declared.directory.OpeningCredit.{OpeningCredit}
 use Rattle.tariff_core.specs.declared.plan.TheConstants.{MAX_MONEY}
@@ -43,7 +44,7 @@ amount_in fields place = number_in fields place MAX_MONEY
 
 -- the last moment in the field at a place, 0 to 10^12; none where the field is empty, or isn't there under the table's header
 abbrev pub until_in : List (List ℕ) → ℕ → Result (Option ℕ) RowKind
-until_in fields place = optional_in fields place LAST_MOMENT
+until_in fields place = optional_moment_in fields place LAST_MOMENT
 
 -- ---- rows; the fourth field is there under the second header alone, and empty elsewhere
 

@@ -10,6 +10,7 @@ ghost use Rattle.run_values.specs.Openings.{expires_in_time};
 
 use cap_values::Number;
 use csv::ByteRecord;
+use moment_texts::moment_field;
 use ssf_core::Moment;
 use std::str;
 use table_core::{RowKind, field, is_blank, number};
@@ -32,8 +33,8 @@ pub fn amount(row: &ByteRecord, place: usize) -> Result<u64, RowKind>
     number(row, place, MAX_MONEY)
 }
 
-/// The last moment in the field at `place`: 0 to `LAST_MOMENT`, or none where the field is left
-/// out.
+/// The last moment in the field at `place`: 0 to `LAST_MOMENT`, as units or as a date and a time, or
+/// none where the field is left out.
 pub fn until(row: &ByteRecord, place: usize) -> Result<Option<Moment>, RowKind>
     ensures value { result ≡ until_in (fields_of row.now) place }
     ensures within { IfOk result (λ until. expires_in_time until ≡ true) }
@@ -41,7 +42,7 @@ pub fn until(row: &ByteRecord, place: usize) -> Result<Option<Moment>, RowKind>
     if is_left_out(row, place) {
         return Ok(None);
     }
-    Ok(Some(number(row, place, LAST_MOMENT)?))
+    Ok(Some(moment_field(row, place, LAST_MOMENT)?))
 }
 
 /// Whether the field at `place` is empty, or the row ends before it.

@@ -13,6 +13,7 @@ ghost use Rattle.table_core.specs.Rows.{rows_of};
 use crate::fields::{account, amount, is_left_out, party, until};
 use cap_values::{Leg, Number};
 use csv::ByteRecord;
+use moment_texts::moment_field;
 use run_values::Directory;
 use ssf_core::{BcsmEvent, Moment};
 use std::alloc::{AllocError, Global};
@@ -33,7 +34,7 @@ const MAX_ROWS: u32 = 1_000_000;
 ///
 /// Rows are judged in order as they are read, a row in this order: `Csv` where it hasn't the
 /// header's fields; `TooManyRows` past 1,000,000 rows; `What` where its word is another one;
-/// `Number` where a field isn't a decimal, or digits, within its range; `Empty` where a field that
+/// `Number` where a field isn't a decimal, a moment, or digits, within its range; `Empty` where a field that
 /// must be empty isn't; `Order` where its moment lies below the one before; `Repeated` where a call
 /// starts again; `Unknown` where no earlier row starts its call, or the setup hasn't its account.
 /// `Header` is the fault of row 1.
@@ -179,7 +180,7 @@ fn read_row(row: &ByteRecord) -> Result<ScriptRow, RowKind>
     ensures in_time { IfOk result (λ row. is_in_time (happens_of row.what) ≡ true) }
 {
     let word = read_word(row)?;
-    let at = number(row, 0, LAST_MOMENT)?;
+    let at = moment_field(row, 0, LAST_MOMENT)?;
     let what = read_happening(row, word)?;
     Ok(ScriptRow { at, what })
 }

@@ -8,7 +8,7 @@ use table_core::RowKind;
 use tariff_core::TimeInfo;
 
 /// Lines that say nothing, for what their row lacks.
-const BAD: [(&[u8], RowKind); 24] = [
+const BAD: [(&[u8], RowKind); 26] = [
     (b"0,0,1,switch,Ended,,,\n", RowKind::Csv),
     (b"0,0,1,switch,Ended,,,,,\n", RowKind::Csv),
     (b"0,0,1,switch,\"Ended,,,,\n", RowKind::Csv),
@@ -38,6 +38,14 @@ const BAD: [(&[u8], RowKind); 24] = [
     ),
     (b",0,1,switch,Ended,,,,\n", RowKind::Number),
     (b"2000000000001,0,1,switch,Ended,,,,\n", RowKind::Number),
+    (
+        b"8307-10-01T19:33:20.1,0,1,switch,Ended,,,,\n",
+        RowKind::Number,
+    ),
+    (
+        b"1970-02-30T00:00:00,0,1,switch,Ended,,,,\n",
+        RowKind::Number,
+    ),
     (b"0,-1,1,switch,Ended,,,,\n", RowKind::Number),
     (b"0,0,,switch,Ended,,,,\n", RowKind::Number),
     (b"0,0,1,switch,InitialDP,,4930,,\n", RowKind::Number),
@@ -100,7 +108,7 @@ fn reads_a_line(rt: HostRuntime) -> Result<(), Fail> {
         amount: 1_000_000_000_000_000,
         until: Some(1_000_000_000_000),
     };
-    let good: [(&[u8], u64, Option<u64>, Body); 8] = [
+    let good: [(&[u8], u64, Option<u64>, Body); 10] = [
         (
             b"0,0,1,switch,InitialDP,491700001,4930,,\n",
             0,
@@ -147,6 +155,18 @@ fn reads_a_line(rt: HostRuntime) -> Result<(), Fail> {
             b"1,18446744073709551615,,operator,Recharge,4294967295,1000000000000000,1000000000000,\n",
             1,
             Some(u64::MAX),
+            recharge,
+        ),
+        (
+            b"8307-10-01 19:33:20,3,1,switch,Ended,,,,\n",
+            2_000_000_000_000,
+            Some(3),
+            of_call(1, SsfMsg::Ended),
+        ),
+        (
+            b"1970-01-01T00:00:00.1,4,,operator,Recharge,4294967295,1000000000000000,5138-11-16 09:46:40,\n",
+            1,
+            Some(4),
             recharge,
         ),
     ];

@@ -56,7 +56,7 @@ const SETUPS: [(&str, Told); 27] = [
 ];
 
 /// Scripts over accounts 7 and 9, their headers left out, and their first fault.
-const SCRIPTS: [(&str, Told); 35] = [
+const SCRIPTS: [(&str, Told); 39] = [
     ("", None),
     ("0,1,start,1,2\n0,1,answer,,\n0,2,start,1,2", None),
     ("0,1,start,1,2\n5,1,busy,,\n5,1,busy,,", None),
@@ -87,6 +87,19 @@ const SCRIPTS: [(&str, Told); 35] = [
     ("0,,recharge,4294967296,1", Some((2, RowKind::Number))),
     ("5,1,start,1,2\n4,2,start,1,2", Some((3, RowKind::Order))),
     ("5,1,start,1,2\n4,1,start,1,2", Some((3, RowKind::Order))),
+    (
+        "1970-02-30T00:00:00,1,start,1,2",
+        Some((2, RowKind::Number)),
+    ),
+    (
+        "1970-01-01T00:00:60,1,start,1,2",
+        Some((2, RowKind::Number)),
+    ),
+    ("00:00:05,1,start,1,2", Some((2, RowKind::Number))),
+    (
+        "1970-01-01T00:00:05,1,start,1,2\n49,1,answer,,",
+        Some((3, RowKind::Order)),
+    ),
     ("5,1,start,1,2\n4,2,answer,,", Some((3, RowKind::Order))),
     ("5,1,start,1,2\n4,2,answer,1,", Some((3, RowKind::Empty))),
     ("5,1,start,1,2\n5,1,start,3,4", Some((3, RowKind::Repeated))),
