@@ -251,7 +251,7 @@ def ranges_in_formats(text, values):
     wanted |= {("audit", "TooManyRows"): [many, long], ("run", "TooManyRows"): [few, many, accounts]}
     wanted |= {(it, "TooLong"): re.findall(r"input has at most (\d+) bytes", text) for it in (*NEEDS, "audit")}
     for name in ("run", "quote"):
-        wanted |= {(name, kind): [it] for kind, it in zip(("Digits", "From", "Money", "Free"), numbers_of(rows["tariff"]))}
+        wanted |= {(name, kind): [it] for kind, it in zip(("Digits", "From", "Money", "Free", "First", "Step"), numbers_of(rows["tariff"]))}
     wanted["run", "Number"] = re.findall(r"a party that isn't (\d+ to \d+) digits", text)
     wanted["price", "Number"] = numbers_of(rows["reports"])
     wanted["price", "Order"] = [numbers_of(rows["reports"])[0].split()[-1]]
