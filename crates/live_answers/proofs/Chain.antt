@@ -8,7 +8,7 @@ use Rattle.std.specs.Io.KnownBytes.{Appends}
 use Rattle.live_answers.proofs.Growing.{kept_is_grown, logs_twice, prints_twice}
 use Rattle.live_answers.proofs.LineLemmas.{line_first, no_line}
 use Rattle.live_answers.specs.Lines.{live_lines}
-use Rattle.live_answers.specs.Live.{Heard, given_by, given_of, heard_after, heard_in, item_view, last_after, live_text, logged_of, next_after, text_after}
+use Rattle.live_answers.specs.Live.{Heard, given_by, given_of, heard_after, heard_in, item_view, last_after, logged_of, next_after, replayed_text, text_after}
 use Rattle.live_answers.specs.Rounds.{Hears, LeadsTo, TakesLine, TakesOf, WritesOn, due}
 use Rattle.live_answers.specs.Rows.{counted_line, put_down, rows_of_line}
 use Rattle.live_answers.specs.Runs.{Answers, Logs, Prints}
@@ -277,7 +277,7 @@ module _ {I O L : Type 0} (remaining : I → Option (List ℕ)) (contents : O �
       let goes = goes_to_end [] old answers heard new text rounds known in
       let lines : left_to old text ≡ heard_in text = ap (λ g. heard_after (length g) (last_moment g) (live_lines text)) none in
       let nothing_due : due old answers ≡ [] = ap (rows_of_line old.replay.quiet old.lines (length old.given.items - 1) (slice_get answers 0)) nothing in
-      let text_is : due old answers ++ text_after old.replay all old.lines (length old.given.items) (take goes.count (left_to old text)) ≡ live_text replay all (take goes.count (heard_in text)) =
+      let text_is : due old answers ++ text_after old.replay all old.lines (length old.given.items) (take goes.count (left_to old text)) ≡ replayed_text replay all (take goes.count (heard_in text)) =
       ap (λ l. l ++ text_after old.replay all old.lines (length old.given.items) (take goes.count (left_to old text))) nothing_due
       ∙ ap (λ (r : Replay). text_after r all old.lines (length old.given.items) (take goes.count (left_to old text))) again
       ∙ ap (λ l. text_after replay all l (length old.given.items) (take goes.count (left_to old text))) first

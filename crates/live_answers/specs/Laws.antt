@@ -1,7 +1,7 @@
 -- What a log says when it is read again.
 use Rattle.std.specs.Prelude.{◌≡◌, ℕ, Some, None, Ok, Err, List, [], ◌∷◌, ◌++◌, flat_map}
 use Rattle.live_answers.specs.Lines.{live_lines}
-use Rattle.live_answers.specs.Live.{Heard, heard_after, heard_in, last_after, live_text, logged_of, next_after, text_after}
+use Rattle.live_answers.specs.Live.{Heard, heard_after, heard_in, last_after, logged_of, next_after, replayed_text, text_after}
 use Rattle.live_answers.specs.Standing.{LineView}
 use Rattle.live_answers.specs.declared.replay.Replay.{Replay}
 use Rattle.run_values.specs.declared.post.Answer.{Answer}
@@ -37,6 +37,6 @@ silence heard = record { messages = next_behind 0 heard; quiet = next_behind 0 h
 
 -- where a log is heard again in silence, just that is printed which the lines behind it come to
 abbrev pub ReplaysAreSilent : Type 0
-ReplaysAreSilent = (text rest : List ℕ) (answers : List Answer) → live_text (silence (heard_in text)) answers (heard_in (logged_of (heard_in text) ++ rest))
+ReplaysAreSilent = (text rest : List ℕ) (answers : List Answer) → replayed_text (silence (heard_in text)) answers (heard_in (logged_of (heard_in text) ++ rest))
     ≡ text_after (silence (heard_in text)) answers 1 (next_behind 0 (heard_in text))
     (heard_after (next_behind 0 (heard_in text)) (last_behind 0 (heard_in text)) (live_lines rest))

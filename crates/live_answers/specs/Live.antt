@@ -61,6 +61,10 @@ text_after replay answers line next (one ∷ heard) =
     rows_of_line replay.quiet (counted_line replay next line) next (slice_get answers next) one.said
     ++ text_after replay answers (counted_line replay next line) (next_after next one.said) heard
 
--- what a live run prints of its lines behind the header, which is the line 1
-abbrev pub live_text : Replay → List Answer → List Heard → List ℕ
-live_text replay answers heard = text_after replay answers 1 0 heard
+-- what a live run prints of its lines behind the header, which is the line 1, where some of them were heard before
+abbrev pub replayed_text : Replay → List Answer → List Heard → List ℕ
+replayed_text replay answers heard = text_after replay answers 1 0 heard
+
+-- the same where none was
+abbrev pub live_text : List Answer → List Heard → List ℕ
+live_text answers heard = replayed_text (record { messages = 0; quiet = 0 }) answers heard

@@ -1,7 +1,7 @@
 -- What a live run comes to.
 use Rattle.std.specs.Prelude.{◌≡◌, ◌≤◌, ◌++◌, ℕ, Option, Some, None, List, drop, length, map, take, IfSome, ⊤}
 use Rattle.std.specs.Io.KnownBytes.{Appends}
-use Rattle.live_answers.specs.Live.{Heard, given_of, heard_in, item_view, live_text, logged_of}
+use Rattle.live_answers.specs.Live.{Heard, given_of, heard_in, item_view, logged_of, replayed_text}
 use Rattle.live_answers.specs.declared.replay.Replay.{Replay}
 use Rattle.live_answers.specs.declared.stage.LiveFault.{LiveFault}
 use Rattle.live_answers.specs.declared.stage.LiveFault.TheVariants as fault
@@ -37,7 +37,7 @@ pub record Answers (replay : Replay) (fault : Option LiveFault) (heard : List He
   -- what was given are the accepted messages, in order
   pub takes : map item_view given ≡ given_of (take count heard)
   -- each was printed with its answer, and of each line that wasn't accepted what is wrong with it
-  pub prints : Prints fault output_old output_new (live_text replay answers (take count heard))
+  pub prints : Prints fault output_old output_new (replayed_text replay answers (take count heard))
   -- and the lines of the accepted messages were logged
   pub logs : Logs fault log_old log_new (logged_of (take count heard)) (logged_of (take 1 (drop count heard)))
 

@@ -1,0 +1,6 @@
+pub mod Alone
+pub mod Chains
+pub mod Handling
+pub mod Printing
+pub mod Routing
+pub mod Talking

@@ -1,0 +1,55 @@
+-- Two runs of one worker that are given the same.
+use Rattle.std.specs.Prelude.{◌≡◌, ◌<◌, ◌++◌, ℕ, None, List, All, Contains, map}
+use Rattle.account_core.specs.Events.{EntryData}
+use Rattle.live_answers.specs.Laws.{last_behind, next_behind, silence}
+use Rattle.live_answers.specs.Lines.{live_lines}
+use Rattle.live_answers.specs.Live.{heard_after, heard_in, logged_of, replayed_text, text_after}
+use Rattle.run_values.specs.Setups.{Setup}
+use Rattle.run_values.specs.declared.post.Answer.{Answer}
+use Rattle.run_values.specs.declared.post.Body.{Body}
+use Rattle.runs_core.specs.Runs.{IsRun}
+use Rattle.shared_account.specs.Closed.{Closed}
+use Rattle.shared_account.specs.Seen.{StoodIn}
+use Rattle.tariff_core.specs.Bands.{Band}
+use Rattle.tariff_core.specs.declared.times.TheConstants.{DAY}
+use Rattle.workers_core.specs.Handled.{AnswerView, answer_view}
+
+-- no account has refused an ask for any of these answers
+abbrev pub NoneIsRefused : List Answer → Type 0
+NoneIsRefused answers = All (λ answer. answer.refused ≡ None) answers
+
+-- no two rows of a tariff have the same prefix and the same start, and each starts within a day
+pub record IsProper (bands : List Band) : Type 0 where
+  pub apart : (one other : Band) → Contains bands one → Contains bands other → one.prefix ≡ other.prefix → one.start ≡ other.start → one ≡ other
+  pub within : All (λ band. band.start < DAY) bands
+
+-- what the answers tell
+abbrev pub views_of : List Answer → List AnswerView
+views_of answers = map answer_view answers
+
+-- the histories of books
+abbrev pub histories_of : List Closed → List (List EntryData)
+histories_of books = map (λ book. book.history) books
+
+-- where a run is given what another was given, and then perhaps more, its answers begin with those of the other
+abbrev pub LongerRunsAnswerAlike : Type 0
+LongerRunsAnswerAlike =
+    (setup : Setup) (given more : List (ℕ × Body)) (answers longer : List Answer) (books other : List Closed) → IsProper setup.tariff
+    → IsRun StoodIn setup 1 given answers books → IsRun StoodIn setup 1 (given ++ more) longer other → NoneIsRefused answers → NoneIsRefused longer
+    → (rest : List AnswerView) × (views_of longer ≡ views_of answers ++ rest)
+
+-- where two runs are given the same, they answer the same, and their accounts have the same histories
+abbrev pub RunsAreAlike : Type 0
+RunsAreAlike =
+    (setup : Setup) (given : List (ℕ × Body)) (answers others : List Answer) (books other : List Closed) → IsProper setup.tariff
+    → IsRun StoodIn setup 1 given answers books → IsRun StoodIn setup 1 given others other → NoneIsRefused answers → NoneIsRefused others
+    → (views_of answers ≡ views_of others) × (histories_of books ≡ histories_of other)
+
+-- what a restart prints, which hears the log of lines in silence and then takes further lines: just what a run that was never cut off, and that was given the same, answers to these further lines
+abbrev pub RestartsPrintTheRest : Type 0
+RestartsPrintTheRest =
+    (setup : Setup) (text rest : List ℕ) (given : List (ℕ × Body)) (answers others : List Answer) (books other : List Closed) → IsProper setup.tariff
+    → IsRun StoodIn setup 1 given answers books → IsRun StoodIn setup 1 given others other → NoneIsRefused answers → NoneIsRefused others
+    → replayed_text (silence (heard_in text)) others (heard_in (logged_of (heard_in text) ++ rest))
+    ≡ text_after (silence (heard_in text)) answers 1 (next_behind 0 (heard_in text))
+    (heard_after (next_behind 0 (heard_in text)) (last_behind 0 (heard_in text)) (live_lines rest))

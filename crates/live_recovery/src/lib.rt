@@ -1,0 +1,7 @@
+//! The laws of recovery: a run that was cut off, and begins again with what it was given before,
+//! answers as it did.
+#![tactic(auto)]
+
+mod laws;
+
+pub use laws::{longer_runs_answer_alike, restarts_print_the_rest, runs_are_alike};
