@@ -10,7 +10,7 @@ use std::test::Fail;
 use table_core::RowKind;
 
 /// What stands for the head of a log.
-const HEAD: &str = "log,1,600,50,50\nprefix,from,fee,rate\n";
+pub(crate) const HEAD: &str = "log,1,600,50,50\nprefix,from,fee,rate\n";
 
 /// How many messages are logged.
 const MESSAGES: usize = 7;
@@ -31,7 +31,7 @@ fn printed_from(alloc: Global, first: usize) -> Result<String, Fail> {
 }
 
 /// The first lines of the log.
-fn first_lines(count: usize) -> &'static str {
+pub(crate) fn first_lines(count: usize) -> &'static str {
     let mut end = 0;
     for _ in 0..count {
         end += LOGGED[end..].find('\n').map_or(0, |place| place + 1);
