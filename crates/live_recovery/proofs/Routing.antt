@@ -85,8 +85,8 @@ module _ (bands : List Band) (proper : IsProper bands) where
 
   -- ---- the route
 
-  abbrev rates : ℕ → ℕ → Option ℕ → ℕ → Rates
-  rates fee before after free = record { fee = fee; before = before; after = after; free = free }
+  abbrev rates : ℕ → ℕ → Option ℕ → ℕ → ℕ → ℕ → Rates
+  rates fee before after free first step = record { fee = fee; before = before; after = after; free = free; first = first; step = step }
 
   pub same_terms : (called : List ℕ) (now : ℕ) (one other : Route) → IsRoute bands called now one → IsRoute bands called now other
       → (rates_of one.plan ≡ rates_of other.plan) × (one.switch_at ≡ other.switch_at)
@@ -100,8 +100,11 @@ module _ (bands : List Band) (proper : IsProper bands) where
       let fee : one.plan.fee ≡ other.plan.fee = is.fee ∙ ap (λ (b : Band). b.fee) band ∙ sym too.fee in
       let before : one.plan.before ≡ other.plan.before = is.first_rate ∙ ap (λ (b : Band). b.rate) band ∙ sym too.first_rate in
       let free : one.plan.free ≡ other.plan.free = is.free ∙ ap (λ (b : Band). b.free) band ∙ sym too.free in
-      let same : rates one.plan.fee one.plan.before one.plan.after one.plan.free ≡ rates other.plan.fee other.plan.before other.plan.after other.plan.free =
-      rw (fee, before, switches.1, free) refl in
+      let first : one.plan.first ≡ other.plan.first = is.first ∙ ap (λ (b : Band). b.first) band ∙ sym too.first in
+      let step : one.plan.step ≡ other.plan.step = is.step ∙ ap (λ (b : Band). b.step) band ∙ sym too.step in
+      let same : rates one.plan.fee one.plan.before one.plan.after one.plan.free one.plan.first one.plan.step
+          ≡ rates other.plan.fee other.plan.before other.plan.after other.plan.free other.plan.first other.plan.step =
+      rw (fee, before, switches.1, free, first, step) refl in
       (same, switches.0)
 
   no_route : (called : List ℕ) (now : ℕ) (route : Route) → HasNoRoute bands called → IsRoute bands called now route → ⊥
