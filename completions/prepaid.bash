@@ -8,16 +8,16 @@ _prepaid()
         words='price replay run audit quote rate help --help -h --version -V'
     elif [[ $previous == --default ]]; then
         words='proceed release'
-    elif [[ $previous == --* && $previous != --book && $previous != --calls && $previous != --trace && $previous != --long && $previous != --differing && $previous != --summary && $previous != --help && $previous != --version ]]; then
+    elif [[ $previous == --* && $previous != --book && $previous != --calls && $previous != --trace && $previous != --clock && $previous != --long && $previous != --differing && $previous != --summary && $previous != --help && $previous != --version ]]; then
         # a number or a name comes next
         words=''
     else
         case ${COMP_WORDS[1]} in
             price) words='--fee --before --after --free --first --step --help -h' ;;
             replay) words='--opening --limit --help -h' ;;
-            run) words='--workers --wanted --least --tssf --tccd --delay --default --book --calls --trace --help -h' ;;
+            run) words='--workers --wanted --least --tssf --tccd --delay --default --book --calls --trace --clock --help -h' ;;
             audit) words='--long --help -h' ;;
-            quote) words='--called --at --for --credit --help -h' ;;
+            quote) words='--called --at --for --credit --clock --help -h' ;;
             rate) words='--called --answer --paid --time --end --before --after --differing --summary --help -h' ;;
             help) words='price replay run audit quote rate help' ;;
             *) words='' ;;

@@ -55,8 +55,8 @@ def outcome(told, account, prefix, replies, known):
     return "cut" if was_denied or is_spent else "released"
 
 
-def table(calls, tariff, subscribers, accounts):
-    """The table, by rising numbers of the calls."""
+def table(calls, tariff, subscribers, accounts, clock=str):
+    """The table, by rising numbers of the calls, with moments as a clock prints them."""
     reserves = {}
     for number, it in accounts.items():
         for _, op, reply in it.entries:
@@ -69,6 +69,7 @@ def table(calls, tariff, subscribers, accounts):
         known = accounts[account].calls.get(call) if account is not None else None
         times = (known.times.before, known.times.after, known.paid()) if known else (0, 0, 0)
         word = outcome(told, account, prefix, reserves.get((account, call), []), known)
-        fields = [call, told.calling, told.called, account, prefix, told.start, told.answer, told.end, *times, word]
+        moments = (None if it is None else clock(it) for it in (told.start, told.answer, told.end))
+        fields = [call, told.calling, told.called, account, prefix, *moments, *times, word]
         rows.append(",".join("" if it is None else str(it) for it in fields))
     return "".join(f"{it}\n" for it in rows)

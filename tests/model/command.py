@@ -8,6 +8,7 @@ from .tables import (
     LAST_MOMENT,
     MAX_RATE,
     Fault,
+    dated,
     divide,
     moment,
     read_book,
@@ -23,7 +24,7 @@ MAX_INPUT = 16_777_216
 # What `run` may print in place of its lines.
 TABLES = ("--book", "--calls", "--trace")
 # Options without a value.
-FLAGS = (*TABLES, "--long", "--differing")
+FLAGS = (*TABLES, "--clock", "--long", "--differing")
 # How many rows a book may have, and a long one.
 MOST_ROWS, MOST_LONG_ROWS = 1_000_000, 4_294_967_293
 # More entries than an input has room for.
@@ -34,8 +35,8 @@ TAKEN = {
     "replay": {"--opening", "--limit"},
     "audit": {"--long"},
     "rate": {"--called", "--answer", "--time", "--end", "--paid", "--before", "--after", "--differing"},
-    "quote": {"--called", "--at", "--for", "--credit"},
-    "run": {"--workers", "--wanted", "--least", "--tssf", "--tccd", "--delay", "--default", *TABLES},
+    "quote": {"--called", "--at", "--for", "--credit", "--clock"},
+    "run": {"--workers", "--wanted", "--least", "--tssf", "--tccd", "--delay", "--default", "--clock", *TABLES},
 }
 
 
@@ -66,6 +67,8 @@ def options_in(name, words):
         given[word] = True if word in FLAGS else left.pop(0)
     if sum(it in given for it in TABLES) > 1 or name == "rate" and not are_times(given):
         raise ARGUMENTS
+    if name == "run" and "--clock" in given and not {"--calls", "--trace"} & set(given):
+        raise ARGUMENTS
     return given
 
 
@@ -85,6 +88,11 @@ def number(given, word, default=None, most=None, least=0):
     if most is not None and not least <= found <= most:
         raise ARGUMENTS
     return found
+
+
+def clock_of(given):
+    """How moments are printed."""
+    return dated if "--clock" in given else str
 
 
 def whole(text):
@@ -128,7 +136,7 @@ def do_quote(given, text):
     steps = f" first {plan.first} step {plan.step}" if plan.has_steps() else ""
     lines = [f"prefix {prefix or '-'} from {start // 36000:02}:{start // 600 % 60:02} fee {plan.fee} rate {plan.before} free {plan.free}{steps}\n"]
     if switch is not None:
-        lines.append(f"switch {switch} rate {plan.after}\n")
+        lines.append(f"switch {clock_of(given)(switch)} rate {plan.after}\n")
     if talk is not None:
         before = talk if switch is None else min(talk, switch - now)
         lines.append(f"price {price(plan, before, talk - before)}\n")
@@ -182,6 +190,6 @@ def do_run(given, text, book):
     if not 1 <= workers <= 16:
         raise Fault("prepaid: run: Workers", 2)
     options = Options(workers, wanted, least, tssf, tccd, delay, given.get("--default") != "proceed")
-    run = Run(tariff, setup, options, book)
+    run = Run(tariff, setup, options, book, clock_of(given))
     run.play(script)
     return run

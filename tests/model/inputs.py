@@ -91,6 +91,7 @@ def quotes(it):
     words = ["quote", "--called", it.choice(NUMBERS), "--at", written(it, max(0, at)) if isinstance(at, int) else at]
     words += ["--for", it.choice([0, 1, 600, it.randrange(3000), DAY])] if it.random() < 0.6 else []
     words += ["--credit", it.choice([0, 50, 1500, it.randrange(10_000), MAX_MONEY])] if it.random() < 0.6 else []
+    words += ["--clock"] if it.random() < 0.4 else []
     return list(map(str, words)), text
 
 
@@ -183,6 +184,7 @@ def runs(it, few=False):
     # where several workers meet at an account, only a book tells in which order
     table_of = it.choices(["--book", "--calls", "--trace", ""], [1, 1, 1, 1] if given["workers"] == 1 else [8, 1, 1, 1])[0]
     words += [table_of] if table_of else []
+    words += ["--clock"] if it.random() < (0.5 if table_of in ("--calls", "--trace") else 0.03) else []
     first, starts = tariff(it)
     # the last of these days is the last but one before the last moment
     base = max(0, it.choice([0, 0, 1, 3, 10**12 // DAY - 1]) * DAY + it.choice(starts) - it.choice([0, 5, 10, 100, 305]))
@@ -193,7 +195,7 @@ def runs(it, few=False):
 
 def full_run(it):
     """A run that fills an account's history: recharges, as many as a script has rows, and calls of short periods."""
-    words = ["run", "--workers", str(it.choice([1, 1, 2])), "--wanted", "20", "--least", "10", "--tccd", "5", *it.choice([[], ["--calls"], ["--trace"]])]
+    words = ["run", "--workers", str(it.choice([1, 1, 2])), "--wanted", "20", "--least", "10", "--tccd", "5", *it.choice([[], ["--calls"], ["--trace"], ["--trace", "--clock"]])]
     rows = [(0, 1, "start", "1", "49"), (3, 1, "answer", "", ""), (60, 2, "start", "1", "49"), (64, 2, "answer", "", "")]
     rows += [(at, call, "disconnect", it.choice([1, 2]), "") for at, call in [(it.randrange(70, 90), 2), (it.randrange(90, 400), 1)]]
     late = it.randrange(20)
@@ -263,7 +265,7 @@ def script(it, given, base, accounts, subscribers):
 def books(it):
     """The book of a run, in which a part was altered, or which was told otherwise or by the older header."""
     words, text = runs(it, few=True)
-    status, book, _, _ = command([*(word for word in words if word not in TABLES), "--book"], text)
+    status, book, _, _ = command([*(word for word in words if word not in (*TABLES, "--clock")), "--book"], text)
     rows = [line.split(",") for line in book.split("\n")[:-1]] if status == 0 else [list(BOOK[2])]
     more = len(rows[0]) - len(BOOK[2])
     less = it.choice([0, 0, 0, 0, more, more + 1, more + 2])

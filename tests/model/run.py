@@ -52,12 +52,12 @@ def reply_fields(reply):
 class Run:
     """Accounts, dialogues and switches. With the text of a book, the operations of a round are taken in its order."""
 
-    def __init__(self, tariff, setup, options, book=None):
+    def __init__(self, tariff, setup, options, book=None, clock=str):
         accounts, self.subscribers = setup
         self.tariff, self.options, self.openings = tariff, options, accounts
         self.accounts = {it: Account(*accounts[it]) for it in sorted(accounts)}
         self.switches, self.talks, self.deliveries, self.number = {}, {}, [], 0
-        self.told, self.traced = {}, []
+        self.told, self.traced, self.clock = {}, [], clock
         # the columns of an operation in the book
         self.columns = 11 if has_steps(tariff) else 9
         # whether workers met at an account in one round, so that the order of their operations is open
@@ -103,7 +103,7 @@ class Run:
         self.refused.update(it.refused for it in answers.values() if it.refused)
         for (call, message), (number, answer) in zip(posts, sorted(answers.items())):
             self.deliveries += [(now + self.options.delay, call, op) for op in answer.ops]
-            self.traced += trace.rows(now, number, call, message, answer)
+            self.traced += trace.rows(now, number, call, message, answer, self.clock)
 
     def give(self, call, posts, do):
         """Gives a call's switch an input, and puts what it sends to the posts."""
@@ -203,7 +203,7 @@ class Run:
         return "".join(f"{it}\n" for it in rows)
 
     def calls(self):
-        return calls.table(self.told, self.tariff, self.subscribers, self.accounts)
+        return calls.table(self.told, self.tariff, self.subscribers, self.accounts, self.clock)
 
     def trace(self):
         return trace.table(self.traced)

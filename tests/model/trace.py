@@ -45,10 +45,12 @@ def operation(it):
     return ["Continue" if kind == "go_on" else "RequestReportBCSMEvent"]
 
 
-def rows(now, number, call, post, answer):
-    """The row of a post, and those of its answer."""
+def rows(now, number, call, post, answer, clock=str):
+    """The row of a post, and those of its answer, with moments as a clock prints them."""
+    if post[0] == "recharge" and post[3] is not None:
+        post = (*post[:3], clock(post[3]))
     said = [("operator" if call is None else "switch", message(post)), *(("service", it) for it in answer.said())]
-    return [row([now, number, call, sender, *fields]) for sender, fields in said]
+    return [row([clock(now), number, call, sender, *fields]) for sender, fields in said]
 
 
 def row(fields):

@@ -4,6 +4,8 @@ use Rattle.std.specs.Fmt.{decimal}
 use Rattle.std.specs.List.{flat_map}
 use Rattle.cap_values.specs.NumberDigits.{digits_of}
 use Rattle.entry_rows.specs.Columns.{field, number_or_empty}
+use Rattle.moment_texts.specs.Printing.{moment_or_empty, moment_text}
+use Rattle.moment_texts.specs.declared.clock.Clock.{Clock}
 use Rattle.table_core.specs.Decimals.{digits_text}
 use Rattle.call_records.specs.Records.{AreRecords, Run, prefix_of}
 use Rattle.call_records.specs.declared.outcome.Outcome.{Outcome}
@@ -26,28 +28,28 @@ word_of outcome.Ended = codes "ended"
 word_of outcome.Cut = codes "cut"
 word_of outcome.Released = codes "released"
 
--- the numbers of a row, each with a comma behind it
-abbrev pub moments_text : CallRecord → List ℕ
-moments_text call =
-    field (decimal call.start) (field (number_or_empty call.answer) (field (number_or_empty call.end)
+-- the moments and the numbers of a row, each with a comma behind it
+abbrev pub moments_text : Clock → CallRecord → List ℕ
+moments_text clock call =
+    field (moment_text clock call.start) (field (moment_or_empty clock call.answer) (field (moment_or_empty clock call.end)
     (field (decimal call.times.before) (field (decimal call.times.after) (field (decimal call.paid) [])))))
 
 -- a row: `call,calling,called,account,prefix,start,answer,end,before,after,paid,outcome`
-abbrev pub record_row : CallRecord → List ℕ
-record_row call =
+abbrev pub record_row : Clock → CallRecord → List ℕ
+record_row clock call =
     field (decimal call.call) (field (digits_of call.calling) (field (digits_of call.called)
-    (field (number_or_empty call.account) (field (digits_text (unwrap_or (prefix_of call) [])) (moments_text call ++ (word_of call.outcome ++ codes "\n"))))))
+    (field (number_or_empty call.account) (field (digits_text (unwrap_or (prefix_of call) [])) (moments_text clock call ++ (word_of call.outcome ++ codes "\n"))))))
 
 -- the header of the table
 abbrev pub header : List ℕ
 header = codes "call,calling,called,account,prefix,start,answer,end,before,after,paid,outcome\n"
 
 -- the table of calls: a header, and a row of each record in order
-abbrev pub call_text : List CallRecord → List ℕ
-call_text calls = header ++ flat_map record_row calls
+abbrev pub call_text : Clock → List CallRecord → List ℕ
+call_text clock calls = header ++ flat_map (record_row clock) calls
 
--- the table of the calls of a run
-pub record IsCallText (run : Run) (text : List ℕ) : Type 0 where
+-- the table of the calls of a run, with its moments as a clock prints them
+pub record IsCallText (clock : Clock) (run : Run) (text : List ℕ) : Type 0 where
   pub calls : List CallRecord
   pub are : AreRecords run calls
-  pub is : text ≡ call_text calls
+  pub is : text ≡ call_text clock calls

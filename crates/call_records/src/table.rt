@@ -7,12 +7,14 @@ ghost use Rattle.table_core.specs.Decimals.{digits_text};
 
 use crate::{CallRecord, Outcome};
 use entry_rows::Field;
+use moment_texts::{Clock, MomentField};
 use std::alloc::{AllocError, Global};
 use table_core::write_digits;
 
-/// The table of these calls, in order: a header, and a row of each.
-pub fn call_table(alloc: Global, calls: &[CallRecord]) -> Result<String, AllocError>
-    ensures { IfOk result (λ text. string_bytes text ≡ call_text calls.now) }
+/// The table of these calls, in order: a header, and a row of each, with its moments as the clock
+/// prints them.
+pub fn call_table(alloc: Global, clock: Clock, calls: &[CallRecord]) -> Result<String, AllocError>
+    ensures { IfOk result (λ text. string_bytes text ≡ call_text clock calls.now) }
 {
     let mut text = String::new(alloc);
     writeln!(
@@ -20,21 +22,22 @@ pub fn call_table(alloc: Global, calls: &[CallRecord]) -> Result<String, AllocEr
         "call,calling,called,account,prefix,start,answer,end,before,after,paid,outcome"
     )?;
     for call in calls {
-        write_record(&mut text, call)?;
+        write_record(&mut text, clock, call)?;
     }
     Ok(text)
 }
 
 /// Adds the row of a call.
-fn write_record(text: &mut String, call: &CallRecord) -> Result<(), AllocError>
-    ensures { OnOk result (string_bytes text.new ≡ string_bytes text.old ++ record_row call.now) }
+fn write_record(text: &mut String, clock: Clock, call: &CallRecord) -> Result<(), AllocError>
+    ensures { OnOk result (string_bytes text.new
+        ≡ string_bytes text.old ++ record_row clock call.now) }
 {
     let (number, account) = (call.call, Field::short(call.account));
     let (calling, called) = (call.calling, call.called);
     write!(text, "{number},{calling},{called},{account},")?;
     write_prefix(text, call)?;
     write!(text, ",")?;
-    write_moments(text, call)?;
+    write_moments(text, clock, call)?;
     let word = word(call.outcome);
     writeln!(text, "{word}")
 }
@@ -51,11 +54,15 @@ fn write_prefix(text: &mut String, call: &CallRecord) -> Result<(), AllocError>
 }
 
 /// Adds the moments of a call, its times and what it has paid, each with a comma behind it.
-fn write_moments(text: &mut String, call: &CallRecord) -> Result<(), AllocError>
+fn write_moments(text: &mut String, clock: Clock, call: &CallRecord) -> Result<(), AllocError>
     ensures { OnOk result (string_bytes text.new
-        ≡ string_bytes text.old ++ moments_text call.now) }
+        ≡ string_bytes text.old ++ moments_text clock call.now) }
 {
-    let (start, answer, end) = (call.start, Field(call.answer), Field(call.end));
+    let start = MomentField(clock, Some(call.start));
+    let (answer, end) = (
+        MomentField(clock, call.answer),
+        MomentField(clock, call.end),
+    );
     let (before, after, paid) = (call.times.before(), call.times.after(), call.paid);
     write!(text, "{start},{answer},{end},{before},{after},{paid},")
 }

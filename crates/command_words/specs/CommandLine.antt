@@ -45,9 +45,9 @@ other_rules = option_rule (codes "workers") ∷ option_rule (codes "default") �
 
 -- what it prints
 abbrev pub output_rules : List Rule
-output_rules = flag_rule (codes "book") ∷ flag_rule (codes "calls") ∷ flag_rule (codes "trace") ∷ []
+output_rules = flag_rule (codes "book") ∷ flag_rule (codes "calls") ∷ flag_rule (codes "trace") ∷ flag_rule (codes "clock") ∷ []
 
--- `run [--wanted N] [--least N] [--tssf N] [--tccd N] [--delay N] [--workers N] [--default N] [--book] [--calls] [--trace]`
+-- `run [--wanted N] [--least N] [--tssf N] [--tccd N] [--delay N] [--workers N] [--default N] [--book] [--calls] [--trace] [--clock]`
 unfoldable pub run_app : App
 run_app = with_rules (with_rules (with_rules (with_rules (new_app (codes "run")) service_rules) switch_rules) other_rules) output_rules
 
@@ -55,9 +55,13 @@ run_app = with_rules (with_rules (with_rules (with_rules (new_app (codes "run"))
 unfoldable pub audit_app : App
 audit_app = with_rules (new_app (codes "audit")) (flag_rule (codes "long") ∷ [])
 
--- `quote --called N --at N [--for N] [--credit N]`
+-- what is asked of a number at a moment
+abbrev pub question_rules : List Rule
+question_rules = option_rule (codes "for") ∷ option_rule (codes "credit") ∷ flag_rule (codes "clock") ∷ []
+
+-- `quote --called N --at N [--for N] [--credit N] [--clock]`
 unfoldable pub quote_app : App
-quote_app = with_rules (new_app (codes "quote")) (required_rule (codes "called") ∷ required_rule (codes "at") ∷ option_rule (codes "for") ∷ option_rule (codes "credit") ∷ [])
+quote_app = with_rules (with_rules (new_app (codes "quote")) (required_rule (codes "called") ∷ required_rule (codes "at") ∷ [])) question_rules
 
 -- the names of the columns of `rate`
 abbrev pub name_rules : List Rule

@@ -1,7 +1,9 @@
 -- What the options of `price` and of `replay` say.
-use Rattle.std.specs.Prelude.{ℕ, Bool, false, List, Option, Some, None, codes, if◌then◌else◌, nat_le, option_and_then, option_map, unwrap_or}
+use Rattle.std.specs.Prelude.{ℕ, Bool, true, false, List, Option, Some, None, codes, if◌then◌else◌, nat_le, option_and_then, option_map, unwrap_or}
 use Rattle.std.specs.Str.{bytes_eq}
 use Rattle.clap.specs.Words.{Row, Text, first_of}
+use Rattle.moment_texts.specs.declared.clock.Clock.{Clock}
+use Rattle.moment_texts.specs.declared.clock.Clock.TheVariants as clock
 use Rattle.table_core.specs.Decimals.{decimal_of}
 use Rattle.tariff_core.specs.Rates.{Rates}
 use Rattle.command_words.specs.Wishes.{Wish, Replays}
@@ -31,6 +33,11 @@ is_yes (Some text) = bytes_eq text (codes "true")
 -- whether a flag was given
 abbrev pub has_flag : List Row → Text → Bool
 has_flag options name = is_yes (first_of name options)
+
+-- how moments are printed: as dates and times where that was asked for
+abbrev pub clock_by : Bool → Clock
+clock_by false = clock.Digits
+clock_by true = clock.Dates
 
 -- a number that is no less than the least
 abbrev pub at_least : ℕ → ℕ → Option ℕ

@@ -2,14 +2,16 @@
 use Rattle.std.specs.Prelude.{ℕ, List, Option}
 use Rattle.cap_values.specs.NumberDigits.{digits_of}
 use Rattle.command_words.specs.declared.request.QuoteAsk.{QuoteAsk}
+use Rattle.moment_texts.specs.declared.clock.Clock.{Clock}
 
--- the digits of the called number, the moment of the answer, and perhaps how long the call lasts and a credit
+-- the digits of the called number, the moment of the answer, perhaps how long the call lasts and a credit, and how moments are printed
 pub record QuoteWish : Type 0 where
   pub called : List ℕ
   pub at : ℕ
   pub talk : Option ℕ
   pub credit : Option ℕ
+  pub clock : Clock
 
 -- what the code asks for
 abbrev pub wish_of : QuoteAsk → QuoteWish
-wish_of ask = record { called = digits_of ask.called; at = ask.at; talk = ask.talk; credit = ask.credit }
+wish_of ask = record { called = digits_of ask.called; at = ask.at; talk = ask.talk; credit = ask.credit; clock = ask.clock }

@@ -7,7 +7,7 @@ use Rattle.moment_texts.specs.Reading.{moment_of}
 use Rattle.tariff_core.specs.TariffTable.{time_of}
 use Rattle.tariff_core.specs.declared.plan.TheConstants.{MAX_MONEY}
 use Rattle.tariff_core.specs.declared.times.TheConstants.{DAY, LAST_MOMENT}
-use Rattle.command_words.specs.Options.{optional_number_in}
+use Rattle.command_words.specs.Options.{clock_by, has_flag, optional_number_in}
 use Rattle.command_words.specs.QuoteWishes.{QuoteWish}
 use Rattle.command_words.specs.Wishes.{Wish, Quotes}
 
@@ -30,7 +30,7 @@ moment_in options = option_and_then moment_asked (first_of (codes "at") options)
 -- what is asked of a number at a moment
 abbrev pub asked_at : List Row → List ℕ → ℕ → Option QuoteWish
 asked_at options called at = option_and_then (λ talk.
-    option_map (λ credit. record { called = called; at = at; talk = talk; credit = credit })
+    option_map (λ credit. record { called = called; at = at; talk = talk; credit = credit; clock = clock_by (has_flag options (codes "clock")) })
     (optional_number_in options (codes "credit") MAX_MONEY)) (optional_number_in options (codes "for") DAY)
 
 -- what the options ask for

@@ -10,7 +10,7 @@ use Rattle.run_options.specs.declared.options.RunOutput.TheVariants as output
 use Rattle.ssf_core.specs.declared.config.DefaultHandling.{DefaultHandling}
 use Rattle.ssf_core.specs.declared.config.DefaultHandling.TheVariants as handling
 use Rattle.table_core.specs.Decimals.{is_decimal}
-use Rattle.command_words.specs.Options.{has_flag, optional_number_in}
+use Rattle.command_words.specs.Options.{clock_by, has_flag, optional_number_in}
 use Rattle.command_words.specs.Wishes.{Wish, Runs}
 use Rattle.command_words.specs.declared.fault.WordsFault.{WordsFault}
 use Rattle.command_words.specs.declared.fault.WordsFault.TheVariants as fault
@@ -42,17 +42,19 @@ handling_of (Some text) =
 abbrev pub handling_in : List Row → Option DefaultHandling
 handling_in options = handling_of (first_of (codes "default") options)
 
--- what is printed: the lines, where none is asked for of the table of books, the table of calls and the trace. Only one of these may be
-abbrev pub output_of : Bool → Bool → Bool → Option RunOutput
-output_of false false false = Some output.Lines
-output_of true false false = Some output.Book
-output_of false true false = Some output.Calls
-output_of false false true = Some output.Trace
-output_of _ _ _ = None
+-- what is printed: the lines, where none is asked for of the table of books, the table of calls and the trace. Only one of these may be. Moments may be
+-- printed as dates and times in the table of calls and in the trace alone
+abbrev pub output_of : Bool → Bool → Bool → Bool → Option RunOutput
+output_of false false false false = Some output.Lines
+output_of true false false false = Some output.Book
+output_of false true false dates = Some (output.Calls (clock_by dates))
+output_of false false true dates = Some (output.Trace (clock_by dates))
+output_of _ _ _ _ = None
 
 -- what the options ask to print
 abbrev pub output_in : List Row → Option RunOutput
-output_in options = output_of (has_flag options (codes "book")) (has_flag options (codes "calls")) (has_flag options (codes "trace"))
+output_in options =
+    output_of (has_flag options (codes "book")) (has_flag options (codes "calls")) (has_flag options (codes "trace")) (has_flag options (codes "clock"))
 
 -- what the options ask for, where each has a number or a word of its own
 unfoldable pub ask_in : List Row → Option RunAsk

@@ -3,7 +3,7 @@
 ghost use Rattle.std.specs.Prelude.{◌≡◌, false, IfOk};
 ghost use Rattle.clap.specs.Words.{app_of, new_app, rule_of, with_rule};
 ghost use Rattle.clap.specs.declared.builder.command.Command.TheViews.{out-Command as fields_of};
-ghost use Rattle.command_words.specs.CommandLine.{audit_app, bare_app, flag_rule, name_rules, option_rule, other_rules, output_rules, price_app, program_app, quote_app, rate_app, rate_rules, replay_app, required_rule, run_app, service_rules, switch_rules, time_rules, with_rules};
+ghost use Rattle.command_words.specs.CommandLine.{audit_app, bare_app, flag_rule, name_rules, option_rule, other_rules, output_rules, price_app, program_app, question_rules, quote_app, rate_app, rate_rules, replay_app, required_rule, run_app, service_rules, switch_rules, time_rules, with_rules};
 
 use crate::help;
 use clap::{Arg, ArgAction, Command};
@@ -112,15 +112,7 @@ fn quote_command<'a>(alloc: Global) -> Result<Command<'a>, AllocError>
     let command = add(command, called.required(true))?;
     let at = named(alloc, "at", "MOMENT", "When the call is answered");
     let command = add(command, at.required(true))?;
-    let talk = named(
-        alloc,
-        "for",
-        "UNITS",
-        "How long a call lasts whose price is printed",
-    );
-    let command = add(command, talk)?;
-    let credit = "A credit of which is printed what it affords";
-    add(command, option(alloc, "credit", credit))
+    add_question_options(alloc, command)
 }
 
 #[tactic(auto, unfolding(crate::specs::CommandLine::rate_app))]
@@ -137,6 +129,26 @@ fn rate_command<'a>(alloc: Global) -> Result<Command<'a>, AllocError>
     let command = add(command, flag(alloc, "differing", differing))?;
     let summary = "Prints what was counted, on standard error";
     add(command, flag(alloc, "summary", summary))
+}
+
+/// What is asked of a number at a moment.
+fn add_question_options<'a>(alloc: Global, command: Command<'a>) -> Result<Command<'a>, AllocError>
+    requires { (fields_of command).has_globals ≡ false }
+    ensures app { IfOk result (λ more. app_of more
+        ≡ with_rules (app_of command.entry) question_rules) }
+    ensures local { IfOk result (λ more. (fields_of more).has_globals ≡ false) }
+{
+    let talk = named(
+        alloc,
+        "for",
+        "UNITS",
+        "How long a call lasts whose price is printed",
+    );
+    let command = add(command, talk)?;
+    let credit = "A credit of which is printed what it affords";
+    let command = add(command, option(alloc, "credit", credit))?;
+    let clock = "Prints the moment of the switch as a date and a time";
+    add(command, flag(alloc, "clock", clock))
 }
 
 /// The names of the columns.
@@ -233,14 +245,16 @@ fn add_output_options<'a>(alloc: Global, command: Command<'a>) -> Result<Command
         command,
         flag(alloc, "calls", "Prints the calls, in place of the lines"),
     )?;
-    add(
+    let command = add(
         command,
         flag(
             alloc,
             "trace",
             "Prints what was said, in place of the lines",
         ),
-    )
+    )?;
+    let clock = "Prints the moments of calls or a trace as dates and times";
+    add(command, flag(alloc, "clock", clock))
 }
 
 /// A command, and what its help says that it does.

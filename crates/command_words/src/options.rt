@@ -3,12 +3,13 @@
 ghost use Rattle.std.specs.Prelude.{◌≡◌, ◌≤◌, option_map, unwrap_or, IfSome};
 ghost use Rattle.clap.specs.Words.{first_of, found_of, rows_of};
 ghost use Rattle.tariff_core.specs.RatesOf.{rates_of};
-ghost use Rattle.command_words.specs.Options.{has_flag, number_in, optional_number_in, plan_in, replay_in};
+ghost use Rattle.command_words.specs.Options.{clock_by, has_flag, number_in, optional_number_in, plan_in, replay_in};
 ghost use Rattle.command_words.specs.Wishes.{Replays};
 
 use crate::request::Opening;
 use account_core::{MAX_LIMIT, MIN_LIMIT};
 use clap::ArgMatches;
+use moment_texts::Clock;
 use table_core::decimal;
 use tariff_core::{DAY, MAX_MONEY, MAX_RATE, Plan};
 
@@ -58,6 +59,13 @@ pub(crate) fn has_flag(options: &ArgMatches<'_>, name: &str) -> bool
         Some(text) => text == "true",
         None => false,
     }
+}
+
+/// How moments are printed: as dates and times where that was asked for.
+pub(crate) fn clock_by(dates: bool) -> Clock
+    ensures { result ≡ clock_by dates }
+{
+    if dates { Clock::Dates } else { Clock::Digits }
 }
 
 /// The number of an option, from 0 to `most`.

@@ -6,7 +6,7 @@ ghost use Rattle.clap.specs.Words.{found_of, rows_of};
 ghost use Rattle.command_words.specs.QuoteWishes.{wish_of};
 ghost use Rattle.command_words.specs.QuoteWords.{called_of, moment_asked, quote_in};
 
-use crate::options::{option_text, optional_number};
+use crate::options::{clock_by, has_flag, option_text, optional_number};
 use crate::request::QuoteAsk;
 use cap_values::Number;
 use clap::ArgMatches;
@@ -27,6 +27,7 @@ pub(crate) fn quote_ask(options: &ArgMatches<'_>) -> Option<QuoteAsk>
         at,
         talk: talk.map(|units| units as u32),
         credit,
+        clock: clock_by(has_flag(options, "clock")),
     })
 }
 

@@ -6,6 +6,7 @@ ghost use Rattle.tariff_core.specs.declared.times.TheConstants.{DAY, LAST_MOMENT
 
 use book_texts::BookSize;
 use cap_values::Number;
+use moment_texts::Clock;
 use rating::RateAsk;
 use run_options::RunOptions;
 use tariff_core::{DAY, LAST_MOMENT, MAX_MONEY, Plan};
@@ -42,6 +43,8 @@ pub struct QuoteAsk {
     pub talk: Option<u32>,
     /// The credit of which it is asked what it affords, 0 to `MAX_MONEY`.
     pub credit: Option<u64>,
+    /// How the moment of the switch is printed.
+    pub clock: Clock,
     pub ghost at_in_range: { at ≤ LAST_MOMENT },
     pub ghost talk_in_range: { unwrap_or talk 0 ≤ DAY },
     pub ghost credit_in_range: { unwrap_or credit 0 ≤ MAX_MONEY },

@@ -7,7 +7,7 @@ ghost use Rattle.command_words.specs.Capped.{capped, capped_ask};
 ghost use Rattle.command_words.specs.RunWords.{ask_in, handling_of, number_of, number_or, output_in, output_of, run_in, workers_in};
 
 use crate::fault::WordsFault;
-use crate::options::{has_flag, option_text, optional_number};
+use crate::options::{clock_by, has_flag, option_text, optional_number};
 use crate::request::Request;
 use clap::ArgMatches;
 use run_options::{RunAsk, RunOptions, RunOutput};
@@ -99,25 +99,26 @@ fn handling(text: Option<&str>) -> Option<DefaultHandling>
 }
 
 /// What is to be printed; none where more than one of the books, the calls and the trace are asked
-/// for.
+/// for, or dates and times without the calls or the trace.
 fn output(options: &ArgMatches<'_>) -> Option<RunOutput>
     ensures { result ≡ output_in (rows_of (found_of options.now)) }
 {
     let book = has_flag(options, "book");
     let calls = has_flag(options, "calls");
     let trace = has_flag(options, "trace");
-    output_of(book, calls, trace)
+    let dates = has_flag(options, "clock");
+    output_of(book, calls, trace, dates)
 }
 
 /// The same, by whether each is asked for.
-fn output_of(book: bool, calls: bool, trace: bool) -> Option<RunOutput>
-    ensures { result ≡ output_of book calls trace }
+fn output_of(book: bool, calls: bool, trace: bool, dates: bool) -> Option<RunOutput>
+    ensures { result ≡ output_of book calls trace dates }
 {
-    match (book, calls, trace) {
-        (false, false, false) => Some(RunOutput::Lines),
-        (true, false, false) => Some(RunOutput::Book),
-        (false, true, false) => Some(RunOutput::Calls),
-        (false, false, true) => Some(RunOutput::Trace),
+    match (book, calls, trace, dates) {
+        (false, false, false, false) => Some(RunOutput::Lines),
+        (true, false, false, false) => Some(RunOutput::Book),
+        (false, true, false, _) => Some(RunOutput::Calls(clock_by(dates))),
+        (false, false, true, _) => Some(RunOutput::Trace(clock_by(dates))),
         _ => None,
     }
 }

@@ -6,14 +6,15 @@ use Rattle.live_answers.specs.Standing.{LineView}
 use Rattle.live_answers.specs.declared.kind.LineKind.{LineKind}
 use Rattle.live_answers.specs.declared.replay.Replay.{Replay}
 use Rattle.message_rows.specs.Messages.{MessageView}
+use Rattle.moment_texts.specs.declared.clock.Clock.TheVariants as clock
 use Rattle.run_trace.specs.Tables.{answer_rows, head_text, row}
 use Rattle.run_values.specs.declared.post.Answer.{Answer}
 
 -- the row of the message of a number, and those of its answer, as in a trace
 abbrev pub message_rows : ℕ → MessageView → Option Answer → List ℕ
 message_rows number message answer =
-    row (head_text message.at number message.speech.call) message.speech.from message.speech.said
-    ++ answer_rows (head_text message.at number message.speech.call) answer
+    row (head_text clock.Digits message.at number message.speech.call) message.speech.from message.speech.said
+    ++ answer_rows (head_text clock.Digits message.at number message.speech.call) answer
 
 -- the row of what is wrong with the line of a number
 abbrev pub fault_row : ℕ → LineKind → List ℕ

@@ -12,6 +12,7 @@ ghost use Rattle.run_values.specs.declared.post.Body.{Body};
 use crate::LiveFault;
 use crate::fault::Stop;
 use crate::judging::Said;
+use moment_texts::Clock;
 use rating::write_text;
 use run_trace::write_rows;
 use run_values::{Answer, Body};
@@ -61,7 +62,15 @@ fn write_line_rows(
     match *said {
         Said::Nothing => Ok(()),
         Said::Message(_) if place < quiet => Ok(()),
-        Said::Message(message) => write_rows(text, place, &(message.at, message.body), answer),
+        Said::Message(message) => {
+            write_rows(
+                text,
+                Clock::Digits,
+                place,
+                &(message.at, message.body),
+                answer,
+            )
+        }
         Said::Fault(kind) => writeln!(text, ",,,service,fault,{kind},{line},,"),
     }
 }

@@ -8,31 +8,38 @@ use Rattle.cap_values.specs.declared.event.Event.{Event}
 use Rattle.cap_values.specs.declared.event.Event.TheVariants as event
 use Rattle.cap_values.specs.declared.leg.Leg.{Leg}
 use Rattle.cap_values.specs.declared.leg.Leg.TheVariants as leg
+use Rattle.cap_values.specs.declared.message.SsfMsg.{SsfMsg}
 use Rattle.cap_values.specs.declared.message.SsfMsg.TheVariants as message
 use Rattle.cap_values.specs.declared.mode.Mode.{Mode}
 use Rattle.cap_values.specs.declared.mode.Mode.TheVariants as mode
 use Rattle.entry_rows.specs.Columns.{number_or_empty}
-use Rattle.entry_rows.specs.Fits.{IsInterval, IsMoment, IsWide}
-use Rattle.message_rows.specs.Laws.{FitsPost, message_of_post}
+use Rattle.entry_rows.specs.Fits.{FitsReport, IsInterval, IsMoment, IsMoney, IsTime, IsWide}
+use Rattle.message_rows.specs.Laws.{FitsMessage, FitsPost, message_of_post}
 use Rattle.message_rows.specs.Messages.{event_in, interval_in, leg_in, message_in, mode_in, state_in}
+use Rattle.moment_texts.specs.Laws.{MomentsAreRead}
+use Rattle.moment_texts.specs.Printing.{moment_or_empty, moment_text}
+use Rattle.moment_texts.specs.Reading.{date_and_time_of, moment_of}
+use Rattle.moment_texts.specs.declared.clock.Clock.{Clock}
 use Rattle.run_texts.specs.Setups.{until_in}
 use Rattle.run_trace.specs.Said.{Said, event_word, leg_number, mode_word, post_said, state_word}
 use Rattle.run_trace.specs.Tables.{call_of, sender_of}
 use Rattle.run_values.specs.declared.post.Body.{Body}
 use Rattle.run_values.specs.declared.post.Body.TheVariants as body
-use Rattle.table_core.specs.Fields.{field_in, number_in}
+use Rattle.table_core.specs.Decimals.{decimal_of}
+use Rattle.table_core.specs.Fields.{field_in, is_blank, number_in, optional_in}
 use Rattle.table_core.specs.Printed.{DecimalsAreRead}
 use Rattle.table_core.specs.Rows.{Fields}
+use Rattle.tariff_core.specs.declared.times.TimeInfo.{TimeInfo}
 use Rattle.tariff_core.specs.declared.times.TimeInfo.TheVariants as info
 
 -- the fields of a row
-abbrev pub row_fields : ℕ → ℕ → Option ℕ → List ℕ → Said → Fields
-row_fields at number call from said =
-    decimal at ∷ decimal number ∷ number_or_empty call ∷ from ∷ said.what ∷ said.x1 ∷ said.x2 ∷ said.x3 ∷ said.x4 ∷ []
+abbrev pub row_fields : List ℕ → ℕ → Option ℕ → List ℕ → Said → Fields
+row_fields moment number call from said =
+    moment ∷ decimal number ∷ number_or_empty call ∷ from ∷ said.what ∷ said.x1 ∷ said.x2 ∷ said.x3 ∷ said.x4 ∷ []
 
--- those of a post
-abbrev pub post_fields : ℕ → ℕ × Body → Fields
-post_fields number post = row_fields post.0 number (call_of post.1) (sender_of post.1) (post_said post.1)
+-- those of a post, whose moments a clock has printed
+abbrev pub post_fields : Clock → ℕ → ℕ × Body → Fields
+post_fields clock number post = row_fields (moment_text clock post.0) number (call_of post.1) (sender_of post.1) (post_said clock post.1)
 
 -- ---- words
 
@@ -62,14 +69,28 @@ not_empty number small = let some : 0 < length (decimal number) = decimal_nonemp
 counted : (number : ℕ) → 1 ≤ number → number == 0 ≡ false
 counted number some = grind (arith, nat_tests)
 
-module _ (reads : DecimalsAreRead) where
+-- what is read as a moment is not empty
+not_blank : (most at : ℕ) (text : List ℕ) → moment_of most text ≡ Some at → length text == 0 ≡ false
+unfolding decimal_of date_and_time_of
+not_blank most at [] is = absurd (cc)
+not_blank most at (c ∷ text) is = counted (length (c ∷ text)) (omega arith)
+
+module _ (reads : DecimalsAreRead) (moments : MomentsAreRead) where
   number_read : (fields : Fields) (place most number : ℕ) → field_in fields place ≡ decimal number → most < 2 ^ 64 → number ≤ most
       → number_in fields place most ≡ Ok number
   number_read fields place most number is small within = rw (is, reads most number small within) refl
 
-  until_read : (fields : Fields) (until : Option ℕ) → field_in fields 7 ≡ number_or_empty until → IfSome until (λ it. it ≤ 1000000000000) → until_in fields 7 ≡ Ok until
-  until_read fields None is within = rw is refl
-  until_read fields (Some at) is within = rw (is, not_empty at (omega (arith, within)), reads 1000000000000 at (omega arith) within) refl
+  optional_read : (fields : Fields) (place most : ℕ) (number : Option ℕ) → field_in fields place ≡ number_or_empty number → most < 2 ^ 64
+      → IfSome number (λ it. it ≤ most) → optional_in fields place most ≡ Ok number
+  optional_read fields place most None is small within = rw is refl
+  optional_read fields place most (Some number) is small within = rw (is, not_empty number (omega (arith, small, within)), reads most number small within) refl
+
+  until_read : (clock : Clock) (fields : Fields) (until : Option ℕ) → field_in fields 7 ≡ moment_or_empty clock until → IfSome until (λ it. it ≤ 1000000000000)
+      → until_in fields 7 ≡ Ok until
+  until_read clock fields None is within = rw is refl
+  until_read clock fields (Some at) is within =
+      let read = moments clock 1000000000000 at (omega arith) within in
+      rw (is, not_blank 1000000000000 at (moment_text clock at) read, read) refl
 
   leg_read : (fields : Fields) (l : Option Leg) → field_in fields 6 ≡ number_or_empty (leg_number l) → leg_in fields ≡ Ok (leg_number l)
   leg_read fields None is = rw is refl
@@ -84,11 +105,11 @@ module _ (reads : DecimalsAreRead) where
 
   -- ---- posts
 
-  module _ (number at : ℕ) (number_fits : IsWide number) (at_fits : IsMoment at) where
-    pub post_read : (b : Body) → FitsPost number (at, b) → message_in (post_fields number (at, b)) ≡ Ok (message_of_post number (at, b))
+  module _ (clock : Clock) (number at : ℕ) (number_fits : IsWide number) (at_fits : IsMoment at) where
+    pub post_read : (b : Body) → FitsPost number (at, b) → message_in (post_fields clock number (at, b)) ≡ Ok (message_of_post number (at, b))
     post_read (body.Ssf call (message.InitialDp inner calling called)) fits =
         rw (
-          reads 2000000000000 at (omega arith) at_fits,
+          moments clock 2000000000000 at (omega arith) at_fits,
           not_empty number (omega (arith, number_fits)),
           reads 18446744073709551615 number (omega arith) number_fits,
           reads 18446744073709551615 call (omega arith) fits.body.0,
@@ -97,18 +118,18 @@ module _ (reads : DecimalsAreRead) where
         ) refl
     post_read (body.Ssf call (message.EventReport e l m)) fits =
         rw (
-          event_read (post_fields number (at, body.Ssf call (message.EventReport e l m))) e refl,
-          mode_read (post_fields number (at, body.Ssf call (message.EventReport e l m))) m refl,
-          reads 2000000000000 at (omega arith) at_fits,
+          event_read (post_fields clock number (at, body.Ssf call (message.EventReport e l m))) e refl,
+          mode_read (post_fields clock number (at, body.Ssf call (message.EventReport e l m))) m refl,
+          moments clock 2000000000000 at (omega arith) at_fits,
           not_empty number (omega (arith, number_fits)),
           reads 18446744073709551615 number (omega arith) number_fits,
           reads 18446744073709551615 call (omega arith) fits.body.0,
-          leg_read (post_fields number (at, body.Ssf call (message.EventReport e l m))) l refl,
+          leg_read (post_fields clock number (at, body.Ssf call (message.EventReport e l m))) l refl,
         ) refl
     post_read (body.Ssf call (message.ChargingReport active (info.NoSwitch time))) fits =
         rw (
-          state_read (post_fields number (at, body.Ssf call (message.ChargingReport active (info.NoSwitch time)))) active refl,
-          reads 2000000000000 at (omega arith) at_fits,
+          state_read (post_fields clock number (at, body.Ssf call (message.ChargingReport active (info.NoSwitch time)))) active refl,
+          moments clock 2000000000000 at (omega arith) at_fits,
           not_empty number (omega (arith, number_fits)),
           reads 18446744073709551615 number (omega arith) number_fits,
           reads 18446744073709551615 call (omega arith) fits.body.0,
@@ -116,27 +137,27 @@ module _ (reads : DecimalsAreRead) where
         ) refl
     post_read (body.Ssf call (message.ChargingReport active (info.Switch since interval))) fits =
         rw (
-          state_read (post_fields number (at, body.Ssf call (message.ChargingReport active (info.Switch since interval)))) active refl,
-          reads 2000000000000 at (omega arith) at_fits,
+          state_read (post_fields clock number (at, body.Ssf call (message.ChargingReport active (info.Switch since interval)))) active refl,
+          moments clock 2000000000000 at (omega arith) at_fits,
           not_empty number (omega (arith, number_fits)),
           reads 18446744073709551615 number (omega arith) number_fits,
           reads 18446744073709551615 call (omega arith) fits.body.0,
           reads 864000 since (omega arith) fits.body.1.0,
-          interval_read (post_fields number (at, body.Ssf call (message.ChargingReport active (info.Switch since interval)))) interval refl fits.body.1.1,
+          interval_read (post_fields clock number (at, body.Ssf call (message.ChargingReport active (info.Switch since interval)))) interval refl fits.body.1.1,
         ) refl
     post_read (body.Ssf call message.Ended) fits =
         rw (
-          reads 2000000000000 at (omega arith) at_fits,
+          moments clock 2000000000000 at (omega arith) at_fits,
           not_empty number (omega (arith, number_fits)),
           reads 18446744073709551615 number (omega arith) number_fits,
           reads 18446744073709551615 call (omega arith) fits.body.0,
         ) refl
     post_read (body.Recharge account amount until) fits =
         rw (
-          reads 2000000000000 at (omega arith) at_fits,
+          moments clock 2000000000000 at (omega arith) at_fits,
           not_empty number (omega (arith, number_fits)),
           reads 18446744073709551615 number (omega arith) number_fits,
           reads 4294967295 account (omega arith) fits.body.0,
           reads 1000000000000000 amount (omega arith) fits.body.1,
-          until_read (post_fields number (at, body.Recharge account amount until)) until refl fits.body.2,
+          until_read clock (post_fields clock number (at, body.Recharge account amount until)) until refl fits.body.2,
         ) refl

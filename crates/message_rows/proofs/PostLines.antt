@@ -1,31 +1,32 @@
 -- The row that a trace prints of a post is one plain row of nine fields.
-use Rattle.std.proofs.Common.{◌≡◌, ℕ, ◌<◌, ◌≤◌, true, false, Option, Some, None, List, [], ◌∷◌, ◌++◌, length, refl, append-nil, append_assoc, arith}
-use Rattle.std.specs.Prelude.{codes, IfSome}
+use Rattle.std.proofs.Common.{◌≡◌, ℕ, ◌<◌, ◌≤◌, true, false, Option, Some, None, List, [], ◌∷◌, ◌++◌, Ok, length, refl, ap, append-nil, append_assoc, arith}
+use Rattle.std.specs.Prelude.{codes, slice_index, IfSome}
 use Rattle.std.specs.Char.{is_ascii_digit}
 use Rattle.std.specs.Fmt.{decimal}
-use Rattle.std.specs.Int.{IsInRange}
-use Rattle.std.specs.List.{join_with_byte, list_all}
-use Rattle.std.specs.Str.Parse.{AllDigits}
+use Rattle.std.specs.List.{All, join_with_byte, list_all}
 use Rattle.std.proofs.lemmas.Bool.{and_parts}
 use Rattle.std.proofs.lemmas.Bool.Decides.{nat_tests}
-use Rattle.std.proofs.lemmas.Fmt.{decimal_is_IsNumeral}
 use Rattle.std.proofs.lemmas.List.Elements.{All-cons, All-from_recursion, All-nil}
-use Rattle.std.proofs.lemmas.Str.Parse.{digit_from_value}
 use Rattle.csv.specs.Reading.{strip_bom}
 use Rattle.csv.specs.Writing.{comma, default_writer, needs_byte}
 use Rattle.cap_values.specs.NumberDigits.{digits_of}
+use Rattle.cap_values.specs.Numbers.{is_number}
 use Rattle.cap_values.specs.declared.event.Event.{Event}
 use Rattle.cap_values.specs.declared.event.Event.TheVariants as event
 use Rattle.cap_values.specs.declared.leg.Leg.{Leg}
 use Rattle.cap_values.specs.declared.leg.Leg.TheVariants as leg
+use Rattle.cap_values.specs.declared.message.SsfMsg.{SsfMsg}
 use Rattle.cap_values.specs.declared.message.SsfMsg.TheVariants as message
 use Rattle.cap_values.specs.declared.mode.Mode.{Mode}
 use Rattle.cap_values.specs.declared.mode.Mode.TheVariants as mode
 use Rattle.cap_values.specs.declared.number.Number.{Number}
 use Rattle.entry_rows.specs.Columns.{number_or_empty}
 use Rattle.entry_rows.specs.Fits.{IsInterval}
-use Rattle.message_rows.specs.Laws.{FitsBody, FitsPost, PostsAreRead}
+use Rattle.message_rows.specs.Laws.{FitsBody, FitsPost, PostsAreRead, message_of_post}
 use Rattle.message_rows.proofs.PostColumns.{post_fields, post_read, row_fields}
+use Rattle.moment_texts.specs.Laws.{MomentsArePlain, MomentsAreRead}
+use Rattle.moment_texts.specs.Printing.{moment_or_empty, moment_text}
+use Rattle.moment_texts.specs.declared.clock.Clock.{Clock}
 use Rattle.run_trace.specs.Said.{Said, event_word, leg_number, mode_word, post_said, state_word}
 use Rattle.run_trace.specs.Tables.{call_of, head_of, row, sender_of}
 use Rattle.run_values.specs.declared.post.Body.{Body}
@@ -36,23 +37,24 @@ use Rattle.tariff_core.specs.declared.times.TimeInfo.TheVariants as info
 
 -- ---- the line
 
-row_line : (number : ℕ) (post : ℕ × Body) → row (head_of number post) (sender_of post.1) (post_said post.1) ≡ line_of (post_fields number post)
-row_line number post = simp append_assoc
+row_line : (clock : Clock) (number : ℕ) (post : ℕ × Body) → row (head_of clock number post) (sender_of post.1) (post_said clock post.1) ≡ line_of (post_fields clock number post)
+row_line clock number post = simp append_assoc
 
-pub post_line : (number : ℕ) (post : ℕ × Body) → row (head_of number post) (sender_of post.1) (post_said post.1) ≡ lines_of (post_fields number post ∷ [])
-post_line number post = rw (row_line number post, append-nil (line_of (post_fields number post))) refl
+pub post_line : (clock : Clock) (number : ℕ) (post : ℕ × Body)
+    → row (head_of clock number post) (sender_of post.1) (post_said clock post.1) ≡ lines_of (post_fields clock number post ∷ [])
+post_line clock number post = rw (row_line clock number post, append-nil (line_of (post_fields clock number post))) refl
 
 -- ---- no byte order mark
 
-digit_is_no_mark : (c : ℕ) (rest : List ℕ) → IsInRange 48 57 c → strip_bom (c ∷ rest) ≡ c ∷ rest
+digit_is_no_mark : (c : ℕ) (rest : List ℕ) → is_ascii_digit c ≡ true → strip_bom (c ∷ rest) ≡ c ∷ rest
 unfolding strip_bom
-digit_is_no_mark c [] range = refl
-digit_is_no_mark c (d ∷ []) range = refl
-digit_is_no_mark c (d ∷ e ∷ rest) range = grind (arith, nat_tests)
+digit_is_no_mark c [] digit = refl
+digit_is_no_mark c (d ∷ []) digit = refl
+digit_is_no_mark c (d ∷ e ∷ rest) digit = grind (arith, nat_tests)
 
-digits_are_no_mark : (text rest : List ℕ) → 0 < length text → AllDigits 10 text → strip_bom (text ++ rest) ≡ text ++ rest
-digits_are_no_mark [] rest some digits = absurd (omega (arith, some))
-digits_are_no_mark (c ∷ text) rest some digits = digit_is_no_mark c (text ++ rest) (digit_from_value c digits.0)
+first_is_no_mark : (text rest : List ℕ) → is_ascii_digit (slice_index text 0) ≡ true → strip_bom (text ++ rest) ≡ text ++ rest
+first_is_no_mark [] rest digit = absurd (cc)
+first_is_no_mark (c ∷ text) rest digit = digit_is_no_mark c (text ++ rest) digit
 
 line_starts : (first next : List ℕ) (fields : Fields) → lines_of ((first ∷ next ∷ fields) ∷ []) ≡ first ++ comma ∷ (join_with_byte comma (next ∷ fields) ++ codes "\n")
 line_starts first next fields = simp (append_assoc, append-nil)
@@ -61,9 +63,9 @@ line_starts first next fields = simp (append_assoc, append-nil)
 abbrev pub later_fields : Option ℕ → List ℕ → Said → Fields
 later_fields call from said = number_or_empty call ∷ from ∷ said.what ∷ said.x1 ∷ said.x2 ∷ said.x3 ∷ said.x4 ∷ []
 
-unmarked : (first next : List ℕ) (fields : Fields) → 0 < length first → AllDigits 10 first
+unmarked : (first next : List ℕ) (fields : Fields) → is_ascii_digit (slice_index first 0) ≡ true
     → strip_bom (lines_of ((first ∷ next ∷ fields) ∷ [])) ≡ lines_of ((first ∷ next ∷ fields) ∷ [])
-unmarked first next fields some digits = rw (line_starts first next fields) (digits_are_no_mark first _ some digits)
+unmarked first next fields digit = rw (line_starts first next fields) (first_is_no_mark first _ digit)
 
 -- ---- plain fields
 
@@ -100,15 +102,15 @@ pub record IsPlainSaid (said : Said) : Type 0 where
   pub x3 : IsPlain said.x3
   pub x4 : IsPlain said.x4
 
-fields_plain : (at number : ℕ) (call : Option ℕ) (from : List ℕ) (said : Said)
-    → IsPlain (decimal at) → IsPlain (decimal number) → IsPlain (number_or_empty call) → IsPlain from → IsPlainSaid said → IsPlainRow (row_fields at number call from said)
-fields_plain at number call from said of_at of_number of_call of_from of_said = record {
+fields_plain : (moment : List ℕ) (number : ℕ) (call : Option ℕ) (from : List ℕ) (said : Said)
+    → IsPlain moment → IsPlain (decimal number) → IsPlain (number_or_empty call) → IsPlain from → IsPlainSaid said → IsPlainRow (row_fields moment number call from said)
+fields_plain moment number call from said of_at of_number of_call of_from of_said = record {
   several = omega arith;
-  plain = All-from_recursion IsPlain (row_fields at number call from said)
+  plain = All-from_recursion IsPlain (row_fields moment number call from said)
       (of_at, (of_number, (of_call, (of_from, (of_said.what, (of_said.x1, (of_said.x2, (of_said.x3, (of_said.x4, tt)))))))));
 }
 
-module _ (plain : DecimalsArePlain) where
+module _ (plain : DecimalsArePlain) (moments_plain : MomentsArePlain) (clock : Clock) where
   leg_plain : (l : Option Leg) → IsPlain (number_or_empty (leg_number l))
   leg_plain None = refl
   leg_plain (Some leg.One) = plain 1 (omega arith)
@@ -118,15 +120,15 @@ module _ (plain : DecimalsArePlain) where
   interval_plain None fits = refl
   interval_plain (Some number) fits = plain number (omega (arith, fits.1))
 
-  until_plain : (until : Option ℕ) → IfSome until (λ last. last ≤ 1000000000000) → IsPlain (number_or_empty until)
+  until_plain : (until : Option ℕ) → IfSome until (λ last. last ≤ 1000000000000) → IsPlain (moment_or_empty clock until)
   until_plain None fits = refl
-  until_plain (Some number) fits = plain number (omega (arith, fits))
+  until_plain (Some at) fits = (moments_plain clock at (omega (arith, fits))).plain
 
   state_plain : (active : _) → IsPlain (state_word active)
   state_plain true = refl
   state_plain false = refl
 
-  said_plain : (b : Body) → FitsBody b → IsPlainSaid (post_said b)
+  said_plain : (b : Body) → FitsBody b → IsPlainSaid (post_said clock b)
   said_plain (body.Ssf call (message.InitialDp inner calling called)) fits =
       record { what = refl; x1 = party_plain calling; x2 = party_plain called; x3 = refl; x4 = refl }
   said_plain (body.Ssf call (message.EventReport e l m)) fits =
@@ -147,18 +149,22 @@ module _ (plain : DecimalsArePlain) where
   sender_plain (body.Ssf call msg) = refl
   sender_plain (body.Recharge account amount until) = refl
 
-  post_plain : (number : ℕ) (post : ℕ × Body) → FitsPost number post → IsPlainRow (post_fields number post)
+  post_plain : (number : ℕ) (post : ℕ × Body) → FitsPost number post → IsPlainRow (post_fields clock number post)
   post_plain number post fits =
-      fields_plain post.0 number (call_of post.1) (sender_of post.1) (post_said post.1)
-      (plain post.0 (omega (arith, fits.at))) (plain number (omega (arith, fits.counted))) (call_plain post.1 fits.body) (sender_plain post.1) (said_plain post.1 fits.body)
+      fields_plain (moment_text clock post.0) number (call_of post.1) (sender_of post.1) (post_said clock post.1)
+      (moments_plain clock post.0 (omega (arith, fits.at))).plain (plain number (omega (arith, fits.counted))) (call_plain post.1 fits.body) (sender_plain post.1) (said_plain post.1 fits.body)
 
-  module _ (tables : TablesAreRead) (reads : DecimalsAreRead) where
-    rows_are_one : (number : ℕ) (post : ℕ × Body) → FitsPost number post → rows_of (lines_of (post_fields number post ∷ [])) ≡ post_fields number post ∷ []
+  module _ (tables : TablesAreRead) where
+    rows_are_one : (number : ℕ) (post : ℕ × Body) → FitsPost number post → rows_of (lines_of (post_fields clock number post ∷ [])) ≡ post_fields clock number post ∷ []
     rows_are_one number post fits =
-        let numeral = (decimal_is_IsNumeral post.0 (omega (arith, fits.at))).0 in
-        tables (post_fields number post ∷ []) (All-cons IsPlainRow (post_fields number post) [] (post_plain number post fits) (All-nil IsPlainRow))
-        (unmarked (decimal post.0) (decimal number) (later_fields (call_of post.1) (sender_of post.1) (post_said post.1)) (omega (arith, numeral.0)) numeral.1)
+        tables (post_fields clock number post ∷ []) (All-cons IsPlainRow (post_fields clock number post) [] (post_plain number post fits) (All-nil IsPlainRow))
+        (unmarked (moment_text clock post.0) (decimal number) (later_fields (call_of post.1) (sender_of post.1) (post_said clock post.1))
+        (moments_plain clock post.0 (omega (arith, fits.at))).digit)
 
-    pub posts_read : PostsAreRead
-    posts_read number post fits =
-        rw (post_line number post, rows_are_one number post fits, post_read reads number post.0 fits.counted fits.at post.1 fits) refl
+pub posts_read : DecimalsArePlain → DecimalsAreRead → TablesAreRead → MomentsArePlain → MomentsAreRead → PostsAreRead
+posts_read plain reads tables moments_plain moments clock number post fits =
+    rw (
+      post_line clock number post,
+      rows_are_one plain moments_plain clock tables number post fits,
+      post_read reads moments clock number post.0 fits.counted fits.at post.1 fits,
+    ) refl

@@ -3,6 +3,7 @@ use Rattle.std.specs.Prelude.{◌≡◌, ◌≤◌, ℕ, IfSome, Some, Ok}
 use Rattle.cap_values.specs.declared.message.SsfMsg.{SsfMsg}
 use Rattle.cap_values.specs.declared.message.SsfMsg.TheVariants as message
 use Rattle.entry_rows.specs.Fits.{FitsReport, IsMoment, IsMoney, IsWide}
+use Rattle.moment_texts.specs.declared.clock.Clock.{Clock}
 use Rattle.message_rows.specs.Lines.{line_message}
 use Rattle.message_rows.specs.Messages.{MessageView, speech_of}
 use Rattle.run_trace.specs.Said.{post_said}
@@ -33,6 +34,7 @@ pub record FitsPost (number : ℕ) (post : ℕ × Body) : Type 0 where
 abbrev pub message_of_post : ℕ → ℕ × Body → MessageView
 message_of_post number post = record { at = post.0; number = Some number; speech = speech_of post.1 }
 
--- the row that a trace prints of a post, as a line, is read as that post with its number
+-- the row that a trace prints of a post by either clock, as a line, is read as that post with its number
 abbrev pub PostsAreRead : Type 0
-PostsAreRead = (number : ℕ) (post : ℕ × Body) → FitsPost number post → line_message (row (head_of number post) (sender_of post.1) (post_said post.1)) ≡ Some (Ok (message_of_post number post))
+PostsAreRead = (clock : Clock) (number : ℕ) (post : ℕ × Body) → FitsPost number post
+    → line_message (row (head_of clock number post) (sender_of post.1) (post_said clock post.1)) ≡ Some (Ok (message_of_post number post))

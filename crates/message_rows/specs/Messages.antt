@@ -1,5 +1,5 @@
 -- The meaning of a message row: who says what of which call, and when, in the columns and the words of a trace.
-use Rattle.std.specs.Prelude.{◌&&◌, ℕ, Bool, true, false, Option, Some, None, List, Result, Ok, Err, if◌then◌else◌, codes}
+use Rattle.std.specs.Prelude.{◌==◌, ◌&&◌, ℕ, Bool, true, false, Option, Some, None, List, Result, Ok, Err, if◌then◌else◌, codes}
 use Rattle.std.specs.Fmt.{decimal}
 use Rattle.cap_values.specs.declared.event.Event.{Event}
 use Rattle.cap_values.specs.declared.event.Event.TheVariants as event
@@ -10,6 +10,7 @@ use Rattle.entry_rows.specs.Columns.{number_or_empty}
 use Rattle.message_rows.specs.declared.words.Word.{Word}
 use Rattle.message_rows.specs.declared.words.Word.TheVariants as word
 use Rattle.moment_texts.specs.Fields.{moment_in}
+use Rattle.moment_texts.specs.declared.clock.Clock.TheVariants as clock
 use Rattle.run_texts.specs.Setups.{account_in, amount_in, party_in, until_in}
 use Rattle.run_trace.specs.Said.{Said, alone, event_word, mode_word, post_said, report_said, state_word}
 use Rattle.run_trace.specs.Tables.{call_of, sender_of}
@@ -31,7 +32,7 @@ pub record Speech : Type 0 where
 
 -- what is posted, as a trace prints it
 abbrev pub speech_of : Body → Speech
-speech_of body = record { call = call_of body; from = sender_of body; said = post_said body }
+speech_of body = record { call = call_of body; from = sender_of body; said = post_said clock.Digits body }
 
 -- a message row: its moment, its number, if it has one, and what is said
 pub record MessageView : Type 0 where

@@ -2,13 +2,15 @@
 
 ghost use Rattle.message_rows.specs.Laws.{PostsAreRead};
 
+use moment_texts::printed_moments_are_read;
 use table_core::{printed_decimals_are_read, printed_tables_are_read};
 
 /// The row that a trace prints of a message of a switch, or of a recharge, is read as that message,
-/// with its number.
+/// with its number, whichever clock has printed its moments.
 pub fn printed_posts_are_read()
     ensures { PostsAreRead }
 {
     printed_decimals_are_read();
     printed_tables_are_read();
+    printed_moments_are_read();
 }

@@ -1,6 +1,8 @@
 -- The lines that `quote` prints.
-use Rattle.std.specs.Prelude.{◌≡◌, ◌⊎◌, ◌/◌, ◌%◌, ℕ, List, [], ◌∷◌, ◌++◌, Option, Some, None, codes, if◌then◌else◌}
+use Rattle.std.specs.Prelude.{◌≡◌, ◌⊎◌, ℕ, List, [], ◌∷◌, ◌++◌, Option, Some, None, codes, if◌then◌else◌}
 use Rattle.std.specs.Fmt.{decimal}
+use Rattle.moment_texts.specs.Printing.{moment_text, time_text}
+use Rattle.moment_texts.specs.declared.clock.Clock.{Clock}
 use Rattle.table_core.specs.Decimals.{digits_text}
 use Rattle.tariff_core.specs.Afford.{units_afforded}
 use Rattle.tariff_core.specs.Bands.{Band}
@@ -18,14 +20,6 @@ abbrev pub prefix_text : List ℕ → List ℕ
 prefix_text [] = codes "-"
 prefix_text (digit ∷ digits) = digits_text (digit ∷ digits)
 
--- a number below 100 in two digits
-abbrev pub two_digits : ℕ → List ℕ
-two_digits number = decimal (number / 10) ++ decimal (number % 10)
-
--- a time of day as `HH:MM`
-abbrev pub time_text : ℕ → List ℕ
-time_text time = two_digits (time / 36000) ++ (codes ":" ++ two_digits ((time / 600) % 60))
-
 -- ` first F step S`, where a plan bills in steps
 abbrev pub steps_text : Rates → List ℕ
 steps_text plan = if has_steps plan then codes " first " ++ (decimal plan.first ++ (codes " step " ++ decimal plan.step)) else []
@@ -39,10 +33,10 @@ plan_text plan =
 abbrev pub band_line : List ℕ → ℕ → Rates → List ℕ
 band_line prefix start plan = codes "prefix " ++ (prefix_text prefix ++ (codes " from " ++ (time_text start ++ plan_text plan)))
 
--- where there is a switch, `switch M rate R`
-abbrev pub switch_line : Option ℕ → Option ℕ → List ℕ
-switch_line (Some at) (Some rate) = codes "switch " ++ (decimal at ++ (codes " rate " ++ (decimal rate ++ codes "\n")))
-switch_line _ _ = []
+-- where there is a switch, `switch M rate R`, with its moment as a clock prints it
+abbrev pub switch_line : Clock → Option ℕ → Option ℕ → List ℕ
+switch_line clock (Some at) (Some rate) = codes "switch " ++ (moment_text clock at ++ (codes " rate " ++ (decimal rate ++ codes "\n")))
+switch_line clock _ _ = []
 
 -- `price N` of a call that lasts so long, where that is asked for
 abbrev pub price_line : Rates → ℕ → Option ℕ → Option ℕ → List ℕ
@@ -58,7 +52,7 @@ afford_line plan (Some credit) = codes "afford " ++ (decimal (units_afforded pla
 abbrev pub quote_lines : QuoteWish → List ℕ → ℕ → Route → List ℕ
 quote_lines wish prefix start route =
     band_line prefix start (rates_of route.plan)
-    ++ (switch_line route.switch_at route.plan.after
+    ++ (switch_line wish.clock route.switch_at route.plan.after
     ++ (price_line (rates_of route.plan) wish.at route.switch_at wish.talk ++ afford_line (rates_of route.plan) wish.credit))
 
 -- the lines of the quote that a tariff has for a number at a moment

@@ -3,9 +3,10 @@
 ghost use Rattle.std.specs.Prelude.{◌≡◌, ◌+◌, ◌++◌, ◌≤◌, ◌<◌, IfOk, IfSome, OnOk, string_bytes};
 ghost use Rattle.tariff_core.specs.RatesOf.{rates_of};
 ghost use Rattle.command_words.specs.QuoteWishes.{wish_of};
-ghost use Rattle.prepaid_command.specs.Quotes.{IsQuoteText, afford_line, band_line, plan_text, prefix_text, price_line, quote_lines, steps_text, switch_line, time_text, two_digits};
+ghost use Rattle.prepaid_command.specs.Quotes.{IsQuoteText, afford_line, band_line, plan_text, prefix_text, price_line, quote_lines, steps_text, switch_line};
 
 use command_words::QuoteAsk;
+use moment_texts::{Clock, MomentField, TimeOfDay};
 use rating::{Charge, charge_call};
 use std::alloc::{AllocError, Global};
 use table_core::write_digits;
@@ -39,7 +40,7 @@ fn write_quote(text: &mut String, ask: &QuoteAsk, quote: &Quote<'_>) -> Result<(
 {
     let plan = &quote.route.plan;
     write_band(text, quote.prefix, quote.start, plan)?;
-    write_switch(text, &quote.route)?;
+    write_switch(text, ask.clock, &quote.route)?;
     if let Some(talk) = ask.talk {
         let Charge { price, .. } = charge_call(&quote.route, ask.at, talk);
         writeln!(text, "price {price}")?;
@@ -58,8 +59,8 @@ fn write_band(text: &mut String, prefix: &[u8], start: u32, plan: &Plan) -> Resu
 {
     write!(text, "prefix ")?;
     write_prefix(text, prefix)?;
-    write!(text, " from ")?;
-    write_time(text, start)?;
+    let start = TimeOfDay(start);
+    write!(text, " from {start}")?;
     let Plan {
         fee,
         before,
@@ -94,28 +95,16 @@ fn write_prefix(text: &mut String, prefix: &[u8]) -> Result<(), AllocError>
     write_digits(text, prefix)
 }
 
-/// Adds a time of day as `HH:MM`.
-fn write_time(text: &mut String, time: u32) -> Result<(), AllocError>
-    ensures { OnOk result (string_bytes text.new ≡ string_bytes text.old ++ time_text time) }
-{
-    let (hours, minutes) = (time / 36_000, time / 600 % 60);
-    write!(
-        text,
-        "{}{}:{}{}",
-        hours / 10,
-        hours % 10,
-        minutes / 10,
-        minutes % 10
-    )
-}
-
 /// Adds the line of a switch, where there is one.
-fn write_switch(text: &mut String, route: &Route) -> Result<(), AllocError>
+fn write_switch(text: &mut String, clock: Clock, route: &Route) -> Result<(), AllocError>
     ensures { OnOk result (string_bytes text.new ≡ string_bytes text.old
-        ++ switch_line route.now.switch_at route.now.plan.after) }
+        ++ switch_line clock route.now.switch_at route.now.plan.after) }
 {
     match (route.switch_at, route.plan.after) {
-        (Some(at), Some(rate)) => writeln!(text, "switch {at} rate {rate}"),
+        (Some(at), Some(rate)) => {
+            let at = MomentField(clock, Some(at));
+            writeln!(text, "switch {at} rate {rate}")
+        }
         _ => Ok(()),
     }
 }

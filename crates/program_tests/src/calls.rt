@@ -14,7 +14,7 @@ const ACCOUNT: &str = "account,7,1500\nsubscriber,491700001,7\n";
 const CALL: &str = "0,1,start,491700001,4930\n100,1,answer,,\n400,1,disconnect,1,\n";
 
 /// Words, the rows of the tariff, the setup and the script, and the records.
-const RECORDED: [(&str, &str, &str, &str, &str); 17] = [
+const RECORDED: [(&str, &str, &str, &str, &str); 19] = [
     ("run --calls", "", "", "", ""),
     (
         "run --calls",
@@ -22,6 +22,20 @@ const RECORDED: [(&str, &str, &str, &str, &str); 17] = [
         ACCOUNT,
         CALL,
         "1,491700001,4930,7,49,0,100,402,300,0,550,ended\n",
+    ),
+    (
+        "run --calls --clock",
+        BAND,
+        ACCOUNT,
+        CALL,
+        "1,491700001,4930,7,49,1970-01-01T00:00:00.0,1970-01-01T00:00:10.0,1970-01-01T00:00:40.2,300,0,550,ended\n",
+    ),
+    (
+        "run --clock --calls",
+        BAND,
+        ACCOUNT,
+        "1972-02-28T23:59:59.9,1,start,491700001,4930\n1972-02-29 00:00:01,1,busy,,\n",
+        "1,491700001,4930,7,49,1972-02-28T23:59:59.9,,1972-02-29T00:00:01.0,0,0,0,busy\n",
     ),
     (
         "run --calls",

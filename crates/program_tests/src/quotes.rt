@@ -13,7 +13,7 @@ const TWO_BANDS: &str = "prefix,from,fee,rate\n49,00:00,50,1000\n49,08:00,60,400
 const FREE: &str = "prefix,from,fee,rate,free\n49,00:00,50,1000,600\n,00:00,0,1,0\n,12:34,1,2,3\n";
 
 /// Words, a tariff, and the lines of the quote.
-const QUOTED: [(&str, &str, &str); 15] = [
+const QUOTED: [(&str, &str, &str); 17] = [
     (
         "quote --called 4930 --at 0",
         FLAT,
@@ -43,6 +43,16 @@ const QUOTED: [(&str, &str, &str); 15] = [
         "quote --called 49 --at 5138-11-16T09:46:40",
         FLAT,
         "prefix 49 from 00:00 fee 50 rate 1000 free 0\n",
+    ),
+    (
+        "quote --clock --called 4930 --at 07:59 --for 900 --credit 1500",
+        TWO_BANDS,
+        "prefix 49 from 00:00 fee 50 rate 1000 free 0\nswitch 1970-01-01T08:00:00.0 rate 400\nprice 1250\nafford 870\n",
+    ),
+    (
+        "quote --called 4930 --at 2000-02-28T08:00:00.5 --clock",
+        TWO_BANDS,
+        "prefix 49 from 08:00 fee 60 rate 400 free 0\nswitch 2000-02-29T00:00:00.0 rate 1000\n",
     ),
     (
         "quote --called 49 --at 08:00 --credit 1500",
@@ -92,7 +102,7 @@ const QUOTED: [(&str, &str, &str); 15] = [
 ];
 
 /// Words that ask for no quote.
-const REFUSED: [&str; 18] = [
+const REFUSED: [&str; 19] = [
     "quote",
     "quote --called 49",
     "quote --at 0",
@@ -111,6 +121,7 @@ const REFUSED: [&str; 18] = [
     "quote --called 49 --at 0 --credit 1000000000000001",
     "quote --called 49 --at 0 --at 0",
     "quote --called 49 --at 0 60s",
+    "quote --called 49 --at 0 --clock --clock",
 ];
 
 /// Tariffs that are refused, and their first fault.

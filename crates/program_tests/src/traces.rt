@@ -194,12 +194,15 @@ const RECHARGED: &str = "5,0,,operator,Recharge,7,300,,\n\
 const EXPIRING: &str = "prefix,from,fee,rate\n%%\nkind,key,value\naccount,7,1500\n%%\n\
                         moment,call,what,x,y,z\n5,,recharge,7,300,9000\n";
 
-/// Words of which only one may be there.
-const TWO_TABLES: [&str; 4] = [
+/// Words of which only one may be there, and dates and times where there are no moments.
+const NO_TABLE: [&str; 7] = [
     "run --trace --calls",
     "run --book --trace",
     "run --book --calls --trace",
     "run --trace --trace",
+    "run --clock",
+    "run --book --clock",
+    "run --trace --clock --clock",
 ];
 
 #[test]
@@ -226,7 +229,11 @@ fn traces_messages(rt: HostRuntime) -> Result<(), Fail> {
     )?;
     let output = format!(in rt.alloc(); "{HEADER}5,0,,operator,Recharge,7,300,9000,\n")?;
     expect(&rt, "run --trace", EXPIRING, (0, output.as_str(), ""))?;
-    for words in TWO_TABLES {
+    let dates = "1970-01-01T00:00:00.5,0,,operator,Recharge,7,300,1970-01-01T00:15:00.0,\n";
+    let output = format!(in rt.alloc(); "{HEADER}{dates}")?;
+    let words = "run --trace --clock";
+    expect(&rt, words, EXPIRING, (0, output.as_str(), ""))?;
+    for words in NO_TABLE {
         expect_fault(&rt, words, "", "arguments")?;
     }
     Ok(())

@@ -7,6 +7,7 @@ use Rattle.run_command.specs.Answers.{IsTextOf}
 use Rattle.run_command.specs.Listening.{Listens}
 use Rattle.run_command.specs.Refused.{refusals_in}
 use Rattle.run_command.specs.declared.listening.Listener.{Listener}
+use Rattle.run_options.specs.Options.{is_trace}
 use Rattle.run_options.specs.declared.options.RunOutput.{RunOutput}
 use Rattle.run_options.specs.declared.options.RunOutput.TheVariants as output
 use Rattle.run_trace.specs.Tables.{trace_text}
@@ -49,8 +50,8 @@ counts_heard before_this old (answers ∷ next ∷ heard) new so_far are rounds 
     ∙ ap (λ l. refusals_in l) (append_assoc so_far answers (all_heard (next ∷ heard)))
 
 -- a text of what was kept is one of what was heard, where it is a trace
-pub text_of_heard : (of : RunOutput) (run : Run) (kept heard : List Answer) (text : List ℕ) → (of ≡ output.Trace → kept ≡ heard) → IsTextOf of run kept text → IsTextOf of run heard text
+pub text_of_heard : (of : RunOutput) (run : Run) (kept heard : List Answer) (text : List ℕ) → (is_trace of ≡ true → kept ≡ heard) → IsTextOf of run kept text → IsTextOf of run heard text
 text_of_heard output.Lines run kept heard text same is = is
 text_of_heard output.Book run kept heard text same is = is
-text_of_heard output.Calls run kept heard text same is = is
-text_of_heard output.Trace run kept heard text same is = is ∙ ap (λ answers. trace_text run.given answers) (same refl)
+text_of_heard (output.Calls clock) run kept heard text same is = is
+text_of_heard (output.Trace clock) run kept heard text same is = is ∙ ap (λ answers. trace_text clock run.given answers) (same refl)

@@ -31,8 +31,8 @@ use Rattle.run_values.specs.declared.post.Body.{Body}
 abbrev pub IsTextOf : RunOutput → Run → List Answer → List ℕ → Type 0
 IsTextOf output.Lines run heard text = IsRunText run.books text
 IsTextOf output.Book run heard text = text ≡ book_text (version_of (have_steps run.setup.tariff) run.books) run.books
-IsTextOf output.Calls run heard text = IsCallText run text
-IsTextOf output.Trace run heard text = text ≡ trace_text run.given heard
+IsTextOf (output.Calls clock) run heard text = IsCallText clock run text
+IsTextOf (output.Trace clock) run heard text = text ≡ trace_text clock run.given heard
 
 -- what a run says: its text, and how often its accounts refused what they were asked
 pub record RunSaid : Type 0 where

@@ -1,12 +1,12 @@
 -- A script that was played.
-use Rattle.std.specs.Prelude.{◌≡◌, List}
+use Rattle.std.specs.Prelude.{◌≡◌, List, true}
 use Rattle.call_records.specs.Records.{Run}
 use Rattle.run_command.specs.Books.{AreBooksOf}
 use Rattle.run_command.specs.Plays.{IsGivenBy}
 use Rattle.run_command.specs.Refused.{refusals_in}
 use Rattle.run_command.specs.declared.running.Played.{Played}
 use Rattle.run_options.specs.declared.options.RunAsk.{RunAsk}
-use Rattle.run_options.specs.declared.options.RunOutput.TheVariants as output
+use Rattle.run_options.specs.Options.{is_trace}
 use Rattle.run_texts.specs.Inputs.{RunInput}
 use Rattle.run_values.specs.declared.post.Answer.{Answer}
 use Rattle.runs_core.specs.Hearing.{all_heard}
@@ -21,5 +21,5 @@ pub record AreOfPlay (ask : RunAsk) (said : RunInput) (played : Played) : Type 0
   pub given_by : IsGivenBy ask said.script heard (run_of played).given
   pub books : AreBooksOf ask said (run_of played).given heard (run_of played).books
   pub setup : books.setup ≡ played.setup
-  pub kept : ask.output ≡ output.Trace → played.listener.heard.items ≡ all_heard heard
+  pub kept : is_trace ask.output ≡ true → played.listener.heard.items ≡ all_heard heard
   pub counted : played.listener.refusals ≡ refusals_in (all_heard heard)

@@ -1,7 +1,8 @@
 //! A player that counts the refusals in the answers that it hears, and may keep the answers.
 
-ghost use Rattle.std.specs.Prelude.{◌≡◌, ◌↔◌, ◌++◌, [], IsTrue, OnOk};
+ghost use Rattle.std.specs.Prelude.{◌≡◌, ◌++◌, [], OnOk};
 ghost use Rattle.run_command.specs.Refused.{none_refused};
+ghost use Rattle.run_options.specs.Options.{is_trace};
 
 use crate::Refusals;
 use arrayvec::ArrayVec;
@@ -29,13 +30,13 @@ impl Listener {
     /// A player that has heard nothing yet, for a run that prints this.
     pub(crate) fn new(alloc: Global, player: ScriptPlayer, output: RunOutput) -> Listener
         ensures player { result.player ≡ player }
-        ensures keeps { IsTrue result.keeps ↔ (output ≡ RunOutput.Trace) }
+        ensures keeps { result.keeps ≡ is_trace output }
         ensures heard { result.heard.items ≡ [] }
         ensures refusals { result.refusals ≡ none_refused }
     {
         Listener {
             player,
-            keeps: matches!(output, RunOutput::Trace),
+            keeps: matches!(output, RunOutput::Trace(_)),
             heard: Vec::new(alloc),
             refusals: Refusals::none(),
         }

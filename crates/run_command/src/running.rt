@@ -76,11 +76,11 @@ fn print(alloc: Global, output: RunOutput, played: &Played) -> Result<String, Al
     match output {
         RunOutput::Lines => run_lines(alloc, books),
         RunOutput::Book => book_table(alloc, books, played.setup.tariff().has_steps()),
-        RunOutput::Calls => {
+        RunOutput::Calls(clock) => {
             let calls = records(alloc, &played.setup, player.given(), books)?;
-            call_table(alloc, calls.as_slice())
+            call_table(alloc, clock, calls.as_slice())
         }
-        RunOutput::Trace => trace_table(alloc, player.given(), heard.as_slice()),
+        RunOutput::Trace(clock) => trace_table(alloc, clock, player.given(), heard.as_slice()),
     }
 }
 

@@ -1,6 +1,9 @@
 -- What the options of a run say.
+use Rattle.std.specs.Prelude.{Bool, true, false}
 use Rattle.run_options.specs.declared.options.RunAsk.{RunAsk}
 use Rattle.run_options.specs.declared.options.RunOptions.{RunOptions}
+use Rattle.run_options.specs.declared.options.RunOutput.{RunOutput}
+use Rattle.run_options.specs.declared.options.RunOutput.TheVariants as output
 
 -- what was asked for
 abbrev pub ask_of : RunOptions → RunAsk
@@ -14,3 +17,10 @@ ask_of options = record {
   default_handling = options.ssf.default_handling;
   output = options.output;
 }
+
+-- whether the trace is printed
+abbrev pub is_trace : RunOutput → Bool
+is_trace output.Lines = false
+is_trace output.Book = false
+is_trace (output.Calls clock) = false
+is_trace (output.Trace clock) = true

@@ -4,6 +4,7 @@ ghost use Rattle.std.specs.Prelude.{◌≡◌, ◌≤◌, ◌↔◌, true, IsSom
 ghost use Rattle.run_options.specs.Configs.{is_config};
 
 use dialogue_core::ServiceConfig;
+use moment_texts::Clock;
 use ssf_core::{DefaultHandling, SsfConfig};
 
 /// The options of a run, each in its range.
@@ -76,8 +77,8 @@ pub enum RunOutput {
     Lines,
     /// The table of books.
     Book,
-    /// The table of calls.
-    Calls,
-    /// The trace: the table of what was said.
-    Trace,
+    /// The table of calls, and how its moments are printed.
+    Calls(Clock),
+    /// The trace: the table of what was said, and how its moments are printed.
+    Trace(Clock),
 }

@@ -6,36 +6,37 @@ use Rattle.std.proofs.lemmas.Option.{slice_get-get_or, slice_get_past}
 use Rattle.std.specs.Option.{option_copied}
 use Rattle.std.specs.Prelude.{slice_get}
 use Rattle.std.specs.Slice.{IsItemAt}
+use Rattle.moment_texts.specs.declared.clock.Clock.{Clock}
 use Rattle.run_trace.specs.Said.{operation_said, refused_said, stray_said}
 use Rattle.run_trace.specs.Tables.{answer_rows, header, post_rows, row, rows_from, service_rows, trace_text}
 use Rattle.run_values.specs.declared.post.Answer.{Answer}
 use Rattle.run_values.specs.declared.post.Body.{Body}
 
 -- the rows of a post, with those of its answer
-abbrev rows_at : List Answer → ℕ → ℕ × Body → List ℕ
-rows_at answers number post = post_rows number post (slice_get answers number)
+abbrev rows_at : Clock → List Answer → ℕ → ℕ × Body → List ℕ
+rows_at clock answers number post = post_rows clock number post (slice_get answers number)
 
-rows_last : (answers : List Answer) (number : ℕ) (posts : List (ℕ × Body)) (post : ℕ × Body)
-    → rows_from answers number (posts ++ post ∷ []) ≡ rows_from answers number posts ++ rows_at answers (number + length posts) post
-rows_last answers number [] post =
+rows_last : (clock : Clock) (answers : List Answer) (number : ℕ) (posts : List (ℕ × Body)) (post : ℕ × Body)
+    → rows_from clock answers number (posts ++ post ∷ []) ≡ rows_from clock answers number posts ++ rows_at clock answers (number + length posts) post
+rows_last clock answers number [] post =
     let here : number ≡ number + 0 = omega arith in
-    append-nil (rows_at answers number post) ∙ ap (λ n. rows_at answers n post) here
-rows_last answers number (first ∷ posts) post =
+    append-nil (rows_at clock answers number post) ∙ ap (λ n. rows_at clock answers n post) here
+rows_last clock answers number (first ∷ posts) post =
     let here : number + 1 + length posts ≡ number + length (first ∷ posts) = omega arith in
-    ap (λ rows. rows_at answers number first ++ rows) (rows_last answers (number + 1) posts post)
-    ∙ sym (append_assoc (rows_at answers number first) (rows_from answers (number + 1) posts) (rows_at answers (number + 1 + length posts) post))
-    ∙ ap (λ n. (rows_at answers number first ++ rows_from answers (number + 1) posts) ++ rows_at answers n post) here
+    ap (λ rows. rows_at clock answers number first ++ rows) (rows_last clock answers (number + 1) posts post)
+    ∙ sym (append_assoc (rows_at clock answers number first) (rows_from clock answers (number + 1) posts) (rows_at clock answers (number + 1 + length posts) post))
+    ∙ ap (λ n. (rows_at clock answers number first ++ rows_from clock answers (number + 1) posts) ++ rows_at clock answers n post) here
 
 -- the rows of one post more
-pub rows_more : (answers : List Answer) (given : List (ℕ × Body)) (i : ℕ) (post : ℕ × Body) (text : List ℕ) → i < length given → post ≡ get_or given i post
-    → text ≡ trace_text (take i given) answers → text ++ post_rows i post (slice_get answers i) ≡ trace_text (take (i + 1) given) answers
-rows_more answers given i post text within is so_far =
+pub rows_more : (clock : Clock) (answers : List Answer) (given : List (ℕ × Body)) (i : ℕ) (post : ℕ × Body) (text : List ℕ) → i < length given → post ≡ get_or given i post
+    → text ≡ trace_text clock (take i given) answers → text ++ post_rows clock i post (slice_get answers i) ≡ trace_text clock (take (i + 1) given) answers
+rows_more clock answers given i post text within is so_far =
     let front = take i given in
     let le : i ≤ length given = omega arith in
     let count : 0 + length front ≡ i = omega (arith, length-take-le i given le) in
-    let last : rows_from answers 0 (front ++ post ∷ []) ≡ rows_from answers 0 front ++ post_rows i post (slice_get answers i) =
-    rows_last answers 0 front post ∙ ap (λ n. rows_from answers 0 front ++ rows_at answers n post) count in
-    rw (so_far, take_more given i post within, ← is, last) (append_assoc header (rows_from answers 0 front) (post_rows i post (slice_get answers i)))
+    let last : rows_from clock answers 0 (front ++ post ∷ []) ≡ rows_from clock answers 0 front ++ post_rows clock i post (slice_get answers i) =
+    rows_last clock answers 0 front post ∙ ap (λ n. rows_from clock answers 0 front ++ rows_at clock answers n post) count in
+    rw (so_far, take_more given i post within, ← is, last) (append_assoc header (rows_from clock answers 0 front) (post_rows clock i post (slice_get answers i)))
 
 -- the operations of an answer, whether the post was stray and the fault, one after the other
 pub answer_joined : (head : List ℕ) (answer : Answer) (old after_operations after_stray new : List ℕ) → after_operations ≡ old ++ service_rows head (map operation_said answer.ops.items)

@@ -15,6 +15,8 @@ use Rattle.cap_values.specs.declared.mode.Mode.TheVariants as mode
 use Rattle.cap_values.specs.declared.operation.ScfOp.{ScfOp}
 use Rattle.cap_values.specs.declared.operation.ScfOp.TheVariants as operation
 use Rattle.entry_rows.specs.Columns.{number_or_empty}
+use Rattle.moment_texts.specs.Printing.{moment_or_empty}
+use Rattle.moment_texts.specs.declared.clock.Clock.{Clock}
 use Rattle.run_values.specs.declared.post.Answer.{Answer}
 use Rattle.run_values.specs.declared.post.Body.{Body}
 use Rattle.run_values.specs.declared.post.Body.TheVariants as body
@@ -78,11 +80,11 @@ message_said (message.EventReport event leg mode) =
 message_said (message.ChargingReport active info) = report_said active info
 message_said message.Ended = alone (codes "Ended")
 
--- what a post says: a message, or a recharge
-abbrev pub post_said : Body → Said
-post_said (body.Ssf call msg) = message_said msg
-post_said (body.Recharge account amount until) =
-    record (alone (codes "Recharge")) { x1 = decimal account; x2 = decimal amount; x3 = number_or_empty until }
+-- what a post says: a message, or a recharge with its last moment as a clock prints it
+abbrev pub post_said : Clock → Body → Said
+post_said clock (body.Ssf call msg) = message_said msg
+post_said clock (body.Recharge account amount until) =
+    record (alone (codes "Recharge")) { x1 = decimal account; x2 = decimal amount; x3 = moment_or_empty clock until }
 
 -- what an operation says
 abbrev pub operation_said : ScfOp → Said

@@ -3,6 +3,8 @@ use Rattle.std.specs.Prelude.{◌+◌, ℕ, Option, Some, None, List, [], ◌∷
 use Rattle.std.specs.Fmt.{decimal}
 use Rattle.std.specs.List.{flat_map}
 use Rattle.entry_rows.specs.Columns.{field, number_or_empty}
+use Rattle.moment_texts.specs.Printing.{moment_text}
+use Rattle.moment_texts.specs.declared.clock.Clock.{Clock}
 use Rattle.run_values.specs.declared.post.Answer.{Answer}
 use Rattle.run_values.specs.declared.post.Body.{Body}
 use Rattle.run_values.specs.declared.post.Body.TheVariants as body
@@ -26,13 +28,13 @@ said_text said = field said.what (field said.x1 (field said.x2 (field said.x3 (s
 abbrev pub row : List ℕ → List ℕ → Said → List ℕ
 row head from said = field head (field from (said_text said))
 
--- what the rows of a post begin with: its moment, its number and its call
-abbrev pub head_text : ℕ → ℕ → Option ℕ → List ℕ
-head_text at number call = field (decimal at) (field (decimal number) (number_or_empty call))
+-- what the rows of a post begin with: its moment, as a clock prints it, its number and its call
+abbrev pub head_text : Clock → ℕ → ℕ → Option ℕ → List ℕ
+head_text clock at number call = field (moment_text clock at) (field (decimal number) (number_or_empty call))
 
 -- the head of the rows of a post of this number
-abbrev pub head_of : ℕ → ℕ × Body → List ℕ
-head_of number post = head_text post.0 number (call_of post.1)
+abbrev pub head_of : Clock → ℕ → ℕ × Body → List ℕ
+head_of clock number post = head_text clock post.0 number (call_of post.1)
 
 -- the rows of what the service says to a post, each with the same head
 abbrev pub service_rows : List ℕ → List Said → List ℕ
@@ -44,18 +46,19 @@ answer_rows head None = []
 answer_rows head (Some answer) = service_rows head (answer_said answer)
 
 -- the row of a post, and those of its answer
-abbrev pub post_rows : ℕ → ℕ × Body → Option Answer → List ℕ
-post_rows number post answer = row (head_of number post) (sender_of post.1) (post_said post.1) ++ answer_rows (head_of number post) answer
+abbrev pub post_rows : Clock → ℕ → ℕ × Body → Option Answer → List ℕ
+post_rows clock number post answer =
+    row (head_of clock number post) (sender_of post.1) (post_said clock post.1) ++ answer_rows (head_of clock number post) answer
 
 -- the rows of posts whose numbers go on from this one, where the answer to each stands at the place of its number
-abbrev pub rows_from : List Answer → ℕ → List (ℕ × Body) → List ℕ
-rows_from answers number [] = []
-rows_from answers number (post ∷ posts) = post_rows number post (slice_get answers number) ++ rows_from answers (number + 1) posts
+abbrev pub rows_from : Clock → List Answer → ℕ → List (ℕ × Body) → List ℕ
+rows_from clock answers number [] = []
+rows_from clock answers number (post ∷ posts) = post_rows clock number post (slice_get answers number) ++ rows_from clock answers (number + 1) posts
 
 -- the header of the table
 abbrev pub header : List ℕ
 header = codes "moment,number,call,from,what,x1,x2,x3,x4\n"
 
 -- the table of a trace: a header, and the rows of each post, in order
-abbrev pub trace_text : List (ℕ × Body) → List Answer → List ℕ
-trace_text given answers = header ++ rows_from answers 0 given
+abbrev pub trace_text : Clock → List (ℕ × Body) → List Answer → List ℕ
+trace_text clock given answers = header ++ rows_from clock answers 0 given

@@ -7,14 +7,17 @@ ghost use Rattle.run_trace.specs.Tables.{answer_rows, call_of, head_text, row, s
 use account_core::AccountFault;
 use cap_values::{Event, Leg, Mode, ScfOp, SsfMsg};
 use entry_rows::Field;
+use moment_texts::{Clock, MomentField};
 use run_values::{Answer, Body};
 use std::alloc::AllocError;
 use std::fmt;
 use tariff_core::TimeInfo;
 
-/// What the rows of a post and of its answer begin with: the moment, the number and the call.
+/// What the rows of a post and of its answer begin with: the moment, as the clock prints it, the
+/// number and the call.
 #[derive(Clone, Copy)]
 pub(crate) struct Head {
+    pub clock: Clock,
     pub at: u64,
     pub number: u64,
     pub call: Option<u64>,
@@ -24,10 +27,11 @@ impl fmt::Display for Head {
     ghost use Rattle.std.specs.Prelude.{Some};
     ghost use Rattle.run_trace.specs.Tables.{head_text};
 
-    ghost output = { λ head. Some (head_text head.at head.number head.call) };
+    ghost output = { λ head. Some (head_text head.clock head.at head.number head.call) };
 
     fn fmt<W: fmt::Write>(&self, f: &mut fmt::Formatter<W>) -> fmt::Result {
-        let (at, number, call) = (self.at, self.number, Field(self.call));
+        let at = MomentField(self.clock, Some(self.at));
+        let (number, call) = (self.number, Field(self.call));
         write!(f, "{at},{number},{call}")
     }
 }
@@ -45,8 +49,8 @@ pub(crate) fn call_of(body: &Body) -> Option<u64>
 /// Adds the row of a post.
 pub(crate) fn write_post(text: &mut String, head: Head, body: &Body) -> Result<(), AllocError>
     ensures { OnOk result (string_bytes text.new ≡ string_bytes text.old
-        ++ row (head_text head.at head.number head.call) (sender_of body.now)
-        (post_said body.now)) }
+        ++ row (head_text head.clock head.at head.number head.call) (sender_of body.now)
+        (post_said head.clock body.now)) }
 {
     match *body {
         Body::Ssf { msg, .. } => {
@@ -58,7 +62,7 @@ pub(crate) fn write_post(text: &mut String, head: Head, body: &Body) -> Result<(
             amount,
             until,
         } => {
-            let until = Field(until);
+            let until = MomentField(head.clock, until);
             writeln!(text, "{head},operator,Recharge,{account},{amount},{until},")
         }
     }
@@ -103,7 +107,7 @@ fn write_report(text: &mut String, active: bool, info: TimeInfo) -> Result<(), A
 /// fault that an ask of an account got.
 pub(crate) fn write_answer(text: &mut String, head: Head, answer: &Answer) -> Result<(), AllocError>
     ensures { OnOk result (string_bytes text.new ≡ string_bytes text.old
-        ++ answer_rows (head_text head.at head.number head.call) (Some answer.now)) }
+        ++ answer_rows (head_text head.clock head.at head.number head.call) (Some answer.now)) }
 {
     write_operations(text, head, answer.ops.as_slice())?;
     write_stray(text, head, answer.stray)?;
@@ -113,7 +117,7 @@ pub(crate) fn write_answer(text: &mut String, head: Head, answer: &Answer) -> Re
 /// Adds the rows of operations, in order.
 fn write_operations(text: &mut String, head: Head, ops: &[ScfOp]) -> Result<(), AllocError>
     ensures { OnOk result (string_bytes text.new ≡ string_bytes text.old
-        ++ service_rows (head_text head.at head.number head.call) (map operation_said ops.now)) }
+        ++ service_rows (head_text head.clock head.at head.number head.call) (map operation_said ops.now)) }
 {
     for op in ops {
         write!(text, "{head},service,")?;
@@ -125,7 +129,7 @@ fn write_operations(text: &mut String, head: Head, ops: &[ScfOp]) -> Result<(), 
 /// Adds the row of a post that had no place.
 fn write_stray(text: &mut String, head: Head, stray: bool) -> Result<(), AllocError>
     ensures { OnOk result (string_bytes text.new ≡ string_bytes text.old
-        ++ service_rows (head_text head.at head.number head.call) (stray_said stray)) }
+        ++ service_rows (head_text head.clock head.at head.number head.call) (stray_said stray)) }
 {
     if stray {
         writeln!(text, "{head},service,stray,,,,")
@@ -141,7 +145,7 @@ fn write_refused(
     refused: Option<AccountFault>,
 ) -> Result<(), AllocError>
     ensures { OnOk result (string_bytes text.new ≡ string_bytes text.old
-        ++ service_rows (head_text head.at head.number head.call) (refused_said refused)) }
+        ++ service_rows (head_text head.clock head.at head.number head.call) (refused_said refused)) }
 {
     match refused {
         Some(fault) => writeln!(text, "{head},service,refused,{fault},,,"),

@@ -4,26 +4,28 @@ ghost use Rattle.std.specs.Prelude.{◌≡◌, ◌<◌, ◌^◌, ◌++◌, IfOk,
 ghost use Rattle.run_trace.specs.Tables.{post_rows, trace_text};
 
 use crate::rows::{Head, call_of, write_answer, write_post};
+use moment_texts::Clock;
 use run_values::{Answer, Body};
 use std::alloc::{AllocError, Global};
 
 /// The table of what was said in a run: a header, and for each item that its workers were given, in
 /// order, a row of the message or the recharge, and then a row for each thing that the service said
 /// to it: the operations of its answer, in order, `stray` where it had no place, and `refused` with
-/// the name of the fault where an ask of an account got one.
+/// the name of the fault where an ask of an account got one. Moments are as the clock prints them.
 ///
 /// The answer to an item stands at its place. An item without one has its own row alone.
 pub fn trace_table(
     alloc: Global,
+    clock: Clock,
     given: &[(u64, Body)],
     answers: &[Answer],
 ) -> Result<String, AllocError>
-    ensures { IfOk result (λ text. string_bytes text ≡ trace_text given.now answers.now) }
+    ensures { IfOk result (λ text. string_bytes text ≡ trace_text clock given.now answers.now) }
 {
     let mut text = String::new(alloc);
     writeln!(text, "moment,number,call,from,what,x1,x2,x3,x4")?;
     for (number, post) in given.iter().enumerate() {
-        write_rows(&mut text, number, post, answers.get(number))?;
+        write_rows(&mut text, clock, number, post, answers.get(number))?;
     }
     Ok(text)
 }
@@ -33,15 +35,17 @@ pub fn trace_table(
 /// text.
 pub fn write_rows(
     text: &mut String,
+    clock: Clock,
     number: usize,
     post: &(u64, Body),
     answer: Option<&Answer>,
 ) -> Result<(), AllocError>
     ensures { OnOk result (string_bytes text.new ≡ string_bytes text.old
-        ++ post_rows number post.now (option_copied answer.entry)) }
+        ++ post_rows clock number post.now (option_copied answer.entry)) }
 {
     let (at, body) = *post;
     let head = Head {
+        clock,
         at,
         number: number as u64,
         call: call_of(&body),

@@ -6,6 +6,7 @@ use crate::setups::{BAND, set_up};
 use account_core::MIN_LIMIT;
 use call_records::{call_table, records};
 use cap_values::{Event, Number, SsfMsg};
+use moment_texts::Clock;
 use run_values::Body;
 use runs_core::{Driver, serve};
 use shared_account::OpenGate;
@@ -31,7 +32,7 @@ fn expect_records<R: Abort + AllocGlobal + Wait + Threads + Sync>(
     let mut driver = Rounds::new(alloc, rounds);
     let books = serve(rt, alloc, &setup, &mut driver, 1, &OpenGate)?;
     let calls = records(alloc, &setup, driver.given(), books.as_slice())?;
-    let table = call_table(alloc, calls.as_slice())?;
+    let table = call_table(alloc, Clock::Digits, calls.as_slice())?;
     let wanted = format!(in alloc; "{HEADER}{rows}")?;
     assert_eq!(rt; table.as_str(), wanted.as_str(), "of {rounds:?}");
     Ok(())

@@ -2,4 +2,6 @@ use Rattle.message_rows.proofs.PostLines.{posts_read}
 use Rattle.message_rows.proofs.laws.printed_posts_are_read.Goals as goal
 
 pub returns : goal.returns
-returns c = posts_read c.printed_decimals_are_read.ensures.plain c.printed_tables_are_read.ensures c.printed_decimals_are_read.ensures.read
+returns c =
+    posts_read c.printed_decimals_are_read.ensures.plain c.printed_decimals_are_read.ensures.read c.printed_tables_are_read.ensures
+    c.printed_moments_are_read.ensures.plain c.printed_moments_are_read.ensures.read

@@ -1,4 +1,4 @@
-use Rattle.std.proofs.Common.{Some, refl, ap}
+use Rattle.std.proofs.Common.{◌≡◌, Some, refl, ap, sym}
 use Rattle.table_core.specs.Rows.{rows_of}
 use Rattle.message_rows.proofs.line.read_line.Goals as goal
 

@@ -43,6 +43,6 @@ returns-clause-books g c =
         run = ran.run;
       };
       setup = refl;
-      kept = λ asked. keeps_heard [] listener ran.heard c.serve.new.driver (c.new-listener.ensures.keeps.1 asked) ran.rounds ∙ ap (λ (l : List Answer). l ++ all_heard ran.heard) c.new-listener.ensures.heard;
+      kept = λ asked. keeps_heard [] listener ran.heard c.serve.new.driver (c.new-listener.ensures.keeps ∙ asked) ran.rounds ∙ ap (λ (l : List Answer). l ++ all_heard ran.heard) c.new-listener.ensures.heard;
       counted = counts_heard [] listener ran.heard c.serve.new.driver [] c.new-listener.ensures.refusals ran.rounds;
     }

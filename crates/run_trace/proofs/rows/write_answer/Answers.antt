@@ -6,7 +6,7 @@ use Rattle.run_trace.proofs.rows.write_answer.Goals as goal
 
 pub returns : goal.returns
 returns c =
-    let head = head_text c.args.head.at c.args.head.number c.args.head.call in
+    let head = head_text c.args.head.clock c.args.head.at c.args.head.number c.args.head.call in
     let operations = rw c.as_slice.ensures.value at c.in_ok-write_operations.ensures in
     on_ok_weaker c.write_refused.result
     (answer_joined head c.args.answer.now (string_bytes c.args.text.now) (string_bytes c.write_operations.new.text) (string_bytes c.write_stray.new.text) (string_bytes c.write_refused.new.text) operations

@@ -10,4 +10,4 @@ loop-number-preserved c =
     got c.args.answers.now c.loop-number.number c.get.result c.get.ensures.lookup in
     let written = c.in_ok-write_rows.ensures in
     rw found at written
-    ∙ rows_more c.args.answers.now c.args.given.now c.loop-number.number c.index-given-number.result (string_bytes c.loop-number.text) c.loop-number-test.true c.index-given-number.is c.loop-number.invariant
+    ∙ rows_more c.args.clock c.args.answers.now c.args.given.now c.loop-number.number c.index-given-number.result (string_bytes c.loop-number.text) c.loop-number-test.true c.index-given-number.is c.loop-number.invariant
