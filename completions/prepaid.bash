@@ -5,10 +5,10 @@ _prepaid()
     local current=${COMP_WORDS[COMP_CWORD]} previous=${COMP_WORDS[COMP_CWORD - 1]}
     local words
     if ((COMP_CWORD == 1)); then
-        words='price replay run audit quote rate help --help -h --version -V'
+        words='price replay run audit quote rate serve help --help -h --version -V'
     elif [[ $previous == --default ]]; then
         words='proceed release'
-    elif [[ $previous == --* && $previous != --book && $previous != --calls && $previous != --trace && $previous != --clock && $previous != --long && $previous != --differing && $previous != --summary && $previous != --help && $previous != --version ]]; then
+    elif [[ $previous == --* && $previous != --book && $previous != --calls && $previous != --trace && $previous != --lines && $previous != --clock && $previous != --long && $previous != --differing && $previous != --summary && $previous != --help && $previous != --version ]]; then
         # a number or a name comes next
         words=''
     else
@@ -19,7 +19,8 @@ _prepaid()
             audit) words='--long --help -h' ;;
             quote) words='--called --at --for --credit --clock --help -h' ;;
             rate) words='--called --answer --paid --time --end --before --after --differing --summary --help -h' ;;
-            help) words='price replay run audit quote rate help' ;;
+            serve) words='--wanted --least --tccd --lines --book --calls --help -h' ;;
+            help) words='price replay run audit quote rate serve help' ;;
             *) words='' ;;
         esac
     fi

@@ -12,7 +12,8 @@ cd "$(dirname "$0")/.."
 calls=crates/refused_growths/out/refused_growths
 prepaid=crates/prepaid/out/prepaid
 commands='command/help command/price command/replay command/run command/run_book command/run_calls
-    command/run_trace command/audit command/audit_long command/audit_altered command/rate'
+    command/run_trace command/audit command/audit_long command/audit_altered command/rate
+    command/serve'
 
 # The words of a command and its input, what it prints, and its status.
 words_of() {
@@ -26,6 +27,7 @@ words_of() {
         command/run_trace) echo 'run --trace' ;;
         command/audit_long) echo 'audit --long' ;;
         command/rate) echo 'rate' ;;
+        command/serve) echo 'serve --lines' ;;
         command/audit*) echo 'audit' ;;
     esac
 }
@@ -39,6 +41,7 @@ input_of() {
         command/audit | command/audit_long) echo "$work/book" ;;
         command/audit_altered) echo examples/altered_book.csv ;;
         command/rate) echo "$work/records" ;;
+        command/serve) echo examples/live.txt ;;
     esac
 }
 
@@ -89,6 +92,20 @@ answer_of() {
             echo '4930,0,600,1050,"a, b",49,600,0,1050,0,'
             echo '4930,0,600,1000,,49,600,0,1050,50,'
             ;;
+        command/serve)
+            echo 'moment,number,call,from,what,x1,x2,x3,x4'
+            echo '0,0,1,switch,InitialDP,491700001,4930,,'
+            echo '0,0,1,service,RequestReportBCSMEvent,,,,'
+            echo '0,0,1,service,ApplyCharging,600,,,'
+            echo '0,0,1,service,Continue,,,,'
+            echo '100,1,1,switch,EventReportBCSM,answer,,notify,'
+            echo '400,2,1,switch,ApplyChargingReport,inactive,n,300,'
+            echo '400,3,1,switch,EventReportBCSM,disconnect,1,interrupted,'
+            echo '400,3,1,service,Continue,,,,'
+            echo '402,4,1,switch,Ended,,,,'
+            echo '%%'
+            answer_of command/run
+            ;;
         command/audit_altered)
             echo 'account 7 no'
             echo 'account 8 yes'
@@ -122,14 +139,35 @@ ungranted_of() {
             echo '0,0,1,service,refused,OutOfMemory,,,'
             echo '2,1,1,switch,Ended,,,,'
             ;;
+        command/serve)
+            echo 'moment,number,call,from,what,x1,x2,x3,x4'
+            echo '0,0,1,switch,InitialDP,491700001,4930,,'
+            echo '0,0,1,service,ReleaseCall,41,,,'
+            echo '0,0,1,service,refused,OutOfMemory,,,'
+            echo '100,1,1,switch,EventReportBCSM,answer,,notify,'
+            echo '400,2,1,switch,ApplyChargingReport,inactive,n,300,'
+            echo '400,2,1,service,stray,,,,'
+            echo '400,3,1,switch,EventReportBCSM,disconnect,1,interrupted,'
+            echo '400,3,1,service,Continue,,,,'
+            echo '402,4,1,switch,Ended,,,,'
+            echo '%%'
+            ungranted_of command/run
+            ;;
     esac
+}
+
+# Whether what was printed is a front of a text.
+is_front_of() {
+    head -c "$(stat -c %s "$work/output")" "$1" | cmp -s - "$work/output"
 }
 
 # Whether a command has ended as it may with growths refused, and, where none was, with its answer.
 is_command_right() {
     local name=$1 refused=$2 status=$3
     if [ "$status" -eq "$(status_of "$name")" ] && [ ! -s "$work/faults" ]; then
-        cmp -s "$work/output" "$work/answer"
+        cmp -s "$work/output" "$work/answer" && return
+        # The service says a refusal in its rows.
+        [ "$name" = command/serve ] && [ "$refused" -gt 0 ] && cmp -s "$work/output" "$work/ungranted"
         return
     fi
     # The run went on without the grant, and says so.
@@ -140,7 +178,8 @@ is_command_right() {
     [ "$refused" -gt 0 ] && [ "$status" -eq 2 ] || return
     # Rows are printed as they come, so what there is of them is a front.
     case $name in
-        command/rate) head -c "$(stat -c %s "$work/output")" "$work/answer" | cmp -s - "$work/output" || return ;;
+        command/rate) is_front_of "$work/answer" || return ;;
+        command/serve) is_front_of "$work/answer" || is_front_of "$work/ungranted" || return ;;
         *) [ ! -s "$work/output" ] || return ;;
     esac
     case $name,$(cat "$work/faults") in

@@ -17,7 +17,7 @@ HELP = {"-h", "--help"}
 VERSION = {"-V", "--version"}
 # Kinds of a tariff's faults that the program tells as those of a run.
 OF_RUN = {"Device", "OutOfMemory"}
-PARTS = r"(reports|ops|setup|script|book|records) row"
+PARTS = r"(reports|ops|setup|script|book|records|messages) row"
 
 TARIFF = "prefix,from,fee,rate\n49,00:00,50,1000\n"
 
@@ -28,12 +28,19 @@ def call(answer):
             f"0,1,start,491700001,4930\n{answer},1,answer,,\n900,1,disconnect,1,\n")
 
 
+def served(answer):
+    """The input of the service with the same call."""
+    return call(0).split("moment,")[0] + ("moment,number,call,from,what,x1,x2,x3,x4\n0,,1,switch,InitialDP,491700001,4930,,\n"
+            f"{answer},,1,switch,EventReportBCSM,answer,,notify,\n900,,1,switch,EventReportBCSM,disconnect,1,interrupted,\n")
+
+
 # Of each command the words that it needs, and an input.
 NEEDS = {
     "price": ({"--fee": "50", "--before": "1000"}, "before,after\n600,0\n"),
     "replay": ({"--opening": "5000"}, "seat,op,call,x1,x2,x3,x4,x5\n" + "0,reserve,1,50,1000,,600,50\n0,settle,1,0,n,600,,\n" * 2),
     "quote": ({"--called": "4930", "--at": "0"}, TARIFF),
     "run": ({}, call(10)),
+    "serve": ({}, served(10)),
 }
 # Options that may be left out: words beside one, an input, and a word that gives another answer than what the option is
 # then.
@@ -49,6 +56,9 @@ LEFT_OUT = [
     ("run", "--tccd", ["--least", "49"], call(10), "49"),
     ("run", "--delay", [], call(2), "3"),
     ("run", "--delay", [], call(1), "1"),
+    ("serve", "--wanted", [], served(10), "601"),
+    ("serve", "--least", ["--book"], served(10), "51"),
+    ("serve", "--tccd", ["--least", "49"], served(10), "49"),
 ]
 
 
@@ -86,11 +96,12 @@ def said_in_formats(text):
                 values[name, option] = values[name, option][0], values[name, option][0].split()[-1]
             elif left := re.match(rf"{option} N\]` [^`]*which is (\d+) where it is left out", behind):
                 values[name, option] = values[name, option][0], left[1]
-    for option, left, allowed, _ in tables["Option of `run`"]:
-        option, *takes = option.strip("`").split()
-        commands["run"].add(option)
-        if takes:
-            values["run", option] = allowed.replace("`", ""), left.strip("`")
+    for name in ("run", "serve"):
+        for option, left, allowed, _ in tables[f"Option of `{name}`"]:
+            option, *takes = option.strip("`").split()
+            commands[name].add(option)
+            if takes:
+                values[name, option] = allowed.replace("`", ""), left.strip("`")
     lines = {it: int(row[1]) for row in tables["Line"] if row[0] != "none" for it in fault_lines(row[0])}
     lines |= {f"prepaid: run: {it}": int(row[1]) for row in tables["Line"] for it in re.findall(r"`(\w+)` is a name too", row[2])}
     kinds = {row[0].strip("`") for row in tables["KIND"]}
@@ -214,10 +225,10 @@ def said_in_help(program):
     return commands, left, {re.sub(PARTS, "PART row", it) for it in lines}, kinds
 
 
-def faults_of_rows(program):
-    """The faults that a row of a rating may have, in the order of the help."""
-    text = subprocess.run([program, "help", "rate"], capture_output=True, text=True, check=True).stdout
-    return re.findall(r"^  (\w+)  ", text.partition("\nFaults of a row")[2], re.M)
+def faults_of(what, name, program):
+    """The faults that a row or a line of a command may have, in the order of the help."""
+    text = subprocess.run([program, "help", name], capture_output=True, text=True, check=True).stdout
+    return re.findall(r"^  (\w+)  ", text.partition(f"\nFaults of a {what}")[2], re.M)
 
 
 def ranges_in_help(program):
@@ -248,21 +259,26 @@ def ranges_in_formats(text, values):
     accounts = re.search(r"also the (\d+)st account", text)[1]
     wanted = {(name, "TooManyRows"): [few] for name in ("price", "replay", "quote")}
     long = re.search(r"`audit --long` reads .* of at most (\d+) rows", text)[1]
-    wanted |= {("audit", "TooManyRows"): [many, long], ("run", "TooManyRows"): [few, many, accounts]}
+    wanted |= {("audit", "TooManyRows"): [many, long], ("run", "TooManyRows"): [few, many, accounts], ("serve", "TooManyRows"): [few, accounts]}
     wanted |= {(it, "TooLong"): re.findall(r"input has at most (\d+) bytes", text) for it in (*NEEDS, "audit")}
-    for name in ("run", "quote"):
+    for name in ("run", "quote", "serve"):
         wanted |= {(name, kind): [it] for kind, it in zip(("Digits", "From", "Money", "Free", "First", "Step"), numbers_of(rows["tariff"]))}
-    wanted["run", "Number"] = re.findall(r"a party that isn't (\d+ to \d+) digits", text)
+    wanted["run", "Number"] = wanted["serve", "Number"] = re.findall(r"a party that isn't (\d+ to \d+) digits", text)
     wanted["price", "Number"] = numbers_of(rows["reports"])
     wanted["price", "Order"] = [numbers_of(rows["reports"])[0].split()[-1]]
     wanted["run", "--workers"] = re.findall(r"takes (\d+ to \d+)", values["run", "--workers"][0])
-    times, above = [], "--delay"
-    while ("run", above) in values:
-        least, most = values["run", above][0].split(" to ")
-        times, above = times + ([least] if not times else []) + [above[2:]], "--" + most
-    tssf = values["run", "--tssf"][0]
-    wanted["run", "times"] = f"{' <= '.join(times)} <= {most}, and tssf is {tssf}."
+    wanted["run", "times"] = f"{relation_of('run', '--delay', values)}, and tssf is {values['run', '--tssf'][0]}."
+    wanted["serve", "times"] = f"{relation_of('serve', '--tccd', values)}."
     return wanted
+
+
+def relation_of(name, first, values):
+    """The relation between the times of a command, from the least one on, as their ranges say it."""
+    times, above = [], first
+    while (name, above) in values:
+        least, most = values[name, above][0].split(" to ")
+        times, above = times + ([least] if not times else []) + [above[2:]], "--" + most
+    return f"{' <= '.join(times)} <= {most}"
 
 
 def long_books(program):
@@ -304,12 +320,12 @@ def answer(program, name, words, text, option=None, value=None):
     return ran.returncode, ran.stdout, ran.stderr
 
 
-def ends_of(allowed, defaults):
+def ends_of(command, allowed, defaults):
     """The least and the greatest number of a range; the name of an option stands for what that is where it is left out."""
     least, most = re.search(r"(\S+) to (\S+)$", allowed.replace("`", "")).groups()
 
     def number(word):
-        base, _, power = defaults.get(("run", "--" + word), word).partition("^")
+        base, _, power = defaults.get((command, "--" + word), word).partition("^")
         return int(base) ** int(power or 1)
 
     return number(least), number(most)
@@ -317,12 +333,12 @@ def ends_of(allowed, defaults):
 
 def refusal(name, option, value, allowed, defaults):
     """The fault that a number of an option has by the formats, or nothing where it is in range."""
-    least, most = ends_of(allowed, defaults)
+    least, most = ends_of(name, allowed, defaults)
     if least <= value <= most:
         return ""
     # a decimal has at most 20 digits; how many workers may be asked for stands first in their range
     asked = re.match(r"\d+ to (\d+);", allowed)
-    if name != "run" or value >= 10**20 or asked and value > int(asked[1]):
+    if name not in ("run", "serve") or value >= 10**20 or asked and value > int(asked[1]):
         return "prepaid: arguments"
     return "prepaid: run: Workers" if asked else "prepaid: input: Config"
 
@@ -333,7 +349,7 @@ def range_faults(program, values, lines):
     for (name, option), (allowed, _) in values.items():
         if option == "--default":
             continue
-        least, most = ends_of(allowed, defaults)
+        least, most = ends_of(name, allowed, defaults)
         tried = [most, most + 1] + [least, least - 1][: 1 + (least > 0)]
         if option != "--called":
             tried += [99, 100, 2**32, 2**32 + most, 2**64 - 1, 2**64 + least, 10**20 - 1, 10**20]
@@ -399,7 +415,8 @@ def main():
     usages = usages_in_man(manual)
     same("help", "usage", usages_in_help(program, set(usages) - {"help"}), {it: usages[it] for it in usages if it != "help"})
     same("help", "kinds of faults", of_help[3], kinds - OF_RUN)
-    same("help", "faults of a row", faults_of_rows(program), re.findall(r"`(\w+)`", re.search(r"are: the first of (.*?) \|", formats)[1]))
+    same("help", "faults of a row", faults_of("row", "rate", program), re.findall(r"`(\w+)`", re.search(r"are: the first of (.*?) \|", formats)[1]))
+    same("help", "faults of a line", faults_of("line", "serve", program), [it[0].strip("`") for it in tables_of(formats)["Fault of a line"]])
     same("help", "left out", of_help[1], {it: defaults[it] for it in defaults if it[0] == "run" or it in of_help[1]})
     same("help", "ranges", ranges_in_help(program), ranges_in_formats(formats, values))
     for name, (found, told) in (("bash", of_bash), ("zsh", of_zsh)):

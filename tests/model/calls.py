@@ -10,28 +10,28 @@ REPORTED = {"busy": "busy", "noanswer": "noanswer", "routefail": "routefail", "a
 class Told:
     """The numbers of a call, the moments of three of its messages, and the points that were reported."""
 
-    calling: str
-    called: str
-    start: int
+    calling: "str | None" = None
+    called: "str | None" = None
+    start: "int | None" = None
     answer: "int | None" = None
     end: "int | None" = None
     reported: set = dataclasses.field(default_factory=set)
 
     def hear(self, now, message):
-        if message[0] == "ended":
+        """Notes a message. Of its start, its answer and its end the first one counts."""
+        if message[0] == "initial dp" and self.start is None:
+            self.calling, self.called, self.start = *message[1:], now
+        elif message[0] == "ended" and self.end is None:
             self.end = now
         elif message[0] == "event":
             self.reported.add(message[1].split()[0])
-            if message[1] == "answer":
+            if message[1] == "answer" and self.answer is None:
                 self.answer = now
 
 
 def hear(calls, now, call, message):
     """Notes a message of a call."""
-    if message[0] == "initial dp":
-        calls[call] = Told(*message[1:], now)
-    else:
-        calls[call].hear(now, message)
+    calls.setdefault(call, Told()).hear(now, message)
 
 
 def outcome(told, account, prefix, replies, known):
@@ -63,7 +63,7 @@ def table(calls, tariff, subscribers, accounts, clock=str):
             if op[0] == "reserve":
                 reserves.setdefault((number, op[1]), []).append(reply)
     rows = [HEADER]
-    for call, told in sorted(calls.items()):
+    for call, told in sorted((call, it) for call, it in calls.items() if it.start is not None):
         account = subscribers.get(told.calling)
         prefix = max((it for it in tariff if told.called.startswith(it)), key=len, default=None)
         known = accounts[account].calls.get(call) if account is not None else None

@@ -4,6 +4,7 @@ import re
 from .account import DAY, MAX_MONEY, Account, Plan, Times, afford, price
 from .rate import rate
 from .run import Options, Run
+from .serve import serve
 from .tables import (
     LAST_MOMENT,
     MAX_RATE,
@@ -23,8 +24,10 @@ from .tables import (
 MAX_INPUT = 16_777_216
 # What `run` may print in place of its lines.
 TABLES = ("--book", "--calls", "--trace")
+# What `serve` may print at its end.
+ENDS = ("--lines", "--book", "--calls")
 # Options without a value.
-FLAGS = (*TABLES, "--clock", "--long", "--differing")
+FLAGS = (*TABLES, "--lines", "--clock", "--long", "--differing")
 # How many rows a book may have, and a long one.
 MOST_ROWS, MOST_LONG_ROWS = 1_000_000, 4_294_967_293
 # More entries than an input has room for.
@@ -37,6 +40,7 @@ TAKEN = {
     "rate": {"--called", "--answer", "--time", "--end", "--paid", "--before", "--after", "--differing"},
     "quote": {"--called", "--at", "--for", "--credit", "--clock"},
     "run": {"--workers", "--wanted", "--least", "--tssf", "--tccd", "--delay", "--default", "--clock", *TABLES},
+    "serve": {"--wanted", "--least", "--tccd", *ENDS},
 }
 
 
@@ -53,7 +57,7 @@ def command(words, text, book=None):
             return 0, text, run.refusals(), not run.is_contended
         if words[0] in ("audit", "rate"):
             return *{"audit": do_audit, "rate": rate}[words[0]](given, text), "", True
-        return 0, {"price": do_price, "replay": do_replay, "quote": do_quote}[words[0]](given, text), "", True
+        return 0, {"price": do_price, "replay": do_replay, "quote": do_quote, "serve": do_serve}[words[0]](given, text), "", True
     except Fault as fault:
         return fault.status, "", fault.line + "\n", True
 
@@ -65,7 +69,7 @@ def options_in(name, words):
         if word not in TAKEN[name] or word in given or word not in FLAGS and not left:
             raise ARGUMENTS
         given[word] = True if word in FLAGS else left.pop(0)
-    if sum(it in given for it in TABLES) > 1 or name == "rate" and not are_times(given):
+    if max(sum(it in given for it in words) for words in (TABLES, ENDS)) > 1 or name == "rate" and not are_times(given):
         raise ARGUMENTS
     if name == "run" and "--clock" in given and not {"--calls", "--trace"} & set(given):
         raise ARGUMENTS
@@ -173,6 +177,13 @@ def do_audit(given, text):
         status = status if legal else 3
         lines.append(f"account {number} {'yes' if legal else 'no'}\n")
     return status, "".join(lines)
+
+
+def do_serve(given, text):
+    wanted, least, tccd = number(given, "--wanted", 600), number(given, "--least", 50), number(given, "--tccd", 50)
+    if not 1 <= tccd <= least <= wanted <= DAY:
+        raise Fault("prepaid: input: Config")
+    return serve(given, text, {"wanted": wanted, "least": least})
 
 
 def do_run(given, text, book):

@@ -5,6 +5,7 @@ from .account import DAY, MAX_MONEY
 from .command import FLAGS, TABLES, command
 from .rate import Wrong, line, rated
 from .tables import BOOK, OPS, SCRIPT, SETUP, TARIFF, Fault, dated, read_tariff
+from .trace import HEADER
 
 # Fields that are wrong in most places, and right at an end of a range in some.
 FIELDS = (
@@ -27,8 +28,8 @@ def make(seed):
     it = random.Random(seed)
     if seed % 500 == 11:
         return full_run(it)
-    kind = "quote" if seed % 10 == 9 else "rate" if seed % 10 == 4 else it.choices(["price", "replay", "run", "audit"], [2, 3, 9, 5])[0]
-    words, text = {"price": prices, "replay": operations, "run": runs, "audit": books, "quote": quotes, "rate": ratings}[kind](it)
+    kind = "quote" if seed % 10 == 9 else "rate" if seed % 10 == 4 else "serve" if seed % 10 == 2 else it.choices(["price", "replay", "run", "audit"], [2, 3, 9, 5])[0]
+    words, text = {"price": prices, "replay": operations, "run": runs, "audit": books, "quote": quotes, "rate": ratings, "serve": messages}[kind](it)
     if it.random() < 0.12:
         words = other_words(it, words)
     if it.random() < 0.35:
@@ -260,6 +261,56 @@ def script(it, given, base, accounts, subscribers):
     # a start stays before what its call meets: sorting keeps the order of one moment
     rows = [row for _, row in sorted(enumerate(rows), key=lambda row: (row[1][0], row[0]))]
     return table([header, *([written(it, row[0]), *row[1:], ""][: len(header)] for row in rows)])
+
+
+def messages(it):
+    """The messages of a run for `serve`: some are dropped, altered, sent again or exchanged, with bad lines among them."""
+    words, text = runs(it)
+    options = dict(zip(words[1::2], words[2::2]))
+    given = {name: value for name, value in options.items() if name not in TABLES and name != "--workers"}
+    _, table_of, _, _ = command(["run", "--workers", "1", "--trace", *(word for pair in given.items() for word in pair)], text)
+    rows = [row for row in table_of.encode().split(b"\n") if row.split(b",")[3:4] in ([b"switch"], [b"operator"])]
+    numbered = it.choice([0, 0.3, 1])
+    lines = [row if it.random() < numbered else without_number(row) for row in rows]
+    for _ in range(it.choice([0, 1, 2, 4, 8])):
+        disturb(it, rows, lines)
+    behind = it.choice([b"\n"] * 4 + [b"\r\n"])
+    body = behind.join([HEADER.encode() if it.random() < 0.97 else it.choice([b"", b"moment", HEADER.encode() + b" "]), *lines, b""])
+    words = ["serve", *(word for name in ("--wanted", "--least", "--tccd") if name in given for word in (name, given[name]))]
+    words += it.choice([[], ["--lines"], ["--book"], ["--calls"]])
+    head = b"%%\n".join(text.split(b"%%\n")[:2]) + b"%%\n"
+    return words, head + (body if it.random() < 0.9 else body[: -len(behind)])
+
+
+def without_number(row):
+    fields = row.split(b",")
+    return b",".join([fields[0], b"", *fields[2:]])
+
+
+def disturb(it, rows, lines):
+    """Puts a line among the others that isn't accepted there, or changes one."""
+    at = it.randrange(len(lines) + 1)
+    what = it.randrange(9)
+    if what == 0:
+        lines.insert(at, it.choice([b"", b"x", b"%%", b'"', b",,,,,,,,", b"\x00", b"0,,1,service,Continue,,,,", b"0,,1,switch,EventReportBCSM,collectedInfo,,notify,"]))
+    elif what == 1:
+        lines.insert(at, b"x" * it.choice([4094, 4095, 4096, 4097, 9000]))
+    elif not lines or not rows:
+        return
+    elif what == 2:
+        lines.insert(at, it.choice(rows))
+    elif what == 3:
+        del lines[at - 1]
+    elif what == 4:
+        other = it.randrange(len(lines))
+        lines[at - 1], lines[other] = lines[other], lines[at - 1]
+    elif what == 5:
+        lines.insert(at, without_number(it.choice(rows)))
+    else:
+        fields = lines[at - 1].split(b",")
+        place = it.randrange(len(fields))
+        fields[place] = it.choice([*FIELDS, "switch", "Ended", "notify", "interrupted", "transparent", "active", "inactive", "busy", "answer", "abandon"]).encode()
+        lines.insert(at, b",".join(fields))
 
 
 def books(it):

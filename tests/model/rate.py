@@ -2,7 +2,7 @@
 import re
 
 from .account import DAY, MAX_MONEY, price
-from .tables import LAST_MOMENT, Fault, decimal, digits, moment, read_tariff, records, route, separators
+from .tables import LAST_MOMENT, Fault, decimal, digits, first_part, moment, read_tariff, records, route
 
 MAX_ROW = 65_536
 ADDED = [b"prefix", b"before", b"after", b"price", b"difference", b"fault"]
@@ -11,15 +11,6 @@ NO_HEADER = Fault("prepaid: records row 1: Header")
 
 class Wrong(Exception):
     """What is wrong with a row."""
-
-
-def halves(text):
-    """The tariff, and what stands behind the first line that is %% alone."""
-    lines = text.split(b"\n")
-    ends = separators(lines)
-    if not ends:
-        raise Fault("prepaid: input: Parts")
-    return b"\n".join(lines[: ends[0]]), b"\n".join(lines[ends[0] + 1 :])
 
 
 def quoted(field):
@@ -114,7 +105,7 @@ def rated(tariff, called, at, times):
 
 def rate(given, text):
     """The status, the rows, and the line of the summary."""
-    first, second = halves(text)
+    first, second = first_part(text)
     tariff = read_tariff(first)
     header, *rows = records(second) or [None]
     if header is None:

@@ -5,6 +5,8 @@ import re
 from .account import DAY, MAX_MONEY, Plan, Times, lawful
 
 MAX_RATE = 10**9
+# The most bytes of a part that is read as it comes, its divider counted.
+MAX_PART = 16_777_216
 LAST_MOMENT = 10**12
 HORIZON = 2 * 10**12
 EPOCH, UNIT = datetime.datetime(1970, 1, 1), datetime.timedelta(milliseconds=100)
@@ -293,6 +295,19 @@ def read_script(text, accounts):
 def separators(lines):
     """Which of some lines are %% alone. A CR before the end of the input is none of a line's end."""
     return [i for i, line in enumerate(lines) if line == b"%%" or line == b"%%\r" and i + 1 < len(lines)]
+
+
+def first_part(text):
+    """What stands before the first line that is %% alone, and what stands behind it."""
+    lines = text.split(b"\n")
+    ends = separators(lines)
+    at = ends[0] + 1 if ends else len(lines)
+    behind = b"\n".join(lines[at:])
+    if len(text) - len(behind) > MAX_PART:
+        raise Fault("prepaid: input: TooLong")
+    if not ends:
+        raise Fault("prepaid: input: Parts")
+    return b"\n".join(lines[: at - 1]), behind
 
 
 def divide(text):

@@ -4,10 +4,11 @@ use Rattle.std.specs.Prelude.{option_map, unwrap_or, nat_le, if◌then◌else◌
 use Rattle.std.proofs.lemmas.Bool.Decides.{nat_tests}
 use Rattle.std.specs.Str.Parse.{digits_value}
 use Rattle.std.proofs.lemmas.Bool.{and_parts}
-use Rattle.run_options.specs.Configs.{is_config}
+use Rattle.run_options.specs.Configs.{is_config, is_live_config}
+use Rattle.run_options.specs.declared.live.LiveAsk.{LiveAsk}
 use Rattle.run_options.specs.declared.options.RunAsk.{RunAsk}
 use Rattle.table_core.specs.Decimals.{decimal_of, is_decimal}
-use Rattle.command_words.specs.Capped.{capped, capped_ask}
+use Rattle.command_words.specs.Capped.{capped, capped_ask, capped_live_ask}
 use Rattle.command_words.specs.RunWords.{number_of}
 
 -- ---- one number
@@ -76,3 +77,35 @@ fails_capped ask fails = cases (is_config ask) refl
         let same : capped_ask ask ≡ ask =
         rw (small ask.wanted days.wanted, small ask.least days.least, small ask.tssf days.tssf, small ask.tccd days.tccd, small ask.delay days.delay) refl in
         sym is ∙ ap is_config (sym same) ∙ fails
+
+-- ---- the same of the service live
+
+pub record AreLiveDays (ask : LiveAsk) : Type 0 where
+  pub wanted : ask.wanted ≤ 864000
+  pub least : ask.least ≤ 864000
+  pub tccd : ask.tccd ≤ 864000
+
+pub are_live_days : (ask : LiveAsk) → is_live_config ask ≡ true → AreLiveDays ask
+are_live_days ask is =
+    let wanted = and_parts _ _ is in
+    let least = and_parts _ _ wanted.0 in
+    let tccd = and_parts _ _ least.0 in
+    let w : ask.wanted ≤ 864000 = within _ _ wanted.1 in
+    let l : ask.least ≤ ask.wanted = within _ _ least.1 in
+    let t : ask.tccd ≤ ask.least = within _ _ tccd.1 in
+    record { wanted = w; least = omega arith; tccd = omega arith }
+
+pub passes_capped_live : (ask : LiveAsk) → is_live_config (capped_live_ask ask) ≡ true → capped_live_ask ask ≡ ask
+passes_capped_live ask is =
+    let days = are_live_days (capped_live_ask ask) is in
+    rw (not_capped ask.wanted days.wanted, not_capped ask.least days.least, not_capped ask.tccd days.tccd) refl
+
+pub fails_capped_live : (ask : LiveAsk) → is_live_config (capped_live_ask ask) ≡ false → is_live_config ask ≡ false
+fails_capped_live ask fails = cases (is_live_config ask) refl
+  where
+    cases : (b : Bool) → is_live_config ask ≡ b → b ≡ false
+    cases false is = refl
+    cases true is =
+        let days = are_live_days ask is in
+        let same : capped_live_ask ask ≡ ask = rw (small ask.wanted days.wanted, small ask.least days.least, small ask.tccd days.tccd) refl in
+        sym is ∙ ap is_live_config (sym same) ∙ fails

@@ -7,7 +7,7 @@ use Rattle.clap.specs.declared.error.kind.ErrorKind.{ErrorKind}
 use Rattle.clap.specs.declared.error.kind.ErrorKind.TheVariants as kind
 use Rattle.clap.specs.declared.parser.matches.ArgMatches.{ArgMatches}
 use Rattle.command_words.specs.Arguments.{IsRead, IsRefusal, IsRequestOf, wish_in}
-use Rattle.command_words.specs.CommandLine.{audit_app, command_in, errors_in, price_app, program_app, quote_app, rate_app, replay_app, run_app}
+use Rattle.command_words.specs.CommandLine.{audit_app, command_in, errors_in, price_app, program_app, quote_app, rate_app, replay_app, run_app, serve_app}
 use Rattle.command_words.specs.declared.request.Request.{Request}
 use Rattle.command_words.specs.declared.request.Request.TheVariants as request
 use Rattle.command_words.specs.declared.fault.WordsFault.{WordsFault}
@@ -15,11 +15,11 @@ use Rattle.command_words.specs.declared.fault.WordsFault.TheVariants as fault
 
 -- the program's command line is one of which clap says the matches and the errors
 pub program_is_simple : is_simple program_app ≡ true
-unfolding clap_on_literals program_app price_app replay_app run_app audit_app quote_app rate_app
+unfolding clap_on_literals program_app price_app replay_app run_app audit_app quote_app rate_app serve_app
 program_is_simple = refl
 
 pub program_is_free : is_simple_and_free program_app ≡ true
-unfolding clap_on_literals program_app price_app replay_app run_app audit_app quote_app rate_app
+unfolding clap_on_literals program_app price_app replay_app run_app audit_app quote_app rate_app serve_app
 program_is_free = refl
 
 -- words that clap refuses ask for help, for the version or for nothing
@@ -32,6 +32,7 @@ refused_by words error (Ok (request.Run options)) among is = absurd is
 refused_by words error (Ok (request.Audit size)) among is = absurd is
 refused_by words error (Ok (request.Quote ask)) among is = absurd is
 refused_by words error (Ok (request.Rate ask)) among is = absurd is
+refused_by words error (Ok (request.Serve options)) among is = absurd is
 refused_by words error (Err fault.Arguments) among is = inl (error, among, is.0)
 refused_by words error (Err fault.OutOfMemory) among is = tt
 refused_by words error (Err fault.Config) among is = absurd is
@@ -45,6 +46,7 @@ refused_for_memory words error (Ok (request.Run options)) memory is = absurd is
 refused_for_memory words error (Ok (request.Audit size)) memory is = absurd is
 refused_for_memory words error (Ok (request.Quote ask)) memory is = absurd is
 refused_for_memory words error (Ok (request.Rate ask)) memory is = absurd is
+refused_for_memory words error (Ok (request.Serve options)) memory is = absurd is
 refused_for_memory words error (Err fault.Arguments) memory is = absurd (is.1 memory)
 refused_for_memory words error (Err fault.OutOfMemory) memory is = tt
 refused_for_memory words error (Err fault.Config) memory is = absurd is
@@ -72,6 +74,7 @@ asked_by words command (Ok (request.Run options)) parsed command_is is = record 
 asked_by words command (Ok (request.Audit size)) parsed command_is is = record { parsed = parsed; wish_is = sym (ap wish_in command_is) ∙ is }
 asked_by words command (Ok (request.Quote ask)) parsed command_is is = record { parsed = parsed; wish_is = sym (ap wish_in command_is) ∙ is }
 asked_by words command (Ok (request.Rate ask)) parsed command_is is = record { parsed = parsed; wish_is = sym (ap wish_in command_is) ∙ is }
+asked_by words command (Ok (request.Serve options)) parsed command_is is = record { parsed = parsed; wish_is = sym (ap wish_in command_is) ∙ is }
 asked_by words command (Err fault.Arguments) parsed command_is is = inr (record { parsed = parsed; refused = sym (ap wish_in command_is) ∙ is })
 asked_by words command (Err fault.OutOfMemory) parsed command_is is = absurd is
 asked_by words command (Err fault.Config) parsed command_is is = record { parsed = parsed; refused = sym (ap wish_in command_is) ∙ is }

@@ -4,17 +4,18 @@ use Rattle.std.specs.Str.{bytes_eq}
 use Rattle.clap.specs.Words.{IsAmong, Row, Text}
 use Rattle.clap.specs.declared.error.kind.ErrorKind.{ErrorKind}
 use Rattle.clap.specs.declared.error.kind.ErrorKind.TheVariants as kind
-use Rattle.run_options.specs.Options.{ask_of}
+use Rattle.run_options.specs.Options.{ask_of, live_ask_of}
 use Rattle.tariff_core.specs.RatesOf.{rates_of}
 use Rattle.command_words.specs.AuditWords.{size_in}
 use Rattle.command_words.specs.CommandLine.{command_in, errors_in}
 use Rattle.command_words.specs.Options.{plan_in, replay_in}
 use Rattle.command_words.specs.RunWords.{run_in}
+use Rattle.command_words.specs.ServeWords.{serve_in}
 use Rattle.command_words.specs.QuoteWishes.{wish_of}
 use Rattle.command_words.specs.QuoteWords.{quote_in}
 use Rattle.command_words.specs.RateWords.{rate_in}
 use Rattle.rating.specs.SaidOf.{wish_of as rate_wish_of}
-use Rattle.command_words.specs.Wishes.{Wish, Audits, Prices, Quotes, RatesRecords, Replays, Runs}
+use Rattle.command_words.specs.Wishes.{Wish, Audits, Prices, Quotes, RatesRecords, Replays, Runs, Serves}
 use Rattle.command_words.specs.declared.request.Request.{Request}
 use Rattle.command_words.specs.declared.request.Request.TheVariants as request
 use Rattle.command_words.specs.declared.fault.WordsFault.{WordsFault}
@@ -30,6 +31,7 @@ wish_in (Some command) =
     else if bytes_eq command.0 (codes "audit") then Ok (Audits (size_in command.1))
     else if bytes_eq command.0 (codes "quote") then ok_or (option_map (λ quote. Quotes quote) (quote_in command.1)) fault.Arguments
     else if bytes_eq command.0 (codes "rate") then ok_or (option_map (λ rate. RatesRecords rate) (rate_in command.1)) fault.Arguments
+    else if bytes_eq command.0 (codes "serve") then serve_in command.1
     else Err fault.Arguments
 
 -- the request is what was wished, or the fault is why nothing is
@@ -40,6 +42,7 @@ IsRequestOf wish (Ok (request.Run options)) = wish ≡ Ok (Runs (ask_of options)
 IsRequestOf wish (Ok (request.Audit size)) = wish ≡ Ok (Audits size)
 IsRequestOf wish (Ok (request.Quote ask)) = wish ≡ Ok (Quotes (wish_of ask))
 IsRequestOf wish (Ok (request.Rate ask)) = wish ≡ Ok (RatesRecords (rate_wish_of ask))
+IsRequestOf wish (Ok (request.Serve options)) = wish ≡ Ok (Serves (live_ask_of options))
 IsRequestOf wish (Err fault.Arguments) = wish ≡ Err fault.Arguments
 IsRequestOf wish (Err fault.Config) = wish ≡ Err fault.Config
 IsRequestOf wish _ = ⊥
@@ -80,6 +83,7 @@ IsRead words (Ok (request.Run options)) = AsksFor words (Runs (ask_of options))
 IsRead words (Ok (request.Audit size)) = AsksFor words (Audits size)
 IsRead words (Ok (request.Quote ask)) = AsksFor words (Quotes (wish_of ask))
 IsRead words (Ok (request.Rate ask)) = AsksFor words (RatesRecords (rate_wish_of ask))
+IsRead words (Ok (request.Serve options)) = AsksFor words (Serves (live_ask_of options))
 IsRead words (Err fault.Arguments) = AsksNothing words
 IsRead words (Err fault.OutOfMemory) = ⊤
 IsRead words (Err fault.Config) = AsksInVain words fault.Config

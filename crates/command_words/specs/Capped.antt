@@ -1,5 +1,6 @@
 -- Numbers as the code keeps them: 32 bits, of which the greatest stands for all above it.
 use Rattle.std.specs.Prelude.{ℕ, min}
+use Rattle.run_options.specs.declared.live.LiveAsk.{LiveAsk}
 use Rattle.run_options.specs.declared.options.RunAsk.{RunAsk}
 
 -- a number in 32 bits, of which the greatest stands for all above it
@@ -9,3 +10,7 @@ capped number = min number 4294967295
 -- an ask whose numbers are capped
 abbrev pub capped_ask : RunAsk → RunAsk
 capped_ask ask = record ask { wanted = capped ask.wanted; least = capped ask.least; tssf = capped ask.tssf; tccd = capped ask.tccd; delay = capped ask.delay }
+
+-- the same of what the service live is asked for
+abbrev pub capped_live_ask : LiveAsk → LiveAsk
+capped_live_ask ask = record ask { wanted = capped ask.wanted; least = capped ask.least; tccd = capped ask.tccd }

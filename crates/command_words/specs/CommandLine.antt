@@ -79,6 +79,14 @@ rate_rules = flag_rule (codes "differing") ∷ flag_rule (codes "summary") ∷ [
 unfoldable pub rate_app : App
 rate_app = with_rules (with_rules (with_rules (new_app (codes "rate")) name_rules) time_rules) rate_rules
 
+-- what is printed at the end
+abbrev pub end_rules : List Rule
+end_rules = flag_rule (codes "lines") ∷ flag_rule (codes "book") ∷ flag_rule (codes "calls") ∷ []
+
+-- `serve [--wanted N] [--least N] [--tccd N] [--lines] [--book] [--calls]`
+unfoldable pub serve_app : App
+serve_app = with_rules (with_rule (with_rules (new_app (codes "serve")) service_rules) (option_rule (codes "tccd"))) end_rules
+
 -- the program itself, which has nothing but commands and its version
 abbrev pub bare_app : App
 bare_app = on_top (λ top. record top { has_version = true; no_binary_name = true; subcommand_required = true }) (new_app (codes "prepaid"))
@@ -86,7 +94,8 @@ bare_app = on_top (λ top. record top { has_version = true; no_binary_name = tru
 -- the program, with its commands
 unfoldable pub program_app : App
 program_app =
-    with_subcommand (with_subcommand (with_subcommand (with_subcommand (with_subcommand (with_subcommand bare_app price_app.top) replay_app.top) run_app.top) audit_app.top) quote_app.top) rate_app.top
+    with_subcommand (with_subcommand (with_subcommand (with_subcommand (with_subcommand (with_subcommand (with_subcommand bare_app price_app.top) replay_app.top) run_app.top) audit_app.top)
+    quote_app.top) rate_app.top) serve_app.top
 
 -- the kinds of error that clap has for the words; none where they parse
 unfoldable pub errors_in : List Text → List ErrorKind

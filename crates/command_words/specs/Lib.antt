@@ -7,4 +7,5 @@ pub mod QuoteWishes
 pub mod QuoteWords
 pub mod RateWords
 pub mod RunWords
+pub mod ServeWords
 pub mod Wishes

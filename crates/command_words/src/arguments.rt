@@ -12,14 +12,15 @@ use crate::quote_words::quote_ask;
 use crate::rate_words::rate_ask;
 use crate::request::Request;
 use crate::run_words::run_request;
+use crate::serve_words::serve_request;
 use clap::error::ErrorKind;
 use clap::{ArgMatches, Error};
 use std::alloc::Global;
 use std::convert::AsStr;
 
 /// What the words after the program's name ask for. `Arguments` where they ask for nothing that the
-/// program does, a number out of its range among them; `Config` where only a time of `run` is out
-/// of its range.
+/// program does, a number out of its range among them; `Config` where only a time of `run` or
+/// `serve` is out of its range.
 pub fn read_words<'a, S: AsStr>(alloc: Global, words: &'a [S]) -> Result<Request<'a>, WordsFault>
     ensures { IsRead (map S.text words.now) result }
 {
@@ -53,6 +54,7 @@ fn asked<'a>(matches: &ArgMatches<'a>) -> Result<Request<'a>, WordsFault>
             Some(ask) => Ok(Request::Rate(ask)),
             None => Err(WordsFault::Arguments),
         },
+        Some(("serve", options)) => serve_request(options),
         Some(_) | None => Err(WordsFault::Arguments),
     }
 }

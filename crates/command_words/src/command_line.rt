@@ -3,7 +3,7 @@
 ghost use Rattle.std.specs.Prelude.{◌≡◌, false, IfOk};
 ghost use Rattle.clap.specs.Words.{app_of, new_app, rule_of, with_rule};
 ghost use Rattle.clap.specs.declared.builder.command.Command.TheViews.{out-Command as fields_of};
-ghost use Rattle.command_words.specs.CommandLine.{audit_app, bare_app, flag_rule, name_rules, option_rule, other_rules, output_rules, price_app, program_app, question_rules, quote_app, rate_app, rate_rules, replay_app, required_rule, run_app, service_rules, switch_rules, time_rules, with_rules};
+ghost use Rattle.command_words.specs.CommandLine.{audit_app, bare_app, end_rules, flag_rule, name_rules, option_rule, other_rules, output_rules, price_app, program_app, question_rules, quote_app, rate_app, rate_rules, replay_app, required_rule, run_app, serve_app, service_rules, switch_rules, time_rules, with_rules};
 
 use crate::help;
 use clap::{Arg, ArgAction, Command};
@@ -20,7 +20,8 @@ pub(crate) fn program_command<'a>(alloc: Global) -> Result<Command<'a>, AllocErr
         .subcommand(run_command(alloc)?)?
         .subcommand(audit_command(alloc)?)?
         .subcommand(quote_command(alloc)?)?
-        .subcommand(rate_command(alloc)?)
+        .subcommand(rate_command(alloc)?)?
+        .subcommand(serve_command(alloc)?)
 }
 
 /// The program without its commands.
@@ -149,6 +150,35 @@ fn add_question_options<'a>(alloc: Global, command: Command<'a>) -> Result<Comma
     let command = add(command, option(alloc, "credit", credit))?;
     let clock = "Prints the moment of the switch as a date and a time";
     add(command, flag(alloc, "clock", clock))
+}
+
+#[tactic(auto, unfolding(crate::specs::CommandLine::serve_app))]
+fn serve_command<'a>(alloc: Global) -> Result<Command<'a>, AllocError>
+    ensures app { IfOk result (λ command. app_of command ≡ serve_app) }
+    ensures local { IfOk result (λ command. (fields_of command).has_globals ≡ false) }
+{
+    let about = "Answers the messages of switches as they come, line by line";
+    let usage = "prepaid serve [OPTIONS] < FILE";
+    let command = input_command(alloc, "serve", about, usage, help::SERVE);
+    let command = add_service_options(alloc, command)?;
+    let tccd = "How long a switch waits for more time [50]";
+    let command = add(command, option(alloc, "tccd", tccd))?;
+    add_end_options(alloc, command)
+}
+
+/// What is printed at the end.
+fn add_end_options<'a>(alloc: Global, command: Command<'a>) -> Result<Command<'a>, AllocError>
+    requires { (fields_of command).has_globals ≡ false }
+    ensures app { IfOk result (λ more. app_of more
+        ≡ with_rules (app_of command.entry) end_rules) }
+    ensures local { IfOk result (λ more. (fields_of more).has_globals ≡ false) }
+{
+    let lines = "Prints the lines of accounts and calls at the end";
+    let command = add(command, flag(alloc, "lines", lines))?;
+    let book = "Prints the book at the end";
+    let command = add(command, flag(alloc, "book", book))?;
+    let calls = "Prints the calls at the end";
+    add(command, flag(alloc, "calls", calls))
 }
 
 /// The names of the columns.

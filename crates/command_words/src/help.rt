@@ -284,3 +284,81 @@ Faults of a row, in its column fault; the next row is rated all the same:
            YYYY-MM-DDTHH:MM:SS; a number called is 1 to 15 digits
   Order    The end is below the answer, or more than a day behind it
   noroute  The number called begins with no prefix of the tariff";
+
+/// Behind the options of `serve`.
+pub(crate) const SERVE: &str = "\
+Each message is printed again, and behind it what the service says to it, before the next line
+is read. Times are in units of 100 ms: 1 <= tccd <= least <= wanted <= 864000. Money is in the
+smallest coin, a rate is money a minute.
+Input, for example:
+
+  prefix,from,fee,rate
+  49,00:00,50,1000
+  %%
+  kind,key,value
+  account,7,1500
+  subscriber,491700001,7
+  %%
+  moment,number,call,from,what,x1,x2,x3,x4
+  0,,1,switch,InitialDP,491700001,4930,,
+  100,,1,switch,EventReportBCSM,answer,,notify,
+  400,,1,switch,ApplyChargingReport,inactive,n,300,
+  400,,1,switch,EventReportBCSM,disconnect,1,interrupted,
+  402,,1,switch,Ended,,,,
+
+The rows are those of a trace that a switch or an operator says; number may be empty. At the
+end of the input, with --lines, --book or --calls, a line %% is printed and what run would print.
+
+A bad line changes nothing, and has the row ,,,service,fault,KIND,LINE,, where the header of the
+rows is line 1. An empty line is passed over.
+
+Exit status:
+  0  the input has ended, and all was printed
+  1  the words, the tariff, the setup or the header are refused
+  2  the input, memory or the run failed; without a line, the output failed
+
+A fault is one line on standard error; with status 1 nothing is printed:
+  prepaid: arguments
+      No options of serve: mostly a file name (use < FILE), an option given twice, a unit such
+      as 60s, or two of --lines, --book and --calls
+  prepaid: input: Config
+      A time is out of the relation above
+  prepaid: input: TooLong
+      More than 16777216 bytes in the tariff or in the setup
+  prepaid: input: Parts
+      A line that is %% alone stands behind the tariff and behind the setup
+  prepaid: tariff row N: KIND
+  prepaid: setup row N: KIND
+      Rows count from 1, which is the header of that part; empty lines don't count
+  prepaid: messages row N: KIND
+      Only row 1 and Header: the header of the messages isn't exactly the one above
+  prepaid: run: Mismatch, Channel, Thread, Device, OutOfMemory
+      A book, a worker, a thread, standard input or memory failed. At Device all that came
+      before is answered, and the end is printed
+
+Kinds:
+  Csv             Another number of fields than the header, perhaps an open quote
+  Header          Nearly always the separator, or columns that a spreadsheet added
+  TooManyRows     More than 10000 rows besides the header, or the 1001st account
+  Digits          A prefix is 0 to 15 digits
+  From            A time of day is HH:MM, 00:00 to 23:59
+  Money           A fee or a rate is digits only, 0 to 1000000000: no plus, no point
+  Free            Free units are digits only, 0 to 864000
+  First           The least time that is billed is digits only, 0 to 864000
+  Step            A billing step is digits only, 1 to 864000
+  NoMidnightBand  A prefix has no row from 00:00
+  What            A kind is account or subscriber
+  Number          Digits only, in the smallest coin, within the range: no plus, no point; a party
+                  is 1 to 15 digits
+  Empty           A field has something that the row doesn't take
+  Repeated        A prefix with the same start, an account or a subscriber stands there already
+  Unknown         Accounts stand above their subscribers
+
+Faults of a line, the first that fits; the next line is answered all the same:
+  TooLong   More than 4096 bytes
+  Csv       Not nine fields, perhaps an open quote
+  What      A word that says nothing there, or a row of the service
+  Number    Digits only, within the range: no plus, no point; a party is 1 to 15 digits
+  Empty     A field has something that the message doesn't take
+  Order     The moment is below that of the last message, or the number above the next
+  Repeated  The number is below the next: the message was answered before";

@@ -11,6 +11,7 @@ mod quote_words;
 mod rate_words;
 mod request;
 mod run_words;
+mod serve_words;
 
 pub use arguments::read_words;
 pub use fault::WordsFault;

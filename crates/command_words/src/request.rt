@@ -8,7 +8,7 @@ use book_texts::BookSize;
 use cap_values::Number;
 use moment_texts::Clock;
 use rating::RateAsk;
-use run_options::RunOptions;
+use run_options::{LiveOptions, RunOptions};
 use tariff_core::{DAY, LAST_MOMENT, MAX_MONEY, Plan};
 
 /// What the words ask for.
@@ -30,6 +30,8 @@ pub enum Request<'a> {
     Quote(QuoteAsk),
     /// What each record of a table should have cost.
     Rate(RateAsk<'a>),
+    /// The service live.
+    Serve(LiveOptions),
 }
 
 /// What `quote` is asked for.

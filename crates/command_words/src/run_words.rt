@@ -65,7 +65,7 @@ fn workers(options: &ArgMatches<'_>) -> Option<u32>
 }
 
 /// The number that a text writes, `default` where there is none; `u32::MAX` stands for all above.
-fn setting(text: Option<&str>, default: u32) -> Option<u32>
+pub(crate) fn setting(text: Option<&str>, default: u32) -> Option<u32>
     requires { default < 1000 }
     ensures { result ≡ option_map capped (number_or default (option_map (λ t. t.now) text.entry)) }
 {

@@ -17,6 +17,7 @@ use Rattle.live_recovery.proofs.Alone.{runs_alike}
 use Rattle.live_recovery.specs.Laws.{RestartsPrintTheRest, views_of}
 use Rattle.message_rows.specs.Messages.{MessageView}
 use Rattle.run_trace.specs.Said.{Said, alone, answer_said, operation_said, refused_said, release_word, stray_said}
+use Rattle.moment_texts.specs.declared.clock.Clock.TheVariants as clock
 use Rattle.run_trace.specs.Tables.{answer_rows, head_text, row, service_rows}
 use Rattle.run_values.specs.declared.post.Answer.{Answer}
 use Rattle.workers_core.specs.Handled.{AnswerView, answer_view}
@@ -59,7 +60,7 @@ same_rows answers others head number same =
     ∙ sym (rows_are head (slice_get others number))
 
 abbrev head_of_message : ℕ → MessageView → List ℕ
-head_of_message number message = head_text message.at number message.speech.call
+head_of_message number message = head_text clock.Digits message.at number message.speech.call
 
 abbrev row_of : ℕ → MessageView → List ℕ
 row_of number message = row (head_of_message number message) message.speech.from message.speech.said

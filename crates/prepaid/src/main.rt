@@ -4,19 +4,20 @@
 
 use prepaid_command::{Fault, command};
 use std::alloc::AllocError;
+use std::io::BufReader;
 use std::process::ExitCode;
 use std::{env, io};
 
 fn main(rt: HostRuntime) -> ExitCode {
-    let status = match words(&rt) {
-        Ok(words) => command(
+    let status = match (words(&rt), BufReader::new(rt.alloc(), rt.reader())) {
+        (Ok(words), Ok(input)) => command(
             &rt,
             words.as_slice(),
-            rt.reader(),
+            input,
             &mut io::writer(&rt),
             &mut rt.stderr(),
         ),
-        Err(_) => {
+        _ => {
             let fault = Fault::from(AllocError);
             let _ = rt.eprintln(fault);
             fault.status()

@@ -57,6 +57,7 @@ price_of plan input =
 
 run_input_of : (why : InputFault) → IsOfInput (of_run_input why)
 run_input_of input_fault.Parts = tt
+run_input_of input_fault.TooLong = tt
 run_input_of (input_fault.Tariff row) = tt
 run_input_of (input_fault.Setup row) = tt
 run_input_of (input_fault.Script row) = tt

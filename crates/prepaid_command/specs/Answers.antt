@@ -2,16 +2,20 @@
 use Rattle.std.specs.Prelude.{◌≡◌, ◌⊎◌, ◌++◌, ℕ, true, List, [], MatchResult, Option, Some, None, Result, Ok, Err, ⊤, IfSome, codes}
 use Rattle.std.specs.Io.KnownBytes.{Appends, Keeps}
 use Rattle.std.specs.Result.{result_map_both}
+use Rattle.answer_command.specs.Inputs.{live_input_of}
+use Rattle.answer_command.specs.Serves.{ServesBy}
+use Rattle.answer_command.specs.declared.error.ServeError.{ServeError}
 use Rattle.book_texts.specs.Audits.{Audited, IsAuditOf}
 use Rattle.book_texts.specs.Books.{Books, books_of}
 use Rattle.book_texts.specs.Sizes.{most_rows}
 use Rattle.book_texts.specs.declared.size.BookSize.{BookSize}
 use Rattle.command_words.specs.Arguments.{AsksFor, AsksHelp, AsksInVain, AsksNothing, AsksVersion}
 use Rattle.command_words.specs.QuoteWishes.{QuoteWish}
-use Rattle.command_words.specs.Wishes.{Wish, Audits, Prices, Quotes, RatesRecords, Replays, Runs}
+use Rattle.command_words.specs.Wishes.{Wish, Audits, Prices, Quotes, RatesRecords, Replays, Runs, Serves}
 use Rattle.command_words.specs.declared.fault.WordsFault.TheVariants as words_fault
 use Rattle.run_command.specs.Answers.{IsRunAnswer, RunSaid}
 use Rattle.run_command.specs.declared.error.RunError.{RunError}
+use Rattle.run_options.specs.declared.live.LiveAsk.{LiveAsk}
 use Rattle.run_options.specs.declared.options.RunAsk.{RunAsk}
 use Rattle.run_texts.specs.Inputs.{tariff_in}
 use Rattle.runs_core.specs.declared.run_fault.RunFault.TheVariants as run
@@ -19,7 +23,7 @@ use Rattle.table_core.specs.Judging.{after}
 use Rattle.table_core.specs.Rows.{rows_of}
 use Rattle.tariff_core.specs.Bands.{Band}
 use Rattle.tariff_core.specs.Rates.{Rates}
-use Rattle.prepaid_command.specs.Faults.{line_of, meaning_in, meaning_of_part, of_rate, of_run, status_of}
+use Rattle.prepaid_command.specs.Faults.{line_of, meaning_in, meaning_of_part, of_rate, of_run, of_serve, status_of}
 use Rattle.prepaid_command.specs.Summaries.{status_of_rating, summary_of}
 use Rattle.rating.specs.Asks.{RateWish}
 use Rattle.rating.specs.Ends.{IsInPart, IsPrinted as IsRatedWhole}
@@ -95,6 +99,7 @@ IsAnswerTo (Runs ask) input answer = IsRunOfInput ask input answer
 IsAnswerTo (Audits size) input answer = IsAuditOfInput size input answer
 IsAnswerTo (Quotes wish) input answer = IsQuoteOfInput wish input answer
 IsAnswerTo (RatesRecords wish) input answer = ⊥
+IsAnswerTo (Serves ask) input answer = ⊥
 
 -- the words ask for what has this answer
 pub record IsAnswered (words : List (List ℕ)) (input : List ℕ) (answer : Result Telling Fault) : Type 0 where
@@ -187,3 +192,22 @@ pub record RatesAsAsked (words : List (List ℕ)) (input : Option (List ℕ)) (s
   pub wish : RateWish
   pub asked : AsksFor words (RatesRecords wish)
   pub rated : IfSome input (λ text. IsRatedBy wish text status old new)
+
+-- ---- messages that are answered as they come
+
+-- how the service ended: at status 0, where it has printed all, and then nothing is said; else by the line of its fault
+abbrev pub IsServeEnd : Result (Unit {0}) ServeError → ℕ → Option (List ℕ) → Option (List ℕ) → Type 0
+IsServeEnd (Ok done) status old new = (status ≡ 0) × Keeps old new
+IsServeEnd (Err why) status old new = IsSaid (of_serve why) status old new
+
+-- the output and the status tell one end of the service, which is that over this input, where this is known
+pub record IsServed (ask : LiveAsk) (input : Option (List ℕ)) (status : ℕ) (old new : Written) : Type 0 where
+  pub result : Result (Unit {0}) ServeError
+  pub serves : IfSome input (λ text. ServesBy ask (live_input_of text) old.output new.output result)
+  pub ends : IsServeEnd result status old.faults new.faults
+
+-- the words ask for the service, and so an input was answered
+pub record ServesAsAsked (words : List (List ℕ)) (input : Option (List ℕ)) (status : ℕ) (old new : Written) : Type 0 where
+  pub ask : LiveAsk
+  pub asked : AsksFor words (Serves ask)
+  pub served : IsServed ask input status old new

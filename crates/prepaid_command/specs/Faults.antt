@@ -1,7 +1,10 @@
 -- The faults of the program: their lines, their statuses, and how an answer meets its meaning.
 use Rattle.std.specs.Prelude.{◌≡◌, ℕ, List, ◌++◌, Option, Some, None, Result, Ok, Err, ⊤, codes}
+use Rattle.answer_command.specs.declared.error.ServeError.{ServeError}
+use Rattle.answer_command.specs.declared.error.ServeError.TheVariants as serve
 use Rattle.command_words.specs.declared.fault.WordsFault.{WordsFault}
 use Rattle.command_words.specs.declared.fault.WordsFault.TheVariants as words
+use Rattle.live_answers.specs.declared.stage.LiveFault.TheVariants as live
 use Rattle.run_command.specs.declared.error.RunError.{RunError}
 use Rattle.run_command.specs.declared.error.RunError.TheVariants as error
 use Rattle.run_texts.specs.declared.input_fault.InputFault.{InputFault}
@@ -29,6 +32,7 @@ name_of_part part.Setup = codes "setup"
 name_of_part part.Script = codes "script"
 name_of_part part.Book = codes "book"
 name_of_part part.Records = codes "records"
+name_of_part part.Messages = codes "messages"
 
 -- the line that tells a fault, without its end
 abbrev pub line_of : Fault → List ℕ
@@ -67,18 +71,31 @@ of_words words.OutOfMemory = fault.Run run.OutOfMemory
 -- the fault of the input of a run
 abbrev pub of_run_input : InputFault → Fault
 of_run_input input.Parts = fault.Parts
+of_run_input input.TooLong = fault.TooLong
 of_run_input (input.Tariff row) = fault.Tariff row
 of_run_input (input.Setup row) = fault.Table part.Setup row
 of_run_input (input.Script row) = fault.Table part.Script row
 of_run_input input.Device = fault.Device
 of_run_input input.OutOfMemory = fault.Run run.OutOfMemory
 
+-- the fault of a table whose header isn't the one that it must have
+abbrev pub no_header : Part → Fault
+no_header part = fault.Table part (record { row = 1; kind = kind.Header })
+
 -- the fault of records that aren't rated to their end; an output that failed has none
 abbrev pub of_rate : RateFault → Option Fault
 of_rate (rate.Input why) = Some (of_run_input why)
-of_rate rate.TooLong = Some fault.TooLong
-of_rate rate.Header = Some (fault.Table part.Records (record { row = 1; kind = kind.Header }))
+of_rate rate.Header = Some (no_header part.Records)
 of_rate rate.Output = None
+
+-- the fault of an input that isn't served to its end
+abbrev pub of_serve : ServeError → Option Fault
+of_serve (serve.Input why) = Some (of_run_input why)
+of_serve serve.Header = Some (no_header part.Messages)
+of_serve (serve.Live live.Input) = Some fault.Device
+of_serve (serve.Live live.Output) = None
+of_serve (serve.Live live.Log) = Some fault.Device
+of_serve (serve.Run why) = Some (fault.Run why)
 
 -- what a part of the input of a run means, its faults told as the program's
 abbrev pub meaning_of_part : {X : Type 0} → Result X InputFault → Result X Fault

@@ -5,7 +5,9 @@ ghost use Rattle.runs_core.specs.declared.run_fault.RunFault.TheVariants as run;
 ghost use Rattle.prepaid_command.specs.Faults.{line_of, name_of_part, of_run, of_words};
 ghost use Rattle.prepaid_command.specs.declared.fault.Fault.TheVariants as out;
 
+use answer_command::ServeError;
 use command_words::WordsFault;
+use live_answers::LiveFault;
 use rating::RateFault;
 use run_command::RunError;
 use run_texts::InputFault;
@@ -31,6 +33,8 @@ pub enum Part {
     Book,
     /// The records of `rate`.
     Records,
+    /// The messages of `serve`.
+    Messages,
 }
 
 impl fmt::Display for Part {
@@ -44,6 +48,7 @@ impl fmt::Display for Part {
             Part::Script => f.write_str("script"),
             Part::Book => f.write_str("book"),
             Part::Records => f.write_str("records"),
+            Part::Messages => f.write_str("messages"),
         }
     }
 }
@@ -53,11 +58,12 @@ impl fmt::Display for Part {
 pub enum Fault {
     /// The words ask for nothing that the program does.
     Arguments,
-    /// A time that `run` is asked for is out of its range.
+    /// A time that `run` or `serve` is asked for is out of its range.
     Config,
-    /// The input has more than `MAX_INPUT` bytes.
+    /// The input has more than `MAX_INPUT` bytes; of `rate` and `serve`, a part in front of a divider
+    /// has more than `MAX_PART`.
     TooLong,
-    /// The input of `run` doesn't have three parts.
+    /// The input of `run` doesn't have three parts, or that of `rate` or `serve` has too few dividers.
     Parts,
     /// A row of the tariff has a fault.
     Tariff(TariffFault),
@@ -70,7 +76,7 @@ pub enum Fault {
 }
 
 impl Fault {
-    ghost use Rattle.prepaid_command.specs.Faults.{in_part, of_rate, of_run_input, status_of};
+    ghost use Rattle.prepaid_command.specs.Faults.{in_part, no_header, of_rate, of_run_input, of_serve, status_of};
 
     /// The exit status: 1 for a fault of the words or the input, 2 where the run itself failed.
     pub fn status(self) -> u8
@@ -88,6 +94,7 @@ impl Fault {
     {
         match fault {
             InputFault::Parts => Fault::Parts,
+            InputFault::TooLong => Fault::TooLong,
             InputFault::Tariff(fault) => Fault::Tariff(fault),
             InputFault::Setup(fault) => Fault::Table(Part::Setup, fault),
             InputFault::Script(fault) => Fault::Table(Part::Script, fault),
@@ -102,16 +109,35 @@ impl Fault {
     {
         match fault {
             RateFault::Input(fault) => Some(Fault::of_run_input(fault)),
-            RateFault::TooLong => Some(Fault::TooLong),
-            RateFault::Header => Some(Fault::Table(
-                Part::Records,
-                RowFault {
-                    row: 1,
-                    kind: RowKind::Header,
-                },
-            )),
+            RateFault::Header => Some(Fault::no_header(Part::Records)),
             RateFault::Output => None,
         }
+    }
+
+    /// The fault of an input that wasn't served to its end; none where the output failed.
+    pub fn of_serve(error: ServeError) -> Option<Fault>
+        ensures { result ≡ of_serve error }
+    {
+        match error {
+            ServeError::Input(fault) => Some(Fault::of_run_input(fault)),
+            ServeError::Header => Some(Fault::no_header(Part::Messages)),
+            ServeError::Live(LiveFault::Output) => None,
+            ServeError::Live(LiveFault::Input | LiveFault::Log) => Some(Fault::Device),
+            ServeError::Run(fault) => Some(Fault::Run(fault)),
+        }
+    }
+
+    /// The fault of a table whose header isn't the one that it must have.
+    fn no_header(part: Part) -> Fault
+        ensures { result ≡ no_header part }
+    {
+        Fault::Table(
+            part,
+            RowFault {
+                row: 1,
+                kind: RowKind::Header,
+            },
+        )
     }
 
     /// The fault of a table that is this part of the input.

@@ -10,6 +10,7 @@ mod program;
 mod quoting;
 mod rating_rows;
 mod replaying;
+mod serving;
 mod tables;
 
 pub use fault::{Fault, Part};

@@ -6,7 +6,7 @@ ghost use Rattle.std.specs.Result.{result_map_both};
 ghost use Rattle.tariff_core.specs.RatesOf.{rates_of};
 ghost use Rattle.command_words.specs.QuoteWishes.{wish_of};
 ghost use Rattle.run_options.specs.Options.{ask_of};
-ghost use Rattle.prepaid_command.specs.Answers.{Answers, IsCutOff, IsPrinted, IsTold, IsAuditOfInput, IsAuditOfTable, IsQuoteOfInput, IsRunOfInput, RatesAsAsked, price_of_input, replay_of_input};
+ghost use Rattle.prepaid_command.specs.Answers.{Answers, IsCutOff, IsPrinted, IsTold, IsAuditOfInput, IsAuditOfTable, IsQuoteOfInput, IsRunOfInput, RatesAsAsked, ServesAsAsked, price_of_input, replay_of_input};
 ghost use Rattle.prepaid_command.specs.Faults.{Gives, GivesOne};
 ghost use Rattle.rating.specs.Fronts.{AppendsFront};
 ghost use Rattle.prepaid_command.specs.Refused.{refused_line};
@@ -20,6 +20,7 @@ use crate::price_lines::{print_reports, read_reports};
 use crate::quoting::print_quote;
 use crate::rating_rows::rate_input;
 use crate::replaying::replay;
+use crate::serving::serve_messages;
 use book_texts::{BookSize, audit_books};
 use command_words::{Opening, QuoteAsk, Request, read_words};
 use rating::write_text;
@@ -28,7 +29,7 @@ use run_options::RunOptions;
 use run_texts::read_tariff;
 use std::alloc::Global;
 use std::convert::AsStr;
-use std::io::{Read, Write};
+use std::io::{BufRead, Read, Write};
 use std::sync::Wait;
 use std::thread::Threads;
 use tariff_core::Plan;
@@ -42,11 +43,11 @@ use tariff_core::Plan;
 ///   rating a row.
 ///
 /// A fault goes to `faults` as one line, and then nothing goes to `output`; but the rows of `rate`
-/// are printed as they come, so where its input or memory fails in the middle, `output` has a front
-/// of them. Where the accounts of a run refused anything, a line about it goes to `faults` behind
+/// and of `serve` are printed as they come, so where their input or memory fails in the middle,
+/// `output` has what was printed before. Where the accounts of a run refused anything, a line about it goes to `faults` behind
 /// the answer. Where `output` failed, what went to it is a front of the answer, and nothing goes to
 /// `faults`; a failing `faults` has a front of the line, and changes no status.
-pub fn command<R, S: AsStr, I: Read + Drop, O: Write, E: Write>(
+pub fn command<R, S: AsStr, I: BufRead + Drop, O: Write, E: Write>(
     rt: &R,
     words: &[S],
     input: I,
@@ -59,6 +60,9 @@ where
         (record { output = O.contents output.old; faults = E.contents faults.old })
         (record { output = O.contents output.new; faults = E.contents faults.new })
         ⊎ RatesAsAsked (map S.text words.now) (I.remaining input) result
+        (record { output = O.contents output.old; faults = E.contents faults.old })
+        (record { output = O.contents output.new; faults = E.contents faults.new })
+        ⊎ ServesAsAsked (map S.text words.now) (I.remaining input) result
         (record { output = O.contents output.old; faults = E.contents faults.old })
         (record { output = O.contents output.new; faults = E.contents faults.new }) }
     ensures silent { result ≡ 1 → Keeps (O.contents output.old) (O.contents output.new) }
@@ -75,6 +79,7 @@ where
         Ok(Request::Audit(size)) => tell(output, faults, audit_input(alloc, size, input)),
         Ok(Request::Quote(ask)) => tell(output, faults, quote_input(alloc, &ask, input)),
         Ok(Request::Rate(ask)) => rate_input(alloc, &ask, input, output, faults),
+        Ok(Request::Serve(options)) => serve_messages(rt, alloc, &options, input, output, faults),
         Err(why) => tell(output, faults, Err(Fault::from(why))),
     }
 }

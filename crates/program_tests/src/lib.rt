@@ -31,6 +31,8 @@ mod replays;
 #[cfg(test)]
 mod runs;
 #[cfg(test)]
+mod served;
+#[cfg(test)]
 mod traces;
 #[cfg(test)]
 mod words;

@@ -2,7 +2,7 @@
 
 use prepaid_command::command;
 use std::alloc::{AllocError, Global};
-use std::io::{Read, Write};
+use std::io::{BufReader, Read, Write};
 use std::process::Abort;
 use std::sync::Wait;
 use std::test::Fail;
@@ -36,6 +36,9 @@ where
     R: AllocGlobal + Wait + Threads + Sync,
 {
     let words = words_of(rt.alloc(), line)?;
+    let Ok(input) = BufReader::new(rt.alloc(), input) else {
+        return Err(AllocError);
+    };
     Ok(command(rt, words.as_slice(), input, output, faults))
 }
 

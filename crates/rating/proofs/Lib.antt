@@ -2,5 +2,4 @@ pub mod ColumnLemmas
 pub mod CutLemmas
 pub mod FrontLemmas
 pub mod LineLemmas
-pub mod PartLemmas
 pub mod RateLemmas

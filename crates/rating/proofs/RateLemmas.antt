@@ -10,7 +10,7 @@ use Rattle.std.proofs.lemmas.List.Sums.{fold_push}
 use Rattle.csv.specs.Records.{fields_of}
 use Rattle.table_core.specs.Rows.{Fields, HasLeft, Takes}
 use Rattle.table_core.specs.declared.table.Rows.{Rows}
-use Rattle.rating.specs.Ends.{AddsRow, EndsBy, IsInPart, IsPrinted, Sends, StopsBy}
+use Rattle.rating.specs.Ends.{AddsRow, EndsBy, IsInPart, IsPrinted, MayAlwaysCome, Sends, StopsBy}
 use Rattle.rating.specs.Fronts.{AppendsFront, Writes}
 use Rattle.rating.specs.Lines.{columns_text, header_line, line_of}
 use Rattle.rating.specs.Rated.{IsRated, Rating, Faulty, Priced, is_right}
@@ -23,7 +23,6 @@ use Rattle.rating.specs.Texts.{AreRated, IsRatedRow, RateInput, RatedRow, count_
 use Rattle.rating.specs.Asks.{NamesWish}
 use Rattle.rating.specs.Columns.{columns_in}
 use Rattle.rating.specs.Faults.{of_rows}
-use Rattle.rating.specs.Parts.{MayAlwaysCome}
 use Rattle.rating.specs.declared.fault.RateFault.{RateFault}
 use Rattle.rating.specs.declared.fault.RateFault.TheVariants as fault
 use Rattle.run_texts.specs.declared.input_fault.InputFault.TheVariants as input_fault
@@ -208,12 +207,12 @@ failed_ends differing meaning old new (Err told) why met is part = rw (met, is) 
 
 pub stops : (differing : Bool) (meaning : Result RateInput RateFault) (old new : Option (List ℕ)) (why : RateFault) → MayAlwaysCome why → Keeps old new ⊎ IsInPart differing meaning old new
     → StopsBy differing meaning old new why
-stops differing meaning old new fault.TooLong may part = absurd may
 stops differing meaning old new fault.Header may part = absurd may
 stops differing meaning old new fault.Output may part = absurd may
 stops differing meaning old new (fault.Input input_fault.Device) may part = part
 stops differing meaning old new (fault.Input input_fault.OutOfMemory) may part = part
 stops differing meaning old new (fault.Input input_fault.Parts) may part = absurd may
+stops differing meaning old new (fault.Input input_fault.TooLong) may part = absurd may
 stops differing meaning old new (fault.Input (input_fault.Tariff row)) may part = absurd may
 stops differing meaning old new (fault.Input (input_fault.Setup row)) may part = absurd may
 stops differing meaning old new (fault.Input (input_fault.Script row)) may part = absurd may

@@ -50,6 +50,12 @@ IsSilent old new (fault.Input input.Device) = ⊤
 IsSilent old new (fault.Input input.OutOfMemory) = ⊤
 IsSilent old new why = Keeps old new
 
+-- a fault of a reader that failed, or of memory that ran out
+abbrev pub MayAlwaysCome : RateFault → Type 0
+MayAlwaysCome (fault.Input input.Device) = ⊤
+MayAlwaysCome (fault.Input input.OutOfMemory) = ⊤
+MayAlwaysCome why = ⊥
+
 -- a fault that may come in the middle of the rows
 abbrev pub MayStop : RateFault → Type 0
 MayStop fault.Output = ⊤

@@ -8,7 +8,6 @@ pub mod Faults
 pub mod Fronts
 pub mod Laws
 pub mod Lines
-pub mod Parts
 pub mod Rated
 pub mod SaidOf
 pub mod Tallies

@@ -1,6 +1,7 @@
 -- The text that `rate` prints of an input.
 use Rattle.std.specs.Prelude.{◌≡◌, ℕ, Bool, List, [], ◌∷◌, ◌++◌, All, length, map, Option, Some, None, Result, Ok, Err}
 use Rattle.std.specs.List.{flat_map}
+use Rattle.run_texts.specs.FirstParts.{first_part}
 use Rattle.run_texts.specs.Inputs.{tariff_in}
 use Rattle.table_core.specs.Judging.{after}
 use Rattle.table_core.specs.Rows.{Fields, rows_of}
@@ -9,7 +10,6 @@ use Rattle.rating.specs.Asks.{NamesWish}
 use Rattle.rating.specs.Columns.{columns_in}
 use Rattle.rating.specs.Faults.{told}
 use Rattle.rating.specs.Lines.{header_line, line_of}
-use Rattle.rating.specs.Parts.{parts_of}
 use Rattle.rating.specs.Rated.{IsRated, Rating}
 use Rattle.rating.specs.Tallies.{tally_of}
 use Rattle.rating.specs.declared.columns.Columns.{Columns}
@@ -34,9 +34,9 @@ abbrev pub headed : NamesWish → List Band → List Fields → Result RateInput
 headed names bands [] = Err fault.Header
 headed names bands (header ∷ rows) = below bands header rows (columns_in header names)
 
--- an input: its parts, its tariff, its header, judged in this order
+-- an input: its first part, which is its tariff, and its header, judged in this order
 abbrev pub input_of : NamesWish → List ℕ → Result RateInput RateFault
-input_of names text = after (parts_of text) (λ parts. after (told (tariff_in parts.tariff)) (λ bands. headed names bands (rows_of parts.records)))
+input_of names text = after (told (first_part text)) (λ first. after (told (tariff_in first.part)) (λ bands. headed names bands (rows_of first.rest)))
 
 -- a row, and what it comes to
 pub record RatedRow : Type 0 where

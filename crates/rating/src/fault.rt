@@ -12,10 +12,9 @@ use table_core::TableFault;
 /// Why records are not rated to their end.
 #[derive(Clone, Copy, Debug)]
 pub enum RateFault {
-    /// The input has no divider, its tariff has a fault, its reader failed, or memory ran out.
+    /// The tariff in front of a divider has a fault, or is too long; there is no divider; a reader
+    /// failed, or memory ran out.
     Input(InputFault),
-    /// The tariff and the divider have more than `MAX_TARIFF` bytes.
-    TooLong,
     /// The header hasn't a column that it must have, or has one twice; or there is no header.
     Header,
     /// The output failed.

@@ -13,7 +13,6 @@ mod line;
 mod rated;
 mod rating;
 mod tally;
-mod tariff_text;
 mod writing;
 
 pub use ask::{Names, RateAsk, Times};
@@ -23,5 +22,4 @@ pub use kind::RateKind;
 pub use laws::parts_are_rated;
 pub use rating::rate;
 pub use tally::Tally;
-pub use tariff_text::MAX_TARIFF;
 pub use writing::write_text;

@@ -5,9 +5,8 @@ ghost use Rattle.std.specs.Io.KnownBytes.{Appends};
 ghost use Rattle.csv.specs.Records.{fields_of};
 ghost use Rattle.table_core.specs.Rows.{Fields, HasLeft, rows_of};
 ghost use Rattle.rating.specs.Columns.{HasColumns};
-ghost use Rattle.rating.specs.Ends.{AddsRow, EndsBy, IsCutOff, IsSilent, MayStop, Sends};
+ghost use Rattle.rating.specs.Ends.{AddsRow, EndsBy, IsCutOff, IsSilent, MayAlwaysCome, MayStop, Sends};
 ghost use Rattle.rating.specs.Lines.{header_line};
-ghost use Rattle.rating.specs.Parts.{MayAlwaysCome};
 ghost use Rattle.rating.specs.Rated.{is_right};
 ghost use Rattle.rating.specs.SaidOf.{names_of, rating_of};
 ghost use Rattle.rating.specs.Tallies.{IsBounded};
@@ -17,10 +16,9 @@ use crate::bounded::{Bounded, MAX_GIVEN};
 use crate::columns::Columns;
 use crate::line::{push_fields, push_header, push_rated};
 use crate::rated::{Rated, rate_row};
-use crate::tariff_text::read_tariff_text;
 use crate::{RateAsk, RateFault, Tally, write_text};
 use csv::ByteRecord;
-use run_texts::{InputFault, read_tariff};
+use run_texts::{InputFault, read_part, read_tariff};
 use std::alloc::{AllocError, Global};
 use std::cell::Cell;
 use std::io::{BufReader, Read, Write};
@@ -34,8 +32,8 @@ const ENOUGH: usize = 65_536;
 /// prints the header and each row again as they come, with the columns `prefix`, `before`, `after`,
 /// `price`, `difference` and `fault` behind them. No row is kept. The answer is what was counted.
 ///
-/// `Input` and `TooLong` are the faults of the tariff, and then `Header` that of the first row;
-/// nothing is printed then. Where the input fails in the middle of the rows, memory runs out, or
+/// `Input` is a fault of the tariff or its divider, and then `Header` that of the first row; nothing
+/// is printed then. Where the input fails in the middle of the rows, memory runs out, or
 /// the output fails, a front of the text has been printed. Memory runs out too where a row has not
 /// ended within `MAX_GIVEN` bytes, such as one with a quote that never ends.
 pub fn rate<I: Read + Drop, O: Write>(
@@ -54,7 +52,7 @@ pub fn rate<I: Read + Drop, O: Write>(
     let Ok(mut input) = BufReader::new(alloc, input) else {
         return Err(RateFault::Input(InputFault::OutOfMemory));
     };
-    let text = read_tariff_text(alloc, &mut input)?;
+    let text = read_part(alloc, &mut input)?;
     let tariff = read_tariff(alloc, text.as_slice())?;
     rate_records(alloc, &tariff, ask, input, output)
 }

@@ -1,5 +1,7 @@
--- What the options of a run say.
+-- What the options of a run say, and those of the service live.
 use Rattle.std.specs.Prelude.{Bool, true, false}
+use Rattle.run_options.specs.declared.live.LiveAsk.{LiveAsk}
+use Rattle.run_options.specs.declared.live.LiveOptions.{LiveOptions}
 use Rattle.run_options.specs.declared.options.RunAsk.{RunAsk}
 use Rattle.run_options.specs.declared.options.RunOptions.{RunOptions}
 use Rattle.run_options.specs.declared.options.RunOutput.{RunOutput}
@@ -24,3 +26,12 @@ is_trace output.Lines = false
 is_trace output.Book = false
 is_trace (output.Calls clock) = false
 is_trace (output.Trace clock) = true
+
+-- what was asked of the service live
+abbrev pub live_ask_of : LiveOptions → LiveAsk
+live_ask_of options = record {
+  wanted = options.service.wanted;
+  least = options.service.least;
+  tccd = options.service.tccd;
+  output = options.output;
+}

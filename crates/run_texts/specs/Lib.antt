@@ -1,4 +1,5 @@
 pub mod Entries
+pub mod FirstParts
 pub mod Happenings
 pub mod InputFaults
 pub mod Inputs

@@ -46,7 +46,7 @@ pub fn read_texts(alloc: Global, input: &[u8]) -> Result<RunTexts, InputFault>
         script,
     } = divide(input).ok_or(InputFault::Parts)?;
     let tariff = read_tariff(alloc, tariff)?;
-    let directory = read_setup(alloc, setup)?;
+    let directory = read_directory(alloc, setup)?;
     let script = read_script(alloc, &directory, script)?;
     Ok(RunTexts {
         tariff,
@@ -65,7 +65,8 @@ pub fn read_tariff(alloc: Global, text: &[u8]) -> Result<Tariff, InputFault>
     }
 }
 
-fn read_setup(alloc: Global, text: &[u8]) -> Result<Directory, InputFault>
+/// Reads a setup alone. Its first fault is told as that of an input.
+pub fn read_directory(alloc: Global, text: &[u8]) -> Result<Directory, InputFault>
     ensures means { Gives setup_in result (told out.Setup (setup_of (rows_of text.now))) }
     ensures within { IfOk result IsWithin }
 {
@@ -158,7 +159,8 @@ fn line_end(text: &[u8]) -> Option<usize>
     text.iter().position(|byte| *byte == b'\n')
 }
 
-fn is_divider(line: &[u8]) -> bool
+/// Whether a line divides two parts.
+pub(crate) fn is_divider(line: &[u8]) -> bool
     ensures { result ≡ is_divider line.now }
 {
     line == b"%%\n".as_slice() || line == b"%%\r\n".as_slice() || line == b"%%".as_slice()

@@ -1,15 +1,19 @@
 //! Why the input of a run says nothing.
 
 ghost use Rattle.std.specs.Prelude.{◌≡◌};
+ghost use Rattle.run_texts.specs.declared.input_fault.InputFault.TheVariants as out;
 
+use std::alloc::{AllocError, AllocFailed};
 use table_core::{RowFault, TableFault};
 use tariff_core::{TariffFault, TariffKind};
 
 /// Why the input of a run says nothing: its first fault, the parts judged in order.
 #[derive(Clone, Copy, Debug)]
 pub enum InputFault {
-    /// It doesn't have three parts.
+    /// It doesn't have three parts, or a divider that stands behind a part isn't there.
     Parts,
+    /// A part that is read as it comes has more than `MAX_PART` bytes, its divider counted.
+    TooLong,
     /// A row of the tariff has a fault, neither `Device` nor `OutOfMemory`.
     Tariff(TariffFault),
     /// A row of the setup has a fault.
@@ -56,5 +60,21 @@ impl InputFault {
             TableFault::Device => InputFault::Device,
             TableFault::OutOfMemory => InputFault::OutOfMemory,
         }
+    }
+}
+
+impl From<AllocError> for InputFault {
+    ghost from_gives = { λ _ fault. fault ≡ out.OutOfMemory };
+
+    fn from(_error: AllocError) -> InputFault {
+        InputFault::OutOfMemory
+    }
+}
+
+impl<T: Drop> From<AllocFailed<T>> for InputFault {
+    ghost from_gives = { λ _ fault. fault ≡ out.OutOfMemory };
+
+    fn from(_error: AllocFailed<T>) -> InputFault {
+        InputFault::OutOfMemory
     }
 }

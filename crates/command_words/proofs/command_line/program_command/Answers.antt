@@ -11,7 +11,8 @@ returns c =
     let run = added _ _ _ _ _ c.in_ok-subcommand-3.ensures c.in_ok-run_command.ensures.local replay c.in_ok-run_command.ensures.app in
     let audit = added _ _ _ _ _ c.in_ok-subcommand-4.ensures c.in_ok-audit_command.ensures.local run c.in_ok-audit_command.ensures.app in
     let quote = added _ _ _ _ _ c.in_ok-subcommand-5.ensures c.in_ok-quote_command.ensures.local audit c.in_ok-quote_command.ensures.app in
+    let rate = added _ _ _ _ _ c.in_ok-subcommand-6.ensures c.in_ok-rate_command.ensures.local quote c.in_ok-rate_command.ensures.app in
     record {
-      app = IfOk-weaker c.subcommand-6.result _ _
-          (λ command is. added _ _ command _ _ is c.in_ok-rate_command.ensures.local quote c.in_ok-rate_command.ensures.app) c.subcommand-6.ensures;
+      app = IfOk-weaker c.subcommand-7.result _ _
+          (λ command is. added _ _ command _ _ is c.in_ok-serve_command.ensures.local rate c.in_ok-serve_command.ensures.app) c.subcommand-7.ensures;
     }

@@ -1,7 +1,9 @@
-use Rattle.std.proofs.Common.{inl, inr}
+use Rattle.std.proofs.Common.{inl, inr, rules}
 use Rattle.std.specs.Result.{result_map_both}
 use Rattle.tariff_core.specs.RatesOf.{rates_of}
 use Rattle.command_words.specs.QuoteWishes.{wish_of}
+use Rattle.rating.specs.SaidOf.{wish_of as rate_wish_of}
+use Rattle.run_options.specs.Options.{live_ask_of}
 use Rattle.prepaid_command.proofs.AnswerLemmas.{helped, priced, quoted, refused}
 use Rattle.prepaid_command.specs.Tellings.{telling_of}
 use Rattle.prepaid_command.proofs.program.command.Goals as goal
@@ -27,3 +29,26 @@ returns-in-Ok-Quote-clause-answers g c =
 pub returns-in-Err-clause-answers : goal.returns-in-Err-clause-answers
 returns-in-Err-clause-answers g c =
     inl (refused _ _ _ _ (g.I.Read.remaining c.args.input) c.in-Err.why c.from.result c.in-Err.ensures c.from.ensures c.tell-in-Err.ensures.told)
+
+pub returns-in-Ok-Replay-clause-answers : goal.returns-in-Ok-Replay-clause-answers
+returns-in-Ok-Replay-clause-answers g c = inl (search rules)
+
+pub returns-in-Ok-Run-clause-answers : goal.returns-in-Ok-Run-clause-answers
+returns-in-Ok-Run-clause-answers g c = inl (search rules)
+
+pub returns-in-Ok-Audit-clause-answers : goal.returns-in-Ok-Audit-clause-answers
+returns-in-Ok-Audit-clause-answers g c = inl (search rules)
+
+pub returns-in-Ok-Rate-clause-answers : goal.returns-in-Ok-Rate-clause-answers
+returns-in-Ok-Rate-clause-answers g c = inr (inl (record {
+  wish = rate_wish_of c.in-Ok-Rate.ask;
+  asked = rw c.in-Ok-Rate.field-0-is at c.in-Ok-Rate.ensures;
+  rated = c.rate_input.ensures.rated;
+}))
+
+pub returns-in-Ok-Serve-clause-answers : goal.returns-in-Ok-Serve-clause-answers
+returns-in-Ok-Serve-clause-answers g c = inr (inr (record {
+  ask = live_ask_of c.in-Ok-Serve.options;
+  asked = rw c.in-Ok-Serve.field-0-is at c.in-Ok-Serve.ensures;
+  served = c.serve_messages.ensures.served;
+}))

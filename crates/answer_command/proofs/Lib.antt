@@ -1,0 +1,2 @@
+pub mod HeadLemmas
+pub mod ServeLemmas

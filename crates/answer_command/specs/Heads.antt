@@ -1,0 +1,48 @@
+-- How the head of an input is read, and what a fault says of the output.
+use Rattle.std.specs.Prelude.{◌≡◌, ℕ, Bool, true, false, List, Option, Some, Result, Ok, Err, ⊤}
+use Rattle.std.specs.Io.KnownBytes.{Keeps}
+use Rattle.live_answers.specs.Runs.{MayEnd}
+use Rattle.run_texts.specs.Views.{setup_in}
+use Rattle.run_texts.specs.declared.input_fault.InputFault.TheVariants as input
+use Rattle.answer_command.specs.Inputs.{behind_header, live_input_of}
+use Rattle.answer_command.specs.declared.error.ServeError.{ServeError}
+use Rattle.answer_command.specs.declared.error.ServeError.TheVariants as error
+use Rattle.answer_command.specs.declared.head.Head.{Head}
+
+-- a fault is the one that is meant; a failed reader and memory that runs out may come at any
+abbrev pub Refuses : {X : Type 0} → ServeError → Result X ServeError → Type 0
+Refuses (error.Input input.Device) meaning = ⊤
+Refuses (error.Input input.OutOfMemory) meaning = ⊤
+Refuses why meaning = meaning ≡ Err why
+
+-- the head was read of a text, and its rows are left
+abbrev pub ReadsHead : List ℕ → Option (List ℕ) → Result Head ServeError → Type 0
+ReadsHead text left (Ok head) =
+    (rows : List ℕ) × (left ≡ Some rows) × (live_input_of text ≡ Ok (record { tariff = head.tariff; setup = setup_in head.directory; rows = rows }))
+ReadsHead text left (Err why) = Refuses why (live_input_of text)
+
+-- the header was taken of a text, and the rows are left; or it isn't there
+abbrev pub TakesHeader : List ℕ → Option (List ℕ) → Bool → Type 0
+TakesHeader text left true = (rows : List ℕ) × (left ≡ Some rows) × (behind_header text ≡ Ok rows)
+TakesHeader text left false = behind_header text ≡ Err error.Header
+
+-- a fault of what stands before the rows
+abbrev pub IsOfHead : ServeError → Type 0
+IsOfHead (error.Input why) = ⊤
+IsOfHead error.Header = ⊤
+IsOfHead (error.Live why) = ⊥
+IsOfHead (error.Run why) = ⊥
+
+-- a fault that comes behind that: a run of one worker that has no books ends as it may
+abbrev pub IsOfRun : ServeError → Type 0
+IsOfRun (error.Input why) = ⊥
+IsOfRun error.Header = ⊥
+IsOfRun (error.Live why) = ⊤
+IsOfRun (error.Run why) = MayEnd why
+
+-- at any input: a fault of what stands before the rows comes before anything is written
+abbrev pub IsSilent : Option (List ℕ) → Option (List ℕ) → ServeError → Type 0
+IsSilent old new (error.Input why) = Keeps old new
+IsSilent old new error.Header = Keeps old new
+IsSilent old new (error.Live why) = ⊤
+IsSilent old new (error.Run why) = ⊤

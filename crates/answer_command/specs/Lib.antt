@@ -1,0 +1,4 @@
+pub mod Ends
+pub mod Heads
+pub mod Inputs
+pub mod Serves

@@ -1,0 +1,48 @@
+//! Why an input isn't served to its end.
+
+ghost use Rattle.std.specs.Prelude.{◌≡◌};
+ghost use Rattle.runs_core.specs.declared.run_fault.RunFault.TheVariants as fault;
+ghost use Rattle.answer_command.specs.declared.error.ServeError.TheVariants as out;
+
+use live_answers::LiveFault;
+use run_texts::InputFault;
+use runs_core::RunFault;
+use std::alloc::AllocError;
+
+/// Why an input isn't served to its end.
+#[derive(Clone, Copy, Debug)]
+pub enum ServeError {
+    /// The tariff or the setup has a fault, or their dividers aren't there; or what reads them, or
+    /// memory, failed.
+    Input(InputFault),
+    /// What stands behind the setup doesn't begin with the header of message rows.
+    Header,
+    /// The run was ended before its input: what came before is answered, and its books are made.
+    Live(LiveFault),
+    /// The run has no books; also where memory ran out before or after it.
+    Run(RunFault),
+}
+
+impl From<InputFault> for ServeError {
+    ghost from_gives = { λ why error. error ≡ out.Input why };
+
+    fn from(fault: InputFault) -> ServeError {
+        ServeError::Input(fault)
+    }
+}
+
+impl From<RunFault> for ServeError {
+    ghost from_gives = { λ why error. error ≡ out.Run why };
+
+    fn from(fault: RunFault) -> ServeError {
+        ServeError::Run(fault)
+    }
+}
+
+impl From<AllocError> for ServeError {
+    ghost from_gives = { λ _ error. error ≡ out.Run fault.OutOfMemory };
+
+    fn from(_error: AllocError) -> ServeError {
+        ServeError::Run(RunFault::OutOfMemory)
+    }
+}

@@ -1,0 +1,159 @@
+//! The command `serve`.
+
+ghost use Rattle.std.specs.Prelude.{◌≡◌, IfErr, IfOk, IfSome, OnOk, ℕ, List, option_map, string_bytes};
+ghost use Rattle.std.specs.Io.KnownBytes.{Appends};
+ghost use Rattle.answer_command.specs.Ends.{IsCutAt, IsCutEnd, IsEndOf, end_with, is_cut_off};
+ghost use Rattle.answer_command.specs.Heads.{IsOfRun, IsSilent};
+ghost use Rattle.answer_command.specs.Inputs.{live_input_of};
+ghost use Rattle.answer_command.specs.Serves.{EndsBy, ServesBy};
+ghost use Rattle.run_options.specs.Options.{live_ask_of};
+
+use crate::ServeError;
+use crate::head::{Head, read_head};
+use account_core::MAX_LIMIT;
+use book_texts::{book_table, run_lines};
+use call_records::{call_table, records};
+use live_answers::{Answered, LiveFault, Replay, answer_live};
+use moment_texts::Clock;
+use rating::write_text;
+use run_options::{LiveOptions, LiveOutput};
+use run_values::RunSetup;
+use std::alloc::{AllocError, Global};
+use std::io::{self, BufRead, Write};
+use std::sync::Wait;
+use std::thread::Threads;
+
+/// Serves an input: a tariff, a line `%%`, a setup, a line `%%`, the header
+/// `moment,number,call,from,what,x1,x2,x3,x4`, and message rows, each a line. The header is printed
+/// and flushed, then each row is answered as `live_answers::answer_live` has it before the next one
+/// is read, and at the end of the input a line `%%` and what the options ask for are printed.
+///
+/// `Input` and then `Header` are faults of what stands before the rows; nothing is printed then.
+/// `Live` says what ended the run before its input: at `Input` and `Log` all is printed that an
+/// input would have that had ended there; at `Output`, and where the run has no books, a front.
+pub fn serve_input<R: Wait + Threads + Sync, I: BufRead + Drop, O: Write>(
+    rt: &R,
+    alloc: Global,
+    options: &LiveOptions,
+    input: I,
+    output: &mut O,
+) -> Result<(), ServeError>
+    ensures serves { IfSome (I.remaining input) (λ text.
+        ServesBy (live_ask_of options.now) (live_input_of text)
+        (O.contents output.old) (O.contents output.new) result) }
+    ensures silent { IfErr result
+        (IsSilent (O.contents output.old) (O.contents output.new)) }
+{
+    let mut input = input;
+    let Head { tariff, directory } = read_head(alloc, &mut input)?;
+    let setup = RunSetup::of(alloc, directory, tariff, options.service, MAX_LIMIT)?;
+    serve_rows(rt, alloc, options.output, &setup, input, output)
+}
+
+/// Serves the rows of an input, and prints the header before them and the end behind them.
+fn serve_rows<R: Wait + Threads + Sync, I: BufRead + Drop, O: Write>(
+    rt: &R,
+    alloc: Global,
+    end: LiveOutput,
+    setup: &RunSetup,
+    rows: I,
+    output: &mut O,
+) -> Result<(), ServeError>
+    ensures ends { IfSome (I.remaining rows) (λ text. EndsBy end setup.now text
+        (O.contents output.old) (O.contents output.new) result) }
+    ensures fault { IfErr result IsOfRun }
+{
+    send(
+        output,
+        b"moment,number,call,from,what,x1,x2,x3,x4\n".as_slice(),
+    )?;
+    let answered = answer_live(
+        rt,
+        alloc,
+        setup,
+        rows,
+        output,
+        &mut io::sink(),
+        Replay::NONE,
+    )?;
+    if is_cut_off(answered.fault) {
+        return Err(ServeError::Live(LiveFault::Output));
+    }
+    print_end(alloc, end, setup, &answered, output)?;
+    match answered.fault {
+        Some(fault) => Err(ServeError::Live(fault)),
+        None => Ok(()),
+    }
+}
+
+/// Whether the output of a run failed.
+fn is_cut_off(fault: Option<LiveFault>) -> bool
+    ensures { result ≡ is_cut_off fault }
+{
+    matches!(fault, Some(LiveFault::Output))
+}
+
+/// Prints the end of an output: a line `%%`, and what is asked for, if anything is.
+fn print_end<O: Write>(
+    alloc: Global,
+    end: LiveOutput,
+    setup: &RunSetup,
+    answered: &Answered,
+    output: &mut O,
+) -> Result<(), ServeError>
+    ensures prints { OnOk result ((text : List ℕ) × IsEndOf end (record {
+      setup = setup.now;
+      given = answered.now.given.items;
+      books = answered.now.books.items;
+    }) text × Appends (O.contents output.old) (O.contents output.new) text) }
+    ensures cut { IfErr result (IsCutEnd end (record {
+      setup = setup.now;
+      given = answered.now.given.items;
+      books = answered.now.books.items;
+    }) (O.contents output.old) (O.contents output.new)) }
+{
+    let Some(table) = end_table(alloc, end, setup, answered)? else {
+        return Ok(());
+    };
+    send(output, b"%%\n".as_slice())?;
+    send(output, table.as_bytes())
+}
+
+/// What is printed at the end behind a line `%%`, if anything is.
+fn end_table(
+    alloc: Global,
+    end: LiveOutput,
+    setup: &RunSetup,
+    answered: &Answered,
+) -> Result<Option<String>, AllocError>
+    ensures { IfOk result (λ table. IsEndOf end (record {
+      setup = setup.now;
+      given = answered.now.given.items;
+      books = answered.now.books.items;
+    }) (end_with (option_map string_bytes table))) }
+{
+    let books = answered.books.as_slice();
+    match end {
+        LiveOutput::Nothing => Ok(None),
+        LiveOutput::Lines => Ok(Some(run_lines(alloc, books)?)),
+        LiveOutput::Book => Ok(Some(book_table(alloc, books, setup.tariff().has_steps())?)),
+        LiveOutput::Calls => {
+            let calls = records(alloc, setup, answered.given.as_slice(), books)?;
+            Ok(Some(call_table(alloc, Clock::Digits, calls.as_slice())?))
+        }
+    }
+}
+
+/// Writes a text and flushes it.
+fn send<O: Write>(output: &mut O, text: &[u8]) -> Result<(), ServeError>
+    ensures wrote { OnOk result
+        (Appends (O.contents output.old) (O.contents output.new) text.now) }
+    ensures cut { IfErr result
+        (IsCutAt (O.contents output.old) (O.contents output.new) text.now) }
+{
+    if write_text(output, text) && output.flush().is_ok() {
+        Ok(())
+    } else {
+        Err(ServeError::Live(LiveFault::Output))
+    }
+}

@@ -1,0 +1,44 @@
+-- What the options of `serve` say.
+use Rattle.std.specs.Prelude.{Bool, List, Option, Some, None, Result, Ok, Err, true, false, codes, if◌then◌else◌, option_and_then, option_map}
+use Rattle.clap.specs.Words.{Row}
+use Rattle.run_options.specs.Configs.{is_live_config}
+use Rattle.run_options.specs.declared.live.LiveAsk.{LiveAsk}
+use Rattle.run_options.specs.declared.live.LiveOutput.{LiveOutput}
+use Rattle.run_options.specs.declared.live.LiveOutput.TheVariants as output
+use Rattle.command_words.specs.Options.{has_flag}
+use Rattle.command_words.specs.RunWords.{setting_in}
+use Rattle.command_words.specs.Wishes.{Wish, Serves}
+use Rattle.command_words.specs.declared.fault.WordsFault.{WordsFault}
+use Rattle.command_words.specs.declared.fault.WordsFault.TheVariants as fault
+
+-- what is printed at the end: nothing, where none is asked for of the lines, the table of books and the table of calls. Only one of these may be
+abbrev pub end_of : Bool → Bool → Bool → Option LiveOutput
+end_of false false false = Some output.Nothing
+end_of true false false = Some output.Lines
+end_of false true false = Some output.Book
+end_of false false true = Some output.Calls
+end_of _ _ _ = None
+
+-- what the options ask to print at the end
+abbrev pub end_in : List Row → Option LiveOutput
+end_in options = end_of (has_flag options (codes "lines")) (has_flag options (codes "book")) (has_flag options (codes "calls"))
+
+-- what the options ask for, where each has a number of its own
+unfoldable pub live_ask_in : List Row → Option LiveAsk
+live_ask_in options =
+    option_and_then (λ wanted. option_and_then (λ least. option_and_then (λ tccd. option_map (λ output. record {
+      wanted = wanted;
+      least = least;
+      tccd = tccd;
+      output = output;
+    })
+    (end_in options)) (setting_in options (codes "tccd") 50)) (setting_in options (codes "least") 50)) (setting_in options (codes "wanted") 600)
+
+-- the service that is asked for, its times judged
+abbrev pub judged_live : Option LiveAsk → Result Wish WordsFault
+judged_live None = Err fault.Arguments
+judged_live (Some ask) = if is_live_config ask then Ok (Serves ask) else Err fault.Config
+
+-- what the service is asked for, judged
+abbrev pub serve_in : List Row → Result Wish WordsFault
+serve_in options = judged_live (live_ask_in options)

@@ -1,0 +1,69 @@
+//! The options of `serve`.
+
+ghost use Rattle.std.specs.Prelude.{◌≡◌, option_map};
+ghost use Rattle.clap.specs.Words.{found_of, rows_of};
+ghost use Rattle.command_words.specs.Arguments.{IsRequestOf};
+ghost use Rattle.command_words.specs.Capped.{capped_live_ask};
+ghost use Rattle.command_words.specs.ServeWords.{end_in, end_of, live_ask_in, serve_in};
+
+use crate::fault::WordsFault;
+use crate::options::{has_flag, option_text};
+use crate::request::Request;
+use crate::run_words::setting;
+use clap::ArgMatches;
+use run_options::{LiveAsk, LiveOptions, LiveOutput};
+
+/// The service that the options ask for. `Config` where a time is out of its range, however large;
+/// `Arguments` where an option has no number of its own, or more than one thing is to be printed at
+/// the end.
+pub(crate) fn serve_request<'a>(options: &ArgMatches<'_>) -> Result<Request<'a>, WordsFault>
+    ensures { IsRequestOf (serve_in (rows_of (found_of options.now))) result }
+{
+    let Some(ask) = live_ask(options) else {
+        return Err(WordsFault::Arguments);
+    };
+    match LiveOptions::new(ask) {
+        Some(options) => Ok(Request::Serve(options)),
+        None => Err(WordsFault::Config),
+    }
+}
+
+/// What the options say.
+#[tactic(auto, unfolding(crate::specs::ServeWords::live_ask_in))]
+fn live_ask(options: &ArgMatches<'_>) -> Option<LiveAsk>
+    ensures { result ≡ option_map capped_live_ask (live_ask_in (rows_of (found_of options.now))) }
+{
+    let wanted = setting(option_text(options, "wanted"), 600)?;
+    let least = setting(option_text(options, "least"), 50)?;
+    let tccd = setting(option_text(options, "tccd"), 50)?;
+    let output = end(options)?;
+    Some(LiveAsk {
+        wanted,
+        least,
+        tccd,
+        output,
+    })
+}
+
+/// What is to be printed at the end; none where more than one thing is asked for.
+fn end(options: &ArgMatches<'_>) -> Option<LiveOutput>
+    ensures { result ≡ end_in (rows_of (found_of options.now)) }
+{
+    let lines = has_flag(options, "lines");
+    let book = has_flag(options, "book");
+    let calls = has_flag(options, "calls");
+    end_of(lines, book, calls)
+}
+
+/// The same, by whether each is asked for.
+fn end_of(lines: bool, book: bool, calls: bool) -> Option<LiveOutput>
+    ensures { result ≡ end_of lines book calls }
+{
+    match (lines, book, calls) {
+        (false, false, false) => Some(LiveOutput::Nothing),
+        (true, false, false) => Some(LiveOutput::Lines),
+        (false, true, false) => Some(LiveOutput::Book),
+        (false, false, true) => Some(LiveOutput::Calls),
+        _ => None,
+    }
+}

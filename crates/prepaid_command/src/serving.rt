@@ -1,0 +1,49 @@
+//! The command `serve`.
+
+ghost use Rattle.std.specs.Prelude.{◌≡◌};
+ghost use Rattle.std.specs.Io.KnownBytes.{Keeps};
+ghost use Rattle.run_options.specs.Options.{live_ask_of};
+ghost use Rattle.prepaid_command.specs.Answers.{IsServeEnd, IsServed};
+
+use crate::error_lines::report;
+use crate::fault::Fault;
+use answer_command::{ServeError, serve_input};
+use run_options::LiveOptions;
+use std::alloc::Global;
+use std::io::{BufRead, Write};
+use std::sync::Wait;
+use std::thread::Threads;
+
+/// Answers the messages in the input as they come, and gives the status: 0 where the input has
+/// ended and all was printed; 1 for a fault of what stands before the messages, and then nothing is
+/// printed; 2 where the input, memory, the output or the run failed.
+pub(crate) fn serve_messages<R: Wait + Threads + Sync, I: BufRead + Drop, O: Write, E: Write>(
+    rt: &R,
+    alloc: Global,
+    options: &LiveOptions,
+    input: I,
+    output: &mut O,
+    faults: &mut E,
+) -> u8
+    ensures served { IsServed (live_ask_of options.now) (I.remaining input) result
+        (record { output = O.contents output.old; faults = E.contents faults.old })
+        (record { output = O.contents output.new; faults = E.contents faults.new }) }
+    ensures silent { result ≡ 1 → Keeps (O.contents output.old) (O.contents output.new) }
+{
+    let ended = serve_input(rt, alloc, options, input, output);
+    tell_end(faults, ended)
+}
+
+/// Reports why an input wasn't served to its end, and gives the status: 2, and nothing is said,
+/// where the output failed.
+fn tell_end<E: Write>(faults: &mut E, ended: Result<(), ServeError>) -> u8
+    ensures { IsServeEnd ended result (E.contents faults.old) (E.contents faults.new) }
+{
+    match ended {
+        Ok(()) => 0,
+        Err(why) => match Fault::of_serve(why) {
+            Some(fault) => report(faults, fault),
+            None => 2,
+        },
+    }
+}

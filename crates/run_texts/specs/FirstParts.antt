@@ -1,0 +1,62 @@
+-- The first part of a text: what stands before the first line that is a divider.
+use Rattle.std.specs.Prelude.{◌≡◌, ◌+◌, ◌<◌, ℕ, List, [], ◌∷◌, ◌++◌, length, drop, Option, Some, None, Result, Ok, Err, ⊤, if◌then◌else◌, nat_lt, option_map}
+use Rattle.std.specs.Io.BufRead.{drop_through, take_through}
+use Rattle.std.specs.Io.KnownBytes.{Consumes, IsAtEnd, Keeps}
+use Rattle.run_texts.specs.InputFaults.{Refuses}
+use Rattle.run_texts.specs.Parts.{is_divider, lines_of}
+use Rattle.run_texts.specs.declared.input_fault.InputFault.{InputFault}
+use Rattle.run_texts.specs.declared.input_fault.InputFault.TheVariants as fault
+use Rattle.run_texts.specs.declared.part.TheConstants.{MAX_PART}
+
+-- what stands before the first divider, and the divider
+pub record Division : Type 0 where
+  pub part : List ℕ
+  pub divider : List ℕ
+
+-- a text stands before the lines that are divided
+abbrev pub with_front : List ℕ → Division → Division
+with_front front division = record { part = front ++ division.part; divider = division.divider }
+
+-- some lines, divided at the first divider among them
+unfoldable pub division_of : List (List ℕ) → Option Division
+division_of [] = None
+division_of (line ∷ lines) = if is_divider line then Some (record { part = []; divider = line }) else option_map (with_front line) (division_of lines)
+
+-- a part, and what stands behind its divider
+pub record FirstPart : Type 0 where
+  pub part : List ℕ
+  pub rest : List ℕ
+
+-- what stands behind the divider
+abbrev pub part_at : List ℕ → Division → FirstPart
+part_at text division = record { part = division.part; rest = drop (length division.part + length division.divider) text }
+
+-- the part and its divider have `MAX_PART` bytes at most, or where there is no divider the whole text
+abbrev pub first_part_by : List ℕ → Option Division → Result FirstPart InputFault
+first_part_by text None = Err (if nat_lt MAX_PART (length text) then fault.TooLong else fault.Parts)
+first_part_by text (Some division) = if nat_lt MAX_PART (length division.part + length division.divider) then Err fault.TooLong else Ok (part_at text division)
+
+-- the first part of a text
+abbrev pub first_part : List ℕ → Result FirstPart InputFault
+first_part text = first_part_by text (division_of (lines_of text))
+
+-- the part was read of a text, and what stands behind its divider is left
+abbrev pub Divides : List ℕ → Option (List ℕ) → Result (List ℕ) InputFault → Type 0
+Divides text left (Ok part) = (rest : List ℕ) × (left ≡ Some rest) × (first_part text ≡ Ok (record { part = part; rest = rest }))
+Divides text left (Err why) = Refuses why (first_part text)
+
+-- the first line of a text was read, and what stands behind it is left; or it has more bytes than these
+abbrev pub ReadsLine : ℕ → List ℕ → Option (List ℕ) → Option (List ℕ) → Type 0
+ReadsLine most text left None = most < length (take_through 10 text)
+ReadsLine most text left (Some line) = (line ≡ take_through 10 text) × (left ≡ Some (drop_through 10 text))
+
+-- a reader gave its next byte, or none at its end
+abbrev pub TakesByte : Option (List ℕ) → Option (List ℕ) → Option ℕ → Type 0
+TakesByte old new None = IsAtEnd old × Keeps old new
+TakesByte old new (Some byte) = Consumes old new (byte ∷ [])
+
+-- a fault of a reader that failed, or of memory that ran out
+abbrev pub MayAlwaysCome : InputFault → Type 0
+MayAlwaysCome fault.Device = ⊤
+MayAlwaysCome fault.OutOfMemory = ⊤
+MayAlwaysCome why = ⊥

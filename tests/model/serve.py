@@ -1,0 +1,140 @@
+"""The service live: rows of messages, each a line, answered one after the other, and what is printed behind them."""
+import re
+
+from . import calls, trace
+from .account import DAY, MAX_MONEY
+from .run import Options, Run
+from .tables import HORIZON, LAST_MOMENT, Fault, decimal, digits, first_part, moment, read_setup, read_tariff, records
+
+MAX_LINE = 4096
+# The events of a row, in the words of a script.
+EVENTS = {
+    b"collectedInfo": "collectedinfo",
+    b"routeSelectFailure": "routefail",
+    b"busy": "busy",
+    b"noAnswer": "noanswer",
+    b"answer": "answer",
+    b"disconnect": "disconnect",
+    b"abandon": "abandon",
+}
+MODES = (b"notify", b"interrupted", b"transparent")
+
+
+class Bad(Exception):
+    """What is wrong with a line."""
+
+
+def needed(found):
+    if found is None:
+        raise Bad("Number")
+    return found
+
+
+def number(field, most, least=0):
+    return needed(decimal(field, most, least))
+
+
+def optional(field, most, least=0):
+    return None if field == b"" else number(field, most, least)
+
+
+def is_known(sender, what, x):
+    """Whether the words of a row are those of a message."""
+    if (sender, what) == (b"switch", b"EventReportBCSM"):
+        return x[0] in EVENTS and x[2] in MODES
+    if (sender, what) == (b"switch", b"ApplyChargingReport"):
+        return x[0] in (b"active", b"inactive") and x[1] in (b"n", b"s")
+    return sender == b"switch" and what in (b"InitialDP", b"Ended") or (sender, what) == (b"operator", b"Recharge")
+
+
+def message(fields):
+    """The moment of a row, its number, its call, what is said, and its fields from what on, as they are printed."""
+    if len(fields) != 9:
+        raise Bad("Csv")
+    at, place, call, sender, what, *x = fields
+    if not is_known(sender, what, x):
+        raise Bad("What")
+    at, place = needed(moment(at, HORIZON)), optional(place, 2**64 - 1)
+    empty, word = [], what.decode()
+    call = None if word == "Recharge" else number(call, 2**64 - 1)
+    if word == "Recharge":
+        until = None if x[2] == b"" else needed(moment(x[2], LAST_MOMENT))
+        rest = number(x[0], 2**32 - 1), number(x[1], MAX_MONEY), until
+        said, empty = ("recharge", *rest), [fields[2], x[3]]
+    elif word == "InitialDP":
+        rest = needed(digits(x[0])), needed(digits(x[1]))
+        said, empty = ("initial dp", *rest), x[2:]
+    elif word == "EventReportBCSM":
+        leg, mode = optional(x[1], 2, 1), x[2].decode()
+        rest, empty = (x[0].decode(), leg, mode), x[3:]
+        said = "event", EVENTS[x[0]], mode
+    elif word == "ApplyChargingReport":
+        times = ("n", number(x[2], DAY)) if x[1] == b"n" else ("s", number(x[2], DAY), optional(x[3], DAY, 1))
+        rest, empty = (x[0].decode(), *times), x[3:] if x[1] == b"n" else []
+        said = "charging report", x[0] == b"active", times
+    else:
+        rest, said, empty = (), ("ended",), x
+    if any(empty):
+        raise Bad("Empty")
+    return at, place, call, said, [word, *rest]
+
+
+class Service:
+    """A run of one worker, to which each line goes."""
+
+    def __init__(self, run):
+        self.run, self.last, self.closed = run, 0, set()
+
+    def rows(self, line):
+        """What is printed of a line; Bad where it isn't accepted."""
+        if len(line) > MAX_LINE:
+            raise Bad("TooLong")
+        found = records(line)
+        if not found:
+            return []
+        if len(found) > 1:
+            raise Bad("Csv")
+        at, place, call, said, fields = message(found[0])
+        at_number = self.run.number
+        if place is not None and place < at_number:
+            raise Bad("Repeated")
+        if at < self.last or place is not None and place > at_number:
+            raise Bad("Order")
+        self.last = at
+        answer = self.answer(at, call, said)
+        head = [at, at_number, call]
+        sender = "operator" if call is None else "switch"
+        return [trace.row([*head, sender, *fields]), *(trace.row([*head, "service", *it]) for it in answer.said())]
+
+    def answer(self, at, call, said):
+        if call is None and said[1] not in self.run.accounts or call in self.closed:
+            self.run.number += 1
+            answer = trace.Answer(is_stray=True)
+        else:
+            was_open = call in self.run.talks
+            (answer,) = self.run.answered(at, [(call, said)]).values()
+            if call is not None and said[0] == "ended" and was_open:
+                self.closed.add(call)
+        if call is not None:
+            calls.hear(self.run.told, at, call, said)
+        return answer
+
+
+def serve(given, text, options):
+    """The answer to an input: its rows, and behind them what is asked for."""
+    first, rest = first_part(text)
+    second, rest = first_part(rest)
+    tariff, setup = read_tariff(first), read_setup(second)
+    header, *lines = re.findall(rb"[^\n]*\n|[^\n]+", rest) or [b""]
+    if header not in [trace.HEADER.encode() + it for it in (b"\n", b"\r\n", b"")]:
+        raise Fault("prepaid: messages row 1: Header")
+    service = Service(Run(tariff, setup, Options(1, **options)))
+    rows = [trace.HEADER]
+    for place, line in enumerate(lines, 2):
+        try:
+            rows += service.rows(line if line.endswith(b"\n") else line + b"\n")
+        except Bad as why:
+            rows.append(f",,,service,fault,{why},{place},,")
+    run = service.run
+    ends = {"--lines": run.lines, "--book": run.book, "--calls": run.calls}
+    return "".join([*(f"{it}\n" for it in rows), *("%%\n" + end() for name, end in ends.items() if name in given)])

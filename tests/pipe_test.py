@@ -1,0 +1,162 @@
+#!/usr/bin/env python3
+"""Tries `prepaid serve` at the other end of a pipe: tests/pipe_test.py [--program FILE]
+
+Each message is sent only once the answers to those before it have come, so a service that held anything back would stop
+here. A line of 100 MB is answered in bounded memory. Where the reader of its output is gone the service ends without a
+line. socat's line of docs/RECIPES.md is tried on loopback, where socat is installed.
+"""
+import argparse
+import os
+import re
+import select
+import shutil
+import socket
+import subprocess
+import sys
+import time
+
+ROOT = os.path.dirname(os.path.dirname(os.path.abspath(__file__)))
+# What may pass before an answer counts as held back.
+SECONDS = 20
+HEADER = "moment,number,call,from,what,x1,x2,x3,x4\n"
+# The most memory of a service in KiB, whatever a line is: it takes some 3 MiB.
+MOST_MEMORY = 16 * 1024
+
+
+def live():
+    """The head of the example, its messages, and what is printed of each."""
+    with open(f"{ROOT}/examples/live.txt", encoding="ascii") as it:
+        head, _, rows = it.read().partition(HEADER)
+    answers = ["0,0,1,switch,InitialDP,491700001,4930,,\n0,0,1,service,RequestReportBCSMEvent,,,,\n"
+               "0,0,1,service,ApplyCharging,600,,,\n0,0,1,service,Continue,,,,\n",
+               "100,1,1,switch,EventReportBCSM,answer,,notify,\n",
+               "400,2,1,switch,ApplyChargingReport,inactive,n,300,\n",
+               "400,3,1,switch,EventReportBCSM,disconnect,1,interrupted,\n400,3,1,service,Continue,,,,\n",
+               "402,4,1,switch,Ended,,,,\n"]
+    return head, list(zip(rows.splitlines(keepends=True), answers))
+
+
+def start(program, *words):
+    return subprocess.Popen([program, "serve", *words], stdin=subprocess.PIPE, stdout=subprocess.PIPE, stderr=subprocess.PIPE)
+
+
+def come(file, size):
+    """So many bytes of a file, or those that came in time."""
+    text, end = b"", time.monotonic() + SECONDS
+    while len(text) < size and select.select([file], [], [], max(0, end - time.monotonic()))[0]:
+        more = os.read(file if isinstance(file, int) else file.fileno(), size - len(text))
+        if not more:
+            break
+        text += more
+    return text.decode()
+
+
+def send(file, text):
+    file.write(text.encode())
+    file.flush()
+
+
+def answers_in_turn(program):
+    """Each message is answered before the next one is sent, and so is a line that is none."""
+    head, talk = live()
+    bad = "bad\n", ",,,service,fault,Csv,{line},,\n"
+    with start(program, "--lines") as it:
+        send(it.stdin, head + HEADER)
+        if (said := come(it.stdout, len(HEADER))) != HEADER:
+            return f"no header: {said!r}"
+        line = 1
+        for row, answer in [both for pair in talk for both in (pair, bad)]:
+            line += 1
+            wanted = answer.format(line=line)
+            send(it.stdin, row)
+            if (said := come(it.stdout, len(wanted))) != wanted:
+                return f"{said!r} in answer to {row!r}"
+        text, faults = it.communicate(timeout=SECONDS)
+    wanted = "%%\naccount 7 opening 1500 available 950 entries 3\ncall 1 account 7 paid 550 returned\n"
+    return None if (text.decode(), faults, it.returncode) == (wanted, b"", 0) else f"{text} {faults} {it.returncode}"
+
+
+def bounds_memory(program):
+    """A line of 100 MB, in front of the header or behind it, is one fault, and memory stays bounded."""
+    head, talk = live()
+    wrong = []
+    for text, wanted in [(head + HEADER, (0, HEADER + ",,,service,fault,TooLong,2,,\n" + talk[0][1], "")), (head, (1, "", "prepaid: messages row 1: Header\n"))]:
+        it = start(program)
+        try:
+            send(it.stdin, text)
+            for _ in range(100):
+                it.stdin.write(b"x" * 1_000_000)
+            send(it.stdin, "\n" + talk[0][0])
+            it.stdin.close()
+        except BrokenPipeError:
+            pass
+        said = it.stdout.read().decode(), it.stderr.read().decode()
+        _, status, used = os.wait4(it.pid, 0)
+        it.returncode = os.waitstatus_to_exitcode(status)
+        if (it.returncode, *said) != wanted:
+            wrong.append(f"{(it.returncode, *said)} in place of {wanted}")
+        if used.ru_maxrss > MOST_MEMORY:
+            wrong.append(f"{used.ru_maxrss} KiB of memory")
+    return "; ".join(wrong) or None
+
+
+def ends_with_its_reader(program):
+    """Where nobody reads its output any more, the service ends with status 2 and says nothing."""
+    head, talk = live()
+    it = start(program)
+    send(it.stdin, head + HEADER)
+    come(it.stdout, len(HEADER))
+    it.stdout.close()
+    try:
+        for row, _ in talk:
+            send(it.stdin, row)
+        it.stdin.close()
+    except BrokenPipeError:
+        pass
+    faults, status = it.stderr.read(), it.wait(timeout=SECONDS)
+    return None if (faults, status) == (b"", 2) else f"{faults} {status}"
+
+
+def serves_a_port(program):
+    """The line of the recipe, with another port and this program."""
+    if not shutil.which("socat"):
+        print("pipe: socat isn't here: apt-get install socat")
+        return None
+    with open(f"{ROOT}/docs/RECIPES.md", encoding="utf-8") as page:
+        line = re.search(r"^socat .*$", page.read(), re.M)[0]
+    with socket.socket() as free:
+        free.bind(("127.0.0.1", 0))
+        port = free.getsockname()[1]
+    line = line.replace("TCP-LISTEN:7000", f"TCP-LISTEN:{port}").replace("'prepaid ", f"'{program} ")
+    listening = subprocess.Popen(["bash", "-c", f"exec {line}"])
+    head, talk = live()
+    text = "".join([head, HEADER, *(row for row, _ in talk)])
+    try:
+        for _ in range(SECONDS * 10):
+            try:
+                connection = socket.create_connection(("127.0.0.1", port))
+                break
+            except ConnectionRefusedError:
+                time.sleep(0.1)
+        with connection:
+            connection.sendall(text.encode())
+            wanted = HEADER + "".join(answer for _, answer in talk)
+            said = come(connection.fileno(), len(wanted))
+    finally:
+        listening.terminate()
+        listening.wait()
+    return None if said == wanted else f"{said!r}"
+
+
+def main():
+    asked = argparse.ArgumentParser(description=__doc__, formatter_class=argparse.RawDescriptionHelpFormatter)
+    asked.add_argument("--program", default="bin/prepaid")
+    program = os.path.abspath(asked.parse_args().program)
+    tries = answers_in_turn, bounds_memory, ends_with_its_reader, serves_a_port
+    wrong = [f"{it.__name__}: {said}" for it in tries if (said := it(program))]
+    print("\n".join(wrong) or f"pipe: {len(tries)} tries of a service on a pipe")
+    return 1 if wrong else 0
+
+
+if __name__ == "__main__":
+    sys.exit(main())
