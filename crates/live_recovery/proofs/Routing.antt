@@ -103,7 +103,7 @@ module _ (bands : List Band) (proper : IsProper bands) where
       let first : one.plan.first ≡ other.plan.first = is.first ∙ ap (λ (b : Band). b.first) band ∙ sym too.first in
       let step : one.plan.step ≡ other.plan.step = is.step ∙ ap (λ (b : Band). b.step) band ∙ sym too.step in
       let same : rates one.plan.fee one.plan.before one.plan.after one.plan.free one.plan.first one.plan.step
-          ≡ rates other.plan.fee other.plan.before other.plan.after other.plan.free other.plan.first other.plan.step =
+      ≡ rates other.plan.fee other.plan.before other.plan.after other.plan.free other.plan.first other.plan.step =
       rw (fee, before, switches.1, free, first, step) refl in
       (same, switches.0)
 

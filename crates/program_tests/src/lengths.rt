@@ -70,11 +70,12 @@ impl Read for Zeros<'_> {
 
 #[test]
 fn bounds_the_input(rt: HostRuntime) -> Result<(), Fail> {
-    // How many bytes there are, how many of them are taken, and the fault.
+    // How many bytes there are, how many of them are taken, and the fault. They are taken a buffer of
+    // 8192 bytes at a time: a byte above the limit is in the 2049th.
     let rows = [
         (16_777_216, 16_777_216, "prepaid: reports row 1: Header\n"),
         (16_777_217, 16_777_217, "prepaid: input: TooLong\n"),
-        (20_000_000, 16_777_217, "prepaid: input: TooLong\n"),
+        (20_000_000, 2049 * 8192, "prepaid: input: TooLong\n"),
     ];
     for (left, want, fault) in rows {
         let mut taken = 0;
