@@ -21,11 +21,13 @@ flag_rule name = record (new_rule name) { long = Some name; action = Some SetTru
 abbrev pub with_rules : App → List Rule → App
 with_rules app rules = fold with_rule app rules
 
+-- which units are charged for
+abbrev pub unit_rules : List Rule
+unit_rules = option_rule (codes "free") ∷ option_rule (codes "first") ∷ option_rule (codes "step") ∷ []
+
 -- `price --fee N --before N [--after N] [--free N] [--first N] [--step N]`
 unfoldable pub price_app : App
-price_app = with_rules (new_app (codes "price"))
-    (required_rule (codes "fee") ∷ required_rule (codes "before") ∷ option_rule (codes "after") ∷ option_rule (codes "free") ∷ option_rule (codes "first")
-    ∷ option_rule (codes "step") ∷ [])
+price_app = with_rules (with_rules (new_app (codes "price")) (required_rule (codes "fee") ∷ required_rule (codes "before") ∷ option_rule (codes "after") ∷ [])) unit_rules
 
 -- `replay --opening N [--limit N]`
 unfoldable pub replay_app : App

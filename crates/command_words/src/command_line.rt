@@ -3,7 +3,7 @@
 ghost use Rattle.std.specs.Prelude.{◌≡◌, false, IfOk};
 ghost use Rattle.clap.specs.Words.{app_of, new_app, rule_of, with_rule};
 ghost use Rattle.clap.specs.declared.builder.command.Command.TheViews.{out-Command as fields_of};
-ghost use Rattle.command_words.specs.CommandLine.{audit_app, bare_app, end_rules, flag_rule, name_rules, option_rule, other_rules, output_rules, price_app, program_app, question_rules, quote_app, rate_app, rate_rules, replay_app, required_rule, run_app, serve_app, service_rules, switch_rules, time_rules, with_rules};
+ghost use Rattle.command_words.specs.CommandLine.{audit_app, bare_app, end_rules, flag_rule, name_rules, option_rule, other_rules, output_rules, price_app, program_app, question_rules, quote_app, rate_app, rate_rules, replay_app, required_rule, run_app, serve_app, service_rules, switch_rules, time_rules, unit_rules, with_rules};
 
 use crate::help;
 use clap::{Arg, ArgAction, Command};
@@ -51,6 +51,16 @@ fn price_command<'a>(alloc: Global) -> Result<Command<'a>, AllocError>
     let command = add(command, before)?;
     let after = option(alloc, "after", "The rate a minute after the switch");
     let command = add(command, after)?;
+    add_unit_options(alloc, command)
+}
+
+/// Which units are charged for.
+fn add_unit_options<'a>(alloc: Global, command: Command<'a>) -> Result<Command<'a>, AllocError>
+    requires { (fields_of command).has_globals ≡ false }
+    ensures app { IfOk result (λ more. app_of more
+        ≡ with_rules (app_of command.entry) unit_rules) }
+    ensures local { IfOk result (λ more. (fields_of more).has_globals ≡ false) }
+{
     let free = "How long the call is free, in units of 100 ms [default: 0]";
     let command = add(command, option(alloc, "free", free))?;
     let first = "How long the least time is that is billed, in units of 100 ms [default: 0]";

@@ -18,13 +18,13 @@ const MESSAGES: usize = 7;
 /// What is printed of the messages from a number on.
 fn printed_from(alloc: Global, first: usize) -> Result<String, Fail> {
     let mut text = String::new(alloc);
-    let mut number = 0;
+    let mut number: usize = 0;
     for (_, rows) in TALK {
         if !rows.is_empty() && !rows.starts_with(",,,") {
             if number >= first {
                 text.push_str(rows)?;
             }
-            number += 1;
+            number = number.saturating_add(1);
         }
     }
     Ok(text)
@@ -32,11 +32,13 @@ fn printed_from(alloc: Global, first: usize) -> Result<String, Fail> {
 
 /// The first lines of the log.
 pub(crate) fn first_lines(count: usize) -> &'static str {
-    let mut end = 0;
+    let mut end: usize = 0;
     for _ in 0..count {
-        end += LOGGED[end..].find('\n').map_or(0, |place| place + 1);
+        let rest = LOGGED.get(end..).unwrap_or("");
+        let line = rest.find('\n').map_or(0, |place| place.saturating_add(1));
+        end = end.saturating_add(line);
     }
-    &LOGGED[..end]
+    LOGGED.get(..end).unwrap_or("")
 }
 
 #[test]
@@ -47,7 +49,8 @@ fn goes_on_behind_each_line(rt: HostRuntime) -> Result<(), Fail> {
         for quiet in 0..messages + 1 {
             let lines = first_lines(messages).as_bytes();
             assert_eq!(rt; check_replay(alloc, lines), Ok(messages));
-            let input = lines.chain(&LOGGED.as_bytes()[lines.len()..]);
+            let rest = LOGGED.as_bytes().get(lines.len()..).unwrap_or(&[]);
+            let input = lines.chain(rest);
             let flushed = Cell::new(0);
             let mut output = Vec::new(alloc);
             let mut kept = Kept::new(alloc, &flushed, usize::MAX);
