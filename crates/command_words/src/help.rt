@@ -360,5 +360,5 @@ Faults of a line, the first that fits; the next line is answered all the same:
   What      A word that says nothing there, or a row of the service
   Number    Digits only, within the range: no plus, no point; a party is 1 to 15 digits
   Empty     A field has something that the message doesn't take
-  Order     The moment is below that of the last message, or the number above the next
-  Repeated  The number is below the next: the message was answered before";
+  Repeated  The number is below the next: the message was answered before
+  Order     The moment is below that of the last message, or the number above the next";
