@@ -9,6 +9,7 @@ limits of a run ask for. The folder is made, or is empty. docs/SCALING.md tells 
 import argparse
 import collections
 import csv
+import datetime
 import heapq
 import os
 import re
@@ -24,6 +25,7 @@ GROUPS = 1_000
 # How much is held back before it is written to the parts.
 HELD = 64 << 20
 MARK = b"%%\n"
+EPOCH, TENTH = datetime.datetime(1970, 1, 1), datetime.timedelta(milliseconds=100)
 
 
 class Wrong(Exception):
@@ -34,6 +36,18 @@ def decimal(field, fail):
     if not re.fullmatch("[0-9]{1,20}", field):
         fail("Number")
     return int(field)
+
+
+def moment_of(field, fail):
+    """A moment: a decimal, or a date and a time."""
+    said = re.fullmatch(r"([0-9]{4}-[0-9]{2}-[0-9]{2})[T ]([0-9]{2}:[0-9]{2}:[0-9]{2})(?:\.([0-9]))?", field)
+    if not said:
+        return decimal(field, fail)
+    try:
+        at = datetime.datetime.strptime(f"{said[1]} {said[2]}", "%Y-%m-%d %H:%M:%S")
+    except ValueError:
+        fail("Number")
+    return (at - EPOCH) // TENTH + int(said[3] or 0)
 
 
 def line_of(fields):
@@ -122,7 +136,7 @@ class Owners:
 
     def of_script(self, fields, fail):
         moment, number, what, x = fields[:4]
-        now, number = decimal(moment, fail), decimal(x if what == "recharge" else number, fail)
+        now, number = moment_of(moment, fail), decimal(x if what == "recharge" else number, fail)
         if now < self.last:
             fail("Order")
         self.last = now

@@ -6,10 +6,11 @@ isn't of its table, and a table that is cut short, are refused (`Wrong`).
 import os
 from dataclasses import dataclass
 
+# The headers that a table may have: a book has x8 and x9 where its tariff has billing steps.
 HEADERS = {
-    "book.csv": "account,seat,op,call,x1,x2,x3,x4,x5,x6,x7,reply,y1,y2,y3",
-    "calls.csv": "call,calling,called,account,prefix,start,answer,end,before,after,paid,outcome",
-    "trace.csv": "moment,number,call,from,what,x1,x2,x3,x4",
+    "book.csv": [f"account,seat,op,call,x1,x2,x3,x4,x5,x6,x7,{steps}reply,y1,y2,y3" for steps in ("", "x8,x9,")],
+    "calls.csv": ["call,calling,called,account,prefix,start,answer,end,before,after,paid,outcome"],
+    "trace.csv": ["moment,number,call,from,what,x1,x2,x3,x4"],
 }
 
 
@@ -75,7 +76,7 @@ class Entry:
     account: int
     op: str
     call: int | None
-    terms: tuple  # x1 to x7
+    terms: tuple  # x1 to x7, or to x9
     reply: str
     figure: int | None  # y1: the units of a grant, or what a call has paid
     available: int
@@ -149,10 +150,10 @@ def lines_of(folder, name):
 
 def rows_of(folder, name, read):
     """What `read` makes of each row of a table."""
-    header = HEADERS[name]
     lines = lines_of(folder, name)
-    if next(lines, None) != header + "\n":
-        raise Wrong(f"{name} row 1: the header isn't {header}")
+    header = next(lines, "").removesuffix("\n")
+    if header not in HEADERS[name]:
+        raise Wrong(f"{name} row 1: the header isn't {HEADERS[name][0]}")
     for row, line in enumerate(lines, 2):
         fields = line[:-1].split(",")
         try:

@@ -6,11 +6,7 @@ import sqlite3
 from datetime import datetime, timedelta
 from html.parser import HTMLParser
 
-COLUMNS = {
-    "book": "account,seat,op,call,x1,x2,x3,x4,x5,x6,x7,reply,y1,y2,y3",
-    "calls": "call,calling,called,account,prefix,start,answer,end,before,after,paid,outcome",
-    "trace": "moment,number,call,sender,what,x1,x2,x3,x4",
-}
+TABLES = ("book", "calls", "trace")
 # These aren't numbers to sqlite3, which has no whole numbers of 64 bits without a sign.
 DIGITS = {"call", "calling", "called", "prefix"}
 # A call gives back what it holds with the first message that ends it, or as it is denied further time.
@@ -64,12 +60,13 @@ CREATE VIEW asked AS SELECT call, account, reply, y1, y3, x5, x7, (
 def database(folder):
     """The tables of a run, and views of them."""
     found = sqlite3.connect(":memory:")
-    for name, columns in COLUMNS.items():
-        names = columns.split(",")
+    for name in TABLES:
+        with open(f"{folder}/{name}.csv", encoding="ascii") as file:
+            header, *rows = (line.rstrip("\n").split(",") for line in file)
+        # what a message is from is called its sender, since `from` is a word of SQL
+        names = ["sender" if it == "from" else it for it in header]
         typed = ", ".join(f"{it} TEXT" if it in DIGITS else f"{it} NUMERIC" for it in names)
         found.execute(f"CREATE TABLE {name} ({typed})")
-        with open(f"{folder}/{name}.csv", encoding="ascii") as file:
-            rows = [line.rstrip("\n").split(",") for line in file][1:]
         found.executemany(f"INSERT INTO {name} VALUES ({', '.join('?' * len(names))})", rows)
     found.executescript(VIEWS)
     return found
