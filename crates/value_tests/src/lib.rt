@@ -13,7 +13,11 @@ mod looking;
 #[cfg(test)]
 mod moments;
 #[cfg(test)]
+mod plans;
+#[cfg(test)]
 mod prices;
+#[cfg(test)]
+mod reports;
 #[cfg(test)]
 mod table_reading;
 #[cfg(test)]
