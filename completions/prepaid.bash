@@ -8,6 +8,9 @@ _prepaid()
         words='price replay run audit quote rate serve help --help -h --version -V'
     elif [[ $previous == --default ]]; then
         words='proceed release'
+    elif [[ $previous == --log ]]; then
+        COMPREPLY=($(compgen -f -- "$current"))
+        return
     elif [[ $previous == --* && $previous != --book && $previous != --calls && $previous != --trace && $previous != --lines && $previous != --clock && $previous != --long && $previous != --differing && $previous != --summary && $previous != --help && $previous != --version ]]; then
         # a number or a name comes next
         words=''
@@ -19,7 +22,7 @@ _prepaid()
             audit) words='--long --help -h' ;;
             quote) words='--called --at --for --credit --clock --help -h' ;;
             rate) words='--called --answer --paid --time --end --before --after --differing --summary --help -h' ;;
-            serve) words='--wanted --least --tccd --lines --book --calls --help -h' ;;
+            serve) words='--wanted --least --tccd --log --again --lines --book --calls --help -h' ;;
             help) words='price replay run audit quote rate serve help' ;;
             *) words='' ;;
         esac

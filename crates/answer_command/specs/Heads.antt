@@ -2,6 +2,9 @@
 use Rattle.std.specs.Prelude.{◌≡◌, ℕ, Bool, true, false, List, Option, Some, Result, Ok, Err, ⊤}
 use Rattle.std.specs.Io.KnownBytes.{Keeps}
 use Rattle.live_answers.specs.Runs.{MayEnd}
+use Rattle.live_answers.specs.declared.checking.ReplayFault.{ReplayFault}
+use Rattle.live_answers.specs.declared.checking.ReplayFault.TheVariants as replay
+use Rattle.live_log.specs.declared.fault.LogFault.TheVariants as log
 use Rattle.run_texts.specs.Views.{setup_in}
 use Rattle.run_texts.specs.declared.input_fault.InputFault.TheVariants as input
 use Rattle.answer_command.specs.Inputs.{behind_header, live_input_of}
@@ -30,19 +33,40 @@ TakesHeader text left false = behind_header text ≡ Err error.Header
 abbrev pub IsOfHead : ServeError → Type 0
 IsOfHead (error.Input why) = ⊤
 IsOfHead error.Header = ⊤
+IsOfHead (error.Log why) = ⊥
+IsOfHead (error.LogRow row kind) = ⊥
 IsOfHead (error.Live why) = ⊥
 IsOfHead (error.Run why) = ⊥
+
+-- a fault of the log
+abbrev pub IsOfLog : ServeError → Type 0
+IsOfLog (error.Log why) = ⊤
+IsOfLog (error.LogRow row kind) = ⊤
+IsOfLog (error.Input why) = ⊥
+IsOfLog error.Header = ⊥
+IsOfLog (error.Live why) = ⊥
+IsOfLog (error.Run why) = ⊥
 
 -- a fault that comes behind that: a run of one worker that has no books ends as it may
 abbrev pub IsOfRun : ServeError → Type 0
 IsOfRun (error.Input why) = ⊥
 IsOfRun error.Header = ⊥
+IsOfRun (error.Log why) = ⊥
+IsOfRun (error.LogRow row kind) = ⊥
 IsOfRun (error.Live why) = ⊤
 IsOfRun (error.Run why) = MayEnd why
 
--- at any input: a fault of what stands before the rows comes before anything is written
+-- at any input: a fault of what is in front of the rows, and one of the log before its lines are heard, comes before anything is written
 abbrev pub IsSilent : Option (List ℕ) → Option (List ℕ) → ServeError → Type 0
 IsSilent old new (error.Input why) = Keeps old new
 IsSilent old new error.Header = Keeps old new
+IsSilent old new (error.Log why) = Keeps old new
+IsSilent old new (error.LogRow row kind) = Keeps old new
 IsSilent old new (error.Live why) = ⊤
 IsSilent old new (error.Run why) = ⊤
+
+-- what is wrong with the lines of a log, as a fault of `serve`
+abbrev pub of_replay : ReplayFault → ServeError
+of_replay (replay.Line row kind) = error.LogRow row kind
+of_replay replay.Input = error.Log log.Device
+of_replay replay.OutOfMemory = error.Log log.OutOfMemory

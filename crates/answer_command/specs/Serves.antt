@@ -1,12 +1,14 @@
 -- How the service answers an input.
-use Rattle.std.specs.Prelude.{◌≡◌, ◌⊎◌, ◌≤◌, ◌++◌, ℕ, List, Option, Some, None, Result, Ok, Err, ⊤, length, map, take}
+use Rattle.std.specs.Prelude.{◌≡◌, ◌⊎◌, ◌≤◌, ◌++◌, ℕ, List, Option, Some, None, IsSome, Result, Ok, Err, ⊤, length, map, take}
 use Rattle.std.specs.Io.KnownBytes.{Appends, Keeps}
 use Rattle.account_core.specs.declared.limits.TheConstants.{MAX_LIMIT}
-use Rattle.live_answers.specs.Live.{given_of, heard_in, item_view, live_text}
+use Rattle.live_answers.specs.Live.{given_of, heard_in, item_view, replayed_text}
 use Rattle.live_answers.specs.Runs.{MayEnd}
+use Rattle.live_answers.specs.declared.replay.Replay.{Replay}
 use Rattle.live_answers.specs.declared.stage.LiveFault.{LiveFault}
 use Rattle.live_answers.specs.declared.stage.LiveFault.TheVariants as fault
 use Rattle.rating.specs.Fronts.{AppendsFront}
+use Rattle.run_options.specs.Logs.{LogWish}
 use Rattle.run_options.specs.declared.live.LiveAsk.{LiveAsk}
 use Rattle.run_options.specs.declared.live.LiveOutput.{LiveOutput}
 use Rattle.run_texts.specs.Views.{with_digits}
@@ -21,6 +23,7 @@ use Rattle.shared_account.specs.Closed.{Closed}
 use Rattle.shared_account.specs.Seen.{StoodIn}
 use Rattle.answer_command.specs.Ends.{IsEndOf}
 use Rattle.answer_command.specs.Inputs.{LiveInput}
+use Rattle.answer_command.specs.Replays.{IsReplayOf}
 use Rattle.answer_command.specs.declared.error.ServeError.{ServeError}
 use Rattle.answer_command.specs.declared.error.ServeError.TheVariants as error
 
@@ -47,54 +50,67 @@ pub record IsServed (setup : Setup) (rows : List ℕ) (fault : Option LiveFault)
   pub books : List Closed
   pub run : IsRun StoodIn setup 1 given answers books
 
--- what is printed of these lines of rows, where these are the answers: the header of a trace, each accepted message with its answer, and of each line that isn't accepted what is wrong with it
-abbrev pub printed : List ℕ → List Answer → ℕ → List ℕ
-printed rows answers count = header ++ live_text answers (take count (heard_in rows))
+-- what is printed of these lines of rows, where these are the answers: the header of a trace, each accepted message with its answer, but for those that are heard again in silence, and of each line that isn't accepted what is wrong with it
+abbrev pub printed : Replay → List ℕ → List Answer → ℕ → List ℕ
+printed replay rows answers count = header ++ replayed_text replay answers (take count (heard_in rows))
 
 -- all was printed, and the end behind it
-pub record IsPrinted (output : LiveOutput) (setup : Setup) (rows : List ℕ) (fault : Option LiveFault) (old new : Option (List ℕ)) : Type 0 where
+pub record IsPrinted (output : LiveOutput) (setup : Setup) (replay : Replay) (rows : List ℕ) (fault : Option LiveFault) (old new : Option (List ℕ)) : Type 0 where
   pub served : IsServed setup rows fault
   pub end : List ℕ
   pub is_end : IsEndOf output (record { setup = setup; given = served.given; books = served.books }) end
-  pub whole : Appends old new (printed rows served.answers served.count ++ end)
+  pub whole : Appends old new (printed replay rows served.answers served.count ++ end)
 
 -- the output failed in the rows
-pub record IsCutInRows (setup : Setup) (rows : List ℕ) (old new : Option (List ℕ)) : Type 0 where
+pub record IsCutInRows (setup : Setup) (replay : Replay) (rows : List ℕ) (old new : Option (List ℕ)) : Type 0 where
   pub served : IsServed setup rows (Some fault.Output)
-  pub front : AppendsFront old new (printed rows served.answers served.count)
+  pub front : AppendsFront old new (printed replay rows served.answers served.count)
 
 -- or in the end
-pub record IsCutInEnd (output : LiveOutput) (setup : Setup) (rows : List ℕ) (old new : Option (List ℕ)) : Type 0 where
+pub record IsCutInEnd (output : LiveOutput) (setup : Setup) (replay : Replay) (rows : List ℕ) (old new : Option (List ℕ)) : Type 0 where
   pub fault : Option LiveFault
   pub served : IsServed setup rows fault
   pub end : List ℕ
   pub is_end : IsEndOf output (record { setup = setup; given = served.given; books = served.books }) end
-  pub front : AppendsFront old new (printed rows served.answers served.count ++ end)
+  pub front : AppendsFront old new (printed replay rows served.answers served.count ++ end)
 
--- how the service ends over these rows: all is printed, also where the input or a log failed; a front, where the output failed, be it in the header. Of a run that has no books nothing is known but why
-abbrev pub EndsBy : LiveOutput → Setup → List ℕ → Option (List ℕ) → Option (List ℕ) → Result (Unit {0}) ServeError → Type 0
-EndsBy output setup rows old new (Ok done) = IsPrinted output setup rows None old new
-EndsBy output setup rows old new (Err (error.Live fault.Input)) = IsPrinted output setup rows (Some fault.Input) old new
-EndsBy output setup rows old new (Err (error.Live fault.Log)) = IsPrinted output setup rows (Some fault.Log) old new
-EndsBy output setup rows old new (Err (error.Live fault.Output)) = AppendsFront old new header ⊎ IsCutInRows setup rows old new ⊎ IsCutInEnd output setup rows old new
-EndsBy output setup rows old new (Err (error.Run why)) = MayEnd why
-EndsBy output setup rows old new (Err why) = ⊥
+-- how the service ends over these rows: all is printed, also where the input or the log failed; a front, where the output failed, be it in the header. Of a run that has no books nothing is known but why
+abbrev pub EndsBy : LiveOutput → Setup → Replay → List ℕ → Option (List ℕ) → Option (List ℕ) → Result (Unit {0}) ServeError → Type 0
+EndsBy output setup replay rows old new (Ok done) = IsPrinted output setup replay rows None old new
+EndsBy output setup replay rows old new (Err (error.Live fault.Input)) = IsPrinted output setup replay rows (Some fault.Input) old new
+EndsBy output setup replay rows old new (Err (error.Live fault.Log)) = IsPrinted output setup replay rows (Some fault.Log) old new
+EndsBy output setup replay rows old new (Err (error.Live fault.Output)) =
+    AppendsFront old new header ⊎ IsCutInRows setup replay rows old new ⊎ IsCutInEnd output setup replay rows old new
+EndsBy output setup replay rows old new (Err (error.Run why)) = MayEnd why
+EndsBy output setup replay rows old new (Err why) = ⊥
 
--- an input that has no fault was served
-pub record ServesInput (ask : LiveAsk) (meaning : Result LiveInput ServeError) (old new : Option (List ℕ)) (result : Result (Unit {0}) ServeError) : Type 0 where
+-- an input that has no fault was served, behind the lines of its log
+pub record ServesInput (ask : LiveAsk) (log : Option LogWish) (meaning : Result LiveInput ServeError) (old new : Option (List ℕ)) (result : Result (Unit {0}) ServeError) : Type 0 where
   pub input : LiveInput
   pub is_input : meaning ≡ Ok input
   pub setup : Setup
   pub of_input : IsSetupOf ask input setup
-  pub ends : EndsBy ask.output setup input.rows old new result
+  pub lines : List ℕ
+  pub replay : Replay
+  pub hears : IsReplayOf log lines replay
+  pub ends : EndsBy ask.output setup replay (lines ++ input.rows) old new result
 
--- how the service answers an input: by its fault, and then nothing is printed; else by a run over its rows. A failed reader and memory that runs out may come at any
-abbrev pub ServesBy : LiveAsk → Result LiveInput ServeError → Option (List ℕ) → Option (List ℕ) → Result (Unit {0}) ServeError → Type 0
-ServesBy ask meaning old new (Ok done) = ServesInput ask meaning old new (Ok done)
-ServesBy ask meaning old new (Err (error.Input input.Device)) = Keeps old new
-ServesBy ask meaning old new (Err (error.Input input.OutOfMemory)) = Keeps old new
-ServesBy ask meaning old new (Err (error.Input why)) = (meaning ≡ Err (error.Input why)) × Keeps old new
-ServesBy ask meaning old new (Err error.Header) = (meaning ≡ Err error.Header) × Keeps old new
-ServesBy ask meaning old new (Err (error.Live why)) = ServesInput ask meaning old new (Err (error.Live why))
-ServesBy ask meaning old new (Err (error.Run run.OutOfMemory)) = ⊤
-ServesBy ask meaning old new (Err (error.Run why)) = ServesInput ask meaning old new (Err (error.Run why))
+-- an input that has no fault isn't served, since its log can't be used
+pub record LosesLog (log : Option LogWish) (meaning : Result LiveInput ServeError) (old new : Option (List ℕ)) : Type 0 where
+  pub asked : IsSome log
+  pub input : LiveInput
+  pub is_input : meaning ≡ Ok input
+  pub silent : Keeps old new
+
+-- how the service answers an input: by its fault, or that of its log, and then nothing is printed; else by a run over its rows. A failed reader and memory that runs out may come at any
+abbrev pub ServesBy : LiveAsk → Option LogWish → Result LiveInput ServeError → Option (List ℕ) → Option (List ℕ) → Result (Unit {0}) ServeError → Type 0
+ServesBy ask log meaning old new (Ok done) = ServesInput ask log meaning old new (Ok done)
+ServesBy ask log meaning old new (Err (error.Input input.Device)) = Keeps old new
+ServesBy ask log meaning old new (Err (error.Input input.OutOfMemory)) = Keeps old new
+ServesBy ask log meaning old new (Err (error.Input why)) = (meaning ≡ Err (error.Input why)) × Keeps old new
+ServesBy ask log meaning old new (Err error.Header) = (meaning ≡ Err error.Header) × Keeps old new
+ServesBy ask log meaning old new (Err (error.Log why)) = LosesLog log meaning old new
+ServesBy ask log meaning old new (Err (error.LogRow row kind)) = LosesLog log meaning old new
+ServesBy ask log meaning old new (Err (error.Live why)) = ServesInput ask log meaning old new (Err (error.Live why))
+ServesBy ask log meaning old new (Err (error.Run run.OutOfMemory)) = ⊤
+ServesBy ask log meaning old new (Err (error.Run why)) = ServesInput ask log meaning old new (Err (error.Run why))

@@ -2,9 +2,11 @@
 
 ghost use Rattle.std.specs.Prelude.{◌≡◌};
 ghost use Rattle.runs_core.specs.declared.run_fault.RunFault.TheVariants as fault;
+ghost use Rattle.answer_command.specs.Heads.{of_replay};
 ghost use Rattle.answer_command.specs.declared.error.ServeError.TheVariants as out;
 
-use live_answers::LiveFault;
+use live_answers::{LineKind, LiveFault, ReplayFault};
+use live_log::LogFault;
 use run_texts::InputFault;
 use runs_core::RunFault;
 use std::alloc::AllocError;
@@ -15,8 +17,13 @@ pub enum ServeError {
     /// The tariff or the setup has a fault, or their dividers aren't there; or what reads them, or
     /// memory, failed.
     Input(InputFault),
-    /// What stands behind the setup doesn't begin with the header of message rows.
+    /// What is behind the setup doesn't begin with the header of message rows.
     Header,
+    /// The log can't be used.
+    Log(LogFault),
+    /// A line of the log isn't accepted: its row, where the header in front of the lines is row 1, and
+    /// what is wrong with it.
+    LogRow(u64, LineKind),
     /// The run was ended before its input: what came before is answered, and its books are made.
     Live(LiveFault),
     /// The run has no books; also where memory ran out before or after it.
@@ -28,6 +35,26 @@ impl From<InputFault> for ServeError {
 
     fn from(fault: InputFault) -> ServeError {
         ServeError::Input(fault)
+    }
+}
+
+impl From<LogFault> for ServeError {
+    ghost from_gives = { λ why error. error ≡ out.Log why };
+
+    fn from(fault: LogFault) -> ServeError {
+        ServeError::Log(fault)
+    }
+}
+
+impl From<ReplayFault> for ServeError {
+    ghost from_gives = { λ why error. error ≡ of_replay why };
+
+    fn from(fault: ReplayFault) -> ServeError {
+        match fault {
+            ReplayFault::Line(row, kind) => ServeError::LogRow(row, kind),
+            ReplayFault::Input => ServeError::Log(LogFault::Device),
+            ReplayFault::OutOfMemory => ServeError::Log(LogFault::OutOfMemory),
+        }
     }
 }
 

@@ -4,6 +4,8 @@
 
 mod error;
 mod head;
+mod recording;
+mod replaying;
 mod serving;
 
 pub use error::ServeError;

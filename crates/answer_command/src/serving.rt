@@ -6,20 +6,26 @@ ghost use Rattle.answer_command.specs.Ends.{IsCutAt, IsCutEnd, IsEndOf, end_with
 ghost use Rattle.answer_command.specs.Heads.{IsOfRun, IsSilent};
 ghost use Rattle.answer_command.specs.Inputs.{live_input_of};
 ghost use Rattle.answer_command.specs.Serves.{EndsBy, ServesBy};
+ghost use Rattle.run_options.specs.Logs.{log_wish_of};
 ghost use Rattle.run_options.specs.Options.{live_ask_of};
 
 use crate::ServeError;
 use crate::head::{Head, read_head};
+use crate::recording::Recording;
+use crate::replaying::{Rows, replay_of};
 use account_core::MAX_LIMIT;
 use book_texts::{book_table, run_lines};
 use call_records::{call_table, records};
 use live_answers::{Answered, LiveFault, Replay, answer_live};
+use live_log::{OpenLog, Skipping, log_head, open_log};
 use moment_texts::Clock;
 use rating::write_text;
-use run_options::{LiveOptions, LiveOutput};
+use run_options::{LiveOptions, LiveOutput, LogAsk};
 use run_values::RunSetup;
 use std::alloc::{AllocError, Global};
-use std::io::{self, BufRead, Write};
+use std::fs::File;
+use std::io::{self, BufRead, Read, Write};
+use std::rt::Files;
 use std::sync::Wait;
 use std::thread::Threads;
 
@@ -28,38 +34,61 @@ use std::thread::Threads;
 /// and flushed, then each row is answered as `live_answers::answer_live` has it before the next one
 /// is read, and at the end of the input a line `%%` and what the options ask for are printed.
 ///
-/// `Input` and then `Header` are faults of what stands before the rows; nothing is printed then.
-/// `Live` says what ended the run before its input: at `Input` and `Log` all is printed that an
-/// input would have that had ended there; at `Output`, and where the run has no books, a front.
-pub fn serve_input<R: Wait + Threads + Sync, I: BufRead + Drop, O: Write>(
+/// Where a log is kept, the lines of accepted messages are in it, on the disk, before the rows that
+/// answer them are printed. The log begins with the options and with what the input has in front of
+/// its rows. The messages that it holds already are heard again before the input is.
+///
+/// `Input` and then `Header` are faults of what is in front of the rows, and `Log` and `LogRow` of the
+/// log and its lines; nothing is printed then. `Live` says what ended the run before its input: at
+/// `Input` and `Log` all is printed that an input would have that had ended there; at `Output`, and
+/// where the run has no books, a front.
+pub fn serve_input<R: Wait + Threads + Sync + Files<File = File>, I: BufRead + Drop, O: Write>(
     rt: &R,
     alloc: Global,
     options: &LiveOptions,
+    log: Option<LogAsk<'_>>,
     input: I,
     output: &mut O,
 ) -> Result<(), ServeError>
     ensures serves { IfSome (I.remaining input) (λ text.
-        ServesBy (live_ask_of options.now) (live_input_of text)
+        ServesBy (live_ask_of options.now) (option_map log_wish_of log.entry) (live_input_of text)
         (O.contents output.old) (O.contents output.new) result) }
     ensures silent { IfErr result
         (IsSilent (O.contents output.old) (O.contents output.new)) }
 {
-    let mut input = input;
+    let mut input = Recording::new(alloc, input);
     let Head { tariff, directory } = read_head(alloc, &mut input)?;
+    let (input, head) = input.into_parts();
     let setup = RunSetup::of(alloc, directory, tariff, options.service, MAX_LIMIT)?;
-    serve_rows(rt, alloc, options.output, &setup, input, output)
+    let Some(log) = log else {
+        let rows = Rows {
+            input,
+            log: io::sink(),
+            replay: Replay::NONE,
+        };
+        return serve_rows(rt, alloc, options.output, &setup, rows, output);
+    };
+    let head = log_head(alloc, options.service, head.as_slice())?;
+    let OpenLog { file, lines } = open_log(rt, alloc, log.path, head.as_slice())?;
+    let lines = lines.as_slice();
+    let rows = Rows {
+        input: lines.chain(input),
+        log: Skipping::new(lines, file),
+        replay: replay_of(alloc, lines, log.again)?,
+    };
+    serve_rows(rt, alloc, options.output, &setup, rows, output)
 }
 
-/// Serves the rows of an input, and prints the header before them and the end behind them.
-fn serve_rows<R: Wait + Threads + Sync, I: BufRead + Drop, O: Write>(
+/// Serves rows, and prints the header before them and the end behind them.
+fn serve_rows<R: Wait + Threads + Sync, I: BufRead + Drop, L: Write + Drop, O: Write>(
     rt: &R,
     alloc: Global,
     end: LiveOutput,
     setup: &RunSetup,
-    rows: I,
+    rows: Rows<I, L>,
     output: &mut O,
 ) -> Result<(), ServeError>
-    ensures ends { IfSome (I.remaining rows) (λ text. EndsBy end setup.now text
+    ensures ends { IfSome (I.remaining rows.input) (λ text. EndsBy end setup.now rows.replay text
         (O.contents output.old) (O.contents output.new) result) }
     ensures fault { IfErr result IsOfRun }
 {
@@ -67,15 +96,12 @@ fn serve_rows<R: Wait + Threads + Sync, I: BufRead + Drop, O: Write>(
         output,
         b"moment,number,call,from,what,x1,x2,x3,x4\n".as_slice(),
     )?;
-    let answered = answer_live(
-        rt,
-        alloc,
-        setup,
-        rows,
-        output,
-        &mut io::sink(),
-        Replay::NONE,
-    )?;
+    let Rows {
+        input,
+        mut log,
+        replay,
+    } = rows;
+    let answered = answer_live(rt, alloc, setup, input, output, &mut log, replay)?;
     if is_cut_off(answered.fault) {
         return Err(ServeError::Live(LiveFault::Output));
     }

@@ -32,7 +32,7 @@ refused_by words error (Ok (request.Run options)) among is = absurd is
 refused_by words error (Ok (request.Audit size)) among is = absurd is
 refused_by words error (Ok (request.Quote ask)) among is = absurd is
 refused_by words error (Ok (request.Rate ask)) among is = absurd is
-refused_by words error (Ok (request.Serve options)) among is = absurd is
+refused_by words error (Ok (request.Serve options log)) among is = absurd is
 refused_by words error (Err fault.Arguments) among is = inl (error, among, is.0)
 refused_by words error (Err fault.OutOfMemory) among is = tt
 refused_by words error (Err fault.Config) among is = absurd is
@@ -46,7 +46,7 @@ refused_for_memory words error (Ok (request.Run options)) memory is = absurd is
 refused_for_memory words error (Ok (request.Audit size)) memory is = absurd is
 refused_for_memory words error (Ok (request.Quote ask)) memory is = absurd is
 refused_for_memory words error (Ok (request.Rate ask)) memory is = absurd is
-refused_for_memory words error (Ok (request.Serve options)) memory is = absurd is
+refused_for_memory words error (Ok (request.Serve options log)) memory is = absurd is
 refused_for_memory words error (Err fault.Arguments) memory is = absurd (is.1 memory)
 refused_for_memory words error (Err fault.OutOfMemory) memory is = tt
 refused_for_memory words error (Err fault.Config) memory is = absurd is
@@ -74,7 +74,7 @@ asked_by words command (Ok (request.Run options)) parsed command_is is = record 
 asked_by words command (Ok (request.Audit size)) parsed command_is is = record { parsed = parsed; wish_is = sym (ap wish_in command_is) ∙ is }
 asked_by words command (Ok (request.Quote ask)) parsed command_is is = record { parsed = parsed; wish_is = sym (ap wish_in command_is) ∙ is }
 asked_by words command (Ok (request.Rate ask)) parsed command_is is = record { parsed = parsed; wish_is = sym (ap wish_in command_is) ∙ is }
-asked_by words command (Ok (request.Serve options)) parsed command_is is = record { parsed = parsed; wish_is = sym (ap wish_in command_is) ∙ is }
+asked_by words command (Ok (request.Serve options log)) parsed command_is is = record { parsed = parsed; wish_is = sym (ap wish_in command_is) ∙ is }
 asked_by words command (Err fault.Arguments) parsed command_is is = inr (record { parsed = parsed; refused = sym (ap wish_in command_is) ∙ is })
 asked_by words command (Err fault.OutOfMemory) parsed command_is is = absurd is
 asked_by words command (Err fault.Config) parsed command_is is = record { parsed = parsed; refused = sym (ap wish_in command_is) ∙ is }

@@ -4,6 +4,7 @@ use Rattle.std.specs.Str.{bytes_eq}
 use Rattle.clap.specs.Words.{IsAmong, Row, Text}
 use Rattle.clap.specs.declared.error.kind.ErrorKind.{ErrorKind}
 use Rattle.clap.specs.declared.error.kind.ErrorKind.TheVariants as kind
+use Rattle.run_options.specs.Logs.{log_wish_of}
 use Rattle.run_options.specs.Options.{ask_of, live_ask_of}
 use Rattle.tariff_core.specs.RatesOf.{rates_of}
 use Rattle.command_words.specs.AuditWords.{size_in}
@@ -42,7 +43,7 @@ IsRequestOf wish (Ok (request.Run options)) = wish ≡ Ok (Runs (ask_of options)
 IsRequestOf wish (Ok (request.Audit size)) = wish ≡ Ok (Audits size)
 IsRequestOf wish (Ok (request.Quote ask)) = wish ≡ Ok (Quotes (wish_of ask))
 IsRequestOf wish (Ok (request.Rate ask)) = wish ≡ Ok (RatesRecords (rate_wish_of ask))
-IsRequestOf wish (Ok (request.Serve options)) = wish ≡ Ok (Serves (live_ask_of options))
+IsRequestOf wish (Ok (request.Serve options log)) = wish ≡ Ok (Serves (live_ask_of options) (option_map log_wish_of log))
 IsRequestOf wish (Err fault.Arguments) = wish ≡ Err fault.Arguments
 IsRequestOf wish (Err fault.Config) = wish ≡ Err fault.Config
 IsRequestOf wish _ = ⊥
@@ -83,7 +84,7 @@ IsRead words (Ok (request.Run options)) = AsksFor words (Runs (ask_of options))
 IsRead words (Ok (request.Audit size)) = AsksFor words (Audits size)
 IsRead words (Ok (request.Quote ask)) = AsksFor words (Quotes (wish_of ask))
 IsRead words (Ok (request.Rate ask)) = AsksFor words (RatesRecords (rate_wish_of ask))
-IsRead words (Ok (request.Serve options)) = AsksFor words (Serves (live_ask_of options))
+IsRead words (Ok (request.Serve options log)) = AsksFor words (Serves (live_ask_of options) (option_map log_wish_of log))
 IsRead words (Err fault.Arguments) = AsksNothing words
 IsRead words (Err fault.OutOfMemory) = ⊤
 IsRead words (Err fault.Config) = AsksInVain words fault.Config

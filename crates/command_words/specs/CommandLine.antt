@@ -81,13 +81,17 @@ rate_rules = flag_rule (codes "differing") ∷ flag_rule (codes "summary") ∷ [
 unfoldable pub rate_app : App
 rate_app = with_rules (with_rules (with_rules (new_app (codes "rate")) name_rules) time_rules) rate_rules
 
+-- the log, and what of it is printed again
+abbrev pub log_rules : List Rule
+log_rules = option_rule (codes "log") ∷ option_rule (codes "again") ∷ []
+
 -- what is printed at the end
 abbrev pub end_rules : List Rule
 end_rules = flag_rule (codes "lines") ∷ flag_rule (codes "book") ∷ flag_rule (codes "calls") ∷ []
 
--- `serve [--wanted N] [--least N] [--tccd N] [--lines] [--book] [--calls]`
+-- `serve [--wanted N] [--least N] [--tccd N] [--log N] [--again N] [--lines] [--book] [--calls]`
 unfoldable pub serve_app : App
-serve_app = with_rules (with_rule (with_rules (new_app (codes "serve")) service_rules) (option_rule (codes "tccd"))) end_rules
+serve_app = with_rules (with_rules (with_rule (with_rules (new_app (codes "serve")) service_rules) (option_rule (codes "tccd"))) log_rules) end_rules
 
 -- the program itself, which has nothing but commands and its version
 abbrev pub bare_app : App

@@ -1,11 +1,12 @@
 -- What the options of `serve` say.
-use Rattle.std.specs.Prelude.{Bool, List, Option, Some, None, Result, Ok, Err, true, false, codes, if◌then◌else◌, option_and_then, option_map}
-use Rattle.clap.specs.Words.{Row}
+use Rattle.std.specs.Prelude.{ℕ, Bool, List, Option, Some, None, Result, Ok, Err, true, false, codes, if◌then◌else◌, option_and_then, option_map}
+use Rattle.clap.specs.Words.{Row, Text, first_of}
 use Rattle.run_options.specs.Configs.{is_live_config}
+use Rattle.run_options.specs.Logs.{LogWish}
 use Rattle.run_options.specs.declared.live.LiveAsk.{LiveAsk}
 use Rattle.run_options.specs.declared.live.LiveOutput.{LiveOutput}
 use Rattle.run_options.specs.declared.live.LiveOutput.TheVariants as output
-use Rattle.command_words.specs.Options.{has_flag}
+use Rattle.command_words.specs.Options.{has_flag, optional_number_in}
 use Rattle.command_words.specs.RunWords.{setting_in}
 use Rattle.command_words.specs.Wishes.{Wish, Serves}
 use Rattle.command_words.specs.declared.fault.WordsFault.{WordsFault}
@@ -34,11 +35,22 @@ live_ask_in options =
     })
     (end_in options)) (setting_in options (codes "tccd") 50)) (setting_in options (codes "least") 50)) (setting_in options (codes "wanted") 600)
 
+-- the log that is to be kept, if one is. Where there is none, none of its messages can be printed again
+abbrev pub log_of : Option Text → Option ℕ → Option (Option LogWish)
+log_of None None = Some None
+log_of None (Some again) = None
+log_of (Some path) again = Some (Some (record { path = path; again = again }))
+
+-- the log that the options ask for; a message has a number of 64 bits
+abbrev pub log_in : List Row → Option (Option LogWish)
+log_in options = option_and_then (log_of (first_of (codes "log") options)) (optional_number_in options (codes "again") 18446744073709551615)
+
 -- the service that is asked for, its times judged
-abbrev pub judged_live : Option LiveAsk → Result Wish WordsFault
-judged_live None = Err fault.Arguments
-judged_live (Some ask) = if is_live_config ask then Ok (Serves ask) else Err fault.Config
+abbrev pub judged_live : Option LiveAsk → Option (Option LogWish) → Result Wish WordsFault
+judged_live None log = Err fault.Arguments
+judged_live (Some ask) None = Err fault.Arguments
+judged_live (Some ask) (Some log) = if is_live_config ask then Ok (Serves ask log) else Err fault.Config
 
 -- what the service is asked for, judged
 abbrev pub serve_in : List Row → Result Wish WordsFault
-serve_in options = judged_live (live_ask_in options)
+serve_in options = judged_live (live_ask_in options) (log_in options)

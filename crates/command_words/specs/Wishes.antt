@@ -1,13 +1,14 @@
 -- What a command is asked for, as plain data.
-use Rattle.std.specs.Prelude.{ℕ}
+use Rattle.std.specs.Prelude.{ℕ, Option}
 use Rattle.book_texts.specs.declared.size.BookSize.{BookSize}
+use Rattle.run_options.specs.Logs.{LogWish}
 use Rattle.run_options.specs.declared.live.LiveAsk.{LiveAsk}
 use Rattle.run_options.specs.declared.options.RunAsk.{RunAsk}
 use Rattle.tariff_core.specs.Rates.{Rates}
 use Rattle.command_words.specs.QuoteWishes.{QuoteWish}
 use Rattle.rating.specs.Asks.{RateWish}
 
--- the price of reports under a plan, the replies of an account with an opening credit and a limit of entries, a run, the audit of a table of books of this size at most, what a call to a number costs, what each record of a table should have cost, or the service live
+-- the price of reports under a plan, the replies of an account with an opening credit and a limit of entries, a run, the audit of a table of books of this size at most, what a call to a number costs, what each record of a table should have cost, or the service live and the log that it keeps
 pub data Wish : Type 0 where
   Prices : (plan : Rates) → Wish
   Replays : (opening limit : ℕ) → Wish
@@ -15,4 +16,4 @@ pub data Wish : Type 0 where
   Audits : (size : BookSize) → Wish
   Quotes : (quote : QuoteWish) → Wish
   RatesRecords : (rate : RateWish) → Wish
-  Serves : (ask : LiveAsk) → Wish
+  Serves : (ask : LiveAsk) (log : Option LogWish) → Wish

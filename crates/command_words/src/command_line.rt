@@ -3,7 +3,7 @@
 ghost use Rattle.std.specs.Prelude.{◌≡◌, false, IfOk};
 ghost use Rattle.clap.specs.Words.{app_of, new_app, rule_of, with_rule};
 ghost use Rattle.clap.specs.declared.builder.command.Command.TheViews.{out-Command as fields_of};
-ghost use Rattle.command_words.specs.CommandLine.{audit_app, bare_app, end_rules, flag_rule, name_rules, option_rule, other_rules, output_rules, price_app, program_app, question_rules, quote_app, rate_app, rate_rules, replay_app, required_rule, run_app, serve_app, service_rules, switch_rules, time_rules, unit_rules, with_rules};
+ghost use Rattle.command_words.specs.CommandLine.{audit_app, bare_app, end_rules, flag_rule, log_rules, name_rules, option_rule, other_rules, output_rules, price_app, program_app, question_rules, quote_app, rate_app, rate_rules, replay_app, required_rule, run_app, serve_app, service_rules, switch_rules, time_rules, unit_rules, with_rules};
 
 use crate::help;
 use clap::{Arg, ArgAction, Command};
@@ -173,7 +173,21 @@ fn serve_command<'a>(alloc: Global) -> Result<Command<'a>, AllocError>
     let command = add_service_options(alloc, command)?;
     let tccd = "How long a switch waits for more time [50]";
     let command = add(command, option(alloc, "tccd", tccd))?;
+    let command = add_log_options(alloc, command)?;
     add_end_options(alloc, command)
+}
+
+/// The log, and what of it is printed again.
+fn add_log_options<'a>(alloc: Global, command: Command<'a>) -> Result<Command<'a>, AllocError>
+    requires { (fields_of command).has_globals ≡ false }
+    ensures app { IfOk result (λ more. app_of more
+        ≡ with_rules (app_of command.entry) log_rules) }
+    ensures local { IfOk result (λ more. (fields_of more).has_globals ≡ false) }
+{
+    let log = "The file that keeps the accepted messages";
+    let command = add(command, named(alloc, "log", "FILE", log))?;
+    let again = "The first message of it whose rows are printed again";
+    add(command, option(alloc, "again", again))
 }
 
 /// What is printed at the end.

@@ -309,18 +309,23 @@ Input, for example:
 The rows are those of a trace that a switch or an operator says; number may be empty. At the
 end of the input, with --lines, --book or --calls, a line %% is printed and what run would print.
 
+With --log FILE each message is in FILE, on the disk, before it is answered. A service that is
+started again with the same input and the same FILE hears these messages first, in silence; with
+--again N the rows of those from number N on are printed again. What is behind the last LF of
+FILE is cut off.
+
 A bad line changes nothing, and has the row ,,,service,fault,KIND,LINE,, where the header of the
 rows is line 1. An empty line is passed over.
 
 Exit status:
   0  the input has ended, and all was printed
   1  the words, the tariff, the setup or the header are refused
-  2  the input, memory or the run failed; without a line, the output failed
+  2  the input, the log, memory or the run failed; without a line, the output failed
 
 A fault is one line on standard error; with status 1 nothing is printed:
   prepaid: arguments
       No options of serve: mostly a file name (use < FILE), an option given twice, a unit such
-      as 60s, or two of --lines, --book and --calls
+      as 60s, two of --lines, --book and --calls, or --again without --log
   prepaid: input: Config
       A time is out of the relation above
   prepaid: input: TooLong
@@ -332,6 +337,14 @@ A fault is one line on standard error; with status 1 nothing is printed:
       Rows count from 1, which is the header of that part; empty lines don't count
   prepaid: messages row N: KIND
       Only row 1 and Header: the header of the messages isn't exactly the one above
+  prepaid: log: Other
+      FILE was begun with another tariff, another setup or other options
+  prepaid: log: Device
+      FILE couldn't be opened, read, written or synced, it is no plain file, or another process
+      has it. Where it fails behind the header, all that came before is answered, and the end is
+      printed
+  prepaid: log row N: KIND
+      A line of FILE is no message, so it was altered; its header is row 1
   prepaid: run: Mismatch, Channel, Thread, Device, OutOfMemory
       A book, a worker, a thread, standard input or memory failed. At Device all that came
       before is answered, and the end is printed

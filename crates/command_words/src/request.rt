@@ -8,7 +8,7 @@ use book_texts::BookSize;
 use cap_values::Number;
 use moment_texts::Clock;
 use rating::RateAsk;
-use run_options::{LiveOptions, RunOptions};
+use run_options::{LiveOptions, LogAsk, RunOptions};
 use tariff_core::{DAY, LAST_MOMENT, MAX_MONEY, Plan};
 
 /// What the words ask for.
@@ -30,8 +30,8 @@ pub enum Request<'a> {
     Quote(QuoteAsk),
     /// What each record of a table should have cost.
     Rate(RateAsk<'a>),
-    /// The service live.
-    Serve(LiveOptions),
+    /// The service live, and the log that it keeps.
+    Serve(LiveOptions, Option<LogAsk<'a>>),
 }
 
 /// What `quote` is asked for.

@@ -4,27 +4,41 @@ ghost use Rattle.std.specs.Prelude.{◌≡◌, option_map};
 ghost use Rattle.clap.specs.Words.{found_of, rows_of};
 ghost use Rattle.command_words.specs.Arguments.{IsRequestOf};
 ghost use Rattle.command_words.specs.Capped.{capped_live_ask};
-ghost use Rattle.command_words.specs.ServeWords.{end_in, end_of, live_ask_in, serve_in};
+ghost use Rattle.command_words.specs.ServeWords.{end_in, end_of, live_ask_in, log_in, serve_in};
+ghost use Rattle.run_options.specs.Logs.{log_wish_of};
 
 use crate::fault::WordsFault;
-use crate::options::{has_flag, option_text};
+use crate::options::{has_flag, option_text, optional_number};
 use crate::request::Request;
 use crate::run_words::setting;
 use clap::ArgMatches;
-use run_options::{LiveAsk, LiveOptions, LiveOutput};
+use run_options::{LiveAsk, LiveOptions, LiveOutput, LogAsk};
 
 /// The service that the options ask for. `Config` where a time is out of its range, however large;
-/// `Arguments` where an option has no number of its own, or more than one thing is to be printed at
-/// the end.
-pub(crate) fn serve_request<'a>(options: &ArgMatches<'_>) -> Result<Request<'a>, WordsFault>
+/// `Arguments` where an option has no number of its own, where messages of a log are to be printed
+/// again and there is no log, or where more than one thing is to be printed at the end.
+pub(crate) fn serve_request<'a>(options: &ArgMatches<'a>) -> Result<Request<'a>, WordsFault>
     ensures { IsRequestOf (serve_in (rows_of (found_of options.now))) result }
 {
-    let Some(ask) = live_ask(options) else {
+    let (Some(ask), Some(log)) = (live_ask(options), log_ask(options)) else {
         return Err(WordsFault::Arguments);
     };
     match LiveOptions::new(ask) {
-        Some(options) => Ok(Request::Serve(options)),
+        Some(options) => Ok(Request::Serve(options, log)),
         None => Err(WordsFault::Config),
+    }
+}
+
+/// The log that is to be kept; none where there is none of which messages could be printed again.
+fn log_ask<'a>(options: &ArgMatches<'a>) -> Option<Option<LogAsk<'a>>>
+    ensures { option_map (option_map log_wish_of) result
+        ≡ log_in (rows_of (found_of options.now)) }
+{
+    let again = optional_number(options, "again", u64::MAX)?;
+    match (option_text(options, "log"), again) {
+        (Some(path), again) => Some(Some(LogAsk { path, again })),
+        (None, None) => Some(None),
+        (None, Some(_)) => None,
     }
 }
 

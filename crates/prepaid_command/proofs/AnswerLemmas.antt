@@ -2,9 +2,13 @@
 use Rattle.std.proofs.Common.{◌≡◌, ℕ, Bool, true, false, List, Option, Some, None, Result, Ok, Err, ap, subst, sym, inl, inr}
 use Rattle.std.specs.Prelude.{◌⊎◌, ⊤, IfErr, IfSome, MatchResult, if◌then◌else◌, length, nat_lt}
 use Rattle.std.specs.Result.{result_map_both}
+use Rattle.book_texts.specs.Books.{Books, books_of}
+use Rattle.book_texts.specs.Sizes.{most_rows}
+use Rattle.book_texts.specs.declared.size.BookSize.{BookSize}
+use Rattle.book_texts.specs.declared.size.BookSize.TheVariants as size
 use Rattle.command_words.specs.Arguments.{AsksFor, AsksHelp, AsksVersion, IsRead}
 use Rattle.command_words.specs.QuoteWishes.{QuoteWish}
-use Rattle.command_words.specs.Wishes.{Wish, Prices, Quotes}
+use Rattle.command_words.specs.Wishes.{Wish, Audits, Prices, Quotes}
 use Rattle.command_words.specs.declared.fault.WordsFault.{WordsFault}
 use Rattle.command_words.specs.declared.fault.WordsFault.TheVariants as words_fault
 use Rattle.run_texts.specs.Inputs.{tariff_in}
@@ -17,9 +21,9 @@ use Rattle.table_core.specs.declared.fault.RowFault.{RowFault}
 use Rattle.tariff_core.specs.Bands.{Band}
 use Rattle.tariff_core.specs.Rates.{Rates}
 use Rattle.tariff_core.specs.Times.{Elapsed}
-use Rattle.prepaid_command.specs.Answers.{Answers, IsAnswer, IsAnswerTo, IsTold, IsToldQuote, Written, price_of_input}
+use Rattle.prepaid_command.specs.Answers.{Answers, IsAnswer, IsAnswerTo, IsAuditOfTable, IsTold, IsToldAudit, IsToldQuote, Written, price_of_input}
 use Rattle.prepaid_command.specs.Faults.{Gives, GivesOne, meaning_in, meaning_of_part, of_run_input, of_words}
-use Rattle.prepaid_command.specs.Input.{sized}
+use Rattle.prepaid_command.specs.Input.{sized, sized_as}
 use Rattle.prepaid_command.specs.PriceLines.{price_lines}
 use Rattle.prepaid_command.specs.Reports.{reports_of}
 use Rattle.prepaid_command.specs.Tellings.{Telling, plain}
@@ -78,6 +82,27 @@ quote_of wish input answer is =
     quote_by wish (after (sized input) (λ text. meaning_of_part (tariff_in text))) answer
     (after_of (sized input) (λ text. meaning_of_part (tariff_in text)) (sized_of input) (λ text. part_of (tariff_in text))) is
 
+books_of_part : {X : Type 0} (read : Result X RowFault) → IfErr (meaning_in part.Book read) IsOfInput
+books_of_part (Ok x) = tt
+books_of_part (Err why) = tt
+
+audit_by : (meaning : Result Books Fault) (answer : Result Telling Fault) → IfErr meaning IsOfInput
+    → MatchResult meaning (λ books. IsToldAudit books answer) (λ why. answer ≡ Err why) → IfErr answer IsOfInput
+audit_by (Ok books) answer of_meaning told = rw told.told tt
+audit_by (Err why) answer of_meaning is = rw is of_meaning
+
+audit_in : (size : BookSize) (text : Result (List ℕ) Fault) (answer : Result Telling Fault) → IfErr text IsOfInput
+    → MatchResult text (λ table. IsAuditOfTable size table answer) (λ why. answer ≡ Err why) → IfErr answer IsOfInput
+audit_in size (Ok table) answer of_text is = audit_by (meaning_in part.Book (books_of (most_rows size) (rows_of table))) answer (books_of_part (books_of (most_rows size) (rows_of table))) is
+audit_in size (Err why) answer of_text is = rw is of_text
+
+sized_as_of : (size : BookSize) (input : List ℕ) → IfErr (sized_as size input) IsOfInput
+sized_as_of size.Short input = sized_of input
+sized_as_of size.Long input = tt
+
+audit_of : (size : BookSize) (input : List ℕ) (answer : Result Telling Fault) → IsAnswerTo (Audits size) input answer → IfErr answer IsOfInput
+audit_of size input answer is = audit_in size (sized_as size input) answer (sized_as_of size input) is
+
 -- ---- what is asked for
 
 -- an answer to what the words ask for
@@ -90,6 +115,8 @@ answers words wish input of_input (Err fault.TooLong) asked is = record { wish =
 answers words wish input of_input (Err fault.Parts) asked is = record { wish = wish; asked = asked; answered = is }
 answers words wish input of_input (Err (fault.Tariff row)) asked is = record { wish = wish; asked = asked; answered = is }
 answers words wish input of_input (Err (fault.Table part row)) asked is = record { wish = wish; asked = asked; answered = is }
+answers words wish input of_input (Err (fault.Log why)) asked is = record { wish = wish; asked = asked; answered = is }
+answers words wish input of_input (Err (fault.LogRow row kind)) asked is = record { wish = wish; asked = asked; answered = is }
 answers words wish input of_input (Err fault.Device) asked is = tt
 answers words wish input of_input (Err (fault.Run run.OutOfMemory)) asked is = tt
 answers words wish input of_input (Err (fault.Run run.Workers)) asked is = record { wish = wish; asked = asked; answered = is }
@@ -108,6 +135,8 @@ gives_one view (Err fault.TooLong) meaning gives = gives
 gives_one view (Err fault.Parts) meaning gives = gives
 gives_one view (Err (fault.Tariff row)) meaning gives = gives
 gives_one view (Err (fault.Table part row)) meaning gives = gives
+gives_one view (Err (fault.Log why)) meaning gives = gives
+gives_one view (Err (fault.LogRow row kind)) meaning gives = gives
 gives_one view (Err fault.Device) meaning gives = tt
 gives_one view (Err (fault.Run run.OutOfMemory)) meaning gives = tt
 gives_one view (Err (fault.Run run.Workers)) meaning gives = gives
@@ -140,6 +169,13 @@ module _ (words : List (List ℕ)) (status : ℕ) (old new : Written) where
   quoted None wish answer asked is told = record { answer = answer; answered = tt; told = told }
   quoted (Some input) wish answer asked is told =
       record { answer = answer; answered = answers words (Quotes wish) input (quote_of wish input) answer asked is; told = told }
+
+  -- an audit
+  pub audited : (known : Option (List ℕ)) (size : BookSize) (answer : Result Telling Fault) → AsksFor words (Audits size)
+      → IfSome known (λ input. GivesOne (IsAnswerTo (Audits size) input) answer) → IsTold answer status old new → Answers words known status old new
+  audited None size answer asked is told = record { answer = answer; answered = tt; told = told }
+  audited (Some input) size answer asked is told =
+      record { answer = answer; answered = answers words (Audits size) input (audit_of size input) answer asked is; told = told }
 
   -- the help or the version
   pub helped : (known : Option (List ℕ)) (telling : Telling) (text : List ℕ) → AsksHelp words ⊎ AsksVersion words → telling ≡ plain text → IsTold (Ok telling) status old new

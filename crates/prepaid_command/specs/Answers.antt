@@ -15,6 +15,7 @@ use Rattle.command_words.specs.Wishes.{Wish, Audits, Prices, Quotes, RatesRecord
 use Rattle.command_words.specs.declared.fault.WordsFault.TheVariants as words_fault
 use Rattle.run_command.specs.Answers.{IsRunAnswer, RunSaid}
 use Rattle.run_command.specs.declared.error.RunError.{RunError}
+use Rattle.run_options.specs.Logs.{LogWish}
 use Rattle.run_options.specs.declared.live.LiveAsk.{LiveAsk}
 use Rattle.run_options.specs.declared.options.RunAsk.{RunAsk}
 use Rattle.run_texts.specs.Inputs.{tariff_in}
@@ -99,7 +100,7 @@ IsAnswerTo (Runs ask) input answer = IsRunOfInput ask input answer
 IsAnswerTo (Audits size) input answer = IsAuditOfInput size input answer
 IsAnswerTo (Quotes wish) input answer = IsQuoteOfInput wish input answer
 IsAnswerTo (RatesRecords wish) input answer = ⊥
-IsAnswerTo (Serves ask) input answer = ⊥
+IsAnswerTo (Serves ask log) input answer = ⊥
 
 -- the words ask for what has this answer
 pub record IsAnswered (words : List (List ℕ)) (input : List ℕ) (answer : Result Telling Fault) : Type 0 where
@@ -201,13 +202,14 @@ IsServeEnd (Ok done) status old new = (status ≡ 0) × Keeps old new
 IsServeEnd (Err why) status old new = IsSaid (of_serve why) status old new
 
 -- the output and the status tell one end of the service, which is that over this input, where this is known
-pub record IsServed (ask : LiveAsk) (input : Option (List ℕ)) (status : ℕ) (old new : Written) : Type 0 where
+pub record IsServed (ask : LiveAsk) (log : Option LogWish) (input : Option (List ℕ)) (status : ℕ) (old new : Written) : Type 0 where
   pub result : Result (Unit {0}) ServeError
-  pub serves : IfSome input (λ text. ServesBy ask (live_input_of text) old.output new.output result)
+  pub serves : IfSome input (λ text. ServesBy ask log (live_input_of text) old.output new.output result)
   pub ends : IsServeEnd result status old.faults new.faults
 
 -- the words ask for the service, and so an input was answered
 pub record ServesAsAsked (words : List (List ℕ)) (input : Option (List ℕ)) (status : ℕ) (old new : Written) : Type 0 where
   pub ask : LiveAsk
-  pub asked : AsksFor words (Serves ask)
-  pub served : IsServed ask input status old new
+  pub log : Option LogWish
+  pub asked : AsksFor words (Serves ask log)
+  pub served : IsServed ask log input status old new

@@ -1,10 +1,15 @@
 -- The faults of the program: their lines, their statuses, and how an answer meets its meaning.
 use Rattle.std.specs.Prelude.{◌≡◌, ℕ, List, ◌++◌, Option, Some, None, Result, Ok, Err, ⊤, codes}
+use Rattle.std.specs.Fmt.{decimal}
 use Rattle.answer_command.specs.declared.error.ServeError.{ServeError}
 use Rattle.answer_command.specs.declared.error.ServeError.TheVariants as serve
 use Rattle.command_words.specs.declared.fault.WordsFault.{WordsFault}
 use Rattle.command_words.specs.declared.fault.WordsFault.TheVariants as words
+use Rattle.live_answers.specs.Kinds.{name_of as name_of_line}
 use Rattle.live_answers.specs.declared.stage.LiveFault.TheVariants as live
+use Rattle.live_log.specs.Faults.{name_of as name_of_log}
+use Rattle.live_log.specs.declared.fault.LogFault.{LogFault}
+use Rattle.live_log.specs.declared.fault.LogFault.TheVariants as log
 use Rattle.run_command.specs.declared.error.RunError.{RunError}
 use Rattle.run_command.specs.declared.error.RunError.TheVariants as error
 use Rattle.run_texts.specs.declared.input_fault.InputFault.{InputFault}
@@ -42,11 +47,15 @@ line_of fault.TooLong = codes "prepaid: input: TooLong"
 line_of fault.Parts = codes "prepaid: input: Parts"
 line_of (fault.Tariff row) = codes "prepaid: tariff " ++ tariff_text_of row
 line_of (fault.Table part row) = codes "prepaid: " ++ (name_of_part part ++ (codes " " ++ text_of row))
+line_of (fault.Log why) = codes "prepaid: log: " ++ name_of_log why
+line_of (fault.LogRow row kind) = codes "prepaid: log row " ++ (decimal row ++ (codes ": " ++ name_of_line kind))
 line_of fault.Device = codes "prepaid: run: Device"
 line_of (fault.Run why) = codes "prepaid: run: " ++ name_of why
 
 -- the exit status of a fault
 abbrev pub status_of : Fault → ℕ
+status_of (fault.Log why) = 2
+status_of (fault.LogRow row kind) = 2
 status_of fault.Device = 2
 status_of (fault.Run why) = 2
 status_of _ = 1
@@ -88,13 +97,21 @@ of_rate (rate.Input why) = Some (of_run_input why)
 of_rate rate.Header = Some (no_header part.Records)
 of_rate rate.Output = None
 
+-- the fault of a log; memory that runs out while it is opened is that of the run
+abbrev pub of_log : LogFault → Fault
+of_log log.Other = fault.Log log.Other
+of_log log.Device = fault.Log log.Device
+of_log log.OutOfMemory = fault.Run run.OutOfMemory
+
 -- the fault of an input that isn't served to its end
 abbrev pub of_serve : ServeError → Option Fault
 of_serve (serve.Input why) = Some (of_run_input why)
 of_serve serve.Header = Some (no_header part.Messages)
+of_serve (serve.Log why) = Some (of_log why)
+of_serve (serve.LogRow row kind) = Some (fault.LogRow row kind)
 of_serve (serve.Live live.Input) = Some fault.Device
 of_serve (serve.Live live.Output) = None
-of_serve (serve.Live live.Log) = Some fault.Device
+of_serve (serve.Live live.Log) = Some (fault.Log log.Device)
 of_serve (serve.Run why) = Some (fault.Run why)
 
 -- what a part of the input of a run means, its faults told as the program's

@@ -7,7 +7,8 @@ ghost use Rattle.prepaid_command.specs.declared.fault.Fault.TheVariants as out;
 
 use answer_command::ServeError;
 use command_words::WordsFault;
-use live_answers::LiveFault;
+use live_answers::{LineKind, LiveFault};
+use live_log::LogFault;
 use rating::RateFault;
 use run_command::RunError;
 use run_texts::InputFault;
@@ -69,6 +70,11 @@ pub enum Fault {
     Tariff(TariffFault),
     /// A row of another table has a fault.
     Table(Part, RowFault),
+    /// The log of `serve` can't be used.
+    Log(LogFault),
+    /// A line of the log of `serve` isn't accepted: its row, where the header in front of the lines is
+    /// row 1, and what is wrong with it.
+    LogRow(u64, LineKind),
     /// Standard input failed.
     Device,
     /// A run failed; also where memory ran out anywhere.
@@ -76,14 +82,15 @@ pub enum Fault {
 }
 
 impl Fault {
-    ghost use Rattle.prepaid_command.specs.Faults.{in_part, no_header, of_rate, of_run_input, of_serve, status_of};
+    ghost use Rattle.prepaid_command.specs.Faults.{in_part, no_header, of_log, of_rate, of_run_input, of_serve, status_of};
 
-    /// The exit status: 1 for a fault of the words or the input, 2 where the run itself failed.
+    /// The exit status: 1 for a fault of the words or the input, 2 where the run itself or its log
+    /// failed.
     pub fn status(self) -> u8
         ensures { result ≡ status_of self }
     {
         match self {
-            Fault::Device | Fault::Run(_) => 2,
+            Fault::Log(_) | Fault::LogRow(_, _) | Fault::Device | Fault::Run(_) => 2,
             _ => 1,
         }
     }
@@ -121,9 +128,22 @@ impl Fault {
         match error {
             ServeError::Input(fault) => Some(Fault::of_run_input(fault)),
             ServeError::Header => Some(Fault::no_header(Part::Messages)),
+            ServeError::Log(fault) => Some(Fault::of_log(fault)),
+            ServeError::LogRow(row, kind) => Some(Fault::LogRow(row, kind)),
             ServeError::Live(LiveFault::Output) => None,
-            ServeError::Live(LiveFault::Input | LiveFault::Log) => Some(Fault::Device),
+            ServeError::Live(LiveFault::Input) => Some(Fault::Device),
+            ServeError::Live(LiveFault::Log) => Some(Fault::Log(LogFault::Device)),
             ServeError::Run(fault) => Some(Fault::Run(fault)),
+        }
+    }
+
+    /// The fault of a log.
+    fn of_log(fault: LogFault) -> Fault
+        ensures { result ≡ of_log fault }
+    {
+        match fault {
+            LogFault::Other | LogFault::Device => Fault::Log(fault),
+            LogFault::OutOfMemory => Fault::Run(RunFault::OutOfMemory),
         }
     }
 
@@ -163,6 +183,8 @@ impl fmt::Display for Fault {
             Fault::Parts => f.write_str("prepaid: input: Parts"),
             Fault::Tariff(fault) => write!(f, "prepaid: tariff {fault}"),
             Fault::Table(part, fault) => write!(f, "prepaid: {part} {fault}"),
+            Fault::Log(fault) => write!(f, "prepaid: log: {fault}"),
+            Fault::LogRow(row, kind) => write!(f, "prepaid: log row {row}: {kind}"),
             Fault::Device => f.write_str("prepaid: run: Device"),
             Fault::Run(fault) => write!(f, "prepaid: run: {fault}"),
         }

@@ -29,7 +29,9 @@ use run_options::RunOptions;
 use run_texts::read_tariff;
 use std::alloc::Global;
 use std::convert::AsStr;
+use std::fs::File;
 use std::io::{BufRead, Read, Write};
+use std::rt::Files;
 use std::sync::Wait;
 use std::thread::Threads;
 use tariff_core::Plan;
@@ -38,15 +40,16 @@ use tariff_core::Plan;
 ///
 /// - 0: all of the answer went to `output`.
 /// - 1: a fault of the words or the input.
-/// - 2: the run failed: memory ran out, or an input or an output failed.
+/// - 2: the run failed: memory ran out, or an input, an output or a log failed.
 /// - 3: all of the answer went to `output`, and an audit found an account's history wrong, or a
 ///   rating a row.
 ///
 /// A fault goes to `faults` as one line, and then nothing goes to `output`; but the rows of `rate`
-/// and of `serve` are printed as they come, so where their input or memory fails in the middle,
-/// `output` has what was printed before. Where the accounts of a run refused anything, a line about it goes to `faults` behind
-/// the answer. Where `output` failed, what went to it is a front of the answer, and nothing goes to
-/// `faults`; a failing `faults` has a front of the line, and changes no status.
+/// and of `serve` are printed as they come, so where their input, a log or memory fails in the
+/// middle, `output` has what was printed before. Where the accounts of a run refused anything, a line
+/// about it goes to `faults` behind the answer. Where `output` failed, what went to it is a front of
+/// the answer, and nothing goes to `faults`; a failing `faults` has a front of the line, and changes
+/// no status.
 pub fn command<R, S: AsStr, I: BufRead + Drop, O: Write, E: Write>(
     rt: &R,
     words: &[S],
@@ -55,7 +58,7 @@ pub fn command<R, S: AsStr, I: BufRead + Drop, O: Write, E: Write>(
     faults: &mut E,
 ) -> u8
 where
-    R: AllocGlobal + Wait + Threads + Sync,
+    R: AllocGlobal + Wait + Threads + Sync + Files<File = File>,
     ensures answers { Answers (map S.text words.now) (I.remaining input) result
         (record { output = O.contents output.old; faults = E.contents faults.old })
         (record { output = O.contents output.new; faults = E.contents faults.new })
@@ -79,7 +82,9 @@ where
         Ok(Request::Audit(size)) => tell(output, faults, audit_input(alloc, size, input)),
         Ok(Request::Quote(ask)) => tell(output, faults, quote_input(alloc, &ask, input)),
         Ok(Request::Rate(ask)) => rate_input(alloc, &ask, input, output, faults),
-        Ok(Request::Serve(options)) => serve_messages(rt, alloc, &options, input, output, faults),
+        Ok(Request::Serve(options, log)) => {
+            serve_messages(rt, alloc, &options, log, input, output, faults)
+        }
         Err(why) => tell(output, faults, Err(Fault::from(why))),
     }
 }

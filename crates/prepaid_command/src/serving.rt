@@ -1,36 +1,43 @@
 //! The command `serve`.
 
-ghost use Rattle.std.specs.Prelude.{◌≡◌};
+ghost use Rattle.std.specs.Prelude.{◌≡◌, option_map};
 ghost use Rattle.std.specs.Io.KnownBytes.{Keeps};
+ghost use Rattle.run_options.specs.Logs.{log_wish_of};
 ghost use Rattle.run_options.specs.Options.{live_ask_of};
 ghost use Rattle.prepaid_command.specs.Answers.{IsServeEnd, IsServed};
 
 use crate::error_lines::report;
 use crate::fault::Fault;
 use answer_command::{ServeError, serve_input};
-use run_options::LiveOptions;
+use run_options::{LiveOptions, LogAsk};
 use std::alloc::Global;
+use std::fs::File;
 use std::io::{BufRead, Write};
+use std::rt::Files;
 use std::sync::Wait;
 use std::thread::Threads;
 
 /// Answers the messages in the input as they come, and gives the status: 0 where the input has
-/// ended and all was printed; 1 for a fault of what stands before the messages, and then nothing is
-/// printed; 2 where the input, memory, the output or the run failed.
-pub(crate) fn serve_messages<R: Wait + Threads + Sync, I: BufRead + Drop, O: Write, E: Write>(
+/// ended and all was printed; 1 for a fault of what is in front of the messages, and then nothing is
+/// printed; 2 where the input, the log, memory, the output or the run failed.
+pub(crate) fn serve_messages<R, I: BufRead + Drop, O: Write, E: Write>(
     rt: &R,
     alloc: Global,
     options: &LiveOptions,
+    log: Option<LogAsk<'_>>,
     input: I,
     output: &mut O,
     faults: &mut E,
 ) -> u8
-    ensures served { IsServed (live_ask_of options.now) (I.remaining input) result
+where
+    R: Wait + Threads + Sync + Files<File = File>,
+    ensures served { IsServed (live_ask_of options.now) (option_map log_wish_of log.entry)
+        (I.remaining input) result
         (record { output = O.contents output.old; faults = E.contents faults.old })
         (record { output = O.contents output.new; faults = E.contents faults.new }) }
     ensures silent { result ≡ 1 → Keeps (O.contents output.old) (O.contents output.new) }
 {
-    let ended = serve_input(rt, alloc, options, input, output);
+    let ended = serve_input(rt, alloc, options, log, input, output);
     tell_end(faults, ended)
 }
 

@@ -3,7 +3,9 @@
 #![tactic(auto)]
 
 mod live;
+mod log;
 mod options;
 
 pub use live::{LiveAsk, LiveOptions, LiveOutput};
+pub use log::LogAsk;
 pub use options::{RunAsk, RunOptions, RunOutput};

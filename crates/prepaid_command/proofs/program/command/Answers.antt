@@ -1,10 +1,12 @@
 use Rattle.std.proofs.Common.{inl, inr, rules}
+use Rattle.std.specs.Prelude.{option_map}
 use Rattle.std.specs.Result.{result_map_both}
 use Rattle.tariff_core.specs.RatesOf.{rates_of}
 use Rattle.command_words.specs.QuoteWishes.{wish_of}
 use Rattle.rating.specs.SaidOf.{wish_of as rate_wish_of}
+use Rattle.run_options.specs.Logs.{log_wish_of}
 use Rattle.run_options.specs.Options.{live_ask_of}
-use Rattle.prepaid_command.proofs.AnswerLemmas.{helped, priced, quoted, refused}
+use Rattle.prepaid_command.proofs.AnswerLemmas.{audited, helped, priced, quoted, refused}
 use Rattle.prepaid_command.specs.Tellings.{telling_of}
 use Rattle.prepaid_command.proofs.program.command.Goals as goal
 
@@ -37,7 +39,9 @@ pub returns-in-Ok-Run-clause-answers : goal.returns-in-Ok-Run-clause-answers
 returns-in-Ok-Run-clause-answers g c = inl (search rules)
 
 pub returns-in-Ok-Audit-clause-answers : goal.returns-in-Ok-Audit-clause-answers
-returns-in-Ok-Audit-clause-answers g c = inl (search rules)
+returns-in-Ok-Audit-clause-answers g c =
+    inl (audited _ _ _ _ (g.I.Read.remaining c.args.input) c.in-Ok-Audit.size (result_map_both telling_of (λ fault. fault) c.audit_input.result)
+    (rw c.in-Ok-Audit.field-0-is at c.in-Ok-Audit.ensures) c.audit_input.ensures c.tell-in-Ok-Audit.ensures.told)
 
 pub returns-in-Ok-Rate-clause-answers : goal.returns-in-Ok-Rate-clause-answers
 returns-in-Ok-Rate-clause-answers g c = inr (inl (record {
@@ -49,6 +53,7 @@ returns-in-Ok-Rate-clause-answers g c = inr (inl (record {
 pub returns-in-Ok-Serve-clause-answers : goal.returns-in-Ok-Serve-clause-answers
 returns-in-Ok-Serve-clause-answers g c = inr (inr (record {
   ask = live_ask_of c.in-Ok-Serve.options;
+  log = option_map log_wish_of c.in-Ok-Serve.log;
   asked = rw c.in-Ok-Serve.field-0-is at c.in-Ok-Serve.ensures;
   served = c.serve_messages.ensures.served;
 }))

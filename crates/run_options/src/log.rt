@@ -1,0 +1,11 @@
+//! The log of the service live.
+
+/// The log that the service live is asked to keep.
+#[derive(Clone, Copy)]
+pub struct LogAsk<'a> {
+    /// The path of its file.
+    pub path: &'a str,
+    /// The number of the first message in it whose rows are printed again; none of them are where
+    /// there is no number.
+    pub again: Option<u64>,
+}
