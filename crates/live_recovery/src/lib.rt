@@ -4,4 +4,6 @@
 
 mod laws;
 
-pub use laws::{longer_runs_answer_alike, restarts_print_the_rest, runs_are_alike};
+pub use laws::{
+    longer_runs_answer_alike, read_tariffs_are_proper, restarts_print_the_rest, runs_are_alike,
+};
