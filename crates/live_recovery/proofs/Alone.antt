@@ -5,6 +5,7 @@ use Rattle.std.proofs.lemmas.List.{length-map}
 use Rattle.std.proofs.lemmas.List.Elements.{All-head, All-tail}
 use Rattle.account_core.specs.Answers.{IsLegal}
 use Rattle.account_core.specs.Events.{EntryData}
+use Rattle.live_recovery.proofs.Alike.{GoAlike, goes_itself}
 use Rattle.live_recovery.proofs.Chains.{ChainsAreAlike, NoFault, chains_alike}
 use Rattle.live_recovery.proofs.Handling.{AreLegal}
 use Rattle.live_recovery.specs.Laws.{LongerRunsAnswerAlike, NoneIsRefused, IsProper, RunsAreAlike, histories_of, views_of}
@@ -53,7 +54,7 @@ numbered_many : (first : ℕ) (given : List (ℕ × Body)) → length (numbered 
 numbered_many first [] = refl
 numbered_many first (item ∷ given) = ap suc (numbered_many (first + 1) given)
 
-as_many : (given : List (ℕ × Body)) (answers : List Answer) → AnswersEach 0 given answers → length answers ≡ length given
+pub as_many : (given : List (ℕ × Body)) (answers : List Answer) → AnswersEach 0 given answers → length answers ≡ length given
 as_many given answers each =
     sym (length-map answers (λ (a : Answer). a.number)) ∙ ap length each ∙ length-map (numbered 0 given) (λ (i : Item). i.number) ∙ numbered_many 0 given
 
@@ -110,12 +111,12 @@ none_is_fault (answer ∷ answers) none =
     let P : Answer → Type 0 = λ a. a.refused ≡ None in (All-head P answer answers none, none_is_fault answers (All-tail P answer answers none))
 
 -- what a run of one worker has answered
-record IsOfOne (setup : Setup) (given : List (ℕ × Body)) (answers : List Answer) (books : List Closed) : Type 0 where
-  run : IsRun StoodIn setup 1 given answers books
-  none : NoneIsRefused answers
+pub record IsOfOne (setup : Setup) (given : List (ℕ × Body)) (answers : List Answer) (books : List Closed) : Type 0 where
+  pub run : IsRun StoodIn setup 1 given answers books
+  pub none : NoneIsRefused answers
 
-both_alike : (setup : Setup) (given longer : List (ℕ × Body)) (more : List Item) (answers others : List Answer) (books other : List Closed) → IsProper setup.tariff
-    → IsOfOne setup given answers books → IsOfOne setup longer others other → numbered 0 longer ≡ numbered 0 given ++ more
+pub both_alike : (setup : Setup) (given longer : List (ℕ × Body)) (more : List Item) (answers others : List Answer) (books other : List Closed) → IsProper setup.tariff
+    → IsOfOne setup given answers books → IsOfOne setup longer others other → GoAlike (numbered 0 given) (numbered 0 longer) more
     → ChainsAreAlike (views_of answers) (views_of others) more (record { lists = histories_of books; talks = λ call. None }) (record { lists = histories_of other; talks = λ call. None })
 both_alike setup given longer more answers others books other one first second numbers =
     let a : IsAnsweredBy StoodIn setup 1 given answers books 0 = first.run.answered 0 (omega arith) in
@@ -124,8 +125,9 @@ both_alike setup given longer more answers others books other one first second n
     let views_too = ap views_of (answers_all longer others (as_many longer others second.run.each_heard)) in
     let lists = own_lists books first.run.owned in
     let lists_too = own_lists other second.run.owned in
-    let posts : map item_of b.posts ≡ map item_of a.posts ++ more =
-    b.share ∙ shares_all longer ∙ numbers ∙ ap (λ l. l ++ more) (sym (a.share ∙ shares_all given)) in
+    let G : List Item → Type 0 = λ items. GoAlike items (map item_of b.posts) more in
+    let H : List Item → Type 0 = λ items. GoAlike (numbered 0 given) items more in
+    let posts = subst G (sym (a.share ∙ shares_all given)) (subst H (sym (b.share ∙ shares_all longer)) numbers) in
     let o = opening_at setup.accounts in
     let u = until_at setup.accounts in
     let L : List (List EntryData) → Type 0 = AreLegal o u (length setup.accounts) in
@@ -141,15 +143,18 @@ both_alike setup given longer more answers others books other one first second n
       same = λ nothing. let they = chains.same nothing in (they.0, sym lists ∙ they.1 ∙ lists_too);
     }
 
+go_on : (items others more : List Item) → others ≡ items ++ more → GoAlike items others more
+go_on items others more is = subst (λ l. GoAlike items l more) (sym is) (goes_itself items more)
+
 pub longer_alike : LongerRunsAnswerAlike
 longer_alike setup given more answers longer books other one run run_longer none none_longer =
     let alike = both_alike setup given (given ++ more) (numbered (0 + length given) more) answers longer books other one
-    (record { run = run; none = none }) (record { run = run_longer; none = none_longer }) (numbered_more 0 given more) in
+    (record { run = run; none = none }) (record { run = run_longer; none = none_longer }) (go_on (numbered 0 given) (numbered 0 (given ++ more)) _ (numbered_more 0 given more)) in
     (alike.rest, alike.answers_are)
 
 pub runs_alike : RunsAreAlike
 runs_alike setup given answers others books other one run run_other none none_other =
     let alike = both_alike setup given given [] answers others books other one
-    (record { run = run; none = none }) (record { run = run_other; none = none_other }) (sym (append-nil (numbered 0 given))) in
+    (record { run = run; none = none }) (record { run = run_other; none = none_other }) (go_on (numbered 0 given) (numbered 0 given) [] (sym (append-nil (numbered 0 given)))) in
     let same = alike.same refl in
     (sym (alike.answers_are ∙ ap (λ l. views_of answers ++ l) same.0 ∙ append-nil (views_of answers)), same.1)

@@ -1,6 +1,7 @@
 -- Chains of posts that are handled twice.
 use Rattle.std.proofs.Common.{◌≡◌, ◌++◌, ℕ, Option, None, List, [], ◌∷◌, length, map, refl, sym, ap, subst, ◌∙◌}
 use Rattle.account_core.specs.Events.{EntryData}
+use Rattle.live_recovery.proofs.Alike.{GoAlike, ItemsAlike, done_as}
 use Rattle.live_recovery.proofs.Handling.{AreAlike, AreLegal, Begin, HoldAlike, begin_further, begin_itself, done_alike, done_goes_on}
 use Rattle.live_recovery.specs.Laws.{IsProper}
 use Rattle.run_values.specs.Setups.{Setup}
@@ -25,15 +26,6 @@ verdict_alike : (setup : Setup) (talks also : ℕ → Option DialogueAt) (number
 verdict_alike setup talks also number at (Ssf call message) same = ap (spoken setup number at call message) (same call)
 verdict_alike setup talks also number at (Recharge account amount until) same = refl
 
--- the verdict on an item
-abbrev verdict_of : Setup → (ℕ → Option DialogueAt) → Item → Verdict
-verdict_of setup talks item = verdict_on setup talks item.number item.at item.body
-
-same_verdict : (setup : Setup) (talks also : ℕ → Option DialogueAt) (post other : Post) → ((call : ℕ) → talks call ≡ also call) → item_of post ≡ item_of other
-    → verdict setup talks post ≡ verdict setup also other
-same_verdict setup talks also post other same is =
-    verdict_alike setup talks also post.number post.at post.body same ∙ ap (verdict_of setup also) is
-
 -- the lists of a chain only grow
 pub chain_begins : (Shows : ℕ → Showing) (setup : Setup) (numbers : List ℕ) (posts : List Post) (answers : List AnswerView) (old new : Holding)
     → AreAnswered Shows setup numbers posts answers old new → Begin old.lists new.lists
@@ -51,25 +43,25 @@ pub record ChainsAreAlike (answers longer : List AnswerView) (more : List Item) 
   pub same : more ≡ [] → (rest ≡ []) × (new.lists ≡ other.lists)
 
 module _ (opening_at : ℕ → ℕ) (until_at : ℕ → Option ℕ) (Shows Others : ℕ → Showing) (setup : Setup) (numbers : List ℕ) (one : IsProper setup.tariff) where
-  -- two posts of the same item
-  once_alike : (post other : Post) (old new again last : Holding) (told also : AnswerView) (ends endings : List (List EntryData)) → item_of other ≡ item_of post
+  -- two posts that say the same
+  once_alike : (post other : Post) (old new again last : Holding) (told also : AnswerView) (ends endings : List (List EntryData)) → ItemsAlike (item_of post) (item_of other)
       → length old.lists ≡ length setup.accounts → ArePlaced (length setup.accounts) old.talks → HoldAlike old again → told.number ≡ post.number → also.number ≡ other.number
       → told.refused ≡ None → also.refused ≡ None → Begin new.lists ends → AreLegal opening_at until_at (length setup.accounts) ends
       → Begin last.lists endings → AreLegal opening_at until_at (length setup.accounts) endings
       → IsDone setup numbers post.at (verdict setup old.talks post) old new told → IsDone setup numbers other.at (verdict setup again.talks other) again last also
       → AreAlike told also new last
   once_alike post other old new again last told also ends endings is many placed hold number number_too none none_too begin legal begin_too legal_too done done_too =
-      let at : other.at ≡ post.at = ap (λ (i : Item). i.at) is in
-      let same : verdict setup again.talks other ≡ verdict setup old.talks post =
-      sym (same_verdict setup old.talks again.talks post other hold.talks (sym is)) in
-      let D : ℕ → Type 0 = λ a. IsDone setup numbers a (verdict setup again.talks other) again last also in
-      let V : Verdict → Type 0 = λ v. IsDone setup numbers post.at v again last also in
+      let V : Verdict → Type 0 = λ v. IsDone setup numbers other.at v again last also in
+      let N : ℕ → Type 0 = λ n. IsDone setup numbers other.at (verdict_on setup old.talks n other.at other.body) again last also in
+      let A : ℕ → Type 0 = λ a. IsDone setup numbers a (verdict_on setup old.talks post.number a other.body) again last also in
+      let talks = subst V (sym (verdict_alike setup old.talks again.talks other.number other.at other.body hold.talks)) done_too in
+      let there = subst A (sym is.at) (subst N (sym is.number) talks) in
       done_alike opening_at until_at setup numbers post (verdict setup old.talks post) old new again last told also ends endings one many placed
-      (means_on setup old.talks post.number post.at post.body) hold (number ∙ sym (ap (λ (i : Item). i.number) is) ∙ sym number_too) none none_too begin legal begin_too legal_too done
-      (subst V same (subst D at done_too))
+      (means_on setup old.talks post.number post.at post.body) hold (number ∙ is.number ∙ sym number_too) none none_too begin legal begin_too legal_too done
+      (done_as setup numbers post.number post.at again last also old.talks post.body other.body is.body there)
 
   pub chains_alike : (posts others : List Post) (more : List Item) (answers longer : List AnswerView) (old new again last : Holding)
-      → map item_of others ≡ map item_of posts ++ more → length old.lists ≡ length setup.accounts → ArePlaced (length setup.accounts) old.talks → HoldAlike old again
+      → GoAlike (map item_of posts) (map item_of others) more → length old.lists ≡ length setup.accounts → ArePlaced (length setup.accounts) old.talks → HoldAlike old again
       → NoFault answers → NoFault longer → AreLegal opening_at until_at (length setup.accounts) new.lists → AreLegal opening_at until_at (length setup.accounts) last.lists
       → AreAnswered Shows setup numbers posts answers old new → AreAnswered Others setup numbers others longer again last
       → ChainsAreAlike answers longer more new last
@@ -87,18 +79,16 @@ module _ (opening_at : ℕ → ℕ) (until_at : ℕ → Option ℕ) (Shows Other
       nothing_left (other ∷ others) longer again last is too = absurd (cc)
   chains_alike [] others more (told ∷ answers) longer old new again last is many placed hold none none_too legal legal_too are too = absurd are
   chains_alike (post ∷ posts) others more [] longer old new again last is many placed hold none none_too legal legal_too are too = absurd are
-  chains_alike (post ∷ posts) [] more (told ∷ answers) longer old new again last is many placed hold none none_too legal legal_too are too = absurd (cc)
+  chains_alike (post ∷ posts) [] more (told ∷ answers) longer old new again last is many placed hold none none_too legal legal_too are too = absurd is
   chains_alike (post ∷ posts) (other ∷ others) more (told ∷ answers) [] old new again last is many placed hold none none_too legal legal_too are too = absurd too
   chains_alike (post ∷ posts) (other ∷ others) more (told ∷ answers) (also ∷ longer) old new again last is many placed hold none none_too legal legal_too are too =
       let between = are.0 in
       let between_too = too.0 in
-      let first : item_of other ≡ item_of post = cc is in
-      let later : map item_of others ≡ map item_of posts ++ more = cc is in
-      let alike = once_alike post other old between again between_too told also new.lists last.lists first many placed hold are.1.handled.number too.1.handled.number none.0 none_too.0
+      let alike = once_alike post other old between again between_too told also new.lists last.lists is.0 many placed hold are.1.handled.number too.1.handled.number none.0 none_too.0
       (chain_begins Shows setup numbers posts answers between new are.2) legal (chain_begins Others setup numbers others longer between_too last too.2) legal_too
       are.1.handled.done too.1.handled.done in
       let goes = done_goes_on setup numbers post.at (verdict setup old.talks post) old between told are.1.handled.done in
-      let rest = chains_alike posts others more answers longer between new between_too last later (goes.many ∙ many)
+      let rest = chains_alike posts others more answers longer between new between_too last is.1 (goes.many ∙ many)
       (placed_after setup numbers post old between told placed are.1.handled.done) alike.hold none.1 none_too.1 legal legal_too are.2 too.2 in
       record {
         rest = rest.rest;

@@ -1,3 +1,4 @@
+pub mod Alike
 pub mod Alone
 pub mod Chains
 pub mod Handling
