@@ -1,8 +1,14 @@
 pub mod Alike
 pub mod Alone
 pub mod Chains
+pub mod Decimals
+pub mod Fronts
 pub mod Handling
+pub mod Logs
 pub mod Printing
 pub mod Proper
+pub mod Readable
+pub mod Recovering
 pub mod Routing
 pub mod Talking
+pub mod Texts

@@ -1,5 +1,5 @@
 -- What is printed of answers is in what they tell.
-use Rattle.std.proofs.Common.{◌≡◌, ◌++◌, ◌∙◌, ℕ, Option, Some, None, List, [], ◌∷◌, Ok, Err, map, refl, sym, ap}
+use Rattle.std.proofs.Common.{◌≡◌, ◌<◌, ◌≤◌, ◌++◌, ◌∙◌, ℕ, Option, Some, None, List, [], ◌∷◌, Ok, Err, map, refl, sym, ap, arith}
 use Rattle.std.proofs.lemmas.Option.{slice_get-map}
 use Rattle.std.specs.Fmt.{decimal}
 use Rattle.std.specs.Prelude.{codes, if◌then◌else◌, nat_lt, option_map, slice_get}
@@ -54,10 +54,12 @@ rows_are : (head : List ℕ) (answer : Option Answer) → answer_rows head answe
 rows_are head None = refl
 rows_are head (Some answer) = ap (service_rows head) (answer_is answer)
 
-same_rows : (answers others : List Answer) (head : List ℕ) (number : ℕ) → views_of answers ≡ views_of others → answer_rows head (slice_get answers number) ≡ answer_rows head (slice_get others number)
-same_rows answers others head number same =
-    rows_are head (slice_get answers number) ∙ ap (view_rows head) (sym (slice_get-map answer_view answers number) ∙ ap (λ l. slice_get l number) same ∙ slice_get-map answer_view others number)
-    ∙ sym (rows_are head (slice_get others number))
+-- the answers to the first so many messages tell the same
+abbrev pub Agree : List Answer → List Answer → ℕ → Type 0
+Agree answers others count = (number : ℕ) → number < count → option_map answer_view (slice_get answers number) ≡ option_map answer_view (slice_get others number)
+
+same_rows : (answer other : Option Answer) (head : List ℕ) → option_map answer_view answer ≡ option_map answer_view other → answer_rows head answer ≡ answer_rows head other
+same_rows answer other head same = rows_are head answer ∙ ap (view_rows head) same ∙ sym (rows_are head other)
 
 abbrev head_of_message : ℕ → MessageView → List ℕ
 head_of_message number message = head_text clock.Digits message.at number message.speech.call
@@ -65,24 +67,42 @@ head_of_message number message = head_text clock.Digits message.at number messag
 abbrev row_of : ℕ → MessageView → List ℕ
 row_of number message = row (head_of_message number message) message.speech.from message.speech.said
 
-same_line : (answers others : List Answer) (quiet line number : ℕ) (said : LineView) → views_of answers ≡ views_of others
-    → rows_of_line quiet line number (slice_get answers number) said ≡ rows_of_line quiet line number (slice_get others number) said
-same_line answers others quiet line number None same = refl
-same_line answers others quiet line number (Some (Err why)) same = refl
-same_line answers others quiet line number (Some (Ok message)) same =
-    ap (λ rows. if nat_lt number quiet then [] else row_of number message ++ rows) (same_rows answers others (head_of_message number message) number same)
+pub no_fewer : (said : LineView) (next : ℕ) → next ≤ next_after next said
+no_fewer None next = omega arith
+no_fewer (Some (Ok message)) next = omega arith
+no_fewer (Some (Err why)) next = omega arith
 
--- what is printed where the answers tell the same
-same_text : (replay : Replay) (answers others : List Answer) (line next : ℕ) (heard : List Heard) → views_of answers ≡ views_of others
+-- no fewer are accepted behind more lines
+pub none_less : (heard : List Heard) (next : ℕ) → next ≤ next_behind next heard
+none_less [] next = omega arith
+none_less (one ∷ heard) next = omega (arith, none_less heard (next_after next one.said), no_fewer one.said next)
+
+same_line : (answers others : List Answer) (quiet line number count : ℕ) (said : LineView) → next_after number said ≤ count → Agree answers others count
+    → rows_of_line quiet line number (slice_get answers number) said ≡ rows_of_line quiet line number (slice_get others number) said
+same_line answers others quiet line number count None most agree = refl
+same_line answers others quiet line number count (Some (Err why)) most agree = refl
+same_line answers others quiet line number count (Some (Ok message)) most agree =
+    ap (λ rows. if nat_lt number quiet then [] else row_of number message ++ rows)
+    (same_rows (slice_get answers number) (slice_get others number) (head_of_message number message) (agree number (omega (arith, most))))
+
+-- what is printed of lines where the answers to their messages tell the same
+pub same_text : (replay : Replay) (answers others : List Answer) (line next : ℕ) (heard : List Heard) (count : ℕ) → next_behind next heard ≤ count → Agree answers others count
     → text_after replay answers line next heard ≡ text_after replay others line next heard
-same_text replay answers others line next [] same = refl
-same_text replay answers others line next (one ∷ heard) same =
+same_text replay answers others line next [] count most agree = refl
+same_text replay answers others line next (one ∷ heard) count most agree =
     let here = counted_line replay next line in
-    ap (λ rows. rows ++ text_after replay answers here (next_after next one.said) heard) (same_line answers others replay.quiet here next one.said same)
-    ∙ ap (λ rows. rows_of_line replay.quiet here next (slice_get others next) one.said ++ rows) (same_text replay answers others here (next_after next one.said) heard same)
+    let behind = next_after next one.said in
+    ap (λ rows. rows ++ text_after replay answers here behind heard)
+    (same_line answers others replay.quiet here next count one.said (omega (arith, most, none_less heard behind)) agree)
+    ∙ ap (λ rows. rows_of_line replay.quiet here next (slice_get others next) one.said ++ rows) (same_text replay answers others here behind heard count most agree)
+
+all_agree : (answers others : List Answer) (count : ℕ) → views_of answers ≡ views_of others → Agree answers others count
+all_agree answers others count same number less =
+    sym (slice_get-map answer_view answers number) ∙ ap (λ views. slice_get views number) same ∙ slice_get-map answer_view others number
 
 pub restarts_print : ReplaysAreSilent → RestartsPrintTheRest
 restarts_print silent setup text rest given answers others books other one run run_other none none_other =
     let later = heard_after (next_behind 0 (heard_in text)) (last_behind 0 (heard_in text)) (live_lines rest) in
     let alike = runs_alike setup given answers others books other one run run_other none none_other in
-    silent text rest others ∙ sym (same_text (silence (heard_in text)) answers others 1 (next_behind 0 (heard_in text)) later alike.0)
+    silent text rest others ∙ sym (same_text (silence (heard_in text)) answers others 1 (next_behind 0 (heard_in text)) later
+    (next_behind (next_behind 0 (heard_in text)) later) (omega arith) (all_agree answers others _ alike.0))

@@ -1,0 +1,125 @@
+-- An input that was served with a log, and cut off anywhere, and then a run that begins with that log.
+use Rattle.std.specs.Prelude.{◌≡◌, ◌≢◌, ◌≤◌, ◌+◌, ◌++◌, ℕ, Option, Some, None, Ok, Err, List, [], ◌∷◌, if◌then◌else◌, length, map, nat_lt, slice_get, take}
+use Rattle.std.specs.Io.KnownBytes.{Appends}
+use Rattle.live_answers.specs.Laws.{last_behind, next_behind}
+use Rattle.live_answers.specs.Lines.{live_lines}
+use Rattle.live_answers.specs.Live.{Heard, given_of, heard_after, heard_in, item_view, logged_of, next_after, replayed_text, text_after}
+use Rattle.live_answers.specs.Rows.{message_rows}
+use Rattle.live_answers.specs.Runs.{IsAnswered, Prints}
+use Rattle.live_answers.specs.Standing.{LineView}
+use Rattle.live_answers.specs.declared.replay.Replay.{Replay}
+use Rattle.live_answers.specs.declared.stage.LiveFault.{LiveFault}
+use Rattle.live_answers.specs.declared.stage.LiveFault.TheVariants as fault
+use Rattle.live_log.specs.Logs.{HasLines}
+use Rattle.live_recovery.specs.Laws.{IsReadTariff, NoneIsRefused, histories_of, views_of}
+use Rattle.run_values.specs.Setups.{Setup}
+use Rattle.run_values.specs.declared.post.Answer.{Answer}
+use Rattle.run_values.specs.declared.post.Body.{Body}
+use Rattle.runs_core.specs.Runs.{IsRun}
+use Rattle.shared_account.specs.Closed.{Closed}
+use Rattle.shared_account.specs.Seen.{StoodIn}
+use Rattle.workers_core.specs.Handled.{AnswerView}
+
+-- ---- runs
+
+-- a live run: what it began with, and what it has left
+pub record LiveRun : Type 0 where
+  pub replay : Replay
+  pub input : List ℕ
+  pub output_old : Option (List ℕ)
+  pub output_new : Option (List ℕ)
+  pub log_old : Option (List ℕ)
+  pub log_new : Option (List ℕ)
+  pub given : List (ℕ × Body)
+  pub books : List Closed
+  pub fault : Option LiveFault
+
+-- a live run in a setup, in which no account has refused an ask
+pub record IsServed (setup : Setup) (it : LiveRun) : Type 0 where
+  pub answered : IsAnswered setup it.replay (Some it.input) it.output_old it.output_new it.log_old it.log_new it.given it.books it.fault
+  pub none : NoneIsRefused answered.answers
+
+-- a run that took in all of these lines, and was never cut off: what its answers are, and its books
+pub record IsUncut (setup : Setup) (heard : List Heard) (answers : List Answer) (books : List Closed) : Type 0 where
+  pub given : List (ℕ × Body)
+  pub takes : map item_view given ≡ given_of heard
+  pub run : IsRun StoodIn setup 1 given answers books
+  pub none : NoneIsRefused answers
+
+-- ---- lines
+
+-- further lines, behind lines that say this
+abbrev pub heard_behind : List Heard → List ℕ → List Heard
+heard_behind heard rest = heard_after (next_behind 0 heard) (last_behind 0 heard) (live_lines rest)
+
+-- lines, and then these further ones
+abbrev pub with_further : List Heard → List ℕ → List Heard
+with_further heard rest = heard ++ heard_behind heard rest
+
+-- what a run is told of the lines of a log: how many they are, and how many of them it hears in silence
+pub record IsReplayOf (lines : List ℕ) (replay : Replay) : Type 0 where
+  pub messages : replay.messages ≡ length (heard_in lines)
+  pub quiet : replay.quiet ≤ replay.messages
+
+-- what is printed again of a line: its message and the answer, but for the first so many messages
+abbrev pub rows_again : ℕ → ℕ → Option Answer → LineView → List ℕ
+rows_again quiet number answer None = []
+rows_again quiet number answer (Some (Ok message)) = if nat_lt number quiet then [] else message_rows number message answer
+rows_again quiet number answer (Some (Err kind)) = []
+
+-- what is printed again of lines, where so many messages were accepted before them
+abbrev pub text_again : ℕ → List Answer → ℕ → List Heard → List ℕ
+text_again quiet answers next [] = []
+text_again quiet answers next (one ∷ heard) = rows_again quiet next (slice_get answers next) one.said ++ text_again quiet answers (next_after next one.said) heard
+
+-- what is printed of lines as they come, where so many messages were accepted before them, and the line in front of them is line 1
+abbrev pub text_anew : List Answer → ℕ → List Heard → List ℕ
+text_anew answers next heard = text_after (record { messages = 0; quiet = 0 }) answers 1 next heard
+
+-- ---- the law
+
+-- the first so many lines of an input
+abbrev pub front_of : LiveRun → ℕ → List Heard
+front_of it count = take count (heard_in it.input)
+
+-- the lines of a log, by the run that wrote it: those of the messages in the first so many lines of its input. These are all that it took in, and where
+-- the log failed perhaps one more, which was written and not handled
+pub record IsLogOf (it : LiveRun) (taken : ℕ) (lines : List ℕ) (count : ℕ) : Type 0 where
+  pub lines_are : lines ≡ logged_of (front_of it count)
+  pub least : taken ≤ count
+  pub most : count ≤ taken + 1
+  pub same : it.fault ≢ Some fault.Log → count ≡ taken
+
+-- answers begin as others do
+abbrev pub BeginAs : List Answer → List Answer → Type 0
+BeginAs answers longer = (more : List AnswerView) × (views_of longer ≡ views_of answers ++ more)
+
+-- a run that was cut off, and one that goes on behind its log, by the answers and the books of one that was never cut off, over the lines that the log has
+-- the messages of, and the further lines
+pub record GoOn (setup : Setup) (first second : LiveRun) (early : IsServed setup first) (late : IsServed setup second) (heard : List Heard) (rest : List ℕ) (answers : List Answer) (books : List Closed) : Type 0 where
+  -- the answers of both begin that run's
+  pub early_are : BeginAs early.answered.answers answers
+  pub late_are : BeginAs late.answered.answers answers
+  -- of the lines that it took in each has printed what that run prints of them
+  pub first_prints : Prints first.fault first.output_old first.output_new (replayed_text first.replay answers (front_of first early.answered.lines.count))
+  pub second_prints : Prints second.fault second.output_old second.output_new (replayed_text second.replay answers (front_of second late.answered.lines.count))
+  -- which is, where the second wasn't cut off too: the messages of the log again, but for the quiet ones, and then what that run prints of the further lines
+  pub goes_on : second.fault ≡ None
+      → Appends second.output_old second.output_new (text_again second.replay.quiet answers 0 heard ++ text_anew answers (next_behind 0 heard) (heard_behind heard rest))
+  -- and then its accounts have the histories of that run
+  pub histories : second.fault ≡ None → histories_of second.books ≡ histories_of books
+
+-- the log of the first run holds the messages of so many of its lines, and over these and the further lines the second one is as a run that was never cut off
+pub record IsRecovered (setup : Setup) (first second : LiveRun) (early : IsServed setup first) (late : IsServed setup second) (lines rest : List ℕ) : Type 0 where
+  pub count : ℕ
+  pub log : IsLogOf first early.answered.lines.count lines count
+  pub uncut : second.fault ≡ None → IsUncut setup (with_further (front_of first count) rest) late.answered.answers second.books
+  pub goes_on : (answers : List Answer) (books : List Closed) → IsUncut setup (with_further (front_of first count) rest) answers books
+      → GoOn setup first second early late (front_of first count) rest answers books
+
+-- a run with an empty log was cut off anywhere, or wasn't, and then another has begun with the lines of that log and has gone on with further lines
+abbrev pub CutOffRunsGoOn : Type 0
+CutOffRunsGoOn = (setup : Setup) (first second : LiveRun) (log lines rest : List ℕ) → IsReadTariff setup.tariff
+    → (early : IsServed setup first) → first.log_old ≡ Some [] → first.log_new ≡ Some log → HasLines log lines
+    → (late : IsServed setup second) → second.input ≡ lines ++ rest → IsReplayOf lines second.replay
+    → IsRecovered setup first second early late lines rest
