@@ -4,11 +4,13 @@ pub mod Chains
 pub mod Decimals
 pub mod Fronts
 pub mod Handling
+pub mod Lines
 pub mod Logs
 pub mod Printing
 pub mod Proper
 pub mod Readable
 pub mod Recovering
 pub mod Routing
+pub mod SameSpeech
 pub mod Talking
 pub mod Texts

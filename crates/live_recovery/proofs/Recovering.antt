@@ -8,19 +8,17 @@ use Rattle.live_answers.specs.Live.{Heard, given_of, heard_in, item_view, logged
 use Rattle.live_answers.specs.Runs.{Prints}
 use Rattle.live_recovery.proofs.Alone.{as_many, both_alike}
 use Rattle.live_recovery.proofs.Fronts.{accepted_many, front_alone, fronts_again, given_accepted, given_both, given_many, given_split}
-use Rattle.live_recovery.proofs.Logs.{log_is}
+use Rattle.live_recovery.proofs.Logs.{log_is, stopped_is}
 use Rattle.live_recovery.proofs.Proper.{read_is_proper}
-use Rattle.live_recovery.proofs.Readable.{AreReadable, ItemsRead, all_read, follow, given_read, take_read}
+use Rattle.live_recovery.proofs.Readable.{ItemsRead, all_read, given_read, take_read}
+use Rattle.live_recovery.proofs.SameSpeech.{follow}
 use Rattle.live_recovery.proofs.Texts.{begun_text, printed_again}
-use Rattle.live_recovery.specs.Laws.{IsProper, NoneIsRefused, histories_of, views_of}
-use Rattle.live_recovery.specs.Recovery.{CutOffRunsGoOn, GoOn, IsLogOf, IsRecovered, IsReplayOf, IsServed, IsUncut, LiveRun, front_of, heard_behind, text_again, text_anew, with_further}
+use Rattle.live_recovery.specs.Laws.{IsProper, histories_of, views_of}
+use Rattle.live_recovery.specs.Recovery.{CutOffRunsGoOn, GoesOn, IsReplayOf, IsResumed, IsServed, IsUncut, LiveRun, StoppedRunsGoOn, front_of, heard_behind, text_again, text_anew, with_further}
 use Rattle.message_rows.specs.Messages.{Speech}
 use Rattle.run_values.specs.Setups.{Setup}
 use Rattle.run_values.specs.declared.post.Answer.{Answer}
-use Rattle.run_values.specs.declared.post.Body.{Body}
-use Rattle.runs_core.specs.Runs.{IsRun}
 use Rattle.shared_account.specs.Closed.{Closed}
-use Rattle.shared_account.specs.Seen.{StoodIn}
 use Rattle.workers_core.specs.Handled.{AnswerView}
 
 -- ---- a run that was given the first of what another one was given
@@ -31,121 +29,117 @@ record Begins (early answers : List Answer) (more : List (ℕ × Speech)) (books
   are : views_of answers ≡ views_of early ++ rest
   same : more ≡ [] → histories_of books ≡ histories_of other
 
-begins : (setup : Setup) (given : List (ℕ × Body)) (early : List Answer) (books : List Closed) (heard : List Heard) (more : List (ℕ × Speech)) (lines : List Heard)
-    (answers : List Answer) (other : List Closed) → IsProper setup.tariff → IsRun StoodIn setup 1 given early books → NoneIsRefused early → map item_view given ≡ given_of heard → AreReadable heard
-    → IsUncut setup lines answers other → given_of lines ≡ given_of heard ++ more → Begins early answers more books other
-begins setup given early books heard more lines answers other proper run none takes read uncut is =
-    let longer : map item_view uncut.given ≡ map item_view given ++ more = uncut.takes ∙ is ∙ ap (λ l. l ++ more) (sym takes) in
-    let goes = follow 0 given uncut.given more longer (subst ItemsRead (sym takes) (given_read heard read)) in
-    let alike = both_alike setup given uncut.given goes.rest early answers books other proper
-    (record { run = run; none = none }) (record { run = uncut.run; none = uncut.none }) goes.alike in
+begins : (setup : Setup) (it : LiveRun) (served : IsServed setup it) (more : List (ℕ × Speech)) (lines : List Heard) (answers : List Answer) (books : List Closed) → IsProper setup.tariff
+    → IsUncut setup lines answers books → given_of lines ≡ given_of (front_of it served.answered.lines.count) ++ more → Begins served.answered.answers answers more it.books books
+begins setup it served more lines answers books proper uncut is =
+    let heard = front_of it served.answered.lines.count in
+    let takes : map item_view it.given ≡ given_of heard = served.answered.lines.takes in
+    let read = take_read served.answered.lines.count (heard_in it.input) (all_read 0 0 (live_lines it.input)) in
+    let longer : map item_view uncut.given ≡ map item_view it.given ++ more = uncut.takes ∙ is ∙ ap (λ l. l ++ more) (sym takes) in
+    let goes = follow 0 it.given uncut.given more longer (subst ItemsRead (sym takes) (given_read heard read)) in
+    let alike = both_alike setup it.given uncut.given goes.rest served.answered.answers answers it.books books proper
+    (record { run = served.answered.run; none = served.none }) (record { run = uncut.run; none = uncut.none }) goes.alike in
     record { rest = alike.rest; are = alike.answers_are; same = λ nothing. (alike.same (goes.all nothing)).1 }
 
--- there is an answer to each message
-answers_many : (given : List (ℕ × Body)) (answers : List Answer) (books : List Closed) (setup : Setup) (heard : List Heard) → IsRun StoodIn setup 1 given answers books → map item_view given ≡ given_of heard
-    → next_behind 0 heard ≤ length answers
-answers_many given answers books setup heard run takes =
-    omega (arith, given_many 0 heard, ap length takes, length-map given item_view, as_many given answers run.each_heard)
+-- and prints of the lines that it took in what that one would
+begun_prints : (setup : Setup) (it : LiveRun) (served : IsServed setup it) (answers : List Answer) (rest : List AnswerView) → views_of answers ≡ views_of served.answered.answers ++ rest
+    → Prints it.fault it.output_old it.output_new (replayed_text it.replay answers (front_of it served.answered.lines.count))
+begun_prints setup it served answers rest are =
+    let heard = front_of it served.answered.lines.count in
+    let takes : map item_view it.given ≡ given_of heard = served.answered.lines.takes in
+    let many : next_behind 0 heard ≤ length served.answered.answers =
+    omega (arith, given_many 0 heard, ap length takes, length-map it.given item_view, as_many it.given served.answered.answers served.answered.run.each_heard) in
+    subst (λ l. Prints it.fault it.output_old it.output_new l) (begun_text it.replay served.answered.answers answers rest heard are many) served.answered.lines.prints
 
--- ---- the two runs
+-- ---- a run that goes on behind a log
 
-module _ (again : LogsAreHeardAgain) (setup : Setup) (first second : LiveRun) (rest : List ℕ) (proper : IsProper setup.tariff) (early : IsServed setup first) (late : IsServed setup second) (count : ℕ)
-    (log : IsLogOf first early.answered.lines.count (logged_of (front_of first count)) count)
-    (input : second.input ≡ logged_of (front_of first count) ++ rest) (replay : IsReplayOf (logged_of (front_of first count)) second.replay) where
+module _ (again : LogsAreHeardAgain) (setup : Setup) (input : List ℕ) (count : ℕ) (it : LiveRun) (rest : List ℕ) (proper : IsProper setup.tariff) (served : IsServed setup it)
+    (begins_so : it.input ≡ logged_of (take count (heard_in input)) ++ rest) (replay : IsReplayOf (logged_of (take count (heard_in input))) it.replay) where
   abbrev heard : List Heard
-  heard = front_of first count
+  heard = take count (heard_in input)
 
   abbrev behind : List Heard
   behind = heard_behind heard rest
 
   abbrev taken : ℕ
-  taken = early.answered.lines.count
+  taken = served.answered.lines.count
 
-  abbrev taken_late : ℕ
-  taken_late = late.answered.lines.count
+  hears : heard_in it.input ≡ accepted heard ++ behind
+  hears = ap heard_in begins_so ∙ fronts_again again count input rest
 
-  heard_late : heard_in second.input ≡ accepted heard ++ behind
-  heard_late = ap heard_in input ∙ fronts_again again count first.input rest
+  messages : it.replay.messages ≡ next_behind 0 heard
+  messages = let many = ap length (front_alone again count input) in omega (arith, replay.messages, many, accepted_many 0 heard)
 
-  messages : second.replay.messages ≡ next_behind 0 heard
-  messages =
-      let many = ap length (front_alone again count first.input) in
-      omega (arith, replay.messages, many, accepted_many 0 heard)
+  given_again : given_of (heard_in it.input) ≡ given_of (with_further heard rest)
+  given_again = ap given_of hears ∙ given_both (accepted heard) behind ∙ ap (λ l. l ++ given_of behind) (given_accepted heard) ∙ sym (given_both heard behind)
 
-  -- what the first took in is of the lines of the log
-  taken_front : take taken heard ≡ front_of first taken
-  taken_front = take-take taken count (heard_in first.input) log.least
+  given_so : given_of (with_further heard rest) ≡ given_of (front_of it taken) ++ given_of (drop taken (heard_in it.input))
+  given_so = sym given_again ∙ given_split taken (heard_in it.input)
 
-  given_early : given_of (with_further heard rest) ≡ given_of (front_of first taken) ++ (given_of (drop taken heard) ++ given_of behind)
-  given_early =
-      given_both heard behind ∙ ap (λ l. l ++ given_of behind) (given_split taken heard) ∙ append_assoc (given_of (take taken heard)) (given_of (drop taken heard)) (given_of behind)
-      ∙ ap (λ h. given_of h ++ (given_of (drop taken heard) ++ given_of behind)) taken_front
+  -- it took in all, where it was not cut off
+  all_taken : it.fault ≡ None → front_of it taken ≡ heard_in it.input
+  all_taken ended = take_all taken (heard_in it.input) (served.answered.lines.whole ended)
 
-  given_again : given_of (heard_in second.input) ≡ given_of (with_further heard rest)
-  given_again = ap given_of heard_late ∙ given_both (accepted heard) behind ∙ ap (λ l. l ++ given_of behind) (given_accepted heard) ∙ sym (given_both heard behind)
+  none_left : it.fault ≡ None → given_of (drop taken (heard_in it.input)) ≡ []
+  none_left ended = ap given_of (drop_of_length-le (heard_in it.input) (served.answered.lines.whole ended))
 
-  given_late : given_of (with_further heard rest) ≡ given_of (front_of second taken_late) ++ given_of (drop taken_late (heard_in second.input))
-  given_late = sym given_again ∙ given_split taken_late (heard_in second.input)
-
-  read_in : (it : LiveRun) (many : ℕ) → AreReadable (front_of it many)
-  read_in it many = take_read many (heard_in it.input) (all_read 0 0 (live_lines it.input))
-
-  -- the second took in all, where it was not cut off
-  all_late : second.fault ≡ None → front_of second taken_late ≡ heard_in second.input
-  all_late ended = take_all taken_late (heard_in second.input) (late.answered.lines.whole ended)
-
-  none_left : second.fault ≡ None → given_of (drop taken_late (heard_in second.input)) ≡ []
-  none_left ended = ap given_of (drop_of_length-le (heard_in second.input) (late.answered.lines.whole ended))
-
-  pub late_uncut : second.fault ≡ None → IsUncut setup (with_further heard rest) late.answered.answers second.books
-  late_uncut ended = record {
-    given = second.given;
-    takes = late.answered.lines.takes ∙ ap given_of (all_late ended) ∙ given_again;
-    run = late.answered.run;
-    none = late.none;
+  is_uncut : it.fault ≡ None → IsUncut setup (with_further heard rest) served.answered.answers it.books
+  is_uncut ended = record {
+    given = it.given;
+    takes = served.answered.lines.takes ∙ ap given_of (all_taken ended) ∙ given_again;
+    run = served.answered.run;
+    none = served.none;
   }
 
-  pub both_go_on : (answers : List Answer) (books : List Closed) → IsUncut setup (with_further heard rest) answers books → GoOn setup first second early late heard rest answers books
-  both_go_on answers books uncut =
-      let one = begins setup first.given early.answered.answers first.books (front_of first taken) _ (with_further heard rest) answers books proper
-      early.answered.run early.none early.answered.lines.takes (read_in first taken) uncut given_early in
-      let other = begins setup second.given late.answered.answers second.books (front_of second taken_late) _ (with_further heard rest) answers books proper
-      late.answered.run late.none late.answered.lines.takes (read_in second taken_late) uncut given_late in
-      let one_text = begun_text first.replay early.answered.answers answers one.rest (front_of first taken) one.are
-      (answers_many first.given early.answered.answers first.books setup (front_of first taken) early.answered.run early.answered.lines.takes) in
-      let other_text = begun_text second.replay late.answered.answers answers other.rest (front_of second taken_late) other.are
-      (answers_many second.given late.answered.answers second.books setup (front_of second taken_late) late.answered.run late.answered.lines.takes) in
-      let second_prints = subst (λ l. Prints second.fault second.output_old second.output_new l) other_text late.answered.lines.prints in
+  goes_on : (answers : List Answer) (books : List Closed) → IsUncut setup (with_further heard rest) answers books → GoesOn setup it served heard rest answers books
+  goes_on answers books uncut =
+      let first = begins setup it served (given_of (drop taken (heard_in it.input))) (with_further heard rest) answers books proper uncut given_so in
+      let prints = begun_prints setup it served answers first.rest first.are in
       record {
-        early_are = (one.rest, one.are);
-        late_are = (other.rest, other.are);
-        first_prints = subst (λ l. Prints first.fault first.output_old first.output_new l) one_text early.answered.lines.prints;
-        second_prints = second_prints;
+        begin = (first.rest, first.are);
+        prints = prints;
         goes_on = λ ended.
-            let text : replayed_text second.replay answers (front_of second taken_late) ≡ text_again second.replay.quiet answers 0 heard ++ text_anew answers (next_behind 0 heard) behind =
-            ap (replayed_text second.replay answers) (all_late ended ∙ heard_late) ∙ printed_again second.replay answers heard behind messages replay.quiet in
-            let whole = subst (λ why. Prints why second.output_old second.output_new (replayed_text second.replay answers (front_of second taken_late))) ended second_prints in
-            subst (λ l. Appends second.output_old second.output_new l) text whole;
-        histories = λ ended. other.same (none_left ended);
+            let text : replayed_text it.replay answers (front_of it taken) ≡ text_again it.replay.quiet answers 0 heard ++ text_anew answers (next_behind 0 heard) behind =
+            ap (replayed_text it.replay answers) (all_taken ended ∙ hears) ∙ printed_again it.replay answers heard behind messages replay.quiet in
+            let whole = subst (λ why. Prints why it.output_old it.output_new (replayed_text it.replay answers (front_of it taken))) ended prints in
+            subst (λ l. Appends it.output_old it.output_new l) text whole;
+        histories = λ ended. first.same (none_left ended);
       }
 
--- with the lines that the log has
-recovered_by : (again : LogsAreHeardAgain) (setup : Setup) (first second : LiveRun) (lines rest : List ℕ) → IsProper setup.tariff → (early : IsServed setup first) (late : IsServed setup second) (count : ℕ)
-    → IsLogOf first early.answered.lines.count lines count → second.input ≡ lines ++ rest → IsReplayOf lines second.replay → IsRecovered setup first second early late lines rest
-recovered_by again setup first second lines rest proper early late count log input replay =
-    let L : List ℕ → Type 0 = λ l. IsLogOf first early.answered.lines.count l count in
-    let R : List ℕ → Type 0 = λ l. IsReplayOf l second.replay in
-    let log_there = subst L log.lines_are log in
-    let input_there = input ∙ ap (λ l. l ++ rest) log.lines_are in
-    let replay_there = subst R log.lines_are replay in
-    record {
-      count = count;
-      log = log;
-      uncut = late_uncut again setup first second rest proper early late count log_there input_there replay_there;
-      goes_on = both_go_on again setup first second rest proper early late count log_there input_there replay_there;
-    }
+  pub is_resumed : IsResumed setup it served heard rest
+  is_resumed = record { hears = hears; uncut = is_uncut; goes_on = goes_on }
+
+resumed_by : (again : LogsAreHeardAgain) (setup : Setup) (input : List ℕ) (count : ℕ) (it : LiveRun) (lines rest : List ℕ) → IsProper setup.tariff → (served : IsServed setup it)
+    → lines ≡ logged_of (take count (heard_in input)) → it.input ≡ lines ++ rest → IsReplayOf lines it.replay → IsResumed setup it served (take count (heard_in input)) rest
+resumed_by again setup input count it lines rest proper served is begins_so replay =
+    is_resumed again setup input count it rest proper served (begins_so ∙ ap (λ l. l ++ rest) is) (subst (λ l. IsReplayOf l it.replay) is replay)
+
+pub stopped_go_on : LogsAreHeardAgain → StoppedRunsGoOn
+stopped_go_on again setup input size it lines rest tariff has served begins_so replay =
+    let (count, is) = stopped_is input size lines has in
+    (count, is, resumed_by again setup input count it lines rest (read_is_proper setup.tariff tariff) served is begins_so replay)
+
+-- ---- two runs
+
+-- what a run took in is of the lines of its log
+given_early : (it : LiveRun) (taken count : ℕ) (rest : List ℕ) → taken ≤ count → given_of (with_further (front_of it count) rest)
+    ≡ given_of (front_of it taken) ++ (given_of (drop taken (front_of it count)) ++ given_of (heard_behind (front_of it count) rest))
+given_early it taken count rest least =
+    let heard = front_of it count in
+    let later = given_of (heard_behind heard rest) in
+    given_both heard (heard_behind heard rest) ∙ ap (λ l. l ++ later) (given_split taken heard) ∙ append_assoc (given_of (take taken heard)) (given_of (drop taken heard)) later
+    ∙ ap (λ h. given_of h ++ (given_of (drop taken heard) ++ later)) (take-take taken count (heard_in it.input) least)
 
 pub recovered : LogsAreHeardAgain → CutOffRunsGoOn
-recovered again setup first second log lines rest tariff early empty written has late input replay =
-    let (count, of) = log_is first early.answered.lines.count log lines empty written has early.answered.lines.logs in
-    recovered_by again setup first second lines rest (read_is_proper setup.tariff tariff) early late count of input replay
+recovered again setup first second head log lines rest tariff early was written has late begins_so replay =
+    let taken = early.answered.lines.count in
+    let proper = read_is_proper setup.tariff tariff in
+    let (count, of) = log_is first taken head log lines was written has early.answered.lines.logs in
+    record {
+      count = count;
+      log = of;
+      begun = λ answers books uncut.
+          let so = begins setup first early _ (with_further (front_of first count) rest) answers books proper uncut (given_early first taken count rest of.least) in
+          record { begin = (so.rest, so.are); prints = begun_prints setup first early answers so.rest so.are };
+      resumed = resumed_by again setup first.input count second lines rest proper late of.lines_are begins_so replay;
+    }

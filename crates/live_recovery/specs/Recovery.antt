@@ -1,7 +1,7 @@
 -- An input that was served with a log, and cut off anywhere, and then a run that begins with that log.
 use Rattle.std.specs.Prelude.{◌≡◌, ◌≢◌, ◌≤◌, ◌+◌, ◌++◌, ℕ, Option, Some, None, Ok, Err, List, [], ◌∷◌, if◌then◌else◌, length, map, nat_lt, slice_get, take}
 use Rattle.std.specs.Io.KnownBytes.{Appends}
-use Rattle.live_answers.specs.Laws.{last_behind, next_behind}
+use Rattle.live_answers.specs.Laws.{accepted, last_behind, next_behind}
 use Rattle.live_answers.specs.Lines.{live_lines}
 use Rattle.live_answers.specs.Live.{Heard, given_of, heard_after, heard_in, item_view, logged_of, next_after, replayed_text, text_after}
 use Rattle.live_answers.specs.Rows.{message_rows}
@@ -10,7 +10,7 @@ use Rattle.live_answers.specs.Standing.{LineView}
 use Rattle.live_answers.specs.declared.replay.Replay.{Replay}
 use Rattle.live_answers.specs.declared.stage.LiveFault.{LiveFault}
 use Rattle.live_answers.specs.declared.stage.LiveFault.TheVariants as fault
-use Rattle.live_log.specs.Logs.{HasLines}
+use Rattle.live_log.specs.Logs.{HasLines, HasLinesBehind}
 use Rattle.live_recovery.specs.Laws.{IsReadTariff, NoneIsRefused, histories_of, views_of}
 use Rattle.run_values.specs.Setups.{Setup}
 use Rattle.run_values.specs.declared.post.Answer.{Answer}
@@ -48,6 +48,10 @@ pub record IsUncut (setup : Setup) (heard : List Heard) (answers : List Answer) 
 
 -- ---- lines
 
+-- the first so many lines of an input
+abbrev pub front_of : LiveRun → ℕ → List Heard
+front_of it count = take count (heard_in it.input)
+
 -- further lines, behind lines that say this
 abbrev pub heard_behind : List Heard → List ℕ → List Heard
 heard_behind heard rest = heard_after (next_behind 0 heard) (last_behind 0 heard) (live_lines rest)
@@ -76,11 +80,39 @@ text_again quiet answers next (one ∷ heard) = rows_again quiet next (slice_get
 abbrev pub text_anew : List Answer → ℕ → List Heard → List ℕ
 text_anew answers next heard = text_after (record { messages = 0; quiet = 0 }) answers 1 next heard
 
--- ---- the law
+-- ---- a run that goes on behind a log
 
--- the first so many lines of an input
-abbrev pub front_of : LiveRun → ℕ → List Heard
-front_of it count = take count (heard_in it.input)
+-- answers begin as others do
+abbrev pub BeginAs : List Answer → List Answer → Type 0
+BeginAs answers longer = (more : List AnswerView) × (views_of longer ≡ views_of answers ++ more)
+
+-- a run that goes on behind a log, by the answers and the books of a run that was never cut off, over the lines that the log has the messages of, and further ones
+pub record GoesOn (setup : Setup) (it : LiveRun) (served : IsServed setup it) (heard : List Heard) (rest : List ℕ) (answers : List Answer) (books : List Closed) : Type 0 where
+  -- of the lines that it took in it has printed what it would by the answers of that run, as which its own begin
+  pub begin : BeginAs served.answered.answers answers
+  pub prints : Prints it.fault it.output_old it.output_new (replayed_text it.replay answers (front_of it served.answered.lines.count))
+  -- which is, where it wasn't cut off itself: the messages of the log again, but for the quiet ones, and then what that run prints of the further lines
+  pub goes_on : it.fault ≡ None → Appends it.output_old it.output_new (text_again it.replay.quiet answers 0 heard ++ text_anew answers (next_behind 0 heard) (heard_behind heard rest))
+  -- and then its accounts have the histories of that run
+  pub histories : it.fault ≡ None → histories_of it.books ≡ histories_of books
+
+-- a run whose input is a log with the messages of these lines, and then further lines, goes on as a run over all the lines that was never cut off
+pub record IsResumed (setup : Setup) (it : LiveRun) (served : IsServed setup it) (heard : List Heard) (rest : List ℕ) : Type 0 where
+  -- it hears just the accepted lines again, and of the further ones what they say behind all
+  pub hears : heard_in it.input ≡ accepted heard ++ heard_behind heard rest
+  -- where it isn't cut off itself, it is such a run
+  pub uncut : it.fault ≡ None → IsUncut setup (with_further heard rest) served.answered.answers it.books
+  -- and in any case it is as each such run
+  pub goes_on : (answers : List Answer) (books : List Closed) → IsUncut setup (with_further heard rest) answers books → GoesOn setup it served heard rest answers books
+
+-- what is left of a log, wherever its writer was stopped, has whole lines that are those of the messages in the first lines of its input; and a run over these and
+-- further lines goes on as one that was never cut off
+abbrev pub StoppedRunsGoOn : Type 0
+StoppedRunsGoOn = (setup : Setup) (input : List ℕ) (size : ℕ) (it : LiveRun) (lines rest : List ℕ) → IsReadTariff setup.tariff
+    → HasLines (take size (logged_of (heard_in input))) lines → (served : IsServed setup it) → it.input ≡ lines ++ rest → IsReplayOf lines it.replay
+    → (count : ℕ) × (lines ≡ logged_of (take count (heard_in input))) × IsResumed setup it served (take count (heard_in input)) rest
+
+-- ---- two runs
 
 -- the lines of a log, by the run that wrote it: those of the messages in the first so many lines of its input. These are all that it took in, and where
 -- the log failed perhaps one more, which was written and not handled
@@ -90,36 +122,22 @@ pub record IsLogOf (it : LiveRun) (taken : ℕ) (lines : List ℕ) (count : ℕ)
   pub most : count ≤ taken + 1
   pub same : it.fault ≢ Some fault.Log → count ≡ taken
 
--- answers begin as others do
-abbrev pub BeginAs : List Answer → List Answer → Type 0
-BeginAs answers longer = (more : List AnswerView) × (views_of longer ≡ views_of answers ++ more)
+-- a run that was cut off has printed, of the lines that it took in, what one prints that was never cut off, and its answers begin as those of that run
+pub record WasBegun (setup : Setup) (it : LiveRun) (served : IsServed setup it) (answers : List Answer) : Type 0 where
+  pub begin : BeginAs served.answered.answers answers
+  pub prints : Prints it.fault it.output_old it.output_new (replayed_text it.replay answers (front_of it served.answered.lines.count))
 
--- a run that was cut off, and one that goes on behind its log, by the answers and the books of one that was never cut off, over the lines that the log has
--- the messages of, and the further lines
-pub record GoOn (setup : Setup) (first second : LiveRun) (early : IsServed setup first) (late : IsServed setup second) (heard : List Heard) (rest : List ℕ) (answers : List Answer) (books : List Closed) : Type 0 where
-  -- the answers of both begin that run's
-  pub early_are : BeginAs early.answered.answers answers
-  pub late_are : BeginAs late.answered.answers answers
-  -- of the lines that it took in each has printed what that run prints of them
-  pub first_prints : Prints first.fault first.output_old first.output_new (replayed_text first.replay answers (front_of first early.answered.lines.count))
-  pub second_prints : Prints second.fault second.output_old second.output_new (replayed_text second.replay answers (front_of second late.answered.lines.count))
-  -- which is, where the second wasn't cut off too: the messages of the log again, but for the quiet ones, and then what that run prints of the further lines
-  pub goes_on : second.fault ≡ None
-      → Appends second.output_old second.output_new (text_again second.replay.quiet answers 0 heard ++ text_anew answers (next_behind 0 heard) (heard_behind heard rest))
-  -- and then its accounts have the histories of that run
-  pub histories : second.fault ≡ None → histories_of second.books ≡ histories_of books
-
--- the log of the first run holds the messages of so many of its lines, and over these and the further lines the second one is as a run that was never cut off
+-- the log of the first run has the messages of its first so many lines, and with the further lines both are as one run that was never cut off
 pub record IsRecovered (setup : Setup) (first second : LiveRun) (early : IsServed setup first) (late : IsServed setup second) (lines rest : List ℕ) : Type 0 where
   pub count : ℕ
   pub log : IsLogOf first early.answered.lines.count lines count
-  pub uncut : second.fault ≡ None → IsUncut setup (with_further (front_of first count) rest) late.answered.answers second.books
-  pub goes_on : (answers : List Answer) (books : List Closed) → IsUncut setup (with_further (front_of first count) rest) answers books
-      → GoOn setup first second early late (front_of first count) rest answers books
+  pub begun : (answers : List Answer) (books : List Closed) → IsUncut setup (with_further (front_of first count) rest) answers books → WasBegun setup first early answers
+  pub resumed : IsResumed setup second late (front_of first count) rest
 
--- a run with an empty log was cut off anywhere, or wasn't, and then another has begun with the lines of that log and has gone on with further lines
+-- a run that began with a log of a head alone, and was cut off anywhere or wasn't, and another that begins with the whole lines of that log and goes on with
+-- further ones are as one run over all the lines that was never cut off
 abbrev pub CutOffRunsGoOn : Type 0
-CutOffRunsGoOn = (setup : Setup) (first second : LiveRun) (log lines rest : List ℕ) → IsReadTariff setup.tariff
-    → (early : IsServed setup first) → first.log_old ≡ Some [] → first.log_new ≡ Some log → HasLines log lines
+CutOffRunsGoOn = (setup : Setup) (first second : LiveRun) (head log lines rest : List ℕ) → IsReadTariff setup.tariff
+    → (early : IsServed setup first) → first.log_old ≡ Some head → first.log_new ≡ Some log → HasLinesBehind head log lines
     → (late : IsServed setup second) → second.input ≡ lines ++ rest → IsReplayOf lines second.replay
     → IsRecovered setup first second early late lines rest

@@ -1,7 +1,7 @@
 //! The laws of recovery, each the contract of a function that does nothing.
 
 ghost use Rattle.live_recovery.specs.Laws.{LongerRunsAnswerAlike, ReadTariffsAreProper, RestartsPrintTheRest, RunsAreAlike};
-ghost use Rattle.live_recovery.specs.Recovery.{CutOffRunsGoOn};
+ghost use Rattle.live_recovery.specs.Recovery.{CutOffRunsGoOn, StoppedRunsGoOn};
 
 use live_answers::{logs_are_heard_again, replays_are_silent};
 
@@ -32,18 +32,34 @@ pub fn restarts_print_the_rest()
     replays_are_silent();
 }
 
-/// An input is served with an empty log and is cut off anywhere, be it that the output, the log or
-/// the input failed, or is served to its end; and then another run begins with the whole lines of
-/// that log and goes on with further lines. Where the tariff was read and no account refuses an ask,
-/// the two are as one run over all the lines that was never cut off:
+/// The log of a run was left off at any byte, as where the process was killed, and a run begins with
+/// its whole lines and goes on with further lines. Where the tariff was read, and no account refuses
+/// an ask, it goes on as a run over all the lines that was never cut off:
 ///
-/// * the log has the lines of just the messages that the first run took in; where the log failed, it
-///   may have one more, which no answer was given to;
-/// * the first has printed what that run prints of these lines, up to its fault, and the second
-///   prints of the further lines just what that run prints of them, with the same numbers and the
-///   same answers. Before that it prints the messages of the log again, but for the quiet ones, just
-///   as they were printed. Lines that aren't accepted are not printed again, and are counted anew;
-/// * the accounts have the same histories.
+/// * the whole lines are those of the messages in the first lines of the input that was served, so
+///   many of them as are left, and each is accepted again, as the same message;
+/// * of the further lines just that is printed which that run prints of them, with the same numbers
+///   and the same answers. Before it come the messages of the log again, but for the quiet ones, as
+///   that run prints them. Lines that weren't accepted are not printed again, and those that aren't
+///   are counted anew;
+/// * the accounts have the histories of that run.
+///
+/// Where it is cut off too, this holds of the lines that it took in.
+pub fn stopped_runs_go_on()
+    ensures { StoppedRunsGoOn }
+{
+    logs_are_heard_again();
+}
+
+/// The same by what two live runs come to (`live_answers::answer_live`). The first was cut off
+/// anywhere, be it that the output, the log or the input failed, or it has ended; its log was a head
+/// alone before. The second begins with the whole lines of that log (`live_log::find_lines`), and
+/// goes on with further lines. Besides what `stopped_runs_go_on` says:
+///
+/// * the log has the messages of just the lines that the first run took in. Where the log failed it
+///   may have one more, which was not answered;
+/// * of these lines the first run has printed what a run over all the lines prints that was never
+///   cut off: all, or where the output failed a front.
 pub fn cut_off_runs_go_on()
     ensures { CutOffRunsGoOn }
 {
