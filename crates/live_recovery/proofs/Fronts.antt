@@ -6,6 +6,7 @@ use Rattle.live_answers.proofs.LineLemmas.{no_line}
 use Rattle.live_answers.specs.Laws.{LogsAreHeardAgain, accepted, if_accepted, last_behind, next_behind}
 use Rattle.live_answers.specs.Lines.{kept, live_lines}
 use Rattle.live_answers.specs.Live.{Heard, given_by, given_of, heard_after, heard_in, last_after, logged_of, next_after}
+use Rattle.live_answers.specs.Rows.{put_down}
 use Rattle.live_answers.specs.Standing.{LineView, said_after}
 use Rattle.live_recovery.specs.Recovery.{heard_behind}
 use Rattle.message_rows.specs.Messages.{Speech}
@@ -102,3 +103,23 @@ one_again (Some (Err why)) line items heard is = is
 pub given_accepted : (heard : List Heard) → given_of (accepted heard) ≡ given_of heard
 given_accepted [] = refl
 given_accepted (one ∷ heard) = one_again one.said one.line (given_of heard) (accepted heard) (given_accepted heard)
+
+-- ---- what is logged of lines
+
+logged_both : (heard later : List Heard) → logged_of (heard ++ later) ≡ logged_of heard ++ logged_of later
+logged_both [] later = refl
+logged_both (one ∷ heard) later =
+    ap (λ l. put_down one.line one.said ++ l) (logged_both heard later) ∙ sym (append_assoc (put_down one.line one.said) (logged_of heard) (logged_of later))
+
+one_logged : (said : LineView) (line log : List ℕ) (heard : List Heard) → logged_of heard ≡ log → logged_of (if_accepted said (record { line = line; said = said }) ++ heard) ≡ put_down line said ++ log
+one_logged None line log heard is = is
+one_logged (Some (Ok message)) line log heard is = ap (λ l. line ++ l) is
+one_logged (Some (Err why)) line log heard is = is
+
+logged_accepted : (heard : List Heard) → logged_of (accepted heard) ≡ logged_of heard
+logged_accepted [] = refl
+logged_accepted (one ∷ heard) = one_logged one.said one.line (logged_of heard) (accepted heard) (logged_accepted heard)
+
+-- of the lines of a log, and those behind them, as much is logged as of all lines
+pub logged_again : (heard later : List Heard) → logged_of (accepted heard ++ later) ≡ logged_of (heard ++ later)
+logged_again heard later = logged_both (accepted heard) later ∙ ap (λ l. l ++ logged_of later) (logged_accepted heard) ∙ sym (logged_both heard later)

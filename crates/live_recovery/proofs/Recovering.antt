@@ -5,9 +5,9 @@ use Rattle.std.specs.Io.KnownBytes.{Appends}
 use Rattle.live_answers.specs.Laws.{LogsAreHeardAgain, accepted, next_behind}
 use Rattle.live_answers.specs.Lines.{live_lines}
 use Rattle.live_answers.specs.Live.{Heard, given_of, heard_in, item_view, logged_of, replayed_text}
-use Rattle.live_answers.specs.Runs.{Prints}
+use Rattle.live_answers.specs.Runs.{Logs, Prints}
 use Rattle.live_recovery.proofs.Alone.{as_many, both_alike}
-use Rattle.live_recovery.proofs.Fronts.{accepted_many, front_alone, fronts_again, given_accepted, given_both, given_many, given_split}
+use Rattle.live_recovery.proofs.Fronts.{accepted_many, front_alone, fronts_again, given_accepted, given_both, given_many, given_split, logged_again}
 use Rattle.live_recovery.proofs.Logs.{log_is, stopped_is}
 use Rattle.live_recovery.proofs.Proper.{read_is_proper}
 use Rattle.live_recovery.proofs.Readable.{ItemsRead, all_read, given_read, take_read}
@@ -91,6 +91,11 @@ module _ (again : LogsAreHeardAgain) (setup : Setup) (input : List ℕ) (count :
     none = served.none;
   }
 
+  logs : it.fault ≡ None → Appends it.log_old it.log_new (logged_of (with_further heard rest))
+  logs ended =
+      let whole = subst (λ why. Logs why it.log_old it.log_new (logged_of (front_of it taken)) (logged_of (take 1 (drop taken (heard_in it.input))))) ended served.answered.lines.logs in
+      subst (λ l. Appends it.log_old it.log_new l) (ap logged_of (all_taken ended ∙ hears) ∙ logged_again heard behind) whole
+
   goes_on : (answers : List Answer) (books : List Closed) → IsUncut setup (with_further heard rest) answers books → GoesOn setup it served heard rest answers books
   goes_on answers books uncut =
       let first = begins setup it served (given_of (drop taken (heard_in it.input))) (with_further heard rest) answers books proper uncut given_so in
@@ -107,7 +112,7 @@ module _ (again : LogsAreHeardAgain) (setup : Setup) (input : List ℕ) (count :
       }
 
   pub is_resumed : IsResumed setup it served heard rest
-  is_resumed = record { hears = hears; uncut = is_uncut; goes_on = goes_on }
+  is_resumed = record { hears = hears; uncut = is_uncut; logs = logs; goes_on = goes_on }
 
 resumed_by : (again : LogsAreHeardAgain) (setup : Setup) (input : List ℕ) (count : ℕ) (it : LiveRun) (lines rest : List ℕ) → IsProper setup.tariff → (served : IsServed setup it)
     → lines ≡ logged_of (take count (heard_in input)) → it.input ≡ lines ++ rest → IsReplayOf lines it.replay → IsResumed setup it served (take count (heard_in input)) rest

@@ -102,7 +102,9 @@ pub record IsResumed (setup : Setup) (it : LiveRun) (served : IsServed setup it)
   pub hears : heard_in it.input ≡ accepted heard ++ heard_behind heard rest
   -- where it isn't cut off itself, it is such a run
   pub uncut : it.fault ≡ None → IsUncut setup (with_further heard rest) served.answered.answers it.books
-  -- and in any case it is as each such run
+  -- and then it has logged what such a run logs: each message once
+  pub logs : it.fault ≡ None → Appends it.log_old it.log_new (logged_of (with_further heard rest))
+  -- in any case it is as each such run
   pub goes_on : (answers : List Answer) (books : List Closed) → IsUncut setup (with_further heard rest) answers books → GoesOn setup it served heard rest answers books
 
 -- what is left of a log, wherever its writer was stopped, has whole lines that are those of the messages in the first lines of its input; and a run over these and

@@ -42,9 +42,11 @@ pub fn restarts_print_the_rest()
 ///   and the same answers. Before it come the messages of the log again, but for the quiet ones, as
 ///   that run prints them. Lines that weren't accepted are not printed again, and those that aren't
 ///   are counted anew;
-/// * the accounts have the histories of that run.
+/// * its log has grown by what that run logs, each message once, and the accounts have the histories
+///   of that run.
 ///
-/// Where it is cut off too, this holds of the lines that it took in.
+/// Where it is cut off too, it has printed what that run prints of the lines that it took in, as far
+/// as its output took that.
 pub fn stopped_runs_go_on()
     ensures { StoppedRunsGoOn }
 {
