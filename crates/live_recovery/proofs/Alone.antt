@@ -8,7 +8,7 @@ use Rattle.account_core.specs.Events.{EntryData}
 use Rattle.live_recovery.proofs.Alike.{GoAlike, goes_itself}
 use Rattle.live_recovery.proofs.Chains.{ChainsAreAlike, NoFault, chains_alike}
 use Rattle.live_recovery.proofs.Handling.{AreLegal}
-use Rattle.live_recovery.specs.Laws.{LongerRunsAnswerAlike, NoneIsRefused, IsProper, RunsAreAlike, histories_of, views_of}
+use Rattle.live_recovery.specs.Laws.{LongerRunsAnswerAlike, NoneIsRefused, IsProper, RunsAreAlike, views_of}
 use Rattle.run_values.specs.Openings.{no_credit}
 use Rattle.run_values.specs.Setups.{Setup}
 use Rattle.run_values.specs.declared.directory.OpeningCredit.{OpeningCredit}
@@ -71,6 +71,10 @@ own_all [] all = refl
 own_all (event ∷ history) all =
     let first : event.seat < 1 = All-head (λ (e : EntryData). e.seat < 1) event history all in
     rw (is_zero event.seat (omega (arith, first))) (ap (λ l. event ∷ l) (own_all history (All-tail (λ (e : EntryData). e.seat < 1) event history all)))
+
+-- the histories of books
+abbrev pub histories_of : List Closed → List (List EntryData)
+histories_of books = map (λ book. book.history) books
 
 own_lists : (books : List Closed) → All (λ book. All (λ event. event.seat < 1) book.history) books → lists_of 0 books ≡ histories_of books
 own_lists [] all = refl
@@ -143,6 +147,32 @@ both_alike setup given longer more answers others books other one first second n
       same = λ nothing. let they = chains.same nothing in (they.0, sym lists ∙ they.1 ∙ lists_too);
     }
 
+-- a book with these contents
+abbrev closed : ℕ → ℕ → Option ℕ → ℕ → List EntryData → Closed
+closed account opening until limit history = record { account = account; opening = opening; until = until; limit = limit; history = history }
+
+same_book : (book other : Closed) → terms_shown 1 book ≡ terms_shown 1 other → book.history ≡ other.history → book ≡ other
+same_book book other terms history =
+    let account : book.account ≡ other.account = ap (λ (t : Terms). t.number) terms in
+    let opening : book.opening ≡ other.opening = ap (λ (t : Terms). t.opening) terms in
+    let until : book.until ≡ other.until = ap (λ (t : Terms). t.until) terms in
+    let limit : book.limit ≡ other.limit = ap (λ (t : Terms). t.limit) terms in
+    let same : closed book.account book.opening book.until book.limit book.history ≡ closed other.account other.opening other.until other.limit other.history =
+    rw (account, opening, until, limit, history) refl in
+    same
+
+same_books : (books others : List Closed) → map (terms_shown 1) books ≡ map (terms_shown 1) others → histories_of books ≡ histories_of others → books ≡ others
+same_books [] [] opened histories = refl
+same_books [] (other ∷ others) opened histories = absurd (cc)
+same_books (book ∷ books) [] opened histories = absurd (cc)
+same_books (book ∷ books) (other ∷ others) opened histories =
+    ap (λ b. b ∷ books) (same_book book other (cc opened) (cc histories)) ∙ ap (λ l. other ∷ l) (same_books books others (cc opened) (cc histories))
+
+-- two runs in one setup that have the same histories have the same books
+pub books_are : (setup : Setup) (given longer : List (ℕ × Body)) (answers others : List Answer) (books other : List Closed) → IsRun StoodIn setup 1 given answers books
+    → IsRun StoodIn setup 1 longer others other → histories_of books ≡ histories_of other → books ≡ other
+books_are setup given longer answers others books other run run_other same = same_books books other (run.opened ∙ sym run_other.opened) same
+
 go_on : (items others more : List Item) → others ≡ items ++ more → GoAlike items others more
 go_on items others more is = subst (λ l. GoAlike items l more) (sym is) (goes_itself items more)
 
@@ -157,4 +187,4 @@ runs_alike setup given answers others books other one run run_other none none_ot
     let alike = both_alike setup given given [] answers others books other one
     (record { run = run; none = none }) (record { run = run_other; none = none_other }) (go_on (numbered 0 given) (numbered 0 given) [] (sym (append-nil (numbered 0 given)))) in
     let same = alike.same refl in
-    (sym (alike.answers_are ∙ ap (λ l. views_of answers ++ l) same.0 ∙ append-nil (views_of answers)), same.1)
+    (sym (alike.answers_are ∙ ap (λ l. views_of answers ++ l) same.0 ∙ append-nil (views_of answers)), books_are setup given given answers others books other run run_other same.1)

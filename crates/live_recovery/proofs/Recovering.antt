@@ -6,14 +6,14 @@ use Rattle.live_answers.specs.Laws.{LogsAreHeardAgain, accepted, next_behind}
 use Rattle.live_answers.specs.Lines.{live_lines}
 use Rattle.live_answers.specs.Live.{Heard, given_of, heard_in, item_view, logged_of, replayed_text}
 use Rattle.live_answers.specs.Runs.{Logs, Prints}
-use Rattle.live_recovery.proofs.Alone.{as_many, both_alike}
+use Rattle.live_recovery.proofs.Alone.{as_many, books_are, both_alike}
 use Rattle.live_recovery.proofs.Fronts.{accepted_many, front_alone, fronts_again, given_accepted, given_both, given_many, given_split, logged_again}
 use Rattle.live_recovery.proofs.Logs.{log_is, stopped_is}
 use Rattle.live_recovery.proofs.Proper.{read_is_proper}
 use Rattle.live_recovery.proofs.Readable.{ItemsRead, all_read, given_read, take_read}
 use Rattle.live_recovery.proofs.SameSpeech.{follow}
 use Rattle.live_recovery.proofs.Texts.{begun_text, printed_again}
-use Rattle.live_recovery.specs.Laws.{IsProper, histories_of, views_of}
+use Rattle.live_recovery.specs.Laws.{IsProper, views_of}
 use Rattle.live_recovery.specs.Recovery.{CutOffRunsGoOn, GoesOn, IsReplayOf, IsResumed, IsServed, IsUncut, LiveRun, StoppedRunsGoOn, front_of, heard_behind, text_again, text_anew, with_further}
 use Rattle.message_rows.specs.Messages.{Speech}
 use Rattle.run_values.specs.Setups.{Setup}
@@ -27,7 +27,7 @@ use Rattle.workers_core.specs.Handled.{AnswerView}
 record Begins (early answers : List Answer) (more : List (ℕ × Speech)) (books other : List Closed) : Type 0 where
   rest : List AnswerView
   are : views_of answers ≡ views_of early ++ rest
-  same : more ≡ [] → histories_of books ≡ histories_of other
+  same : more ≡ [] → books ≡ other
 
 begins : (setup : Setup) (it : LiveRun) (served : IsServed setup it) (more : List (ℕ × Speech)) (lines : List Heard) (answers : List Answer) (books : List Closed) → IsProper setup.tariff
     → IsUncut setup lines answers books → given_of lines ≡ given_of (front_of it served.answered.lines.count) ++ more → Begins served.answered.answers answers more it.books books
@@ -39,7 +39,7 @@ begins setup it served more lines answers books proper uncut is =
     let goes = follow 0 it.given uncut.given more longer (subst ItemsRead (sym takes) (given_read heard read)) in
     let alike = both_alike setup it.given uncut.given goes.rest served.answered.answers answers it.books books proper
     (record { run = served.answered.run; none = served.none }) (record { run = uncut.run; none = uncut.none }) goes.alike in
-    record { rest = alike.rest; are = alike.answers_are; same = λ nothing. (alike.same (goes.all nothing)).1 }
+    record { rest = alike.rest; are = alike.answers_are; same = λ nothing. books_are setup it.given uncut.given served.answered.answers answers it.books books served.answered.run uncut.run (alike.same (goes.all nothing)).1 }
 
 -- and prints of the lines that it took in what that one would
 begun_prints : (setup : Setup) (it : LiveRun) (served : IsServed setup it) (answers : List Answer) (rest : List AnswerView) → views_of answers ≡ views_of served.answered.answers ++ rest
@@ -108,7 +108,7 @@ module _ (again : LogsAreHeardAgain) (setup : Setup) (input : List ℕ) (count :
             ap (replayed_text it.replay answers) (all_taken ended ∙ hears) ∙ printed_again it.replay answers heard behind messages replay.quiet in
             let whole = subst (λ why. Prints why it.output_old it.output_new (replayed_text it.replay answers (front_of it taken))) ended prints in
             subst (λ l. Appends it.output_old it.output_new l) text whole;
-        histories = λ ended. first.same (none_left ended);
+        books_are = λ ended. first.same (none_left ended);
       }
 
   pub is_resumed : IsResumed setup it served heard rest

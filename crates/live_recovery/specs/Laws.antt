@@ -1,6 +1,5 @@
 -- Two runs of one worker that are given the same.
 use Rattle.std.specs.Prelude.{◌≡◌, ◌<◌, ◌++◌, ℕ, None, Ok, List, All, Contains, map}
-use Rattle.account_core.specs.Events.{EntryData}
 use Rattle.live_answers.specs.Laws.{last_behind, next_behind, silence}
 use Rattle.live_answers.specs.Lines.{live_lines}
 use Rattle.live_answers.specs.Live.{heard_after, heard_in, logged_of, replayed_text, text_after}
@@ -37,10 +36,6 @@ ReadTariffsAreProper = (bands : List Band) → IsReadTariff bands → IsProper b
 abbrev pub views_of : List Answer → List AnswerView
 views_of answers = map answer_view answers
 
--- the histories of books
-abbrev pub histories_of : List Closed → List (List EntryData)
-histories_of books = map (λ book. book.history) books
-
 -- where a run is given what another was given, and then perhaps more, its answers begin with those of the other
 abbrev pub LongerRunsAnswerAlike : Type 0
 LongerRunsAnswerAlike =
@@ -48,12 +43,12 @@ LongerRunsAnswerAlike =
     → IsRun StoodIn setup 1 given answers books → IsRun StoodIn setup 1 (given ++ more) longer other → NoneIsRefused answers → NoneIsRefused longer
     → (rest : List AnswerView) × (views_of longer ≡ views_of answers ++ rest)
 
--- where two runs are given the same, they answer the same, and their accounts have the same histories
+-- where two runs are given the same, they answer the same, and come to the same books
 abbrev pub RunsAreAlike : Type 0
 RunsAreAlike =
     (setup : Setup) (given : List (ℕ × Body)) (answers others : List Answer) (books other : List Closed) → IsProper setup.tariff
     → IsRun StoodIn setup 1 given answers books → IsRun StoodIn setup 1 given others other → NoneIsRefused answers → NoneIsRefused others
-    → (views_of answers ≡ views_of others) × (histories_of books ≡ histories_of other)
+    → (views_of answers ≡ views_of others) × (books ≡ other)
 
 -- what a restart prints, which hears the log of lines in silence and then takes further lines: just what a run that was never cut off, and that was given the same, answers to these further lines
 abbrev pub RestartsPrintTheRest : Type 0

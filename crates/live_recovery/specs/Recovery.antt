@@ -11,7 +11,7 @@ use Rattle.live_answers.specs.declared.replay.Replay.{Replay}
 use Rattle.live_answers.specs.declared.stage.LiveFault.{LiveFault}
 use Rattle.live_answers.specs.declared.stage.LiveFault.TheVariants as fault
 use Rattle.live_log.specs.Logs.{HasLines, HasLinesBehind}
-use Rattle.live_recovery.specs.Laws.{IsReadTariff, NoneIsRefused, histories_of, views_of}
+use Rattle.live_recovery.specs.Laws.{IsReadTariff, NoneIsRefused, views_of}
 use Rattle.run_values.specs.Setups.{Setup}
 use Rattle.run_values.specs.declared.post.Answer.{Answer}
 use Rattle.run_values.specs.declared.post.Body.{Body}
@@ -93,8 +93,8 @@ pub record GoesOn (setup : Setup) (it : LiveRun) (served : IsServed setup it) (h
   pub prints : Prints it.fault it.output_old it.output_new (replayed_text it.replay answers (front_of it served.answered.lines.count))
   -- which is, where it wasn't cut off itself: the messages of the log again, but for the quiet ones, and then what that run prints of the further lines
   pub goes_on : it.fault ≡ None → Appends it.output_old it.output_new (text_again it.replay.quiet answers 0 heard ++ text_anew answers (next_behind 0 heard) (heard_behind heard rest))
-  -- and then its accounts have the histories of that run
-  pub histories : it.fault ≡ None → histories_of it.books ≡ histories_of books
+  -- and then it has come to the books of that run
+  pub books_are : it.fault ≡ None → it.books ≡ books
 
 -- a run whose input is a log with the messages of these lines, and then further lines, goes on as a run over all the lines that was never cut off
 pub record IsResumed (setup : Setup) (it : LiveRun) (served : IsServed setup it) (heard : List Heard) (rest : List ℕ) : Type 0 where

@@ -12,7 +12,7 @@ pub fn read_tariffs_are_proper()
 {}
 
 /// Where two runs of one worker over the same setup are given the same messages, and no account
-/// refuses an ask in either, they answer the same, and their accounts have the same histories.
+/// refuses an ask in either, they answer the same, and come to the same books.
 pub fn runs_are_alike()
     ensures { RunsAreAlike }
 {}
@@ -42,8 +42,8 @@ pub fn restarts_print_the_rest()
 ///   and the same answers. Before it come the messages of the log again, but for the quiet ones, as
 ///   that run prints them. Lines that weren't accepted are not printed again, and those that aren't
 ///   are counted anew;
-/// * its log has grown by what that run logs, each message once, and the accounts have the histories
-///   of that run.
+/// * its log has grown by what that run logs, each message once, and it has come to the books of that
+///   run.
 ///
 /// Where it is cut off too, it has printed what that run prints of the lines that it took in, as far
 /// as its output took that.
