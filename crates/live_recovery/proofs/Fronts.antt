@@ -3,6 +3,7 @@ use Rattle.std.proofs.Common.{◌≡◌, ◌+◌, ◌++◌, ◌∙◌, ℕ, zero
 use Rattle.std.proofs.lemmas.List.{take-map}
 use Rattle.std.specs.Prelude.{◌==◌, if◌then◌else◌}
 use Rattle.live_answers.proofs.LineLemmas.{no_line}
+use Rattle.live_answers.specs.Checks.{first_wrong}
 use Rattle.live_answers.specs.Laws.{LogsAreHeardAgain, accepted, if_accepted, last_behind, next_behind}
 use Rattle.live_answers.specs.Lines.{kept, live_lines}
 use Rattle.live_answers.specs.Live.{Heard, given_by, given_of, heard_after, heard_in, last_after, logged_of, next_after}
@@ -58,6 +59,18 @@ front_alone again count text =
     let heard = take count (heard_in text) in
     ap heard_in (sym (append-nil (logged_of heard))) ∙ fronts_again again count text []
     ∙ ap (λ lines. accepted heard ++ heard_after (next_behind 0 heard) (last_behind 0 heard) lines) no_line ∙ append-nil (accepted heard)
+
+-- ---- accepted lines are right
+
+one_right : (said : LineView) (line : List ℕ) (number : ℕ) (heard : List Heard) → ((n : ℕ) → first_wrong n heard ≡ None)
+    → first_wrong number (if_accepted said (record { line = line; said = said }) ++ heard) ≡ None
+one_right None line number heard later = later number
+one_right (Some (Ok message)) line number heard later = later (number + 1)
+one_right (Some (Err why)) line number heard later = later number
+
+pub none_wrong : (heard : List Heard) (number : ℕ) → first_wrong number (accepted heard) ≡ None
+none_wrong [] number = refl
+none_wrong (one ∷ heard) number = one_right one.said one.line number (accepted heard) (none_wrong heard)
 
 -- ---- how many messages lines have
 

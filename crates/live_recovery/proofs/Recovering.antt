@@ -2,19 +2,20 @@
 use Rattle.std.proofs.Common.{◌≡◌, ◌≤◌, ◌++◌, ◌∙◌, ℕ, None, List, [], length, map, take, drop, sym, ap, subst, arith, append_assoc, take_all, take-take, drop_of_length-le}
 use Rattle.std.proofs.lemmas.List.{length-map}
 use Rattle.std.specs.Io.KnownBytes.{Appends}
+use Rattle.live_answers.specs.Checks.{first_wrong}
 use Rattle.live_answers.specs.Laws.{LogsAreHeardAgain, accepted, next_behind}
 use Rattle.live_answers.specs.Lines.{live_lines}
 use Rattle.live_answers.specs.Live.{Heard, given_of, heard_in, item_view, logged_of, replayed_text}
 use Rattle.live_answers.specs.Runs.{Logs, Prints}
 use Rattle.live_recovery.proofs.Alone.{as_many, books_are, both_alike}
-use Rattle.live_recovery.proofs.Fronts.{accepted_many, front_alone, fronts_again, given_accepted, given_both, given_many, given_split, logged_again}
+use Rattle.live_recovery.proofs.Fronts.{accepted_many, front_alone, fronts_again, given_accepted, given_both, given_many, given_split, logged_again, none_wrong}
 use Rattle.live_recovery.proofs.Logs.{log_is, stopped_is}
 use Rattle.live_recovery.proofs.Proper.{read_is_proper}
 use Rattle.live_recovery.proofs.Readable.{ItemsRead, all_read, given_read, take_read}
 use Rattle.live_recovery.proofs.SameSpeech.{follow}
 use Rattle.live_recovery.proofs.Texts.{begun_text, printed_again}
 use Rattle.live_recovery.specs.Laws.{IsProper, views_of}
-use Rattle.live_recovery.specs.Recovery.{CutOffRunsGoOn, GoesOn, IsReplayOf, IsResumed, IsServed, IsUncut, LiveRun, StoppedRunsGoOn, front_of, heard_behind, text_again, text_anew, with_further}
+use Rattle.live_recovery.specs.Recovery.{CutOffRunsGoOn, GoesOn, IsReplayOf, IsResumed, IsServed, IsUncut, LiveRun, StoppedLogsAreRight, StoppedRunsGoOn, front_of, heard_behind, text_again, text_anew, with_further}
 use Rattle.message_rows.specs.Messages.{Speech}
 use Rattle.run_values.specs.Setups.{Setup}
 use Rattle.run_values.specs.declared.post.Answer.{Answer}
@@ -101,8 +102,7 @@ module _ (again : LogsAreHeardAgain) (setup : Setup) (input : List ℕ) (count :
       let first = begins setup it served (given_of (drop taken (heard_in it.input))) (with_further heard rest) answers books proper uncut given_so in
       let prints = begun_prints setup it served answers first.rest first.are in
       record {
-        begin = (first.rest, first.are);
-        prints = prints;
+        printed = record { begin = (first.rest, first.are); prints = prints };
         goes_on = λ ended.
             let text : replayed_text it.replay answers (front_of it taken) ≡ text_again it.replay.quiet answers 0 heard ++ text_anew answers (next_behind 0 heard) behind =
             ap (replayed_text it.replay answers) (all_taken ended ∙ hears) ∙ printed_again it.replay answers heard behind messages replay.quiet in
@@ -118,6 +118,11 @@ resumed_by : (again : LogsAreHeardAgain) (setup : Setup) (input : List ℕ) (cou
     → lines ≡ logged_of (take count (heard_in input)) → it.input ≡ lines ++ rest → IsReplayOf lines it.replay → IsResumed setup it served (take count (heard_in input)) rest
 resumed_by again setup input count it lines rest proper served is begins_so replay =
     is_resumed again setup input count it rest proper served (begins_so ∙ ap (λ l. l ++ rest) is) (subst (λ l. IsReplayOf l it.replay) is replay)
+
+pub stopped_right : LogsAreHeardAgain → StoppedLogsAreRight
+stopped_right again input size lines has =
+    let (count, is) = stopped_is input size lines has in
+    (count, is, ap (λ l. first_wrong 1 (heard_in l)) is ∙ ap (first_wrong 1) (front_alone again count input) ∙ none_wrong (take count (heard_in input)) 1)
 
 pub stopped_go_on : LogsAreHeardAgain → StoppedRunsGoOn
 stopped_go_on again setup input size it lines rest tariff has served begins_so replay =

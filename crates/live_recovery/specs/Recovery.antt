@@ -1,6 +1,7 @@
 -- An input that was served with a log, and cut off anywhere, and then a run that begins with that log.
 use Rattle.std.specs.Prelude.{◌≡◌, ◌≢◌, ◌≤◌, ◌+◌, ◌++◌, ℕ, Option, Some, None, Ok, Err, List, [], ◌∷◌, if◌then◌else◌, length, map, nat_lt, slice_get, take}
 use Rattle.std.specs.Io.KnownBytes.{Appends}
+use Rattle.live_answers.specs.Checks.{first_wrong}
 use Rattle.live_answers.specs.Laws.{accepted, last_behind, next_behind}
 use Rattle.live_answers.specs.Lines.{live_lines}
 use Rattle.live_answers.specs.Live.{Heard, given_of, heard_after, heard_in, item_view, logged_of, next_after, replayed_text, text_after}
@@ -80,17 +81,28 @@ text_again quiet answers next (one ∷ heard) = rows_again quiet next (slice_get
 abbrev pub text_anew : List Answer → ℕ → List Heard → List ℕ
 text_anew answers next heard = text_after (record { messages = 0; quiet = 0 }) answers 1 next heard
 
+-- ---- a log that was stopped
+
+-- what is left of a log, wherever its writer was stopped, has whole lines that are those of the messages in the first lines of its input, and none of them is wrong
+abbrev pub StoppedLogsAreRight : Type 0
+StoppedLogsAreRight = (input : List ℕ) (size : ℕ) (lines : List ℕ) → HasLines (take size (logged_of (heard_in input))) lines
+    → (count : ℕ) × (lines ≡ logged_of (take count (heard_in input))) × (first_wrong 1 (heard_in lines) ≡ None)
+
 -- ---- a run that goes on behind a log
 
 -- answers begin as others do
 abbrev pub BeginAs : List Answer → List Answer → Type 0
 BeginAs answers longer = (more : List AnswerView) × (views_of longer ≡ views_of answers ++ more)
 
--- a run that goes on behind a log, by the answers and the books of a run that was never cut off, over the lines that the log has the messages of, and further ones
-pub record GoesOn (setup : Setup) (it : LiveRun) (served : IsServed setup it) (heard : List Heard) (rest : List ℕ) (answers : List Answer) (books : List Closed) : Type 0 where
-  -- of the lines that it took in it has printed what it would by the answers of that run, as which its own begin
+-- of the lines that a run took in it has printed what is printed by these answers, as which its own begin
+pub record HasPrinted (setup : Setup) (it : LiveRun) (served : IsServed setup it) (answers : List Answer) : Type 0 where
   pub begin : BeginAs served.answered.answers answers
   pub prints : Prints it.fault it.output_old it.output_new (replayed_text it.replay answers (front_of it served.answered.lines.count))
+
+-- a run that goes on behind a log, by the answers and the books of a run that was never cut off, over the lines that the log has the messages of, and further ones
+pub record GoesOn (setup : Setup) (it : LiveRun) (served : IsServed setup it) (heard : List Heard) (rest : List ℕ) (answers : List Answer) (books : List Closed) : Type 0 where
+  -- of the lines that it took in it has printed what is printed by the answers of that run
+  pub printed : HasPrinted setup it served answers
   -- which is, where it wasn't cut off itself: the messages of the log again, but for the quiet ones, and then what that run prints of the further lines
   pub goes_on : it.fault ≡ None → Appends it.output_old it.output_new (text_again it.replay.quiet answers 0 heard ++ text_anew answers (next_behind 0 heard) (heard_behind heard rest))
   -- and then it has come to the books of that run
@@ -107,8 +119,8 @@ pub record IsResumed (setup : Setup) (it : LiveRun) (served : IsServed setup it)
   -- in any case it is as each such run
   pub goes_on : (answers : List Answer) (books : List Closed) → IsUncut setup (with_further heard rest) answers books → GoesOn setup it served heard rest answers books
 
--- what is left of a log, wherever its writer was stopped, has whole lines that are those of the messages in the first lines of its input; and a run over these and
--- further lines goes on as one that was never cut off
+-- a run whose input is the whole lines that are left of a log, wherever its writer was stopped, and then further lines, goes on as a run over all the lines that was
+-- never cut off
 abbrev pub StoppedRunsGoOn : Type 0
 StoppedRunsGoOn = (setup : Setup) (input : List ℕ) (size : ℕ) (it : LiveRun) (lines rest : List ℕ) → IsReadTariff setup.tariff
     → HasLines (take size (logged_of (heard_in input))) lines → (served : IsServed setup it) → it.input ≡ lines ++ rest → IsReplayOf lines it.replay
@@ -124,16 +136,12 @@ pub record IsLogOf (it : LiveRun) (taken : ℕ) (lines : List ℕ) (count : ℕ)
   pub most : count ≤ taken + 1
   pub same : it.fault ≢ Some fault.Log → count ≡ taken
 
--- a run that was cut off has printed, of the lines that it took in, what one prints that was never cut off, and its answers begin as those of that run
-pub record WasBegun (setup : Setup) (it : LiveRun) (served : IsServed setup it) (answers : List Answer) : Type 0 where
-  pub begin : BeginAs served.answered.answers answers
-  pub prints : Prints it.fault it.output_old it.output_new (replayed_text it.replay answers (front_of it served.answered.lines.count))
-
--- the log of the first run has the messages of its first so many lines, and with the further lines both are as one run that was never cut off
+-- the log of the first run has the messages of its first so many lines, and with the further lines both are as one run that was never cut off: the first has
+-- printed what that run prints of the lines that it took in, and the second goes on as that run
 pub record IsRecovered (setup : Setup) (first second : LiveRun) (early : IsServed setup first) (late : IsServed setup second) (lines rest : List ℕ) : Type 0 where
   pub count : ℕ
   pub log : IsLogOf first early.answered.lines.count lines count
-  pub begun : (answers : List Answer) (books : List Closed) → IsUncut setup (with_further (front_of first count) rest) answers books → WasBegun setup first early answers
+  pub begun : (answers : List Answer) (books : List Closed) → IsUncut setup (with_further (front_of first count) rest) answers books → HasPrinted setup first early answers
   pub resumed : IsResumed setup second late (front_of first count) rest
 
 -- a run that began with a log of a head alone, and was cut off anywhere or wasn't, and another that begins with the whole lines of that log and goes on with

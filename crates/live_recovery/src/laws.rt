@@ -1,7 +1,7 @@
 //! The laws of recovery, each the contract of a function that does nothing.
 
 ghost use Rattle.live_recovery.specs.Laws.{LongerRunsAnswerAlike, ReadTariffsAreProper, RestartsPrintTheRest, RunsAreAlike};
-ghost use Rattle.live_recovery.specs.Recovery.{CutOffRunsGoOn, StoppedRunsGoOn};
+ghost use Rattle.live_recovery.specs.Recovery.{CutOffRunsGoOn, StoppedLogsAreRight, StoppedRunsGoOn};
 
 use live_answers::{logs_are_heard_again, replays_are_silent};
 
@@ -32,12 +32,20 @@ pub fn restarts_print_the_rest()
     replays_are_silent();
 }
 
-/// The log of a run was left off at any byte, as where the process was killed, and a run begins with
-/// its whole lines and goes on with further lines. Where the tariff was read, and no account refuses
-/// an ask, it goes on as a run over all the lines that was never cut off:
+/// What is left of the log of a run that was stopped at any byte, as where its process was killed: its
+/// whole lines are those of the messages in the first lines of the input, so many of them as are left,
+/// each once and in order. `live_answers::check_replay` finds none of them wrong.
+pub fn stopped_logs_are_right()
+    ensures { StoppedLogsAreRight }
+{
+    logs_are_heard_again();
+}
+
+/// A run begins with the whole lines that are left of such a log, and goes on with further lines. Where
+/// the tariff was read, and no account refuses an ask, it goes on as a run over all the lines that was
+/// never cut off:
 ///
-/// * the whole lines are those of the messages in the first lines of the input that was served, so
-///   many of them as are left, and each is accepted again, as the same message;
+/// * each line of the log is accepted again, as the same message;
 /// * of the further lines just that is printed which that run prints of them, with the same numbers
 ///   and the same answers. Before it come the messages of the log again, but for the quiet ones, as
 ///   that run prints them. Lines that weren't accepted are not printed again, and those that aren't

@@ -6,5 +6,5 @@ mod laws;
 
 pub use laws::{
     cut_off_runs_go_on, longer_runs_answer_alike, read_tariffs_are_proper, restarts_print_the_rest,
-    runs_are_alike, stopped_runs_go_on,
+    runs_are_alike, stopped_logs_are_right, stopped_runs_go_on,
 };
