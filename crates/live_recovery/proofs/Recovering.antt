@@ -15,7 +15,7 @@ use Rattle.live_recovery.proofs.Readable.{ItemsRead, all_read, given_read, take_
 use Rattle.live_recovery.proofs.SameSpeech.{follow}
 use Rattle.live_recovery.proofs.Texts.{begun_text, printed_again}
 use Rattle.live_recovery.specs.Laws.{IsProper, views_of}
-use Rattle.live_recovery.specs.Recovery.{CutOffRunsGoOn, GoesOn, IsReplayOf, IsResumed, IsServed, IsUncut, LiveRun, StoppedLogsAreRight, StoppedRunsGoOn, front_of, heard_behind, text_again, text_anew, with_further}
+use Rattle.live_recovery.specs.Recovery.{CutOffRunsGoOn, GoesOn, HearsAgain, IsLive, IsResumed, IsUncut, LiveRun, StoppedLogsAreRight, StoppedRunsGoOn, front_of, heard_behind, text_again, text_anew, with_further}
 use Rattle.message_rows.specs.Messages.{Speech}
 use Rattle.run_values.specs.Setups.{Setup}
 use Rattle.run_values.specs.declared.post.Answer.{Answer}
@@ -30,7 +30,7 @@ record Begins (early answers : List Answer) (more : List (ℕ × Speech)) (books
   are : views_of answers ≡ views_of early ++ rest
   same : more ≡ [] → books ≡ other
 
-begins : (setup : Setup) (it : LiveRun) (served : IsServed setup it) (more : List (ℕ × Speech)) (lines : List Heard) (answers : List Answer) (books : List Closed) → IsProper setup.tariff
+begins : (setup : Setup) (it : LiveRun) (served : IsLive setup it) (more : List (ℕ × Speech)) (lines : List Heard) (answers : List Answer) (books : List Closed) → IsProper setup.tariff
     → IsUncut setup lines answers books → given_of lines ≡ given_of (front_of it served.answered.lines.count) ++ more → Begins served.answered.answers answers more it.books books
 begins setup it served more lines answers books proper uncut is =
     let heard = front_of it served.answered.lines.count in
@@ -43,7 +43,7 @@ begins setup it served more lines answers books proper uncut is =
     record { rest = alike.rest; are = alike.answers_are; same = λ nothing. books_are setup it.given uncut.given served.answered.answers answers it.books books served.answered.run uncut.run (alike.same (goes.all nothing)).1 }
 
 -- and prints of the lines that it took in what that one would
-begun_prints : (setup : Setup) (it : LiveRun) (served : IsServed setup it) (answers : List Answer) (rest : List AnswerView) → views_of answers ≡ views_of served.answered.answers ++ rest
+begun_prints : (setup : Setup) (it : LiveRun) (served : IsLive setup it) (answers : List Answer) (rest : List AnswerView) → views_of answers ≡ views_of served.answered.answers ++ rest
     → Prints it.fault it.output_old it.output_new (replayed_text it.replay answers (front_of it served.answered.lines.count))
 begun_prints setup it served answers rest are =
     let heard = front_of it served.answered.lines.count in
@@ -54,8 +54,8 @@ begun_prints setup it served answers rest are =
 
 -- ---- a run that goes on behind a log
 
-module _ (again : LogsAreHeardAgain) (setup : Setup) (input : List ℕ) (count : ℕ) (it : LiveRun) (rest : List ℕ) (proper : IsProper setup.tariff) (served : IsServed setup it)
-    (begins_so : it.input ≡ logged_of (take count (heard_in input)) ++ rest) (replay : IsReplayOf (logged_of (take count (heard_in input))) it.replay) where
+module _ (again : LogsAreHeardAgain) (setup : Setup) (input : List ℕ) (count : ℕ) (it : LiveRun) (rest : List ℕ) (proper : IsProper setup.tariff) (served : IsLive setup it)
+    (begins_so : it.input ≡ logged_of (take count (heard_in input)) ++ rest) (replay : HearsAgain (logged_of (take count (heard_in input))) it.replay) where
   abbrev heard : List Heard
   heard = take count (heard_in input)
 
@@ -114,10 +114,10 @@ module _ (again : LogsAreHeardAgain) (setup : Setup) (input : List ℕ) (count :
   pub is_resumed : IsResumed setup it served heard rest
   is_resumed = record { hears = hears; uncut = is_uncut; logs = logs; goes_on = goes_on }
 
-resumed_by : (again : LogsAreHeardAgain) (setup : Setup) (input : List ℕ) (count : ℕ) (it : LiveRun) (lines rest : List ℕ) → IsProper setup.tariff → (served : IsServed setup it)
-    → lines ≡ logged_of (take count (heard_in input)) → it.input ≡ lines ++ rest → IsReplayOf lines it.replay → IsResumed setup it served (take count (heard_in input)) rest
+resumed_by : (again : LogsAreHeardAgain) (setup : Setup) (input : List ℕ) (count : ℕ) (it : LiveRun) (lines rest : List ℕ) → IsProper setup.tariff → (served : IsLive setup it)
+    → lines ≡ logged_of (take count (heard_in input)) → it.input ≡ lines ++ rest → HearsAgain lines it.replay → IsResumed setup it served (take count (heard_in input)) rest
 resumed_by again setup input count it lines rest proper served is begins_so replay =
-    is_resumed again setup input count it rest proper served (begins_so ∙ ap (λ l. l ++ rest) is) (subst (λ l. IsReplayOf l it.replay) is replay)
+    is_resumed again setup input count it rest proper served (begins_so ∙ ap (λ l. l ++ rest) is) (subst (λ l. HearsAgain l it.replay) is replay)
 
 pub stopped_right : LogsAreHeardAgain → StoppedLogsAreRight
 stopped_right again input size lines has =

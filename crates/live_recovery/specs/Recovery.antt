@@ -36,7 +36,7 @@ pub record LiveRun : Type 0 where
   pub fault : Option LiveFault
 
 -- a live run in a setup, in which no account has refused an ask
-pub record IsServed (setup : Setup) (it : LiveRun) : Type 0 where
+pub record IsLive (setup : Setup) (it : LiveRun) : Type 0 where
   pub answered : IsAnswered setup it.replay (Some it.input) it.output_old it.output_new it.log_old it.log_new it.given it.books it.fault
   pub none : NoneIsRefused answered.answers
 
@@ -61,8 +61,8 @@ heard_behind heard rest = heard_after (next_behind 0 heard) (last_behind 0 heard
 abbrev pub with_further : List Heard → List ℕ → List Heard
 with_further heard rest = heard ++ heard_behind heard rest
 
--- what a run is told of the lines of a log: how many they are, and how many of them it hears in silence
-pub record IsReplayOf (lines : List ℕ) (replay : Replay) : Type 0 where
+-- a run hears the lines of a log again: all of them, and some of the first in silence
+pub record HearsAgain (lines : List ℕ) (replay : Replay) : Type 0 where
   pub messages : replay.messages ≡ length (heard_in lines)
   pub quiet : replay.quiet ≤ replay.messages
 
@@ -95,12 +95,12 @@ abbrev pub BeginAs : List Answer → List Answer → Type 0
 BeginAs answers longer = (more : List AnswerView) × (views_of longer ≡ views_of answers ++ more)
 
 -- of the lines that a run took in it has printed what is printed by these answers, as which its own begin
-pub record HasPrinted (setup : Setup) (it : LiveRun) (served : IsServed setup it) (answers : List Answer) : Type 0 where
+pub record HasPrinted (setup : Setup) (it : LiveRun) (served : IsLive setup it) (answers : List Answer) : Type 0 where
   pub begin : BeginAs served.answered.answers answers
   pub prints : Prints it.fault it.output_old it.output_new (replayed_text it.replay answers (front_of it served.answered.lines.count))
 
 -- a run that goes on behind a log, by the answers and the books of a run that was never cut off, over the lines that the log has the messages of, and further ones
-pub record GoesOn (setup : Setup) (it : LiveRun) (served : IsServed setup it) (heard : List Heard) (rest : List ℕ) (answers : List Answer) (books : List Closed) : Type 0 where
+pub record GoesOn (setup : Setup) (it : LiveRun) (served : IsLive setup it) (heard : List Heard) (rest : List ℕ) (answers : List Answer) (books : List Closed) : Type 0 where
   -- of the lines that it took in it has printed what is printed by the answers of that run
   pub printed : HasPrinted setup it served answers
   -- which is, where it wasn't cut off itself: the messages of the log again, but for the quiet ones, and then what that run prints of the further lines
@@ -109,7 +109,7 @@ pub record GoesOn (setup : Setup) (it : LiveRun) (served : IsServed setup it) (h
   pub books_are : it.fault ≡ None → it.books ≡ books
 
 -- a run whose input is a log with the messages of these lines, and then further lines, goes on as a run over all the lines that was never cut off
-pub record IsResumed (setup : Setup) (it : LiveRun) (served : IsServed setup it) (heard : List Heard) (rest : List ℕ) : Type 0 where
+pub record IsResumed (setup : Setup) (it : LiveRun) (served : IsLive setup it) (heard : List Heard) (rest : List ℕ) : Type 0 where
   -- it hears just the accepted lines again, and of the further ones what they say behind all
   pub hears : heard_in it.input ≡ accepted heard ++ heard_behind heard rest
   -- where it isn't cut off itself, it is such a run
@@ -123,7 +123,7 @@ pub record IsResumed (setup : Setup) (it : LiveRun) (served : IsServed setup it)
 -- never cut off
 abbrev pub StoppedRunsGoOn : Type 0
 StoppedRunsGoOn = (setup : Setup) (input : List ℕ) (size : ℕ) (it : LiveRun) (lines rest : List ℕ) → IsReadTariff setup.tariff
-    → HasLines (take size (logged_of (heard_in input))) lines → (served : IsServed setup it) → it.input ≡ lines ++ rest → IsReplayOf lines it.replay
+    → HasLines (take size (logged_of (heard_in input))) lines → (served : IsLive setup it) → it.input ≡ lines ++ rest → HearsAgain lines it.replay
     → (count : ℕ) × (lines ≡ logged_of (take count (heard_in input))) × IsResumed setup it served (take count (heard_in input)) rest
 
 -- ---- two runs
@@ -138,7 +138,7 @@ pub record IsLogOf (it : LiveRun) (taken : ℕ) (lines : List ℕ) (count : ℕ)
 
 -- the log of the first run has the messages of its first so many lines, and with the further lines both are as one run that was never cut off: the first has
 -- printed what that run prints of the lines that it took in, and the second goes on as that run
-pub record IsRecovered (setup : Setup) (first second : LiveRun) (early : IsServed setup first) (late : IsServed setup second) (lines rest : List ℕ) : Type 0 where
+pub record IsRecovered (setup : Setup) (first second : LiveRun) (early : IsLive setup first) (late : IsLive setup second) (lines rest : List ℕ) : Type 0 where
   pub count : ℕ
   pub log : IsLogOf first early.answered.lines.count lines count
   pub begun : (answers : List Answer) (books : List Closed) → IsUncut setup (with_further (front_of first count) rest) answers books → HasPrinted setup first early answers
@@ -148,6 +148,6 @@ pub record IsRecovered (setup : Setup) (first second : LiveRun) (early : IsServe
 -- further ones are as one run over all the lines that was never cut off
 abbrev pub CutOffRunsGoOn : Type 0
 CutOffRunsGoOn = (setup : Setup) (first second : LiveRun) (head log lines rest : List ℕ) → IsReadTariff setup.tariff
-    → (early : IsServed setup first) → first.log_old ≡ Some head → first.log_new ≡ Some log → HasLinesBehind head log lines
-    → (late : IsServed setup second) → second.input ≡ lines ++ rest → IsReplayOf lines second.replay
+    → (early : IsLive setup first) → first.log_old ≡ Some head → first.log_new ≡ Some log → HasLinesBehind head log lines
+    → (late : IsLive setup second) → second.input ≡ lines ++ rest → HearsAgain lines second.replay
     → IsRecovered setup first second early late lines rest
