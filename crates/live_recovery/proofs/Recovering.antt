@@ -1,5 +1,5 @@
 -- A run that was cut off, and one that goes on behind its log, by a run that was never cut off.
-use Rattle.std.proofs.Common.{◌≡◌, ◌≤◌, ◌++◌, ◌∙◌, ℕ, None, List, [], length, map, take, drop, sym, ap, subst, arith, append_assoc, take_all, take-take, drop_of_length-le}
+use Rattle.std.proofs.Common.{◌≡◌, ◌≤◌, ◌++◌, ◌∙◌, ℕ, None, List, [], length, map, take, drop, refl, sym, ap, subst, arith, append_assoc, append-nil, take_all, take-take, drop_of_length-le}
 use Rattle.std.proofs.lemmas.List.{length-map}
 use Rattle.std.specs.Io.KnownBytes.{Appends}
 use Rattle.live_answers.specs.Checks.{first_wrong}
@@ -7,6 +7,7 @@ use Rattle.live_answers.specs.Laws.{LogsAreHeardAgain, accepted, next_behind}
 use Rattle.live_answers.specs.Lines.{live_lines}
 use Rattle.live_answers.specs.Live.{Heard, given_of, heard_in, item_view, logged_of, replayed_text}
 use Rattle.live_answers.specs.Runs.{Logs, Prints}
+use Rattle.live_answers.specs.declared.replay.Replay.{Replay}
 use Rattle.live_recovery.proofs.Alone.{as_many, books_are, both_alike}
 use Rattle.live_recovery.proofs.Fronts.{accepted_many, front_alone, fronts_again, given_accepted, given_both, given_many, given_split, logged_again, none_wrong}
 use Rattle.live_recovery.proofs.Logs.{log_is, stopped_is}
@@ -15,7 +16,7 @@ use Rattle.live_recovery.proofs.Readable.{ItemsRead, all_read, given_read, take_
 use Rattle.live_recovery.proofs.SameSpeech.{follow}
 use Rattle.live_recovery.proofs.Texts.{begun_text, printed_again}
 use Rattle.live_recovery.specs.Laws.{IsProper, views_of}
-use Rattle.live_recovery.specs.Recovery.{CutOffRunsGoOn, GoesOn, HearsAgain, IsLive, IsResumed, IsUncut, LiveRun, StoppedLogsAreRight, StoppedRunsGoOn, front_of, heard_behind, text_again, text_anew, with_further}
+use Rattle.live_recovery.specs.Recovery.{CutOffRunsGoOn, GoesOn, HearsAgain, IsLive, IsResumed, IsUncut, LiveRun, LiveRunsAreAlike, StoppedLogsAreRight, StoppedRunsGoOn, front_of, heard_behind, text_again, text_anew, with_further}
 use Rattle.message_rows.specs.Messages.{Speech}
 use Rattle.run_values.specs.Setups.{Setup}
 use Rattle.run_values.specs.declared.post.Answer.{Answer}
@@ -52,6 +53,32 @@ begun_prints setup it served answers rest are =
     omega (arith, given_many 0 heard, ap length takes, length-map it.given item_view, as_many it.given served.answered.answers served.answered.run.each_heard) in
     subst (λ l. Prints it.fault it.output_old it.output_new l) (begun_text it.replay served.answered.answers answers rest heard are many) served.answered.lines.prints
 
+-- ---- two runs over one input
+
+whole_front : (setup : Setup) (it : LiveRun) (served : IsLive setup it) → it.fault ≡ None → front_of it served.answered.lines.count ≡ heard_in it.input
+whole_front setup it served ended = take_all served.answered.lines.count (heard_in it.input) (served.answered.lines.whole ended)
+
+printed_all : (it : LiveRun) (text whole : List ℕ) → it.fault ≡ None → text ≡ whole → Prints it.fault it.output_old it.output_new text → Appends it.output_old it.output_new whole
+printed_all it text whole ended is prints =
+    subst (λ l. Appends it.output_old it.output_new l) is (subst (λ why. Prints why it.output_old it.output_new text) ended prints)
+
+pub live_alike : LiveRunsAreAlike
+live_alike setup one other tariff first second input replay ended ended_too =
+    let lines = heard_in other.input in
+    let answers = second.answered.answers in
+    let all = whole_front setup one first ended ∙ ap heard_in input in
+    let all_too = whole_front setup other second ended_too in
+    let uncut : IsUncut setup lines answers other.books =
+    record { given = other.given; takes = second.answered.lines.takes ∙ ap given_of all_too; run = second.answered.run; none = second.none } in
+    let so = begins setup one first [] lines answers other.books (read_is_proper setup.tariff tariff) uncut (ap given_of (sym all) ∙ sym (append-nil (given_of (front_of one first.answered.lines.count)))) in
+    let text : replayed_text one.replay answers (front_of one first.answered.lines.count) ≡ replayed_text other.replay answers lines =
+    ap (λ (r : Replay). replayed_text r answers (front_of one first.answered.lines.count)) replay ∙ ap (replayed_text other.replay answers) all in (
+      replayed_text other.replay answers lines,
+      printed_all one _ _ ended text (begun_prints setup one first answers so.rest so.are),
+      printed_all other _ _ ended_too (ap (replayed_text other.replay answers) all_too) second.answered.lines.prints,
+      so.same refl,
+    )
+
 -- ---- a run that goes on behind a log
 
 module _ (again : LogsAreHeardAgain) (setup : Setup) (input : List ℕ) (count : ℕ) (it : LiveRun) (rest : List ℕ) (proper : IsProper setup.tariff) (served : IsLive setup it)
@@ -79,7 +106,7 @@ module _ (again : LogsAreHeardAgain) (setup : Setup) (input : List ℕ) (count :
 
   -- it took in all, where it was not cut off
   all_taken : it.fault ≡ None → front_of it taken ≡ heard_in it.input
-  all_taken ended = take_all taken (heard_in it.input) (served.answered.lines.whole ended)
+  all_taken = whole_front setup it served
 
   none_left : it.fault ≡ None → given_of (drop taken (heard_in it.input)) ≡ []
   none_left ended = ap given_of (drop_of_length-le (heard_in it.input) (served.answered.lines.whole ended))
@@ -106,8 +133,7 @@ module _ (again : LogsAreHeardAgain) (setup : Setup) (input : List ℕ) (count :
         goes_on = λ ended.
             let text : replayed_text it.replay answers (front_of it taken) ≡ text_again it.replay.quiet answers 0 heard ++ text_anew answers (next_behind 0 heard) behind =
             ap (replayed_text it.replay answers) (all_taken ended ∙ hears) ∙ printed_again it.replay answers heard behind messages replay.quiet in
-            let whole = subst (λ why. Prints why it.output_old it.output_new (replayed_text it.replay answers (front_of it taken))) ended prints in
-            subst (λ l. Appends it.output_old it.output_new l) text whole;
+            printed_all it _ _ ended text prints;
         books_are = λ ended. first.same (none_left ended);
       }
 

@@ -40,6 +40,12 @@ pub record IsLive (setup : Setup) (it : LiveRun) : Type 0 where
   pub answered : IsAnswered setup it.replay (Some it.input) it.output_old it.output_new it.log_old it.log_new it.given it.books it.fault
   pub none : NoneIsRefused answered.answers
 
+-- two live runs over one input that were not cut off, and heard as much of it before, have printed the same and come to the same books
+abbrev pub LiveRunsAreAlike : Type 0
+LiveRunsAreAlike = (setup : Setup) (one other : LiveRun) → IsReadTariff setup.tariff → IsLive setup one → IsLive setup other → one.input ≡ other.input → one.replay ≡ other.replay
+    → one.fault ≡ None → other.fault ≡ None
+    → (text : List ℕ) × Appends one.output_old one.output_new text × Appends other.output_old other.output_new text × (one.books ≡ other.books)
+
 -- a run that took in all of these lines, and was never cut off: what its answers are, and its books
 pub record IsUncut (setup : Setup) (heard : List Heard) (answers : List Answer) (books : List Closed) : Type 0 where
   pub given : List (ℕ × Body)

@@ -1,7 +1,7 @@
 //! The laws of recovery, each the contract of a function that does nothing.
 
 ghost use Rattle.live_recovery.specs.Laws.{LongerRunsAnswerAlike, ReadTariffsAreProper, RestartsPrintTheRest, RunsAreAlike};
-ghost use Rattle.live_recovery.specs.Recovery.{CutOffRunsGoOn, StoppedLogsAreRight, StoppedRunsGoOn};
+ghost use Rattle.live_recovery.specs.Recovery.{CutOffRunsGoOn, LiveRunsAreAlike, StoppedLogsAreRight, StoppedRunsGoOn};
 
 use live_answers::{logs_are_heard_again, replays_are_silent};
 
@@ -31,6 +31,13 @@ pub fn restarts_print_the_rest()
 {
     replays_are_silent();
 }
+
+/// An input has one output and one set of books: two live runs over it, with the same setup, that were
+/// not cut off and that heard as many of its messages before and in silence, print the same, byte for
+/// byte, and come to the same books. The tariff was read, and no account refuses an ask.
+pub fn live_runs_are_alike()
+    ensures { LiveRunsAreAlike }
+{}
 
 /// What is left of the log of a run that was stopped at any byte, as where its process was killed: its
 /// whole lines are those of the messages in the first lines of the input, so many of them as are left,
