@@ -4,6 +4,7 @@ pub mod Chains
 pub mod Decimals
 pub mod Fronts
 pub mod Handling
+pub mod Joining
 pub mod Lines
 pub mod Logs
 pub mod Printing

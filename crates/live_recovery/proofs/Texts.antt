@@ -16,10 +16,10 @@ use Rattle.run_values.specs.declared.post.Answer.{Answer}
 use Rattle.workers_core.specs.Handled.{AnswerView, answer_view}
 
 -- nothing was heard before
-abbrev nothing : Replay
+abbrev pub nothing : Replay
 nothing = record { messages = 0; quiet = 0 }
 
-is_less : (a b : ℕ) → a < b → nat_lt a b ≡ true
+pub is_less : (a b : ℕ) → a < b → nat_lt a b ≡ true
 is_less a b less = grind (arith, nat_tests, less)
 
 not_less : (a b : ℕ) → b ≤ a → nat_lt a b ≡ false

@@ -1,10 +1,10 @@
 -- An input that was served with a log, and cut off anywhere, and then a run that begins with that log.
-use Rattle.std.specs.Prelude.{◌≡◌, ◌≢◌, ◌≤◌, ◌+◌, ◌++◌, ℕ, Option, Some, None, Ok, Err, List, [], ◌∷◌, if◌then◌else◌, length, map, nat_lt, slice_get, take}
+use Rattle.std.specs.Prelude.{◌≡◌, ◌≢◌, ◌≤◌, ◌+◌, ◌++◌, ◌⊎◌, ℕ, All, Option, Some, None, Ok, Err, List, [], ◌∷◌, if◌then◌else◌, length, map, nat_lt, slice_get, take, ⊤}
 use Rattle.std.specs.Io.KnownBytes.{Appends}
 use Rattle.live_answers.specs.Checks.{first_wrong}
 use Rattle.live_answers.specs.Laws.{accepted, last_behind, next_behind}
 use Rattle.live_answers.specs.Lines.{live_lines}
-use Rattle.live_answers.specs.Live.{Heard, given_of, heard_after, heard_in, item_view, logged_of, next_after, replayed_text, text_after}
+use Rattle.live_answers.specs.Live.{Heard, given_of, heard_after, heard_in, item_view, live_text, logged_of, next_after, replayed_text, text_after}
 use Rattle.live_answers.specs.Rows.{message_rows}
 use Rattle.live_answers.specs.Runs.{IsAnswered, Prints}
 use Rattle.live_answers.specs.Standing.{LineView}
@@ -157,3 +157,29 @@ CutOffRunsGoOn = (setup : Setup) (first second : LiveRun) (head log lines rest :
     → (early : IsLive setup first) → first.log_old ≡ Some head → first.log_new ≡ Some log → HasLinesBehind head log lines
     → (late : IsLive setup second) → second.input ≡ lines ++ rest → HearsAgain lines second.replay
     → IsRecovered setup first second early late lines rest
+
+-- a line is not wrong
+abbrev pub IsFine : LineView → Type 0
+IsFine None = ⊤
+IsFine (Some (Ok message)) = ⊤
+IsFine (Some (Err kind)) = ⊥
+
+-- what two such runs have printed, where the second heard all of the log in silence and neither was cut off in its output: one text and then the other, which
+-- together are what a run over all the lines prints that was never cut off
+pub record AreJoined (first second : LiveRun) (answers : List Answer) (all : List Heard) : Type 0 where
+  pub one : List ℕ
+  pub two : List ℕ
+  pub first_prints : Appends first.output_old first.output_new one
+  pub second_prints : Appends second.output_old second.output_new two
+  pub joined : one ++ two ≡ live_text answers all
+
+-- the outputs of two such runs, of which the first heard nothing before and ended at the end of its input, or where that failed, put together are the output of one
+-- run over all the lines, byte for byte, if no further line is wrong
+abbrev pub OutputsAreJoined : Type 0
+OutputsAreJoined = (setup : Setup) (first second : LiveRun) (head log lines rest : List ℕ) → IsReadTariff setup.tariff
+    → (early : IsLive setup first) → first.log_old ≡ Some head → first.log_new ≡ Some log → HasLinesBehind head log lines
+    → IsLive setup second → second.input ≡ lines ++ rest → HearsAgain lines second.replay → second.replay.quiet ≡ second.replay.messages
+    → first.replay ≡ record { messages = 0; quiet = 0 } → (first.fault ≡ None) ⊎ (first.fault ≡ Some fault.Input) → second.fault ≡ None
+    → All (λ (one : Heard). IsFine one.said) (heard_behind (front_of first early.answered.lines.count) rest)
+    → (answers : List Answer) (books : List Closed) → IsUncut setup (with_further (front_of first early.answered.lines.count) rest) answers books
+    → AreJoined first second answers (with_further (front_of first early.answered.lines.count) rest)

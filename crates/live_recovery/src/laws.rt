@@ -1,7 +1,7 @@
 //! The laws of recovery, each the contract of a function that does nothing.
 
 ghost use Rattle.live_recovery.specs.Laws.{LongerRunsAnswerAlike, ReadTariffsAreProper, RestartsPrintTheRest, RunsAreAlike};
-ghost use Rattle.live_recovery.specs.Recovery.{CutOffRunsGoOn, LiveRunsAreAlike, StoppedLogsAreRight, StoppedRunsGoOn};
+ghost use Rattle.live_recovery.specs.Recovery.{CutOffRunsGoOn, LiveRunsAreAlike, OutputsAreJoined, StoppedLogsAreRight, StoppedRunsGoOn};
 
 use live_answers::{logs_are_heard_again, replays_are_silent};
 
@@ -79,6 +79,16 @@ pub fn stopped_runs_go_on()
 ///   cut off: all, or where the output failed a front.
 pub fn cut_off_runs_go_on()
     ensures { CutOffRunsGoOn }
+{
+    logs_are_heard_again();
+}
+
+/// The outputs of two such runs put together are the output of one run over all the lines, byte for
+/// byte: where the first heard nothing before, and ended with its input or where that failed; where
+/// the second heard all of the log in silence, and wasn't cut off; and where no further line is wrong,
+/// since a wrong line is printed with its own number, which the second counts anew.
+pub fn outputs_are_joined()
+    ensures { OutputsAreJoined }
 {
     logs_are_heard_again();
 }
