@@ -2,7 +2,6 @@
 use Rattle.std.proofs.Common.{◌≡◌, ◌+◌, ◌++◌, ◌∙◌, ℕ, zero, suc, Bool, true, false, Some, None, List, [], ◌∷◌, Ok, Err, length, length-append, map, take, drop, refl, sym, ap, subst, arith, append_assoc, append-nil}
 use Rattle.std.proofs.lemmas.List.{take-map}
 use Rattle.std.specs.Prelude.{◌==◌, if◌then◌else◌}
-use Rattle.live_answers.proofs.LineLemmas.{no_line}
 use Rattle.live_answers.specs.Checks.{first_wrong}
 use Rattle.live_answers.specs.Laws.{LogsAreHeardAgain, accepted, if_accepted, last_behind, next_behind}
 use Rattle.live_answers.specs.Lines.{kept, live_lines}
@@ -52,6 +51,11 @@ pub fronts_again : LogsAreHeardAgain → (count : ℕ) (text rest : List ℕ)
     → heard_in (logged_of (take count (heard_in text)) ++ rest) ≡ accepted (take count (heard_in text)) ++ heard_behind (take count (heard_in text)) rest
 fronts_again again count text rest =
     subst (λ h. heard_in (logged_of h ++ rest) ≡ accepted h ++ heard_behind h rest) (heard_front count text) (again (front count text) rest)
+
+-- an empty text has no lines
+no_line : live_lines [] ≡ []
+unfolding lines_of
+no_line = refl
 
 -- and without further lines these alone
 pub front_alone : LogsAreHeardAgain → (count : ℕ) (text : List ℕ) → heard_in (logged_of (take count (heard_in text))) ≡ accepted (take count (heard_in text))

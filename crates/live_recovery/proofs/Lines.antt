@@ -1,12 +1,11 @@
 -- Texts that end with LF, and the lines of an input.
-use Rattle.std.proofs.Common.{◌≡◌, ◌≢◌, ◌-◌, ◌++◌, ◌∙◌, ℕ, zero, suc, Bool, true, false, Some, None, List, [], ◌∷◌, Ok, Err, length, map, take, drop, refl, sym, ap, subst, arith}
+use Rattle.std.proofs.Common.{◌≡◌, ◌≢◌, ◌-◌, ◌++◌, ◌∙◌, ℕ, zero, suc, Bool, true, false, Some, None, List, [], ◌∷◌, Ok, Err, length, map, take, drop, refl, sym, ap, subst, arith, length-take, take_all}
 use Rattle.std.proofs.lemmas.Bool.{ltb-false}
 use Rattle.std.proofs.lemmas.Bool.Decides.{nat_tests}
 use Rattle.std.proofs.lemmas.List.Elements.{All-head, All-tail}
 use Rattle.std.specs.Prelude.{◌==◌, All, if◌then◌else◌, nat_lt, slice_index, ⊤}
 use Rattle.std.specs.Io.{IsEmptyOrEndsWith}
 use Rattle.std.specs.Io.BufRead.{ends_with_byte}
-use Rattle.live_answers.proofs.LineLemmas.{is_whole}
 use Rattle.live_answers.specs.Lines.{ended, kept}
 use Rattle.live_answers.specs.Live.{Heard, heard_after, last_after, logged_of, next_after}
 use Rattle.live_answers.specs.Rows.{put_down}
@@ -146,7 +145,7 @@ line_ends next last raw is = by_length (nat_lt 4096 (length (kept raw))) refl
     by_length : (long : Bool) → nat_lt 4096 (length (kept raw)) ≡ long → LineEnds (kept raw) (if long then Some (Err kind.TooLong) else standing next last (line_message (kept raw)))
     by_length true so = tt
     by_length false so =
-        let all : kept raw ≡ ended raw = is_whole (kept raw) (ended raw) refl (ltb-false 4096 (length (kept raw)) so) in
+        let all : kept raw ≡ ended raw = take_all 4097 (ended raw) (omega (arith, ltb-false 4096 (length (kept raw)) so, length-take 4097 (ended raw))) in
         any (standing next last (line_message (kept raw))) (subst IsLine (sym all) (ended_line raw is))
 
 pub are_ended : (next last : ℕ) (raws : List (List ℕ)) → AreRaw raws → AreEnded (heard_after next last (map kept raws))
