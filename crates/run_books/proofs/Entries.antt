@@ -50,7 +50,7 @@ module _ (Stood : Closed → ℕ → Knowing) (serves : RunEntriesAreServed Stoo
       own_holds (λ (event : EntryData). IsTimelyAsked event.asked) book.history workers (run.owned place d within) (λ seat here.
       let its = run.answered seat here in
       mine_timely setup place book.account its.posts (own seat book.history) (serves setup workers given answers books seat book.account place book its is)
-      (handled_all IsTimely workers given seat its.posts its.share timely)
+      (handled_all (λ at body. IsTimely body) workers given seat its.posts its.share timely)
       (reserves setup workers given answers books seat book.account place book its is))
 
   pub history_fits : (place : ℕ) (d : Closed) → place < length books → IsBookAt setup books (slice_index_or books place d).account place (slice_index_or books place d)

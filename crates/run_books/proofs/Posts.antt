@@ -19,17 +19,17 @@ use Rattle.workers_core.specs.Served.{IsServed, Money, Report, credited_in, cred
 
 -- ---- what each worker handles
 
-numbered_all : (P : Body → Type 0) (first : ℕ) (given : List (ℕ × Body)) → All (λ item. P item.1) given → All (λ item. P item.body) (numbered first given)
-numbered_all P first [] all = All-nil (λ (item : Item). P item.body)
+numbered_all : (P : ℕ → Body → Type 0) (first : ℕ) (given : List (ℕ × Body)) → All (λ item. P item.0 item.1) given → All (λ item. P item.at item.body) (numbered first given)
+numbered_all P first [] all = All-nil (λ (item : Item). P item.at item.body)
 numbered_all P first (next ∷ given) all =
-    All-cons (λ (item : Item). P item.body) (item_at first next) (numbered (first + 1) given) (All-head (λ (item : ℕ × Body). P item.1) next given all)
-    (numbered_all P (first + 1) given (All-tail (λ (item : ℕ × Body). P item.1) next given all))
+    All-cons (λ (item : Item). P item.at item.body) (item_at first next) (numbered (first + 1) given) (All-head (λ (item : ℕ × Body). P item.0 item.1) next given all)
+    (numbered_all P (first + 1) given (All-tail (λ (item : ℕ × Body). P item.0 item.1) next given all))
 
--- what holds of all that was given holds of what a worker handles
-pub handled_all : (P : Body → Type 0) (workers : ℕ) (given : List (ℕ × Body)) (worker : ℕ) (posts : List Post) → map item_of posts ≡ share workers given worker → All (λ item. P item.1) given
-    → All (λ post. P post.body) posts
+-- what holds of all that was given, each at its moment, holds of what a worker handles
+pub handled_all : (P : ℕ → Body → Type 0) (workers : ℕ) (given : List (ℕ × Body)) (worker : ℕ) (posts : List Post) → map item_of posts ≡ share workers given worker
+    → All (λ item. P item.0 item.1) given → All (λ post. P post.at post.body) posts
 handled_all P workers given worker posts is all =
-    let Q : Item → Type 0 = λ item. P item.body in
+    let Q : Item → Type 0 = λ item. P item.at item.body in
     let shared : All Q (share workers given worker) = All-filter (λ (item : Item). worker_of workers item.body == worker) Q (numbered 0 given) (numbered_all P 0 given all) in
     all_unmapped Q item_of posts (All-same Q (map item_of posts) (share workers given worker) is shared)
 
