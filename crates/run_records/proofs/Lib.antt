@@ -1,5 +1,6 @@
 pub mod Grants
 pub mod Reserves
+pub mod Routed
 pub mod Sums
 pub mod Totals
 pub mod Unrouted

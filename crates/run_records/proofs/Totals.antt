@@ -20,7 +20,7 @@ use Rattle.call_records.specs.declared.call_record.CallRecord.{CallRecord}
 use Rattle.cap_values.specs.declared.number.Number.{Number}
 use Rattle.run_books.proofs.Openings.{accounts_rise, book_of}
 use Rattle.run_records.proofs.Grants.{IfReserves, granted_has}
-use Rattle.run_records.proofs.Reserves.{IsBegun, book_begun}
+use Rattle.run_records.proofs.Reserves.{IsBegun, begun_parties, book_begun, there}
 use Rattle.run_records.proofs.Sums.{no_value, nothing_in, only_one, rising_once, same_sum, value_in}
 use Rattle.run_records.proofs.Unrouted.{reversed}
 use Rattle.run_records.specs.Laws.{IsServedRun, RecordsSumUp, paid_by_calls, paid_in}
@@ -28,6 +28,7 @@ use Rattle.run_values.specs.Setups.{place_of}
 use Rattle.runs_core.specs.Entered.{ReservesAreInTheBooks}
 use Rattle.shared_account.specs.Closed.{Closed}
 use Rattle.shared_account.specs.Refusals.{Knowing}
+use Rattle.tariff_core.specs.Rates.{Rates}
 use Rattle.workers_core.proofs.Handling.{at_place}
 use Rattle.workers_core.specs.Verdicts.{home_of}
 
@@ -77,19 +78,21 @@ value_of_past call None = refl
 value_of_past call (Some book) = refl
 
 module _ (Stood : Closed → ℕ → Knowing) (reserves : ReservesAreInTheBooks Stood) (run : Run) (is : IsServedRun Stood run) where
-  begun_in : (place : ℕ) (d : Closed) → place < length run.books → (call : ℕ) → paid_in call (slice_index_or run.books place d) ≢ 0 → IsBegun run place call
+  begun_in : (place : ℕ) (d : Closed) → place < length run.books → (call : ℕ) → paid_in call (slice_index_or run.books place d) ≢ 0 → (plan : Rates) × IsBegun run place call plan
   begun_in place d within call some =
       let book : Closed = slice_index_or run.books place d in
       let P : EntryData → Type 0 = λ event. IfReserves (IsBegun run place) event.asked in
-      granted_has (IsBegun run place) call (reverse book.history) (reversed P book.history (book_begun Stood reserves run is place d within)) (paid_granted call book some)
+      let (plan, planned) = there (known call (reverse book.history)).plan (paid_granted call book some) in
+      (plan, granted_has (IsBegun run place) call plan (reverse book.history) (reversed P book.history (book_begun Stood reserves run is place d within)) planned)
 
   -- the account of a record stands at the place of each book in which its call has paid
   placed : (call : CallRecord) → IsRecord run call → (place : ℕ) (d : Closed) → place < length run.books → paid_in call.call (slice_index_or run.books place d) ≢ 0
       → option_and_then (λ account. place_of account run.setup) call.account ≡ Some place
   placed call record_is place d within some =
-      let begun : IsBegun run place call.call = begun_in place d within call.call some in
+      let (plan, begun) = begun_in place d within call.call some in
       let same : begun.calling ≡ record_is.start.calling =
-      ap (λ (o : Option (Number × Number)). unwrap_or (option_map (λ (p : Number × Number). p.0) o) begun.calling) (sym begun.parties ∙ parties_start run call record_is) in
+      ap (λ (o : Option (Number × Number)). unwrap_or (option_map (λ (p : Number × Number). p.0) o) begun.calling)
+      (sym (begun_parties Stood run is place call.call plan begun) ∙ parties_start run call record_is) in
       let Home : Number → Type 0 = λ calling. home_of calling run.setup ≡ Some place in
       ap (option_and_then (λ account. place_of account run.setup)) record_is.from.account ∙ subst Home same begun.home
 
@@ -130,9 +133,9 @@ module _ (Stood : Closed → ℕ → Knowing) (reserves : ReservesAreInTheBooks 
     stands_once : (place : ℕ) (d : Closed) → place < length run.books → (call : ℕ) → paid_in call (slice_index_or run.books place d) ≢ 0
         → times_in call (map (λ (r : CallRecord). r.call) records) ≡ 1
     stands_once place d within call some =
-        let begun : IsBegun run place call = begun_in place d within call some in
+        let (plan, begun) = begun_in place d within call some in
         let listed : list_any (λ other. call == other) (map (λ (r : CallRecord). r.call) records) ≡ true =
-        sym (are.started call) ∙ started_by call run.given (begun.calling, begun.called) begun.parties in
+        sym (are.started call) ∙ started_by call run.given (begun.calling, begun.called) (begun_parties Stood run is place call plan begun) in
         rising_once (map (λ (r : CallRecord). r.call) records) are.ascending call ∙ rw (listed) refl
 
     -- the calls of a book have paid what the started calls have paid in it

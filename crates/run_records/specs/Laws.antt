@@ -1,17 +1,23 @@
 -- What the records of a run's calls tell of what was paid.
-use Rattle.std.specs.Prelude.{◌≡◌, ℕ, true, List, reverse, sum_by, unwrap_or}
+use Rattle.std.specs.Prelude.{◌≡◌, ◌≢◌, ◌⊎◌, ℕ, true, List, reverse, sum_by, unwrap_or}
 use Rattle.account_core.specs.Available.{calls}
 use Rattle.account_core.specs.Known.{known, paid_if_granted}
 use Rattle.call_records.specs.Records.{AreRecords, IsRecord, Run}
 use Rattle.call_records.specs.declared.call_record.CallRecord.{CallRecord}
 use Rattle.call_records.specs.declared.outcome.Outcome.TheVariants as outcome
+use Rattle.cap_values.specs.NumberDigits.{digits_of}
 use Rattle.run_books.specs.Runs.{HasAccounts}
-use Rattle.run_records.specs.Starts.{HaveTheirParties}
+use Rattle.run_records.specs.Starts.{HaveTheirParties, HaveTheirStarts}
 use Rattle.run_values.specs.declared.post.Answer.{Answer}
 use Rattle.runs_core.specs.Runs.{IsRun}
 use Rattle.runs_core.specs.Teams.{are_workers}
 use Rattle.shared_account.specs.Closed.{Closed}
 use Rattle.shared_account.specs.Refusals.{Knowing}
+use Rattle.tariff_core.specs.Price.{price_at}
+use Rattle.tariff_core.specs.RatesOf.{rates_of}
+use Rattle.tariff_core.specs.Routes.{IsRoute}
+use Rattle.tariff_core.specs.Times.{no_times}
+use Rattle.tariff_core.specs.declared.route.Route.{Route}
 
 -- a run that a driver was served in, whose calls start with the parties that each of their InitialDPs names
 pub record IsServedRun (Stood : Closed → ℕ → Knowing) (run : Run) : Type 0 where
@@ -37,3 +43,19 @@ paid_by_calls book = sum_by (λ call. paid_in call book) (calls (reverse book.hi
 -- the records of a run's calls have paid what the calls of its books have
 abbrev pub RecordsSumUp : (Closed → ℕ → Knowing) → Type 0
 RecordsSumUp Stood = (run : Run) (records : List CallRecord) → IsServedRun Stood run → AreRecords run records → sum_by (λ call. call.paid) records ≡ sum_by paid_by_calls run.books
+
+-- a call has no times, and has paid nothing
+pub record IsUntalked (call : CallRecord) : Type 0 where
+  pub times : call.times ≡ no_times
+  pub paid : call.paid ≡ 0
+
+-- a call has paid the price of its times by the route that the number called has at the call's start
+pub record PaysItsRoute (run : Run) (call : CallRecord) : Type 0 where
+  pub route : Route
+  pub routed : IsRoute run.setup.tariff (digits_of call.called) call.start route
+  pub paid : call.paid ≡ price_at (rates_of route.plan) call.times
+
+-- each call has paid the price of its times by its route, unless it has a forfeit; where no time was granted it has none, and paid nothing
+abbrev pub CallsPayTheirRoute : (Closed → ℕ → Knowing) → Type 0
+CallsPayTheirRoute Stood =
+    (run : Run) (call : CallRecord) → IsServedRun Stood run → HaveTheirStarts run.given → IsRecord run call → call.outcome ≢ outcome.Forfeit → IsUntalked call ⊎ PaysItsRoute run call

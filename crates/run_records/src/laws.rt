@@ -1,6 +1,6 @@
 //! Laws of the records of a run's calls, each the contract of a function that does nothing.
 
-ghost use Rattle.run_records.specs.Laws.{RecordsSumUp, UnroutedCallsPayNothing};
+ghost use Rattle.run_records.specs.Laws.{CallsPayTheirRoute, RecordsSumUp, UnroutedCallsPayNothing};
 
 use runs_core::reserves_are_in_the_books;
 use shared_account::Shared;
@@ -21,6 +21,17 @@ pub fn unrouted_calls_pay_nothing<S: Shared>()
 /// takes what `unrouted_calls_pay_nothing` takes, and that these are all records (`AreRecords`).
 pub fn records_sum_up<S: Shared>()
     ensures { RecordsSumUp S.stood }
+{
+    reserves_are_in_the_books::<S>();
+}
+
+/// A call has paid just the price of its times by the route that the number called has at the
+/// call's start, unless it has a forfeit; where no time was granted it has no times, and paid
+/// nothing. It takes what `unrouted_calls_pay_nothing` takes, and one thing more is left to the
+/// driver: where it starts a call more than once, each InitialDP of the call has the same moment
+/// (`HaveTheirStarts`).
+pub fn calls_pay_their_route<S: Shared>()
+    ensures { CallsPayTheirRoute S.stood }
 {
     reserves_are_in_the_books::<S>();
 }
