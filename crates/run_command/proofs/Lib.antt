@@ -1,7 +1,7 @@
 pub mod ListenLemmas
-pub mod Parties
 pub mod Passing
 pub mod Paying
 pub mod PlayLemmas
 pub mod RefusalLemmas
+pub mod Starts
 pub mod Timing

@@ -1,15 +1,15 @@
--- Each InitialDP of a played script names the parties that its call starts with: a call has one alone.
-use Rattle.std.proofs.Common.{◌≡◌, ℕ, Bool, true, false, Option, Some, None, List, [], ◌∷◌, ◌++◌, refl, All}
+-- Each InitialDP of a played script is the one that its call starts with: a call has one alone.
+use Rattle.std.proofs.Common.{◌≡◌, ℕ, Bool, true, false, Option, Some, None, List, [], ◌∷◌, ◌++◌, refl, ap, ◌∙◌, All}
 use Rattle.std.specs.Prelude.{◌==◌, drop, if◌then◌else◌, slice_index_or, ⊤}
 use Rattle.std.specs.Option.{option_map, option_or}
 use Rattle.std.proofs.lemmas.Bool.{eq-eqb}
 use Rattle.std.proofs.lemmas.List.Elements.{All-append, All-cons, All-drop, All-head, All-nil, All-tail}
-use Rattle.call_records.specs.Calls.{first_told, parties_of, start_by}
+use Rattle.call_records.specs.Calls.{first_told, start_by, start_of}
 use Rattle.cap_values.specs.declared.message.SsfMsg.{SsfMsg}
 use Rattle.cap_values.specs.declared.message.SsfMsg.TheVariants as message
 use Rattle.cap_values.specs.declared.number.Number.{Number}
 use Rattle.runs_core.proofs.Listed.{all_passing}
-use Rattle.run_records.specs.Starts.{HasItsParties, HaveTheirParties}
+use Rattle.run_records.specs.Starts.{HasItsParties, HasItsStart, HaveTheirParties, HaveTheirStarts, begins_with}
 use Rattle.run_values.specs.declared.post.Body.{Body}
 use Rattle.run_values.specs.declared.post.Body.TheVariants as body
 use Rattle.script_player.specs.Plays.{IsPlayed}
@@ -65,85 +65,85 @@ behind_posts : (call : ℕ) (outs : List Out) → All IsNone (drop 1 outs) → A
 behind_posts call [] none = All-nil IsLaterItem
 behind_posts call (out ∷ outs) none = behind_post call out.at out.item outs none
 
--- ---- what each InitialDP of a call names
+-- ---- what each InitialDP of a call starts
 
--- an InitialDP of this call names these parties
-abbrev Names : ℕ → Option (Number × Number) → Body → Type 0
-Names call parties (body.Ssf other (message.InitialDp third calling called)) = (other == call) ≡ true → parties ≡ Some (calling, called)
-Names call parties (body.Ssf other (message.EventReport event leg mode)) = ⊤
-Names call parties (body.Ssf other (message.ChargingReport active report)) = ⊤
-Names call parties (body.Ssf other message.Ended) = ⊤
-Names call parties (body.Recharge account amount until) = ⊤
+-- an InitialDP of this call at a moment has this start
+abbrev Starts : ℕ → Option (ℕ × Number × Number) → ℕ → Body → Type 0
+Starts call start at (body.Ssf other (message.InitialDp third calling called)) = (other == call) ≡ true → start ≡ Some (at, calling, called)
+Starts call start at (body.Ssf other (message.EventReport event leg mode)) = ⊤
+Starts call start at (body.Ssf other (message.ChargingReport active report)) = ⊤
+Starts call start at (body.Ssf other message.Ended) = ⊤
+Starts call start at (body.Recharge account amount until) = ⊤
 
-abbrev NamesItem : ℕ → Option (Number × Number) → ℕ × Body → Type 0
-NamesItem call parties item = Names call parties item.1
+abbrev StartsItem : ℕ → Option (ℕ × Number × Number) → ℕ × Body → Type 0
+StartsItem call start item = Starts call start item.0 item.1
 
-later_body : (call : ℕ) (parties : Option (Number × Number)) (what : Body) → (is_of call what ≡ true → IsLater what) → Names call parties what
-later_body call parties (body.Ssf other (message.InitialDp third calling called)) later = λ same. absurd (later same)
-later_body call parties (body.Ssf other (message.EventReport event leg mode)) later = tt
-later_body call parties (body.Ssf other (message.ChargingReport active report)) later = tt
-later_body call parties (body.Ssf other message.Ended) later = tt
-later_body call parties (body.Recharge account amount until) later = tt
+later_body : (call : ℕ) (start : Option (ℕ × Number × Number)) (at : ℕ) (what : Body) → (is_of call what ≡ true → IsLater what) → Starts call start at what
+later_body call start at (body.Ssf other (message.InitialDp third calling called)) later = λ same. absurd (later same)
+later_body call start at (body.Ssf other (message.EventReport event leg mode)) later = tt
+later_body call start at (body.Ssf other (message.ChargingReport active report)) later = tt
+later_body call start at (body.Ssf other message.Ended) later = tt
+later_body call start at (body.Recharge account amount until) later = tt
 
 -- where no post of the call has an InitialDP
-later_name : (call : ℕ) (parties : Option (Number × Number)) (items : List (ℕ × Body)) → All IsLaterItem (items_of call items) → All (NamesItem call parties) items
+later_start : (call : ℕ) (start : Option (ℕ × Number × Number)) (items : List (ℕ × Body)) → All IsLaterItem (items_of call items) → All (StartsItem call start) items
 unfolding IsLaterItem
-later_name call parties items later = λ k d within.
-    later_body call parties (slice_index_or items k d).1 (all_passing (λ (item : ℕ × Body). is_of call item.1) IsLaterItem items later k d within)
+later_start call start items later = λ k d within.
+    later_body call start (slice_index_or items k d).0 (slice_index_or items k d).1 (all_passing (λ (item : ℕ × Body). is_of call item.1) IsLaterItem items later k d within)
 
--- the parties that a call starts with, where a message of its own, or of another call, goes before these items
-abbrev told : Bool → ℕ → SsfMsg → List (ℕ × Body) → ℕ → Option (Number × Number)
-told same at msg items call = option_map (λ start. (start.calling, start.called)) (option_or (if same then start_by at msg else None) (first_told call start_by items))
+-- the start of a call, where a message of its own, or of another call, goes before these items
+abbrev told : Bool → ℕ → SsfMsg → List (ℕ × Body) → ℕ → Option (ℕ × Number × Number)
+told same at msg items call = option_map (λ start. (start.at, start.calling, start.called)) (option_or (if same then start_by at msg else None) (first_told call start_by items))
 
-own_names : (call at other : ℕ) (msg : SsfMsg) (items : List (ℕ × Body)) → All IsLaterItem (items_of call items)
-    → All (NamesItem call (told true at msg items call)) ((at, body.Ssf other msg) ∷ items)
-own_names call at other (message.InitialDp third calling called) items later =
-    let parties : Option (Number × Number) = Some (calling, called) in
-    All-cons (NamesItem call parties) (at, body.Ssf other (message.InitialDp third calling called)) items (λ _. refl) (later_name call parties items later)
-own_names call at other (message.EventReport event leg mode) items later =
-    let parties = parties_of call items in
-    All-cons (NamesItem call parties) (at, body.Ssf other (message.EventReport event leg mode)) items tt (later_name call parties items later)
-own_names call at other (message.ChargingReport active report) items later =
-    let parties = parties_of call items in
-    All-cons (NamesItem call parties) (at, body.Ssf other (message.ChargingReport active report)) items tt (later_name call parties items later)
-own_names call at other message.Ended items later =
-    let parties = parties_of call items in
-    All-cons (NamesItem call parties) (at, body.Ssf other message.Ended) items tt (later_name call parties items later)
+own_starts : (call at other : ℕ) (msg : SsfMsg) (items : List (ℕ × Body)) → All IsLaterItem (items_of call items)
+    → All (StartsItem call (told true at msg items call)) ((at, body.Ssf other msg) ∷ items)
+own_starts call at other (message.InitialDp third calling called) items later =
+    let start : Option (ℕ × Number × Number) = Some (at, calling, called) in
+    All-cons (StartsItem call start) (at, body.Ssf other (message.InitialDp third calling called)) items (λ _. refl) (later_start call start items later)
+own_starts call at other (message.EventReport event leg mode) items later =
+    let start = begins_with call items in
+    All-cons (StartsItem call start) (at, body.Ssf other (message.EventReport event leg mode)) items tt (later_start call start items later)
+own_starts call at other (message.ChargingReport active report) items later =
+    let start = begins_with call items in
+    All-cons (StartsItem call start) (at, body.Ssf other (message.ChargingReport active report)) items tt (later_start call start items later)
+own_starts call at other message.Ended items later =
+    let start = begins_with call items in
+    All-cons (StartsItem call start) (at, body.Ssf other message.Ended) items tt (later_start call start items later)
 
-other_names : (call other : ℕ) (msg : SsfMsg) (parties : Option (Number × Number)) → (other == call) ≡ false → Names call parties (body.Ssf other msg)
-other_names call other (message.InitialDp third calling called) parties not = λ same. absurd (cc)
-other_names call other (message.EventReport event leg mode) parties not = tt
-other_names call other (message.ChargingReport active report) parties not = tt
-other_names call other message.Ended parties not = tt
+other_starts : (call other at : ℕ) (msg : SsfMsg) (start : Option (ℕ × Number × Number)) → (other == call) ≡ false → Starts call start at (body.Ssf other msg)
+other_starts call other at (message.InitialDp third calling called) start not = λ same. absurd (cc)
+other_starts call other at (message.EventReport event leg mode) start not = tt
+other_starts call other at (message.ChargingReport active report) start not = tt
+other_starts call other at message.Ended start not = tt
 
-names_by : (same : Bool) (call at other : ℕ) (msg : SsfMsg) (items : List (ℕ × Body)) → (other == call) ≡ same
-    → (All IsLaterItem (drop 1 (items_of call items)) → All (NamesItem call (parties_of call items)) items)
+starts_by : (same : Bool) (call at other : ℕ) (msg : SsfMsg) (items : List (ℕ × Body)) → (other == call) ≡ same
+    → (All IsLaterItem (drop 1 (items_of call items)) → All (StartsItem call (begins_with call items)) items)
     → All IsLaterItem (drop 1 (if same then (at, body.Ssf other msg) ∷ items_of call items else items_of call items))
-    → All (NamesItem call (told same at msg items call)) ((at, body.Ssf other msg) ∷ items)
-names_by true call at other msg items is rest later = own_names call at other msg items later
-names_by false call at other msg items is rest later =
-    let parties = parties_of call items in
-    All-cons (NamesItem call parties) (at, body.Ssf other msg) items (other_names call other msg parties is) (rest later)
+    → All (StartsItem call (told same at msg items call)) ((at, body.Ssf other msg) ∷ items)
+starts_by true call at other msg items is rest later = own_starts call at other msg items later
+starts_by false call at other msg items is rest later =
+    let start = begins_with call items in
+    All-cons (StartsItem call start) (at, body.Ssf other msg) items (other_starts call other at msg start is) (rest later)
 
-names_at : (call at : ℕ) (what : Body) (items : List (ℕ × Body)) → (All IsLaterItem (drop 1 (items_of call items)) → All (NamesItem call (parties_of call items)) items)
-    → All IsLaterItem (drop 1 (items_of call ((at, what) ∷ items))) → All (NamesItem call (parties_of call ((at, what) ∷ items))) ((at, what) ∷ items)
-names_at call at (body.Ssf other msg) items rest later = names_by (other == call) call at other msg items refl rest later
-names_at call at (body.Recharge account amount until) items rest later =
-    let parties = parties_of call items in
-    All-cons (NamesItem call parties) (at, body.Recharge account amount until) items tt (rest later)
+starts_at : (call at : ℕ) (what : Body) (items : List (ℕ × Body)) → (All IsLaterItem (drop 1 (items_of call items)) → All (StartsItem call (begins_with call items)) items)
+    → All IsLaterItem (drop 1 (items_of call ((at, what) ∷ items))) → All (StartsItem call (begins_with call ((at, what) ∷ items))) ((at, what) ∷ items)
+starts_at call at (body.Ssf other msg) items rest later = starts_by (other == call) call at other msg items refl rest later
+starts_at call at (body.Recharge account amount until) items rest later =
+    let start = begins_with call items in
+    All-cons (StartsItem call start) (at, body.Recharge account amount until) items tt (rest later)
 
-names : (call : ℕ) (items : List (ℕ × Body)) → All IsLaterItem (drop 1 (items_of call items)) → All (NamesItem call (parties_of call items)) items
-names call [] later = All-nil (NamesItem call (parties_of call []))
-names call (item ∷ items) later = names_at call item.0 item.1 items (names call items) later
+starts : (call : ℕ) (items : List (ℕ × Body)) → All IsLaterItem (drop 1 (items_of call items)) → All (StartsItem call (begins_with call items)) items
+starts call [] later = All-nil (StartsItem call (begins_with call []))
+starts call (item ∷ items) later = starts_at call item.0 item.1 items (starts call items) later
 
 -- ---- all that is given
 
-its_parties : (given : List (ℕ × Body)) (what : Body) → ((call : ℕ) → Names call (parties_of call given) what) → HasItsParties given what
-its_parties given (body.Ssf call (message.InitialDp other calling called)) names_of = names_of call (eq-eqb call call refl)
-its_parties given (body.Ssf call (message.EventReport event leg mode)) names_of = tt
-its_parties given (body.Ssf call (message.ChargingReport active report)) names_of = tt
-its_parties given (body.Ssf call message.Ended) names_of = tt
-its_parties given (body.Recharge account amount until) names_of = tt
+its_start : (given : List (ℕ × Body)) (at : ℕ) (what : Body) → ((call : ℕ) → Starts call (begins_with call given) at what) → HasItsStart given at what
+its_start given at (body.Ssf call (message.InitialDp other calling called)) starts_of = starts_of call (eq-eqb call call refl)
+its_start given at (body.Ssf call (message.EventReport event leg mode)) starts_of = tt
+its_start given at (body.Ssf call (message.ChargingReport active report)) starts_of = tt
+its_start given at (body.Ssf call message.Ended) starts_of = tt
+its_start given at (body.Recharge account amount until) starts_of = tt
 
 behind_items : InitialDpIsFirst → (config : SsfConfig) (call : ℕ) (given : List (ℕ × Body)) → IsPlayed config call given → All IsLaterItem (drop 1 (items_of call given))
 unfolding IsNone
@@ -151,6 +151,23 @@ behind_items first config call given played =
     let all = behind_posts call (sent_in played.trace) (first config played.trace played.is_trace) in
     rw played.same all
 
-pub played_parties : InitialDpIsFirst → (config : SsfConfig) (given : List (ℕ × Body)) → ((call : ℕ) → IsPlayed config call given) → HaveTheirParties given
-played_parties first config given played = λ k d within.
-    its_parties given (slice_index_or given k d).1 (λ call. names call given (behind_items first config call given (played call)) k d within)
+pub played_starts : InitialDpIsFirst → (config : SsfConfig) (given : List (ℕ × Body)) → ((call : ℕ) → IsPlayed config call given) → HaveTheirStarts given
+played_starts first config given played = λ k d within.
+    its_start given (slice_index_or given k d).0 (slice_index_or given k d).1 (λ call. starts call given (behind_items first config call given (played call)) k d within)
+
+mapped_twice : {X Y Z : Type 0} (f : X → Y) (g : Y → Z) (found : Option X) → option_map (λ x. g (f x)) found ≡ option_map g (option_map f found)
+mapped_twice f g None = refl
+mapped_twice f g (Some x) = refl
+
+-- an InitialDP that is as the one that its call starts with names the parties of that
+its_parties : (given : List (ℕ × Body)) (at : ℕ) (what : Body) → HasItsStart given at what → HasItsParties given what
+its_parties given at (body.Ssf call (message.InitialDp other calling called)) is =
+    mapped_twice (λ start. (start.at, start.calling, start.called)) (λ (start : ℕ × Number × Number). (start.1, start.2)) (start_of call given)
+    ∙ ap (option_map (λ (start : ℕ × Number × Number). (start.1, start.2))) is
+its_parties given at (body.Ssf call (message.EventReport event leg mode)) is = tt
+its_parties given at (body.Ssf call (message.ChargingReport active report)) is = tt
+its_parties given at (body.Ssf call message.Ended) is = tt
+its_parties given at (body.Recharge account amount until) is = tt
+
+pub started_parties : (given : List (ℕ × Body)) → HaveTheirStarts given → HaveTheirParties given
+started_parties given are = λ k d within. its_parties given (slice_index_or given k d).0 (slice_index_or given k d).1 (are k d within)

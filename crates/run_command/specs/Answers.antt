@@ -53,7 +53,7 @@ pub record IsRunOf (ask : RunAsk) (input : List ℕ) (ran : RunSaid) : Type 0 wh
   pub refused : ran.refusals ≡ refusals_in (all_heard heard)
   -- a long audit of the table of the books says yes for each account, and so does a short one where that takes as many rows
   pub passes : ask.output ≡ output.Book → PassTheirAudits books
-  -- the records of its calls have paid what the calls of its books have, and a call without a route nothing
+  -- the records of its calls have paid what the calls of its books have, a call without a route nothing, and a call without a forfeit the price of its times by its route
   pub paid : CallsHavePaid (record { setup = are_books.setup; given = given; books = books })
 
 -- what can end a run of so many workers: `Workers` where there can't be so many, and only then; no gate closes

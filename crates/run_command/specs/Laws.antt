@@ -1,5 +1,5 @@
 -- What an audit says of the books of a run over an input, and what its calls have paid.
-use Rattle.std.specs.Prelude.{◌≡◌, ◌≤◌, ℕ, true, List, All, length, sum_by}
+use Rattle.std.specs.Prelude.{◌≡◌, ◌≢◌, ◌⊎◌, ◌≤◌, ℕ, true, List, All, length, sum_by}
 use Rattle.book_texts.specs.Printable.{row_count}
 use Rattle.book_texts.specs.Sizes.{most_rows}
 use Rattle.book_texts.specs.Typed.{IsTyped}
@@ -12,7 +12,7 @@ use Rattle.call_records.specs.declared.outcome.Outcome.TheVariants as outcome
 use Rattle.run_command.specs.Books.{AreBooksOf}
 use Rattle.run_command.specs.Plays.{IsGivenBy}
 use Rattle.run_options.specs.declared.options.RunAsk.{RunAsk}
-use Rattle.run_records.specs.Laws.{paid_by_calls}
+use Rattle.run_records.specs.Laws.{IsUntalked, PaysItsRoute, paid_by_calls}
 use Rattle.run_texts.specs.Happenings.{is_in_time}
 use Rattle.run_texts.specs.Inputs.{RunInput}
 use Rattle.run_values.specs.declared.post.Answer.{Answer}
@@ -44,6 +44,8 @@ pub record CallsHavePaid (run : Run) : Type 0 where
   pub sums_up : (records : List CallRecord) → AreRecords run records → sum_by (λ call. call.paid) records ≡ sum_by paid_by_calls run.books
   -- a call to a number without a route, nothing
   pub unrouted : (call : CallRecord) → IsRecord run call → call.outcome ≡ outcome.NoRoute → call.paid ≡ 0
+  -- a call without a forfeit, the price of its times by the route at its start; or nothing, where it has no times
+  pub routed : (call : CallRecord) → IsRecord run call → call.outcome ≢ outcome.Forfeit → IsUntalked call ⊎ PaysItsRoute run call
 
 -- so it is where a script is played
 abbrev pub PlayedCallsHavePaid : Type 0

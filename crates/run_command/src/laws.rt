@@ -7,7 +7,7 @@ ghost use Rattle.run_texts.specs.declared.script.ScriptRow.{ScriptRow};
 ghost use Rattle.run_values.specs.declared.post.Answer.{Answer};
 
 use run_books::runs_pass_the_audit;
-use run_records::{records_sum_up, unrouted_calls_pay_nothing};
+use run_records::{calls_pay_their_route, records_sum_up, unrouted_calls_pay_nothing};
 use runs_core::Driver;
 use script_player::ScriptPlayer;
 use shared_account::TurnAccount;
@@ -35,12 +35,14 @@ pub(crate) fn played_books_pass()
     runs_pass_the_audit::<TurnAccount>();
 }
 
-/// The records of the calls of a run have paid, all together, what the calls of its books have, and
-/// a call without a route has paid nothing: the gsmSSF of a call sends one InitialDP.
+/// The records of the calls of a run have paid, all together, what the calls of its books have, a
+/// call without a route has paid nothing, and a call without a forfeit the price of its times by the
+/// route at its start: the gsmSSF of a call sends one InitialDP.
 pub(crate) fn played_calls_have_paid()
     ensures { PlayedCallsHavePaid }
 {
     initial_dp_is_first();
     records_sum_up::<TurnAccount>();
     unrouted_calls_pay_nothing::<TurnAccount>();
+    calls_pay_their_route::<TurnAccount>();
 }
