@@ -1,4 +1,5 @@
 pub mod Grants
+pub mod Ranges
 pub mod Reserves
 pub mod Routed
 pub mod Sums

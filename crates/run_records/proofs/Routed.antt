@@ -1,28 +1,23 @@
 -- A call has paid the price of its times by the route at its start.
-use Rattle.std.proofs.Common.{◌≡◌, ◌≢◌, ◌==◌, ℕ, Bool, true, false, true≢false, Option, Some, None, List, [], ◌∷◌, refl, reverse, sym, ap, subst, ◌∙◌, inl, inr}
-use Rattle.std.specs.Prelude.{◌⊎◌, ◌&&◌, find, if◌then◌else◌, is_none, is_some, not, unwrap_or}
+use Rattle.std.proofs.Common.{◌≡◌, ◌≢◌, ℕ, Bool, true, false, true≢false, Option, Some, None, List, refl, sym, ap, subst, ◌∙◌, inl, inr}
+use Rattle.std.specs.Prelude.{◌⊎◌, is_none, is_some, unwrap_or}
 use Rattle.std.specs.Option.{option_map}
-use Rattle.std.proofs.lemmas.Bool.{eqb-true}
 use Rattle.std.proofs.lemmas.List.Elements.{All-contains}
-use Rattle.account_core.proofs.Verdicts.{in_place, none_else}
-use Rattle.account_core.specs.Answers.{IsLegal, IsLegalPast, misplaced}
-use Rattle.account_core.specs.Asked.{Asked, Credits, Reserves, Returns, Settles, call_of}
 use Rattle.account_core.specs.Events.{EntryData}
-use Rattle.account_core.specs.Known.{CallFacts, Deed, Ends, Forfeits, Grants, Reports, Rests, deed, deed_of, is_open, known, known_after, paid_if_granted}
-use Rattle.account_core.specs.declared.entry.Reply.{Reply}
-use Rattle.account_core.specs.declared.entry.Reply.TheVariants as reply
-use Rattle.account_core.specs.declared.fault.AccountFault.TheVariants as fault
+use Rattle.account_core.specs.TariffLaws.{TariffLaws}
+use Rattle.account_core.specs.Known.{CallFacts, known, paid_if_granted}
 use Rattle.call_records.proofs.LawLemmas.{ungranted_pays_nothing}
 use Rattle.call_records.specs.Calls.{reports_of}
 use Rattle.call_records.specs.Records.{IsPrefixOf, IsRecord, Run, outcome_of}
-use Rattle.call_records.specs.Standings.{past_in, past_of, standing_of}
+use Rattle.call_records.specs.Standings.{past_of, standing_of}
 use Rattle.call_records.specs.declared.call_record.CallRecord.{CallRecord}
 use Rattle.call_records.specs.declared.outcome.Outcome.TheVariants as outcome
 use Rattle.cap_values.specs.NumberDigits.{digits_of}
 use Rattle.cap_values.specs.declared.message.SsfMsg.TheVariants.{InitialDp}
 use Rattle.cap_values.specs.declared.number.Number.{Number}
+use Rattle.run_records.proofs.Ranges.{untalked}
 use Rattle.run_records.proofs.Reserves.{IsBegun, there}
-use Rattle.run_records.proofs.Unrouted.{all_found, past_begun, routed}
+use Rattle.run_records.proofs.Unrouted.{past_begun, routed}
 use Rattle.run_records.specs.Laws.{CallsPayTheirRoute, IsServedRun, IsUntalked, PaysItsRoute}
 use Rattle.run_records.specs.Starts.{HasItsStart, HaveTheirStarts, begins_with}
 use Rattle.run_values.specs.declared.post.Body.{Body}
@@ -33,54 +28,6 @@ use Rattle.shared_account.specs.Refusals.{Knowing}
 use Rattle.tariff_core.specs.Price.{price_at}
 use Rattle.tariff_core.specs.Rates.{Rates}
 use Rattle.tariff_core.specs.Routes.{IsRoute}
-use Rattle.tariff_core.specs.Times.{no_times}
-use Rattle.tariff_core.specs.declared.times.TimeInfo.{TimeInfo}
-
--- ---- a call that was granted nothing has no times
-
--- what is settled or returned is open
-open_for : (call : CallFacts) (asked : Asked) (answer : Reply) (info : TimeInfo) → misplaced call asked ≡ None → deed_of asked answer ≡ Reports info → is_open call ≡ true
-open_for call (Credits amount until) answer info placed is = cc
-open_for call (Reserves other plan wanted least at) (reply.Granted units last available) info placed is = cc
-open_for call (Reserves other plan wanted least at) (reply.Denied available) info placed is = cc
-open_for call (Reserves other plan wanted least at) (reply.Credited available) info placed is = cc
-open_for call (Reserves other plan wanted least at) (reply.CreditOver available) info placed is = cc
-open_for call (Reserves other plan wanted least at) (reply.Settled paid available) info placed is = cc
-open_for call (Reserves other plan wanted least at) (reply.Forfeit paid available) info placed is = cc
-open_for call (Reserves other plan wanted least at) (reply.Returned paid available) info placed is = cc
-open_for call (Settles other number report) answer info placed is = none_else (is_open call) fault.NotOpen placed
-open_for call (Returns other) answer info placed is = none_else (is_open call) fault.NotOpen placed
-
-unplanned_closed : (plan : Option Rates) (returned : Bool) → plan ≡ None → (is_some plan && not returned) ≡ true → ⊥
-unplanned_closed None returned none is = true≢false (sym is)
-unplanned_closed (Some plan) returned none is = cc
-
-times_after : (d : Deed) (before : CallFacts) → (known_after before d).plan ≡ None → (before.plan ≡ None → before.times ≡ no_times) → ((info : TimeInfo) → d ≡ Reports info → is_open before ≡ true)
-    → (known_after before d).times ≡ no_times
-times_after (Grants plan units) before none earlier open_at = cc
-times_after (Reports info) before none earlier open_at = absurd (unplanned_closed before.plan before.returned none (open_at info refl))
-times_after Forfeits before none earlier open_at = earlier none
-times_after (Ends paid) before none earlier open_at = earlier none
-times_after Rests before none earlier open_at = earlier none
-
-reported_open : (call : ℕ) (h : List EntryData) (event : EntryData) → misplaced (known (call_of event.asked) h) event.asked ≡ None → (same : Bool) → (call_of event.asked == call) ≡ same
-    → (info : TimeInfo) → (if same then deed_of event.asked event.reply else Rests) ≡ Reports info → is_open (known call h) ≡ true
-reported_open call h event placed true same info is =
-    let Open : ℕ → Type 0 = λ c. is_open (known c h) ≡ true in
-    subst Open (eqb-true (call_of event.asked) call same) (open_for (known (call_of event.asked) h) event.asked event.reply info placed is)
-reported_open call h event placed false same info is = cc
-
-untalked : (opening : ℕ) (until : Option ℕ) (h : List EntryData) (call : ℕ) → IsLegalPast opening until h → (known call h).plan ≡ None → (known call h).times ≡ no_times
-unfolding deed
-untalked opening until [] call legal none = refl
-untalked opening until (event ∷ h) call legal none =
-    times_after (if call_of event.asked == call then deed_of event.asked event.reply else Rests) (known call h) none (untalked opening until h call legal.0)
-    (reported_open call h event (in_place h event.asked legal.1.admissible).1 (call_of event.asked == call) refl)
-
-found_untalked : (books : List Closed) (call : ℕ) (found : Option Closed) → ((book : Closed) → found ≡ Some book → IsLegal book.opening book.until book.history) → (known call (past_in found)).plan ≡ None
-    → (known call (past_in found)).times ≡ no_times
-found_untalked books call None legal none = refl
-found_untalked books call (Some book) legal none = untalked book.opening book.until (reverse book.history) call (legal book refl) none
 
 -- ---- a call that was granted something and has no forfeit
 
@@ -103,17 +50,11 @@ with_account (Some account) books call plan planned = refl
 abbrev start_at : ℕ → Number → Number → Option (ℕ × Number × Number)
 start_at at calling called = Some (at, calling, called)
 
-module _ (Stood : Closed → ℕ → Knowing) (reserves : ReservesAreInTheBooks Stood) (run : Run) (is : IsServedRun Stood run) (starts : HaveTheirStarts run.given)
+module _ (Stood : Closed → ℕ → Knowing) (laws : TariffLaws) (reserves : ReservesAreInTheBooks Stood) (run : Run) (is : IsServedRun Stood run) (starts : HaveTheirStarts run.given)
     (call : CallRecord) (record_is : IsRecord run call) (lawful : call.outcome ≢ outcome.Forfeit) where
-  no_time : (account : Option ℕ) → (known call.call (past_of account run.books)).plan ≡ None → (known call.call (past_of account run.books)).times ≡ no_times
-  no_time None none = refl
-  no_time (Some account) none =
-      found_untalked run.books call.call (find (λ book. book.account == account) run.books)
-      (λ book found. all_found (λ (b : Closed). IsLegal b.opening b.until b.history) (λ book. book.account == account) run.books book is.served.legal found) none
-
   ungranted : (known call.call (past_of call.account run.books)).plan ≡ None → IsUntalked call
   ungranted none = record {
-    times = record_is.from.times ∙ no_time call.account none;
+    times = record_is.from.times ∙ untalked Stood laws run is call.call call.account none;
     paid = ungranted_pays_nothing run call record_is (rw none refl);
   }
 
@@ -165,6 +106,6 @@ module _ (Stood : Closed → ℕ → Knowing) (reserves : ReservesAreInTheBooks 
       let (place, begun) = past_begun Stood reserves run is call.call plan call.account planned in
       inr (granted plan planned place begun)
 
-pub calls_routed : (Stood : Closed → ℕ → Knowing) → ReservesAreInTheBooks Stood → CallsPayTheirRoute Stood
-calls_routed Stood reserves run call is starts record_is lawful =
-    pays Stood reserves run is starts call record_is lawful (known call.call (past_of call.account run.books)).plan refl
+pub calls_routed : (Stood : Closed → ℕ → Knowing) → TariffLaws → ReservesAreInTheBooks Stood → CallsPayTheirRoute Stood
+calls_routed Stood laws reserves run call is starts record_is lawful =
+    pays Stood laws reserves run is starts call record_is lawful (known call.call (past_of call.account run.books)).plan refl

@@ -1,5 +1,5 @@
 -- What the records of a run's calls tell of what was paid.
-use Rattle.std.specs.Prelude.{◌≡◌, ◌≢◌, ◌⊎◌, ℕ, true, List, reverse, sum_by, unwrap_or}
+use Rattle.std.specs.Prelude.{◌≡◌, ◌≢◌, ◌⊎◌, ◌+◌, ◌≤◌, ℕ, true, List, reverse, sum_by, unwrap_or}
 use Rattle.account_core.specs.Available.{calls}
 use Rattle.account_core.specs.Known.{known, paid_if_granted}
 use Rattle.call_records.specs.Records.{AreRecords, IsRecord, Run}
@@ -17,7 +17,9 @@ use Rattle.tariff_core.specs.Price.{price_at}
 use Rattle.tariff_core.specs.RatesOf.{rates_of}
 use Rattle.tariff_core.specs.Routes.{IsRoute}
 use Rattle.tariff_core.specs.Times.{no_times}
+use Rattle.tariff_core.specs.declared.plan.TheConstants.{MAX_MONEY}
 use Rattle.tariff_core.specs.declared.route.Route.{Route}
+use Rattle.tariff_core.specs.declared.times.TheConstants.{DAY}
 
 -- a run that a driver was served in, whose calls start with the parties that each of their InitialDPs names
 pub record IsServedRun (Stood : Closed → ℕ → Knowing) (run : Run) : Type 0 where
@@ -59,3 +61,12 @@ pub record PaysItsRoute (run : Run) (call : CallRecord) : Type 0 where
 abbrev pub CallsPayTheirRoute : (Closed → ℕ → Knowing) → Type 0
 CallsPayTheirRoute Stood =
     (run : Run) (call : CallRecord) → IsServedRun Stood run → HaveTheirStarts run.given → IsRecord run call → call.outcome ≢ outcome.Forfeit → IsUntalked call ⊎ PaysItsRoute run call
+
+-- the times of a record are a day at most, and what it has paid is 0 to `MAX_MONEY`
+pub record IsInRange (call : CallRecord) : Type 0 where
+  pub times : call.times.before + call.times.after ≤ DAY
+  pub paid : call.paid ≤ MAX_MONEY
+
+-- each record of a run is in range
+abbrev pub RecordsAreInRange : (Closed → ℕ → Knowing) → Type 0
+RecordsAreInRange Stood = (run : Run) (call : CallRecord) → IsServedRun Stood run → IsRecord run call → IsInRange call

@@ -1,9 +1,11 @@
 //! Laws of the records of a run's calls, each the contract of a function that does nothing.
 
-ghost use Rattle.run_records.specs.Laws.{CallsPayTheirRoute, RecordsSumUp, UnroutedCallsPayNothing};
+ghost use Rattle.account_core.specs.TariffLaws.{TariffLaws};
+ghost use Rattle.run_records.specs.Laws.{CallsPayTheirRoute, RecordsAreInRange, RecordsSumUp, UnroutedCallsPayNothing};
 
 use runs_core::reserves_are_in_the_books;
 use shared_account::Shared;
+use tariff_core::{afforded_is_greatest, ceiling_is_greatest, lawful_times_follow};
 
 /// A call to a number without a route has paid nothing.
 ///
@@ -33,5 +35,22 @@ pub fn records_sum_up<S: Shared>()
 pub fn calls_pay_their_route<S: Shared>()
     ensures { CallsPayTheirRoute S.stood }
 {
+    tariff_laws();
     reserves_are_in_the_books::<S>();
+}
+
+/// The times of each record are a day at most, and what it has paid is 0 to `MAX_MONEY`.
+pub fn records_are_in_range<S: Shared>()
+    ensures { RecordsAreInRange S.stood }
+{
+    tariff_laws();
+}
+
+/// The laws of the tariff that the accounts stand on.
+fn tariff_laws()
+    ensures { TariffLaws }
+{
+    ceiling_is_greatest();
+    afforded_is_greatest();
+    lawful_times_follow();
 }

@@ -3,4 +3,6 @@
 
 mod laws;
 
-pub use laws::{calls_pay_their_route, records_sum_up, unrouted_calls_pay_nothing};
+pub use laws::{
+    calls_pay_their_route, records_are_in_range, records_sum_up, unrouted_calls_pay_nothing,
+};
