@@ -1,0 +1,23 @@
+//! Laws of the records of a run's calls under its tariff, each the contract of a function that does
+//! nothing.
+
+ghost use Rattle.rated_records.specs.Laws.{RecordsHaveNoDifference};
+
+use run_records::{calls_pay_their_route, records_are_in_range};
+use shared_account::Shared;
+
+/// The records of a run have no difference: whatever `rate` says of a record, where its start is
+/// taken for the answer and its times before the switch and after it as they are, it finds the
+/// record's own prefix, and as the price just what the call has paid; or it finds no route, and the
+/// record has no prefix.
+///
+/// It holds of each record but those with a forfeit, which have paid all that was held for them. It
+/// takes what `run_records::calls_pay_their_route` takes, and of the tariff that no two rows have
+/// the same prefix and the same start, and that each starts within a day (`IsProper`), as in each
+/// that is read.
+pub fn records_have_no_difference<S: Shared>()
+    ensures { RecordsHaveNoDifference S.stood }
+{
+    calls_pay_their_route::<S>();
+    records_are_in_range::<S>();
+}
