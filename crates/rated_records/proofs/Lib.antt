@@ -1,1 +1,4 @@
+pub mod Fields
+pub mod Tables
 pub mod Undiffering
+pub mod Unprinted

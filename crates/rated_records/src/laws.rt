@@ -2,9 +2,12 @@
 //! nothing.
 
 ghost use Rattle.rated_records.specs.Laws.{RecordsHaveNoDifference};
+ghost use Rattle.rated_records.specs.Tables.{NoRowIsPrinted, TablesHaveNoDifference};
 
+use moment_texts::printed_moments_are_read;
 use run_records::{calls_pay_their_route, records_are_in_range};
 use shared_account::Shared;
+use table_core::{printed_decimals_are_read, printed_tables_are_read};
 
 /// The records of a run have no difference: whatever `rate` says of a record, where its start is
 /// taken for the answer and its times before the switch and after it as they are, it finds the
@@ -20,4 +23,22 @@ pub fn records_have_no_difference<S: Shared>()
 {
     calls_pay_their_route::<S>();
     records_are_in_range::<S>();
+}
+
+/// The table of a run's calls is such an input as it stands: of the run's tariff with the table
+/// behind it `rate --answer start` prints each record in its row, and what the law of records says
+/// of each that has no forfeit. Where no call has one, and each has a prefix, it prints no row with
+/// `--differing`, and all rows pass.
+///
+/// It takes what `records_have_no_difference` takes, and that the numbers of the records have 64
+/// bits and their starts are moments up to `LAST_MOMENT` (`IsPrintable`).
+pub fn tables_have_no_difference<S: Shared>()
+    ensures rated { TablesHaveNoDifference S.stood }
+    ensures unprinted { NoRowIsPrinted }
+{
+    records_have_no_difference::<S>();
+    records_are_in_range::<S>();
+    printed_decimals_are_read();
+    printed_moments_are_read();
+    printed_tables_are_read();
 }
