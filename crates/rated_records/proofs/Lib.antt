@@ -1,4 +1,5 @@
 pub mod Fields
 pub mod Tables
+pub mod Tariffs
 pub mod Undiffering
 pub mod Unprinted

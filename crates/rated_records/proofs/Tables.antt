@@ -1,5 +1,5 @@
 -- What `rate` prints of the table of a run's calls: a row of each.
-use Rattle.std.proofs.Common.{◌≡◌, ◌==◌, ◌<◌, ◌≤◌, ◌+◌, ◌∙◌, ℕ, Bool, true, false, Some, List, [], ◌∷◌, ◌++◌, Result, All, length, map, refl, sym, ap, subst, arith, append_assoc}
+use Rattle.std.proofs.Common.{◌≡◌, ◌==◌, ◌<◌, ◌≤◌, ◌+◌, ◌∙◌, ℕ, Bool, true, false, Some, List, [], ◌∷◌, ◌++◌, Ok, Err, Result, All, length, map, refl, sym, ap, subst, arith, append_assoc}
 use Rattle.std.specs.Prelude.{MatchResult, nat_lt, slice_index}
 use Rattle.std.specs.Char.{is_ascii_digit}
 use Rattle.std.specs.Fmt.{decimal}
@@ -20,7 +20,7 @@ use Rattle.moment_texts.specs.Printing.{moment_text}
 use Rattle.moment_texts.specs.Reading.{moment_of}
 use Rattle.moment_texts.specs.declared.clock.Clock.{Clock}
 use Rattle.rated_records.proofs.Fields.{fields_plain, record_size}
-use Rattle.rated_records.specs.Laws.{IsRatedBy, RecordsHaveNoDifference, said_by}
+use Rattle.rated_records.specs.Laws.{IsRatedBy, ReadTariffsAreProper, RecordsHaveNoDifference, said_by}
 use Rattle.rated_records.specs.Tables.{IsInputOf, IsPrintable, IsRatedTable, IsRowOf, TablesHaveNoDifference, header_fields, names_by_start, record_fields}
 use Rattle.rating.specs.Calls.{CallSaid, call_in, said_in, size_of}
 use Rattle.rating.specs.Columns.{columns_in, place_from}
@@ -31,12 +31,16 @@ use Rattle.rating.specs.declared.kind.RateKind.{RateKind}
 use Rattle.rating.specs.declared.tally.Tally.{Tally}
 use Rattle.run_records.specs.Laws.{IsServedRun, RecordsAreInRange}
 use Rattle.run_records.specs.Starts.{HaveTheirStarts}
+use Rattle.run_texts.specs.Inputs.{told}
+use Rattle.run_texts.specs.declared.input_fault.InputFault.{InputFault}
+use Rattle.run_texts.specs.declared.input_fault.InputFault.TheVariants as fault
 use Rattle.shared_account.specs.Closed.{Closed}
 use Rattle.shared_account.specs.Refusals.{Knowing}
 use Rattle.table_core.specs.Decimals.{decimal_of}
 use Rattle.table_core.specs.Printed.{DecimalsArePlain, DecimalsAreRead, IsPlain, IsPlainRow, TablesAreRead, line_of, lines_of}
 use Rattle.table_core.specs.Rows.{Fields, rows_of}
 use Rattle.tariff_core.specs.Bands.{Band}
+use Rattle.tariff_core.specs.TariffTable.{tariff_of}
 
 -- ---- the table is the lines of its fields
 
@@ -185,7 +189,12 @@ module _ (Stood : Closed → ℕ → Knowing) (read : DecimalsAreRead) (plain : 
         tally_is = rated.tally_is;
       }
 
+was_told : {X E : Type 0} (tell : E → InputFault) (found : Result X E) (x : X) → told tell found ≡ Ok x → found ≡ Ok x
+was_told tell (Ok other) x is = let same : other ≡ x = cc in ap Ok same
+was_told tell (Err why) x is = cc
+
 pub tables_rated : (Stood : Closed → ℕ → Knowing) → DecimalsAreRead → DecimalsArePlain → MomentsAreRead → MomentsArePlain → TablesAreRead → RecordsHaveNoDifference Stood → RecordsAreInRange Stood
-    → TablesHaveNoDifference Stood
-tables_rated Stood read plain moments moments_plain tables right ranges run clock table input is starts proper text printable input_is =
+    → ReadTariffsAreProper → TablesHaveNoDifference Stood
+tables_rated Stood read plain moments moments_plain tables right ranges propers run clock table input is starts text printable input_is =
+    let proper : IsProper run.setup.tariff = propers (rows_of input_is.first.part) run.setup.tariff (was_told fault.Tariff (tariff_of (rows_of input_is.first.part)) run.setup.tariff input_is.tariff) in
     table_rated Stood read plain moments moments_plain tables right ranges run clock is starts proper table input text printable input_is

@@ -8,7 +8,6 @@ use Rattle.call_records.specs.declared.call_record.CallRecord.{CallRecord}
 use Rattle.call_records.specs.declared.outcome.Outcome.TheVariants as outcome
 use Rattle.cap_values.specs.NumberDigits.{digits_of}
 use Rattle.entry_rows.specs.Columns.{number_or_empty}
-use Rattle.live_recovery.specs.Laws.{IsProper}
 use Rattle.moment_texts.specs.Printing.{moment_or_empty, moment_text}
 use Rattle.moment_texts.specs.declared.clock.Clock.{Clock}
 use Rattle.rated_records.specs.Laws.{paid_rightly}
@@ -73,8 +72,8 @@ pub record IsRatedTable (differing : Bool) (clock : Clock) (calls : List CallRec
 -- of a run's tariff with the table of its calls `rate` prints such a text, whatever it is asked to print
 abbrev pub TablesHaveNoDifference : (Closed → ℕ → Knowing) → Type 0
 TablesHaveNoDifference Stood =
-    (run : Run) (clock : Clock) (table input : List ℕ) → IsServedRun Stood run → HaveTheirStarts run.given → IsProper run.setup.tariff → (text : IsCallText clock run table)
-    → All IsPrintable text.calls → IsInputOf run table input → (differing : Bool) (printed : List ℕ) (tally : Tally) → IsRatedText differing (input_of names_by_start input) printed tally
+    (run : Run) (clock : Clock) (table input : List ℕ) → IsServedRun Stood run → HaveTheirStarts run.given → (text : IsCallText clock run table) → All IsPrintable text.calls
+    → IsInputOf run table input → (differing : Bool) (printed : List ℕ) (tally : Tally) → IsRatedText differing (input_of names_by_start input) printed tally
     → IsRatedTable differing clock text.calls printed tally
 
 -- where no call has a forfeit and each has a prefix, all rows are right, and of those that aren't none is printed

@@ -1,7 +1,7 @@
 //! Laws of the records of a run's calls under its tariff, each the contract of a function that does
 //! nothing.
 
-ghost use Rattle.rated_records.specs.Laws.{RecordsHaveNoDifference};
+ghost use Rattle.rated_records.specs.Laws.{ReadTariffsAreProper, RecordsHaveNoDifference};
 ghost use Rattle.rated_records.specs.Tables.{NoRowIsPrinted, TablesHaveNoDifference};
 
 use moment_texts::printed_moments_are_read;
@@ -25,19 +25,26 @@ pub fn records_have_no_difference<S: Shared>()
     records_are_in_range::<S>();
 }
 
+/// A tariff that is read has no two rows of the same prefix and start, and each starts within a day.
+pub fn read_tariffs_are_proper()
+    ensures { ReadTariffsAreProper }
+{}
+
 /// The table of a run's calls is such an input as it stands: of the run's tariff with the table
 /// behind it `rate --answer start` prints each record in its row, and what the law of records says
 /// of each that has no forfeit. Where no call has one, and each has a prefix, it prints no row with
 /// `--differing`, and all rows pass.
 ///
-/// It takes what `records_have_no_difference` takes, and that the numbers of the records have 64
-/// bits and their starts are moments up to `LAST_MOMENT` (`IsPrintable`).
+/// It takes what `records_have_no_difference` takes of a run, and that the numbers of the records
+/// have 64 bits and their starts are moments up to `LAST_MOMENT` (`IsPrintable`). That the tariff
+/// is proper needs no premise, since `rate` reads it.
 pub fn tables_have_no_difference<S: Shared>()
     ensures rated { TablesHaveNoDifference S.stood }
     ensures unprinted { NoRowIsPrinted }
 {
     records_have_no_difference::<S>();
     records_are_in_range::<S>();
+    read_tariffs_are_proper();
     printed_decimals_are_read();
     printed_moments_are_read();
     printed_tables_are_read();
