@@ -1,4 +1,5 @@
 """The commands: words and an input to a status, an output and a line of fault."""
+import io
 import re
 
 from .account import DAY, MAX_MONEY, Account, Plan, Times, afford, price
@@ -40,12 +41,16 @@ TAKEN = {
     "rate": {"--called", "--answer", "--time", "--end", "--paid", "--before", "--after", "--differing"},
     "quote": {"--called", "--at", "--for", "--credit", "--clock"},
     "run": {"--workers", "--wanted", "--least", "--tssf", "--tccd", "--delay", "--default", "--clock", *TABLES},
-    "serve": {"--wanted", "--least", "--tccd", *ENDS},
+    "serve": {"--wanted", "--least", "--tccd", "--log", "--again", *ENDS},
 }
 
 
-def command(words, text, book=None):
-    """Returns status, output, the line on standard error, and whether no other output is right as well."""
+def command(words, text, book=None, write=None):
+    """Returns status, output, the line on standard error, and whether no other output is right as well.
+
+    Of `serve` the text may be a file, and what is printed goes to `write` as it comes.
+    """
+    printed = []
     try:
         if not words or words[0] not in TAKEN:
             raise ARGUMENTS
@@ -57,9 +62,12 @@ def command(words, text, book=None):
             return 0, text, run.refusals(), not run.is_contended
         if words[0] in ("audit", "rate"):
             return *{"audit": do_audit, "rate": rate}[words[0]](given, text), "", True
-        return 0, {"price": do_price, "replay": do_replay, "quote": do_quote, "serve": do_serve}[words[0]](given, text), "", True
+        if words[0] == "serve":
+            do_serve(given, io.BytesIO(text) if isinstance(text, bytes) else text, write or printed.append)
+            return 0, "".join(printed), "", True
+        return 0, {"price": do_price, "replay": do_replay, "quote": do_quote}[words[0]](given, text), "", True
     except Fault as fault:
-        return fault.status, "", fault.line + "\n", True
+        return fault.status, "".join(printed), fault.line + "\n", True
 
 
 def options_in(name, words):
@@ -72,6 +80,8 @@ def options_in(name, words):
     if max(sum(it in given for it in words) for words in (TABLES, ENDS)) > 1 or name == "rate" and not are_times(given):
         raise ARGUMENTS
     if name == "run" and "--clock" in given and not {"--calls", "--trace"} & set(given):
+        raise ARGUMENTS
+    if name == "serve" and "--again" in given and "--log" not in given:
         raise ARGUMENTS
     return given
 
@@ -179,11 +189,17 @@ def do_audit(given, text):
     return status, "".join(lines)
 
 
-def do_serve(given, text):
+def do_serve(given, source, write):
     wanted, least, tccd = number(given, "--wanted", 600), number(given, "--least", 50), number(given, "--tccd", 50)
-    if not 1 <= tccd <= least <= wanted <= DAY:
+    again = number(given, "--again") if "--again" in given else None
+    if not 1 <= tccd <= least <= wanted <= DAY or again is not None and again >= 2**64:
         raise Fault("prepaid: input: Config")
-    return serve(given, text, {"wanted": wanted, "least": least})
+
+    def say(rows):
+        if rows:
+            write("".join(f"{it}\n" for it in rows))
+
+    serve(given, source, say, {"wanted": wanted, "least": least, "tccd": tccd}, given.get("--log"), again)
 
 
 def do_run(given, text, book):

@@ -1,10 +1,9 @@
 """The service live: rows of messages, each a line, answered one after the other, and what is printed behind them."""
-import re
-
 from . import calls, trace
 from .account import DAY, MAX_MONEY
+from .log import Log
 from .run import Options, Run
-from .tables import HORIZON, LAST_MOMENT, Fault, decimal, digits, first_part, moment, read_setup, read_tariff, records
+from .tables import HORIZON, LAST_MOMENT, MAX_PART, Fault, decimal, digits, moment, read_setup, read_tariff, records
 
 MAX_LINE = 4096
 # The events of a row, in the words of a script.
@@ -17,6 +16,7 @@ EVENTS = {
     b"disconnect": "disconnect",
     b"abandon": "abandon",
 }
+NEVER = 2**64
 MODES = (b"notify", b"interrupted", b"transparent")
 
 
@@ -85,24 +85,26 @@ class Service:
     def __init__(self, run):
         self.run, self.last, self.closed = run, 0, set()
 
-    def rows(self, line):
-        """What is printed of a line; Bad where it isn't accepted."""
+    def judge(self, line):
+        """The message of a line that may be the next one, or nothing where the line is empty; Bad where it isn't accepted."""
         if len(line) > MAX_LINE:
             raise Bad("TooLong")
         found = records(line)
         if not found:
-            return []
+            return None
         if len(found) > 1:
             raise Bad("Csv")
-        at, place, call, said, fields = message(found[0])
-        at_number = self.run.number
-        if place is not None and place < at_number:
+        at, place, *rest = message(found[0])
+        if place is not None and place < self.run.number:
             raise Bad("Repeated")
-        if at < self.last or place is not None and place > at_number:
+        if at < self.last or place is not None and place > self.run.number:
             raise Bad("Order")
-        self.last = at
+        return at, *rest
+
+    def rows(self, at, call, said, fields):
+        """What is printed of a message."""
+        self.last, head = at, [at, self.run.number, call]
         answer = self.answer(at, call, said)
-        head = [at, at_number, call]
         sender = "operator" if call is None else "switch"
         return [trace.row([*head, sender, *fields]), *(trace.row([*head, "service", *it]) for it in answer.said())]
 
@@ -120,21 +122,83 @@ class Service:
         return answer
 
 
-def serve(given, text, options):
-    """The answer to an input: its rows, and behind them what is asked for."""
-    first, rest = first_part(text)
-    second, rest = first_part(rest)
-    tariff, setup = read_tariff(first), read_setup(second)
-    header, *lines = re.findall(rb"[^\n]*\n|[^\n]+", rest) or [b""]
+def read_part(source):
+    """What stands before the next line that is %% alone, and the same with that line."""
+    lines, left = [], MAX_PART
+    while line := source.readline(left + 1):
+        left -= len(line)
+        if left < 0:
+            raise Fault("prepaid: input: TooLong")
+        lines.append(line)
+        if line in (b"%%\n", b"%%\r\n", b"%%"):
+            return b"".join(lines[:-1]).removesuffix(b"\n"), b"".join(lines)
+    raise Fault("prepaid: input: Parts")
+
+
+def next_line(source):
+    """The next line with its LF, of one that is too long its first bytes; nothing at the end."""
+    line = rest = source.readline(MAX_LINE + 1)
+    while len(line) > MAX_LINE and rest and not rest.endswith(b"\n"):
+        rest = source.readline(MAX_LINE)
+    return line if line.endswith(b"\n") or not line else line + b"\n"
+
+
+def replay(service, lines, again):
+    """The rows of the messages of a log from a number on; each of its lines has to be one."""
+    printed = []
+    for row, line in enumerate(lines, 2):
+        try:
+            found = service.judge(line)
+        except Bad as why:
+            raise Fault(f"prepaid: log row {row}: {why}", 2) from why
+        if not found:
+            raise Fault(f"prepaid: log row {row}: Csv", 2)
+        number, rows = service.run.number, service.rows(*found)
+        printed += rows if number >= again else []
+    return printed
+
+
+def answer(service, source, log, say):
+    """Answers each line of an input before the next one is read, and gives the fault of the log, if it has one. What is
+    accepted is logged first."""
+    place = 1
+    while line := next_line(source):
+        place += 1
+        try:
+            found = service.judge(line)
+        except Bad as why:
+            say([f",,,service,fault,{why},{place},,"])
+            continue
+        if not found:
+            continue
+        try:
+            log.append(line)
+        except Fault as fault:
+            return fault
+        say(service.rows(*found))
+    return None
+
+
+def serve(given, source, say, options, path=None, again=None):
+    """Prints the answer to an input as it comes, and behind it what is asked for. With a path there is a log."""
+    (first, tariff), (second, setup) = read_part(source), read_part(source)
+    service = Service(Run(read_tariff(first), read_setup(second), Options(1, **options)))
+    header = source.readline(len(trace.HEADER) + 3)
     if header not in [trace.HEADER.encode() + it for it in (b"\n", b"\r\n", b"")]:
         raise Fault("prepaid: messages row 1: Header")
-    service = Service(Run(tariff, setup, Options(1, **options)))
-    rows = [trace.HEADER]
-    for place, line in enumerate(lines, 2):
-        try:
-            rows += service.rows(line if line.endswith(b"\n") else line + b"\n")
-        except Bad as why:
-            rows.append(f",,,service,fault,{why},{place},,")
+    begins = "log,1,{wanted},{least},{tccd}\n".format(**options).encode()
+    log = Log(path, begins + tariff + setup + header)
+    try:
+        printed = replay(service, log.lines, NEVER if again is None else again)
+        say([trace.HEADER])
+        say(printed)
+        fault = answer(service, source, log, say)
+    finally:
+        log.close()
     run = service.run
     ends = {"--lines": run.lines, "--book": run.book, "--calls": run.calls}
-    return "".join([*(f"{it}\n" for it in rows), *("%%\n" + end() for name, end in ends.items() if name in given)])
+    for name, end in ends.items():
+        if name in given:
+            say(["%%", *end().splitlines()])
+    if fault:
+        raise fault
