@@ -159,8 +159,7 @@ def replay(service, lines, again):
 
 
 def answer(service, source, log, say):
-    """Answers each line of an input before the next one is read, and gives the fault of the log, if it has one. What is
-    accepted is logged first."""
+    """Answers each line of an input before the next one is read. What is accepted is logged first."""
     place = 1
     while line := next_line(source):
         place += 1
@@ -169,14 +168,9 @@ def answer(service, source, log, say):
         except Bad as why:
             say([f",,,service,fault,{why},{place},,"])
             continue
-        if not found:
-            continue
-        try:
+        if found:
             log.append(line)
-        except Fault as fault:
-            return fault
-        say(service.rows(*found))
-    return None
+            say(service.rows(*found))
 
 
 def serve(given, source, say, options, path=None, again=None):
@@ -192,7 +186,7 @@ def serve(given, source, say, options, path=None, again=None):
         printed = replay(service, log.lines, NEVER if again is None else again)
         say([trace.HEADER])
         say(printed)
-        fault = answer(service, source, log, say)
+        answer(service, source, log, say)
     finally:
         log.close()
     run = service.run
@@ -200,5 +194,3 @@ def serve(given, source, say, options, path=None, again=None):
     for name, end in ends.items():
         if name in given:
             say(["%%", *end().splitlines()])
-    if fault:
-        raise fault
