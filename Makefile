@@ -60,8 +60,9 @@ TREE = $(shell git rev-parse HEAD) $(if $(shell git status --porcelain),changed,
 # Compares the page of definitions with their comments, proves everything from nothing, tries the edits that must
 # fail, and runs the tests and the programs; then holds the words of the man page and the completions against the
 # formats, runs the commands of the pages as they stand, makes packages and uses them, compares reports with their
-# tables and runs in parts with whole ones, drives the service over a pipe, refuses memory to each call that takes
-# any, and compares the program with its model. Once all has passed, out/passed.txt says so of the commit; make expands TREE before the first line.
+# tables and runs in parts with whole ones, drives the service over a pipe, cuts and kills one with a log, refuses
+# memory to each call that takes any, and compares the program with its model. Once all has passed, out/passed.txt
+# says so of the commit; make expands TREE before the first line.
 test:
 	mkdir -p out
 	rm -f out/passed.txt
@@ -74,6 +75,7 @@ test:
 	tests/report_test.py --program crates/prepaid/out/prepaid
 	tests/divide_test.py --program crates/prepaid/out/prepaid
 	tests/pipe_test.py --program crates/prepaid/out/prepaid
+	tests/serve_test.py --program crates/prepaid/out/prepaid
 	tests/refused_growths.sh
 	tests/random.sh --program crates/prepaid/out/prepaid
 	@printf '%s\n' '$(TREE)' "$$(tail -n 1 out/gate.txt)" > out/passed.txt

@@ -19,7 +19,8 @@ def write(text):
 if __name__ == "__main__":
     is_live = sys.argv[1:2] == ["serve"]
     try:
-        status, output, fault, _ = command(sys.argv[1:], sys.stdin.buffer if is_live else sys.stdin.buffer.read(), write=write)
+        text = sys.stdin.buffer if is_live else sys.stdin.buffer.read()
+        status, output, fault, _ = command(sys.argv[1:], text, write=write)
         write(output)
     except BrokenPipeError:
         sys.exit(2)

@@ -1,4 +1,4 @@
-"""The log of a live run: a file with the head of its input, and behind it each accepted line, on the disk before its answer is printed."""
+"""The log of a live run: a file with the head of its input and each accepted line, synced before it is answered."""
 import fcntl
 import os
 import re

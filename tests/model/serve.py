@@ -86,7 +86,7 @@ class Service:
         self.run, self.last, self.closed = run, 0, set()
 
     def judge(self, line):
-        """The message of a line that may be the next one, or nothing where the line is empty; Bad where it isn't accepted."""
+        """The message of a line that may be the next, nothing where the line is empty; Bad where it isn't accepted."""
         if len(line) > MAX_LINE:
             raise Bad("TooLong")
         found = records(line)
