@@ -119,9 +119,6 @@ def ends_with_its_reader(program):
 
 def serves_a_port(program):
     """The line of the recipe, with another port and this program."""
-    if not shutil.which("socat"):
-        print("pipe: socat isn't here: apt-get install socat")
-        return None
     with open(f"{ROOT}/docs/RECIPES.md", encoding="utf-8") as page:
         line = re.search(r"^socat .*$", page.read(), re.M)[0]
     with socket.socket() as free:
@@ -152,7 +149,11 @@ def main():
     asked = argparse.ArgumentParser(description=__doc__, formatter_class=argparse.RawDescriptionHelpFormatter)
     asked.add_argument("--program", default="bin/prepaid")
     program = os.path.abspath(asked.parse_args().program)
-    tries = answers_in_turn, bounds_memory, ends_with_its_reader, serves_a_port
+    tries = [answers_in_turn, bounds_memory, ends_with_its_reader]
+    if shutil.which("socat"):
+        tries.append(serves_a_port)
+    else:
+        print("pipe: socat isn't here, so no port was tried: apt-get install socat")
     wrong = [f"{it.__name__}: {said}" for it in tries if (said := it(program))]
     print("\n".join(wrong) or f"pipe: {len(tries)} tries of a service on a pipe")
     return 1 if wrong else 0
