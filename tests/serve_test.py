@@ -313,22 +313,30 @@ def synced_first(trial):
     talk, path = trial.numbered, trial.new()
     said, calls = traced(trial, path, talk)
     same("the answer", said, talk.served())
-    logged, synced, printed, syncs, folders = b"", b"", b"", 0, 0
-    for name, of, text, _ in calls:
-        is_sync = name in ("fsync", "fdatasync")
-        folders += of == "folder" and is_sync
-        if of == "log":
-            logged += text
-            syncs += is_sync and synced != logged
-            synced = logged if is_sync else synced
-        elif of == "output":
-            printed += text
-            allowed = HEADER + talk.answered(0, talk.count_in(synced))
-            if not folders or not allowed.startswith(printed.partition(b"%%")[0]):
-                raise Wrong(f"printed {text}, and synced {synced[-100:]}, and {folders} folders")
+    synced, count = prints_what_is_synced(talk, calls)
     same("what is synced", synced, talk.logged())
     failed = [sync_fails(trial, call, number) for call in ("fdatasync", "fsync") for number in (1, 2, 3)]
-    return f"{len(talk.rows)} rows by {syncs - 1} syncs, {sum(failed)} that failed"
+    return f"{len(talk.rows)} rows by {count - 1} syncs, {sum(failed)} that failed"
+
+
+def prints_what_is_synced(talk, calls):
+    """Sees to it that only such rows are answered, in the order of the calls, as are synced; returns what is synced at
+    last, and by how many syncs."""
+    logged, synced, printed, count, folders = b"", b"", b"", 0, 0
+    for name, of, text, rest in calls:
+        is_synced = name in ("fsync", "fdatasync") and "= 0" in rest
+        folders += of == "folder" and is_synced
+        if of == "log":
+            logged += text
+            count += is_synced and synced != logged
+            synced = logged if is_synced else synced
+        elif of == "output":
+            printed += text
+            is_ready = folders and synced.startswith(talk.log)
+            allowed = HEADER + talk.answered(0, talk.count_in(synced)) if is_ready else b""
+            if not allowed.startswith(printed.partition(b"%%")[0]):
+                raise Wrong(f"printed {printed[-100:]}, and synced {synced[-100:]}, and {folders} folders")
+    return synced, count
 
 
 def sync_fails(trial, call, number):
@@ -338,6 +346,7 @@ def sync_fails(trial, call, number):
     if not any("INJECTED" in rest for *_, rest in calls):
         return False
     same(f"{call} {number} fails", said[::2], DEVICE[::2])
+    prints_what_is_synced(talk, calls)
     trial.goes_on(f"{call} {number} failed", path, talk, talk.answers_in(said[1]))
     return True
 

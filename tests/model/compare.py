@@ -6,11 +6,15 @@ import os
 import random
 import subprocess
 import sys
+import tempfile
 import time
 from concurrent.futures import ProcessPoolExecutor
 
 from .command import command
-from .inputs import make
+from .inputs import LOG, make, starts
+
+# A folder in memory for logs, where there is one.
+MEMORY = "/dev/shm" if os.path.isdir("/dev/shm") else None
 
 
 def run(program, words, text):
@@ -20,6 +24,8 @@ def run(program, words, text):
 
 def compare(program, seed):
     """Returns what was found, and how the two differ where they do."""
+    if seed % 10 == 6:
+        return compare_starts(program, seed)
     words, text = make(seed)
     try:
         said = run(program, words, text)
@@ -33,10 +39,61 @@ def compare(program, seed):
         return "differs", apart
     if said == wanted or not is_ordered and (said[0], said[2]) == (status, fault.encode()):
         return f"{(words or ['none'])[0]} status {status}", None
+    return "differs", difference(f"seed {seed}: {words}", said, wanted)
+
+
+def compare_starts(program, seed):
+    """The same of a service that is started several times with a log: the log, too, has to be the same each time."""
+    given, found = starts(seed), []
+    with tempfile.TemporaryDirectory(dir=MEMORY) as folder:
+        paths = [os.path.join(folder, name) for name in ("program", "model")]
+        words, text, log = next(given)
+        while True:
+            for path in paths:
+                put(path, log)
+            of_program, of_model = ([path if it == LOG else it for it in words] for path in paths)
+            try:
+                said = run(program, of_program, text)
+            except subprocess.TimeoutExpired:
+                return "hangs", f"the program had not ended after 120 seconds: {words}"
+            status, output, fault, _ = command(of_model, text)
+            wanted = status, output.encode("latin-1"), fault.encode()
+            where = f"seed {seed}, start {len(found) + 1}: {words}"
+            if said != wanted:
+                return "differs", difference(where, said, wanted)
+            logs = [taken(path) for path in paths]
+            if logs[0] != logs[1]:
+                return "differs", difference(f"{where}: the log", *((status, it or b"", it is None) for it in logs))
+            found.append(fault.split(" row")[0].strip() or f"status {status}")
+            try:
+                words, text, log = given.send(logs[1])
+            except StopIteration:
+                return f"serve with a log, {found[-1]}", None
+
+
+def put(path, text):
+    """Makes a file with this text, or sees to it that there is none."""
+    if os.path.exists(path):
+        os.remove(path)
+    if text is not None:
+        with open(path, "wb") as file:
+            file.write(text)
+
+
+def taken(path):
+    """What a file holds, or nothing where there is none."""
+    if not os.path.exists(path):
+        return None
+    with open(path, "rb") as file:
+        return file.read()
+
+
+def difference(where, said, wanted):
+    """The first lines in which two answers differ, with their statuses and their faults."""
     at = next((i for i, (a, b) in enumerate(zip(said[1], wanted[1])) if a != b), min(len(said[1]), len(wanted[1])))
     lines = [it[1][:at].count(b"\n") for it in (said, wanted)]
     shown = [(it[0], it[1].split(b"\n")[line : line + 1], it[2]) for it, line in zip((said, wanted), lines)]
-    return "differs", f"seed {seed}: {words}\n  program: {shown[0]}\n  model:   {shown[1]}"
+    return f"{where}\n  program: {shown[0]}\n  model:   {shown[1]}"
 
 
 def in_two_parts(program, seed, words, text, said):

@@ -16,6 +16,8 @@ FIELDS = (
     "|1972-02-29T00:00:00|1973-02-29T00:00:00|2100-02-29T00:00:00|1970-04-31T00:00:00|1970-13-01T00:00:00|1970-01-01T24:00:00|1970-01-01T00:00:60"
     "|5138-11-16T09:46:40|5138-11-16T09:46:40.1|9999-12-31T23:59:59.9"
 ).split("|")
+# What stands for the path of a log.
+LOG = "LOG"
 BYTES = b'",\r\n%0a\x00\xff\xef'
 OPERATIONS = ["opening", "credit", "reserve", "settle", "return"]
 REPLIES = ["credited", "over", "granted", "denied", "settled", "forfeit", "returned"]
@@ -263,23 +265,76 @@ def script(it, given, base, accounts, subscribers):
     return table([header, *([written(it, row[0]), *row[1:], ""][: len(header)] for row in rows)])
 
 
-def messages(it):
-    """The messages of a run for `serve`: some are dropped, altered, sent again or exchanged, with bad lines among them."""
+def played(it):
+    """The options of a run that `serve` has too, the head of its input, and the messages of its trace."""
     words, text = runs(it)
     options = dict(zip(words[1::2], words[2::2]))
     given = {name: value for name, value in options.items() if name not in TABLES and name != "--workers"}
     _, table_of, _, _ = command(["run", "--workers", "1", "--trace", *(word for pair in given.items() for word in pair)], text)
     rows = [row for row in table_of.encode().split(b"\n") if row.split(b",")[3:4] in ([b"switch"], [b"operator"])]
+    options = [it for name in ("--wanted", "--least", "--tccd") if name in given for it in (name, given[name])]
+    return options, b"%%\n".join(text.split(b"%%\n")[:2]) + b"%%\n", rows
+
+
+def messages(it):
+    """The messages of a run for `serve`: some are dropped, altered, sent again or exchanged, with bad lines among them."""
+    options, head, rows = played(it)
     numbered = it.choice([0, 0.3, 1])
     lines = [row if it.random() < numbered else without_number(row) for row in rows]
     for _ in range(it.choice([0, 1, 2, 4, 8])):
         disturb(it, rows, lines)
     behind = it.choice([b"\n"] * 4 + [b"\r\n"])
     body = behind.join([HEADER.encode() if it.random() < 0.97 else it.choice([b"", b"moment", HEADER.encode() + b" "]), *lines, b""])
-    words = ["serve", *(word for name in ("--wanted", "--least", "--tccd") if name in given for word in (name, given[name]))]
-    words += it.choice([[], ["--lines"], ["--book"], ["--calls"]])
-    head = b"%%\n".join(text.split(b"%%\n")[:2]) + b"%%\n"
+    words = ["serve", *options, *it.choice([[], ["--lines"], ["--book"], ["--calls"]])]
     return words, head + (body if it.random() < 0.9 else body[: -len(behind)])
+
+
+def starts(seed):
+    """The starts of a service with one log: the words, with LOG for its path, the input, and what the log holds then,
+    or nothing where there is none. What it holds afterwards is sent to this generator."""
+    it = random.Random(seed)
+    options, head, rows = played(it)
+    head += HEADER.encode() + it.choice([b"\n"] * 9 + [b"\r\n"])
+    log = it.choice([None] * 9 + [b""])
+    for _ in range(it.choice([1, 2, 3, 3, 4, 5])):
+        logged = max(0, (log or b"").count(b"\n") - head.count(b"\n") - 1)
+        first = max(0, logged + it.choice([0, 0, 0, 0, -1, -3, 1, -logged]))
+        last = first + it.choice([0, 1, 3, 9, 99])
+        lines = [row if it.random() < 0.6 else without_number(row) for row in rows[first:last]]
+        for _ in range(it.choice([0, 0, 1, 3])):
+            disturb(it, rows, lines)
+        text = head + b"".join(line + it.choice([b"\n"] * 9 + [b"\r\n"]) for line in lines)
+        if it.random() < 0.06:
+            text = broken(it, head) + text[len(head) :]
+        elif it.random() < 0.1:
+            text = text[: it.randrange(len(head) - 2, len(text) + 1)]
+        words = ["serve", *options, "--log", LOG, *it.choice([[], ["--lines"], ["--book"], ["--calls"]])]
+        again = it.choice([0, 1, logged, max(0, logged - 2), logged + 2, it.randrange(20), it.choice(FIELDS)])
+        words += ["--again", str(again)] if it.random() < 0.6 else []
+        others = other_words(it, words) if it.random() < 0.06 else words
+        # a path is never another word
+        are_paths = all(others[at + 1 : at + 2] == [LOG] for at, word in enumerate(others) if word == "--log")
+        log = yield others if are_paths else words, text, log
+        log = changed(it, log) if it.random() < 0.5 else log
+
+
+def changed(it, log):
+    """What a log may hold after a crash, or once somebody has altered it."""
+    if not log:
+        return log
+    what = it.randrange(10)
+    if what < 3:
+        return log[: it.randrange(max(0, len(log) - 200), len(log) + 1)]
+    if what == 3:
+        return log[: it.randrange(len(log) + 1)]
+    if what == 4:
+        return log + it.choice([b"\n", b"x", b"\x00" * 9, b"\x00\n", b"\r", b"x" * 5000, b"0,,1,switch,Ended,,,,"])
+    if what == 5:
+        return it.choice([None, b"", b"\n", b"log", b"log,1,", log.split(b"\n")[0], log.split(b"\n", 1)[-1]])
+    at = it.randrange(len(log)) if it.random() < 0.4 else len(log) - 1 - it.randrange(min(len(log), 99))
+    if what < 8:
+        return log[:at] + bytes([it.choice(BYTES)]) + log[at + 1 :]
+    return broken(it, log)
 
 
 def without_number(row):
