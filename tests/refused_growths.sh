@@ -13,7 +13,7 @@ calls=crates/refused_growths/out/refused_growths
 prepaid=crates/prepaid/out/prepaid
 commands='command/help command/price command/replay command/run command/run_book command/run_calls
     command/run_trace command/audit command/audit_long command/audit_altered command/rate
-    command/serve'
+    command/serve command/serve_log command/serve_again'
 
 # The words of a command and its input, what it prints, and its status.
 words_of() {
@@ -28,6 +28,8 @@ words_of() {
         command/audit_long) echo 'audit --long' ;;
         command/rate) echo 'rate' ;;
         command/serve) echo 'serve --lines' ;;
+        command/serve_log) echo "serve --lines --log $work/log" ;;
+        command/serve_again) echo "serve --lines --log $work/log --again 0" ;;
         command/audit*) echo 'audit' ;;
     esac
 }
@@ -41,7 +43,8 @@ input_of() {
         command/audit | command/audit_long) echo "$work/book" ;;
         command/audit_altered) echo examples/altered_book.csv ;;
         command/rate) echo "$work/records" ;;
-        command/serve) echo examples/live.txt ;;
+        command/serve | command/serve_log) echo examples/live.txt ;;
+        command/serve_again) echo "$work/head" ;;
     esac
 }
 
@@ -92,17 +95,8 @@ answer_of() {
             echo '4930,0,600,1050,"a, b",49,600,0,1050,0,'
             echo '4930,0,600,1000,,49,600,0,1050,50,'
             ;;
-        command/serve)
-            echo 'moment,number,call,from,what,x1,x2,x3,x4'
-            echo '0,0,1,switch,InitialDP,491700001,4930,,'
-            echo '0,0,1,service,RequestReportBCSMEvent,,,,'
-            echo '0,0,1,service,ApplyCharging,600,,,'
-            echo '0,0,1,service,Continue,,,,'
-            echo '100,1,1,switch,EventReportBCSM,answer,,notify,'
-            echo '400,2,1,switch,ApplyChargingReport,inactive,n,300,'
-            echo '400,3,1,switch,EventReportBCSM,disconnect,1,interrupted,'
-            echo '400,3,1,service,Continue,,,,'
-            echo '402,4,1,switch,Ended,,,,'
+        command/serve*)
+            answer_of command/run_trace
             echo '%%'
             answer_of command/run
             ;;
@@ -139,7 +133,7 @@ ungranted_of() {
             echo '0,0,1,service,refused,OutOfMemory,,,'
             echo '2,1,1,switch,Ended,,,,'
             ;;
-        command/serve)
+        command/serve*)
             echo 'moment,number,call,from,what,x1,x2,x3,x4'
             echo '0,0,1,switch,InitialDP,491700001,4930,,'
             echo '0,0,1,service,ReleaseCall,41,,,'
@@ -156,18 +150,34 @@ ungranted_of() {
     esac
 }
 
-# Whether what was printed is a front of a text.
+# What a log holds before a try: nothing, or all messages, which are heard again.
+begin_log() {
+    rm -f "$work/log"
+    [ "$1" != command/serve_again ] || cp "$work/logged" "$work/log"
+}
+
+# Whether a file is a front of another.
 is_front_of() {
-    head -c "$(stat -c %s "$work/output")" "$1" | cmp -s - "$work/output"
+    head -c "$(stat -c %s "$1")" "$2" | cmp -s - "$1"
+}
+
+# Whether a log holds a front of all messages, and all of them where all were answered.
+is_log_right() {
+    if [ "$1" -eq 0 ]; then
+        cmp -s "$work/log" "$work/logged"
+    else
+        [ ! -e "$work/log" ] || is_front_of "$work/log" "$work/logged"
+    fi
 }
 
 # Whether a command has ended as it may with growths refused, and, where none was, with its answer.
 is_command_right() {
     local name=$1 refused=$2 status=$3
+    case $name in command/serve_*) is_log_right "$status" || return ;; esac
     if [ "$status" -eq "$(status_of "$name")" ] && [ ! -s "$work/faults" ]; then
         cmp -s "$work/output" "$work/answer" && return
         # The service says a refusal in its rows.
-        [ "$name" = command/serve ] && [ "$refused" -gt 0 ] && cmp -s "$work/output" "$work/ungranted"
+        [[ $name = command/serve* ]] && [ "$refused" -gt 0 ] && cmp -s "$work/output" "$work/ungranted"
         return
     fi
     # The run went on without the grant, and says so.
@@ -178,8 +188,10 @@ is_command_right() {
     [ "$refused" -gt 0 ] && [ "$status" -eq 2 ] || return
     # Rows are printed as they come, so what there is of them is a front.
     case $name in
-        command/rate) is_front_of "$work/answer" || return ;;
-        command/serve) is_front_of "$work/answer" || is_front_of "$work/ungranted" || return ;;
+        command/rate) is_front_of "$work/output" "$work/answer" || return ;;
+        command/serve*)
+            is_front_of "$work/output" "$work/answer" || is_front_of "$work/output" "$work/ungranted" || return
+            ;;
         *) [ ! -s "$work/output" ] || return ;;
     esac
     case $name,$(cat "$work/faults") in
@@ -205,6 +217,7 @@ try() {
     local run=(timeout 20 env "REFUSE_$form=$number" "REFUSED_TO=$work/refused" "LD_PRELOAD=$shim")
     local status refused
     echo 0 > "$work/refused"
+    begin_log "$name"
     case $name in
         command/*)
             # shellcheck disable=SC2046
@@ -233,6 +246,8 @@ try_all() {
     trap 'rm -rf "$work"' EXIT
     answer_of command/run_book > "$work/book"
     printf '%s\n' prefix,from,fee,rate 49,00:00,50,1000 %% called,answer,time,paid,note '4930,0,600,1050,"a, b"' 4930,0,600,1000, > "$work/records"
+    { echo log,1,600,50,50 && cat examples/live.txt; } > "$work/logged"
+    sed '/^moment/q' examples/live.txt > "$work/head"
     answer_of "$name" > "$work/answer"
     ungranted_of "$name" > "$work/ungranted"
     for form in ONE FROM; do
