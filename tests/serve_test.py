@@ -198,6 +198,7 @@ def bad_lines(trial):
         (b"402,,1,switch,Ended,,,,\x00\n", b"Empty"),
         (b'"402,,1,switch,Ended,,,,\n', b"Csv"),
         (b"402,99,1,switch,Ended,,,,\n", b"Order"),
+        (b"\xff\n", b"Csv"),
     ]
     output, text = HEADER, talk.head
     for number, (row, (line, kind)) in enumerate(zip(talk.rows, bad)):

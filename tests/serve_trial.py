@@ -14,7 +14,7 @@ from pipe_test import SECONDS, come
 HEADER = HEADER_TEXT.encode()
 HEAD = (b"prefix,from,fee,rate\n49,00:00,50,1000\n%%\n"
         b"kind,key,value\naccount,7,1500\nsubscriber,491700001,7\n%%\n" + HEADER)
-# Two calls of an account that meet, a recharge, a moment that is a date, a line with CR LF, a call that isn't there.
+# Two calls of an account that meet, recharges, a moment that is a date, a line with CR LF, a call that isn't there.
 TALK = [
     b"0,,1,switch,InitialDP,491700001,4930,,\n",
     b"100,1,1,switch,EventReportBCSM,answer,,notify,\r\n",
@@ -26,6 +26,7 @@ TALK = [
     b"400,7,1,switch,EventReportBCSM,disconnect,1,interrupted,\n",
     b"402,,1,switch,Ended,,,,\n",
     b"402,,9,switch,Ended,,,,\n",
+    b"500,,,operator,Recharge,7,1,,\n",
 ]
 DEVICE, OTHER = (2, b"", b"prepaid: log: Device\n"), (2, b"", b"prepaid: log: Other\n")
 
