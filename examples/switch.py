@@ -24,7 +24,7 @@ def messages():
 def start(head, program, log, *words):
     """Starts the service. It is ready once it prints its header, whose fifth word is `what`."""
     words, pipe = [program, "serve", "--lines", "--log", log, *words], subprocess.PIPE
-    print("$", *words)
+    print("start:   ", *words)
     service = subprocess.Popen(words, stdin=pipe, stdout=pipe, text=True, bufsize=1)
     service.stdin.write(head)
     hear(service, "what")

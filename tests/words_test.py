@@ -11,6 +11,7 @@ import os
 import re
 import subprocess
 import sys
+import tempfile
 
 HELP = {"-h", "--help"}
 # What the program takes in the place of a command.
@@ -100,7 +101,7 @@ def said_in_formats(text):
         for option, left, allowed, _ in tables[f"Option of `{name}`"]:
             option, *takes = option.strip("`").split()
             commands[name].add(option)
-            if takes:
+            if takes and takes != ["FILE"]:
                 values[name, option] = allowed.replace("`", ""), left.strip("`")
     lines = {it: int(row[1]) for row in tables["Line"] if row[0] != "none" for it in fault_lines(row[0])}
     lines |= {f"prepaid: run: {it}": int(row[1]) for row in tables["Line"] for it in re.findall(r"`(\w+)` is a name too", row[2])}
@@ -161,7 +162,7 @@ def said_in_man(text):
         elif section == "COMMANDS":
             option, *takes = term.replace(",", "").split()
             commands[below] |= {it for it in term.replace(",", " ").split() if it.startswith("-")}
-            if takes and takes[0] != "NAME" and not takes[0].startswith("-"):
+            if takes and takes[0] not in ("NAME", "FILE") and not takes[0].startswith("-"):
                 allowed = re.search(r"Range: ([^.]*)\.", said)[1]
                 left = re.search(r"Left out: ([^.]*)\.", said)
                 values[below, option] = allowed, left and left[1]
@@ -315,8 +316,9 @@ def version_faults(program):
 def answer(program, name, words, text, option=None, value=None):
     """What a command with the words that it needs says to an input: its status, what it prints, and its fault."""
     needed = [it for pair in NEEDS[name][0].items() if pair[0] != option for it in pair]
-    given = [option, value] if value is not None else []
-    ran = subprocess.run([program, name, *needed, *words, *given], input=text, capture_output=True, text=True)
+    with tempfile.NamedTemporaryFile() as log:
+        given = [] if value is None else [option, value, *(["--log", log.name] if option == "--again" else [])]
+        ran = subprocess.run([program, name, *needed, *words, *given], input=text, capture_output=True, text=True)
     return ran.returncode, ran.stdout, ran.stderr
 
 
@@ -338,7 +340,8 @@ def refusal(name, option, value, allowed, defaults):
         return ""
     # a decimal has at most 20 digits; how many workers may be asked for stands first in their range
     asked = re.match(r"\d+ to (\d+);", allowed)
-    if name not in ("run", "serve") or value >= 10**20 or asked and value > int(asked[1]):
+    is_ask = name not in ("run", "serve") or option == "--again"
+    if is_ask or value >= 10**20 or asked and value > int(asked[1]):
         return "prepaid: arguments"
     return "prepaid: run: Workers" if asked else "prepaid: input: Config"
 

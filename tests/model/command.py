@@ -191,8 +191,8 @@ def do_audit(given, text):
 
 def do_serve(given, source, write):
     wanted, least, tccd = number(given, "--wanted", 600), number(given, "--least", 50), number(given, "--tccd", 50)
-    again = number(given, "--again") if "--again" in given else None
-    if not 1 <= tccd <= least <= wanted <= DAY or again is not None and again >= 2**64:
+    again = number(given, "--again", most=2**64 - 1) if "--again" in given else None
+    if not 1 <= tccd <= least <= wanted <= DAY:
         raise Fault("prepaid: input: Config")
 
     def say(rows):
