@@ -108,7 +108,7 @@ dist:
 recipes: bin/prepaid
 	tests/docs_test.py --all docs/RECIPES.md
 
-# Times price, audit, replay, run and rate beside plain programs, and shared accounts beside plain ones.
+# Times price, audit, replay, run, rate and serve beside plain programs, and shared accounts beside plain ones.
 bench: bin/prepaid
 	bench/price.sh
 	bench/audit.sh
@@ -116,3 +116,4 @@ bench: bin/prepaid
 	bench/run.sh
 	bench/shared.sh
 	bench/rate.sh
+	bench/serve.sh

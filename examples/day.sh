@@ -1,8 +1,8 @@
 #!/usr/bin/env bash
 # A day of a service: bash examples/day.sh FOLDER < MESSAGES > ANSWERS
-# FOLDER has head.txt: a tariff, a setup and the header of the messages, with their dividers. Messages are answered until
-# they end. Then the book of the day is made from its log and audited, and head.txt gets the setup of the next day; what
-# the day came to is in a folder of FOLDER/kept. Where it is cut off anywhere, it goes on when it is called again.
+# FOLDER has head.txt: a tariff, a setup and the header of the messages, with their dividers. Messages are answered
+# until they end. Then the book of the day is made from its log and audited, and head.txt gets the setup of the next
+# day; what the day came to is in a folder of FOLDER/kept. Where it is cut off anywhere, call it again: it goes on.
 set -euo pipefail
 prepaid=$(realpath "$(command -v "${PREPAID:-prepaid}")")
 examples=$(realpath "$(dirname "$0")")
@@ -11,7 +11,8 @@ cd "$1"
 cat head.txt - | "$prepaid" serve --log day.log
 
 IFS=, read -r _ _ wanted least tccd < day.log
-tail -n +2 day.log | "$prepaid" serve --wanted "$wanted" --least "$least" --tccd "$tccd" --book | sed '1,/^%%$/d' > book.csv
+options=(--wanted "$wanted" --least "$least" --tccd "$tccd")
+tail -n +2 day.log | "$prepaid" serve "${options[@]}" --book | sed '1,/^%%$/d' > book.csv
 "$prepaid" audit --long < book.csv > audit.txt
 awk '/^%%/ { part++; next } part == 1' head.txt > setup.csv
 awk -f "$examples/next_setup.awk" setup.csv book.csv > next.csv
