@@ -10,15 +10,13 @@ cd "$1"
 [ -e day.log ] || [ ! -e next.txt ] || mv next.txt head.txt
 cat head.txt - | "$prepaid" serve --log day.log
 
-IFS=, read -r _ _ wanted least tccd < day.log
-options=(--wanted "$wanted" --least "$least" --tccd "$tccd")
-tail -n +2 day.log | "$prepaid" serve "${options[@]}" --book | sed '1,/^%%$/d' > book.csv
+tail -n +2 day.log | "$prepaid" serve --book | sed '1,/^%%$/d' > book.csv
 "$prepaid" audit --long < book.csv > audit.txt
 awk '/^%%/ { part++; next } part == 1' head.txt > setup.csv
 awk -f "$examples/next_setup.awk" setup.csv book.csv > next.csv
 { sed '/^%%/q' head.txt && cat next.csv && awk '/^%%/ { part++ } part > 1' head.txt; } > next.txt
 sync
-kept=kept/$(date +%FT%H%M%S)
-mkdir -p "$kept"
+mkdir -p kept
+kept=$(mktemp -d "kept/$(date +%FT%T).XXXXXX")
 mv book.csv audit.txt setup.csv next.csv day.log "$kept"
 mv next.txt head.txt

@@ -16,16 +16,13 @@ import sys
 import tempfile
 import time
 
-from model.command import do_run
-from model.inputs import runs
-from model.tables import Fault, read_setup
+from serve_days import days, next_day
 from serve_kills import kills
 from serve_trial import (
     DEVICE,
     HEAD,
     HEADER,
     OTHER,
-    ROOT,
     SECONDS,
     Trial,
     Wrong,
@@ -356,43 +353,8 @@ def sync_fails(trial, call, number):
     return True
 
 
-def next_day(trial):
-    """By the setup of the next day each account opens with what was available to it, so that the sums are the same, and
-    with its last moment. A call that holds money keeps such a setup from being made."""
-    days, held, seed, texts = 0, 0, 0, [read(f"{ROOT}/examples/{it}.txt") for it in ("evening", "expiring", "call")]
-    texts[-1] = texts[-1].replace(b"account,7", b"account,04294967295").replace(b"0001,7", b"0001,4294967295")
-    while days < 20:
-        seed += 1
-        text = texts.pop() if texts else runs(random.Random(seed))[1]
-        try:
-            run = do_run({"--workers": "1"}, text, None)
-        except Fault:
-            continue
-        tariff, setup, _ = text.split(b"%%\n")
-        rows = b"".join(it.encode() + b"\n" for it in run.traced if it.split(",")[3] != "service")
-        status, output, line = trial.run(trial.new(), b"%%\n".join([tariff, setup, HEADER + rows]), "--book")
-        same(f"seed {seed}: the book", (status, output.partition(b"%%\n")[2], line), (0, run.book().encode(), b""))
-        paths = trial.new(setup), trial.new(run.book().encode())
-        ran = subprocess.run(["awk", "-f", f"{ROOT}/examples/next_setup.awk", *paths], capture_output=True, check=False)
-        is_held = any(call.is_open for it in run.accounts.values() for call in it.calls.values())
-        same(f"seed {seed}: {ran.stderr}", (ran.returncode, b" holds money\n" in ran.stderr), (is_held, is_held))
-        if is_held:
-            held += 1
-            continue
-        accounts, subscribers = read_setup(ran.stdout)
-        left = {number: it.available() for number, it in run.accounts.items()}
-        same(f"seed {seed}: the sum", sum(it[0] for it in accounts.values()), sum(left.values()))
-        same(f"seed {seed}", accounts, {number: (left[number], it.until) for number, it in run.accounts.items()})
-        same(f"seed {seed}", subscribers, run.subscribers)
-        lines = "".join(f"account {it} opening {left[it]} available {left[it]} entries 0\n" for it in sorted(left))
-        said = trial.run(trial.new(), b"%%\n".join([tariff, ran.stdout, HEADER]), "--lines")
-        same(f"seed {seed}: the next day", said, (0, HEADER + b"%%\n" + lines.encode(), b""))
-        days += 1
-    return f"{days} days, and {held} with calls that hold money"
-
-
 TRIES = [cut_at_each_byte, altered_at_each_byte, altered_in_a_row, begun_otherwise, no_log, unreadable, disk_is_full]
-TRIES += [bad_lines, again, sent_again, reader_is_gone, one_by_one, synced_first, next_day, kills]
+TRIES += [bad_lines, again, sent_again, reader_is_gone, one_by_one, synced_first, next_day, days, kills]
 # Those whose logs lie on a disk, where a row takes the time of a sync.
 ON_DISK = [kills]
 

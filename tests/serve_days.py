@@ -1,0 +1,95 @@
+"""A service day after day: the setup of the next day, and the script that makes it."""
+import glob
+import os
+import random
+import subprocess
+
+from model.command import do_run
+from model.inputs import runs
+from model.tables import Fault, read_setup
+from serve_trial import HEAD, HEADER, ROOT, SECONDS, modelled, read, same
+
+# The commands of day.sh that may be the last before it is cut off.
+COMMANDS = ["awk", "cat", "date", "mkdir", "mktemp", "mv", "sed", "sync", "tail"]
+SHIM = """#!/bin/sh
+echo >> "$CALLS"
+if [ "$(wc -l < "$CALLS")" -eq "$CUT" ]; then kill -9 "$PPID"; exit 1; fi
+PATH=${PATH#*:} exec NAME "$@"
+"""
+
+
+def next_day(trial):
+    """By the setup of the next day each account opens with what was available to it, so that the sums are the same, and
+    with its last moment. A call that holds money keeps such a setup from being made."""
+    days, held, seed, texts = 0, 0, 0, [read(f"{ROOT}/examples/{it}.txt") for it in ("evening", "expiring", "call")]
+    texts[-1] = texts[-1].replace(b"account,7", b"account,04294967295").replace(b"0001,7", b"0001,4294967295")
+    while days < 20:
+        seed += 1
+        text = texts.pop() if texts else runs(random.Random(seed))[1]
+        try:
+            run = do_run({"--workers": "1"}, text, None)
+        except Fault:
+            continue
+        tariff, setup, _ = text.split(b"%%\n")
+        rows = b"".join(it.encode() + b"\n" for it in run.traced if it.split(",")[3] != "service")
+        status, output, line = trial.run(trial.new(), b"%%\n".join([tariff, setup, HEADER + rows]), "--book")
+        same(f"seed {seed}: the book", (status, output.partition(b"%%\n")[2], line), (0, run.book().encode(), b""))
+        paths = trial.new(setup), trial.new(run.book().encode())
+        ran = subprocess.run(["awk", "-f", f"{ROOT}/examples/next_setup.awk", *paths], capture_output=True, check=False)
+        is_held = any(call.is_open for it in run.accounts.values() for call in it.calls.values())
+        same(f"seed {seed}: {ran.stderr}", (ran.returncode, b" holds money\n" in ran.stderr), (is_held, is_held))
+        if is_held:
+            held += 1
+            continue
+        accounts, subscribers = read_setup(ran.stdout)
+        left = {number: it.available() for number, it in run.accounts.items()}
+        same(f"seed {seed}: the sum", sum(it[0] for it in accounts.values()), sum(left.values()))
+        same(f"seed {seed}", accounts, {number: (left[number], it.until) for number, it in run.accounts.items()})
+        same(f"seed {seed}", subscribers, run.subscribers)
+        lines = "".join(f"account {it} opening {left[it]} available {left[it]} entries 0\n" for it in sorted(left))
+        said = trial.run(trial.new(), b"%%\n".join([tariff, ran.stdout, HEADER]), "--lines")
+        same(f"seed {seed}: the next day", said, (0, HEADER + b"%%\n" + lines.encode(), b""))
+        days += 1
+    return f"{days} days, and {held} with calls that hold money"
+
+
+def days(trial):
+    """examples/day.sh, which is cut off at each of its commands and called again: its messages count once, and the next
+    day opens with what this one left."""
+    talk, shims = trial.numbered, trial.new()
+    os.mkdir(shims)
+    for name in COMMANDS:
+        with open(f"{shims}/{name}", "w", encoding="ascii") as file:
+            file.write(SHIM.replace("NAME", name))
+        os.chmod(f"{shims}/{name}", 0o755)
+    left = modelled(["--lines"], talk.text())[1].split(b" available ")[1].split()[0]
+    setup = b"kind,key,value,until\naccount,7,%s,1000\nsubscriber,491700001,7,\n" % left
+    head = b"%%\n".join([HEAD.split(b"%%\n")[0], setup, HEADER])
+    cut = calls = 0
+    while calls >= cut:
+        cut, folder = cut + 1, trial.new()
+        os.mkdir(folder)
+        with open(f"{folder}/head.txt", "wb") as file:
+            file.write(HEAD)
+        calls = day(trial, shims, folder, b"".join(talk.rows), cut)[1]
+        if read(f"{folder}/head.txt") != head:
+            rows = [] if kept_in(folder) else talk.rows
+            same(f"cut at {cut}, again", day(trial, shims, folder, b"".join(rows), 0)[0], 0)
+        same(f"cut at {cut}", read(f"{folder}/head.txt"), head)
+        # a day without messages may follow
+        same(f"cut at {cut}", [it for it in kept_in(folder) if not it.endswith(HEADER)], [talk.logged()])
+    return f"{cut - 1} cuts"
+
+
+def kept_in(folder):
+    """The logs of the days that are over."""
+    return list(filter(None, (read(it) for it in sorted(glob.glob(f"{folder}/kept/*/day.log")))))
+
+
+def day(trial, shims, folder, text, cut):
+    """Lets a day pass, which is cut off at its so manyth command; gives its status, and how many commands it called."""
+    path, calls = f"{shims}:{os.environ['PATH']}", trial.new(b"")
+    more = {"PATH": path, "PREPAID": trial.program, "CALLS": calls, "CUT": str(cut)}
+    words, environment = ["bash", f"{ROOT}/examples/day.sh", folder], {**os.environ, **more}
+    ran = subprocess.run(words, input=text, capture_output=True, env=environment, timeout=SECONDS)
+    return ran.returncode, read(calls).count(b"\n")
