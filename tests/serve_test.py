@@ -16,6 +16,7 @@ import sys
 import tempfile
 import time
 
+from model.tables import Fault
 from serve_days import days, next_day
 from serve_kills import kills
 from serve_trial import (
@@ -372,7 +373,7 @@ def main():
         with tempfile.TemporaryDirectory(dir=None if it in ON_DISK else MEMORY) as folder:
             try:
                 said = it(Trial(os.path.abspath(words.program), folder, words.seed, words.kills))
-            except (Wrong, subprocess.TimeoutExpired, OSError) as why:
+            except (Wrong, Fault, subprocess.TimeoutExpired, OSError) as why:
                 said, wrong = f"wrong: {why}", wrong + 1
         print(f"serve: {it.__name__.replace('_', ' ')}: {said} ({time.monotonic() - begun:.1f} s)", flush=True)
     return 1 if wrong else 0
