@@ -36,6 +36,7 @@ from serve_trial import (
     repeated,
     same,
     send,
+    speak,
     traced,
 )
 
@@ -308,23 +309,25 @@ def one_by_one(trial):
 
 
 def synced_first(trial):
-    """By the calls to the system: a row is written to the log, and synced, before its answer is written; the head and
-    the folder of a new log are synced before the header is printed. Where a sync fails, nothing of its rows is
-    printed."""
+    """By the calls to the system: a row is written to the log, and synced, before its answer is written, and rows that
+    come together are synced together; the head and the folder of a new log are synced before the header is printed.
+    Where a sync fails, nothing of its rows is printed."""
     if not can_trace():
         return "passed over: strace doesn't run here: apt-get install strace"
     talk, path = trial.numbered, trial.new()
     said, calls = traced(trial, path, talk)
     same("the answer", said, talk.served())
-    synced, count = prints_what_is_synced(talk, calls)
-    same("what is synced", synced, talk.logged())
-    failed = [sync_fails(trial, call, number) for call in ("fdatasync", "fsync") for number in (1, 2, 3)]
-    return f"{len(talk.rows)} rows by {count - 1} syncs, {sum(failed)} that failed"
+    same("syncs of rows that come together", prints_what_is_synced(talk, calls), (talk.logged(), 2))
+    said, calls = traced(trial, trial.new(), talk, speak=speak)
+    same("the answer", said, talk.served())
+    same("syncs of rows that come one by one", prints_what_is_synced(talk, calls), (talk.logged(), 1 + len(talk.rows)))
+    failed = [sync_fails(trial, call, number) for call in ("fdatasync", "fsync") for number in range(1, 8)]
+    return f"{len(talk.rows)} rows by one sync, and by one each; {sum(failed)} syncs failed"
 
 
 def prints_what_is_synced(talk, calls):
     """Sees to it that only such rows are answered, in the order of the calls, as are synced; returns what is synced at
-    last, and by how many syncs."""
+    last, and by how many syncs, that of the head among them."""
     logged, synced, printed, count, folders = b"", b"", b"", 0, 0
     for name, of, text, rest in calls:
         is_synced = name in ("fsync", "fdatasync") and "= 0" in rest
@@ -345,7 +348,7 @@ def prints_what_is_synced(talk, calls):
 def sync_fails(trial, call, number):
     """Lets a call fail for the so manyth time; whether there was one. The next start goes on."""
     talk, path = trial.numbered, trial.new()
-    said, calls = traced(trial, path, talk, "-e", f"inject={call}:error=EIO:when={number}")
+    said, calls = traced(trial, path, talk, "-e", f"inject={call}:error=EIO:when={number}", speak=speak)
     if not any("INJECTED" in rest for *_, rest in calls):
         return False
     same(f"{call} {number} fails", said[::2], DEVICE[::2])

@@ -176,19 +176,36 @@ def can_trace():
     return shutil.which("strace") and subprocess.run(words, capture_output=True).returncode == 0
 
 
-def traced(trial, path, talk, *options):
-    """What a service with a log says to a talk that comes at once, and its calls: their names, what they are of, what
-    they write, and how they end."""
+def traced(trial, path, talk, *options, speak=None):
+    """What a service with a log says to a talk, which comes at once or is spoken, and its calls: their names, what they
+    are of, what they write, and how they end."""
     file = f"{path}.calls"
     words = ["strace", "-f", "-y", "-s", "9999", "-xx", "-e", "trace=write,writev,pwrite64,fsync,fdatasync", *options]
     words += ["-o", file, trial.program, "serve", "--log", path, "--book"]
-    ran = subprocess.run(words, input=talk.text(), capture_output=True, timeout=SECONDS)
+    with subprocess.Popen(words, stdin=subprocess.PIPE, stdout=subprocess.PIPE, stderr=subprocess.PIPE) as it:
+        heard = speak(it, talk) if speak else b""
+        output, line = it.communicate(None if speak else talk.text(), timeout=SECONDS)
     names, found = {path: "log", os.path.dirname(path): "folder"}, []
     for name, number, of, rest in re.findall(r"^\d+ +(\w+)\((\d+)<([^>]*)>(.*)$", read(file).decode(), re.M):
         text = b"".join(map(hex_bytes, re.findall(r'"((?:\\x[0-9a-f]{2})*)"', rest)))
         of = hex_bytes(of).decode() if of.startswith("\\x") else of
         found.append((name, "output" if number == "1" else names.get(of, of), text, rest))
-    return (ran.returncode, ran.stdout, ran.stderr), found
+    return (it.returncode, heard + output, line), found
+
+
+def speak(it, talk):
+    """Sends each row once the answer to the one before has come, as long as one comes; returns what came."""
+    heard = b""
+    for row, answer in zip([talk.head, *talk.rows], [HEADER, *talk.answers]):
+        try:
+            send(it, row)
+        except BrokenPipeError:
+            return heard
+        said = come(it.stdout, len(answer)).encode()
+        heard += said
+        if said != answer:
+            return heard
+    return heard
 
 
 def hex_bytes(text):

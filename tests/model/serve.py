@@ -135,12 +135,16 @@ def read_part(source):
     raise Fault("prepaid: input: Parts")
 
 
-def next_line(source):
-    """The next line with its LF, of one that is too long its first bytes; nothing at the end."""
-    line = rest = source.readline(MAX_LINE + 1)
-    while len(line) > MAX_LINE and rest and not rest.endswith(b"\n"):
-        rest = source.readline(MAX_LINE)
-    return line if line.endswith(b"\n") or not line else line + b"\n"
+def groups(source):
+    """The whole lines that are there, each time that some are, with their LF; of a line too long its first bytes."""
+    begun = b""
+    while text := source.read1(MAX_PART):
+        *lines, begun = (begun + text).split(b"\n")
+        begun = begun[: MAX_LINE + 1]
+        if lines:
+            yield [line + b"\n" for line in lines]
+    if begun:
+        yield [begun + b"\n"]
 
 
 def replay(service, lines, again):
@@ -159,18 +163,25 @@ def replay(service, lines, again):
 
 
 def answer(service, source, log, say):
-    """Answers each line of an input before the next one is read. What is accepted is logged first."""
+    """Answers each line of an input before more is read. Those that come together are logged together, where they are
+    accepted, and then they are answered in their order."""
     place = 1
-    while line := next_line(source):
-        place += 1
-        try:
-            found = service.judge(line)
-        except Bad as why:
-            say([f",,,service,fault,{why},{place},,"])
-            continue
-        if found:
-            log.append(line)
-            say(service.rows(*found))
+    for lines in groups(source):
+        said, accepted = [], []
+        for line in lines:
+            place += 1
+            try:
+                found = service.judge(line)
+            except Bad as why:
+                said.append([f",,,service,fault,{why},{place},,"])
+                continue
+            if found:
+                accepted.append(line)
+                said.append(service.rows(*found))
+        if accepted:
+            log.append(b"".join(accepted))
+        for rows in said:
+            say(rows)
 
 
 def serve(given, source, say, options, path=None, again=None):
