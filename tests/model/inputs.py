@@ -311,6 +311,8 @@ def starts(seed):
         words = ["serve", *options, "--log", LOG, *it.choice([[], ["--lines"], ["--book"], ["--calls"]])]
         again = it.choice([0, 1, logged, max(0, logged - 2), logged + 2, it.randrange(20), it.choice(FIELDS)])
         words += ["--again", str(again)] if it.random() < 0.6 else []
+        if it.random() < 0.04:
+            words = [word for word in words if word not in ("--log", LOG)]
         others = other_words(it, words) if it.random() < 0.06 else words
         # a path is never another word
         are_paths = all(others[at + 1 : at + 2] == [LOG] for at, word in enumerate(others) if word == "--log")
@@ -322,9 +324,13 @@ def changed(it, log):
     """What a log may hold after a crash, or once somebody has altered it."""
     if not log:
         return log
-    what = it.randrange(10)
+    what = it.randrange(11)
     if what < 3:
         return log[: it.randrange(max(0, len(log) - 200), len(log) + 1)]
+    if what == 10:
+        lines = log.split(b"\n")
+        lines.insert(it.randrange(len(lines) // 2, len(lines)), it.choice([b"", b"", b"\r", it.choice(lines)]))
+        return b"\n".join(lines)
     if what == 3:
         return log[: it.randrange(len(log) + 1)]
     if what == 4:
