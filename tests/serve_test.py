@@ -161,20 +161,23 @@ def unreadable(trial):
 
 
 def disk_is_full(trial):
-    """A file that may not grow: the row that has no room isn't answered, and the run ends without its end. The next
-    start finds whole lines or a torn one, and goes on."""
+    """A file that may not grow: the row that has no room isn't answered, and the run ends with the books of those
+    before it. The next start finds whole lines or a torn one, and goes on."""
     talk = trial.numbered
     whole = len(talk.logged())
     ends = [len(talk.logged(it)) for it in range(len(talk.rows) + 1)]
     sizes = sorted({*range(0, whole, 9), *(it + more for it in ends for more in (-1, 0, 1))})
-    for size in sizes:
+    for place, size in enumerate(sizes):
 
         def limit(size=size):
             signal.signal(signal.SIGXFSZ, signal.SIG_IGN)
             resource.setrlimit(resource.RLIMIT_FSIZE, (size, size))
 
         path = trial.new()
-        said = trial.run(path, talk.text(), "--book", preexec_fn=limit)
+        if place % 2:
+            said = trial.run(path, talk.text(), "--book", preexec_fn=limit)
+        else:
+            said = trial.spoken(path, talk, "--book", preexec_fn=limit)
         if size >= whole:
             same(f"{size} bytes", said, talk.served())
             continue

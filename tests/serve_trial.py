@@ -100,11 +100,11 @@ class Talk:
         return 0, HEADER + self.answered(first) + self.end, b""
 
     def answers_in(self, output):
-        """How many rows an output answers; none where it has no header."""
-        counts = [it for it in range(len(self.rows) + 1) if output == HEADER + self.answered(0, it)]
-        if output and not counts:
-            raise Wrong(f"printed {output}")
-        return max(counts, default=0)
+        """How many rows an output answers that has its end, of these rows; none where it has no header."""
+        count = sum(output.startswith(HEADER + self.answered(0, it)) for it in range(1, len(self.rows) + 1))
+        if output:
+            same("the output", output, HEADER + self.answered(0, count) + self.end_of(count))
+        return count
 
     def count_in(self, log):
         """How many whole lines a log has; it has to be a front of that of all rows."""
@@ -136,9 +136,16 @@ class Trial:
         ran = subprocess.run(words, input=text, capture_output=True, timeout=SECONDS, **more)
         return ran.returncode, ran.stdout, ran.stderr
 
-    def start(self, path, *words):
+    def start(self, path, *words, **more):
         words, pipe = [self.program, "serve", "--log", path, *words], subprocess.PIPE
-        return subprocess.Popen(words, stdin=pipe, stdout=pipe, stderr=pipe)
+        return subprocess.Popen(words, stdin=pipe, stdout=pipe, stderr=pipe, **more)
+
+    def spoken(self, path, talk, *words, **more):
+        """The same as `run` says, where each row is sent once the answer to the one before has come."""
+        with self.start(path, *words, **more) as it:
+            heard = speak(it, talk)
+            output, line = it.communicate(timeout=SECONDS)
+        return it.returncode, heard + output, line
 
     def each(self, do, cases):
         """Tries cases side by side, and returns how many there were."""

@@ -48,11 +48,11 @@ class Log:
         while text:
             text = text[os.write(self.file, text) :]
 
-    def append(self, line):
-        if self.file is None:
+    def append(self, text):
+        if self.file is None or not text:
             return
         try:
-            self.write(line)
+            self.write(text)
             os.fdatasync(self.file)
         except OSError as error:
             raise Fault("prepaid: log: Device", 2) from error

@@ -83,10 +83,12 @@ class Service:
     """A run of one worker, to which each line goes."""
 
     def __init__(self, run):
-        self.run, self.last, self.closed = run, 0, set()
+        self.run, self.closed = run, set()
+        # how many messages were accepted, of which the last ones may wait for their log, and the moment of the last one
+        self.next, self.last = 0, 0
 
     def judge(self, line):
-        """The message of a line that may be the next, nothing where the line is empty; Bad where it isn't accepted."""
+        """Accepts the message of a line, if it has one; Bad where it isn't accepted."""
         if len(line) > MAX_LINE:
             raise Bad("TooLong")
         found = records(line)
@@ -95,15 +97,16 @@ class Service:
         if len(found) > 1:
             raise Bad("Csv")
         at, place, *rest = message(found[0])
-        if place is not None and place < self.run.number:
+        if place is not None and place < self.next:
             raise Bad("Repeated")
-        if at < self.last or place is not None and place > self.run.number:
+        if at < self.last or place is not None and place > self.next:
             raise Bad("Order")
+        self.next, self.last = self.next + 1, at
         return at, *rest
 
     def rows(self, at, call, said, fields):
         """What is printed of a message."""
-        self.last, head = at, [at, self.run.number, call]
+        head = [at, self.run.number, call]
         answer = self.answer(at, call, said)
         sender = "operator" if call is None else "switch"
         return [trace.row([*head, sender, *fields]), *(trace.row([*head, "service", *it]) for it in answer.said())]
@@ -163,8 +166,8 @@ def replay(service, lines, again):
 
 
 def answer(service, source, log, say):
-    """Answers each line of an input before more is read. Those that come together are logged together, where they are
-    accepted, and then they are answered in their order."""
+    """Answers each line of an input before more is read, and gives the fault of the log that ends the run, if one does.
+    Lines that come together are logged together, where they are accepted, and then answered in their order."""
     place = 1
     for lines in groups(source):
         said, accepted = [], []
@@ -173,15 +176,18 @@ def answer(service, source, log, say):
             try:
                 found = service.judge(line)
             except Bad as why:
-                said.append([f",,,service,fault,{why},{place},,"])
+                said.append(f",,,service,fault,{why},{place},,")
                 continue
             if found:
                 accepted.append(line)
-                said.append(service.rows(*found))
-        if accepted:
+                said.append(found)
+        try:
             log.append(b"".join(accepted))
-        for rows in said:
-            say(rows)
+        except Fault as fault:
+            return fault
+        for it in said:
+            say([it] if isinstance(it, str) else service.rows(*it))
+    return None
 
 
 def serve(given, source, say, options, path=None, again=None):
@@ -197,7 +203,7 @@ def serve(given, source, say, options, path=None, again=None):
         printed = replay(service, log.lines, NEVER if again is None else again)
         say([trace.HEADER])
         say(printed)
-        answer(service, source, log, say)
+        fault = answer(service, source, log, say)
     finally:
         log.close()
     run = service.run
@@ -205,3 +211,5 @@ def serve(given, source, say, options, path=None, again=None):
     for name, end in ends.items():
         if name in given:
             say(["%%", *end().splitlines()])
+    if fault:
+        raise fault
