@@ -7,7 +7,8 @@ import subprocess
 from model.command import do_run
 from model.inputs import runs
 from model.tables import Fault, read_setup
-from serve_trial import HEAD, HEADER, ROOT, SECONDS, modelled, read, same
+from pipe_test import ROOT, SECONDS
+from serve_trial import HEAD, HEADER, modelled, read, same
 
 # The commands of day.sh that may be the last before it is cut off.
 COMMANDS = ["awk", "cat", "date", "mkdir", "mktemp", "mv", "sed", "sync", "tail"]

@@ -33,7 +33,6 @@ from serve_trial import (
     hear,
     modelled,
     read,
-    repeated,
     same,
     send,
     speak,

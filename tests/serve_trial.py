@@ -9,7 +9,7 @@ import threading
 
 from model.command import command
 from pipe_test import HEADER as HEADER_TEXT
-from pipe_test import ROOT, SECONDS, come
+from pipe_test import SECONDS, come
 
 HEADER = HEADER_TEXT.encode()
 HEAD = (b"prefix,from,fee,rate\n49,00:00,50,1000\n%%\n"
