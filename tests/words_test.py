@@ -102,7 +102,7 @@ def said_in_formats(text):
             option, *takes = option.strip("`").split()
             commands[name].add(option)
             if takes and takes != ["FILE"]:
-                values[name, option] = allowed.replace("`", ""), left.strip("`")
+                values[name, option] = allowed.replace("`", ""), left.strip("`") or None
     lines = {it: int(row[1]) for row in tables["Line"] if row[0] != "none" for it in fault_lines(row[0])}
     lines |= {f"prepaid: run: {it}": int(row[1]) for row in tables["Line"] for it in re.findall(r"`(\w+)` is a name too", row[2])}
     kinds = {row[0].strip("`") for row in tables["KIND"]}
