@@ -2,8 +2,8 @@
 """Makes docs/DEFINITIONS.md from the comments of the definitions: tests/definitions.py [--write]
 
 The page has each definition that a public clause names, of a public function, a trait or a public type, and the
-definition before it where its comment goes on from that one's. Without --write the page is compared with what would be written, and the status is 1 where they differ, or where a definition
-of the page has no comment.
+definition before it where its comment goes on from that one's. Without --write the page is compared with what would be
+written, and the status is 1 where they differ, or where a definition of the page has no comment.
 """
 import argparse
 import difflib
@@ -15,7 +15,9 @@ import sys
 PAGE = "docs/DEFINITIONS.md"
 HEAD = """# Definitions in plain words
 
-The definitions that the clauses of public functions, traits and types name, crate by crate, each with the file of the crate's `specs/` that has it. The sentences are the comments there, and `tests/definitions.py --write` makes this page of them. Numbers are natural numbers without bounds; times are in units of 100 ms.
+The definitions that the clauses of public functions, traits and types name, crate by crate, each with the file of the \
+crate's `specs/` that has it. The sentences are the comments there, and `tests/definitions.py --write` makes this page of \
+them. Numbers are natural numbers without bounds; times are in units of 100 ms.
 """
 CITED = re.compile(r"ghost use Rattle\.(\w+)\.specs\.([\w.]+)\.\{([^}]*)\}")
 DEFINED = re.compile(r"(?:abbrev )?pub (?:record |data |abbrev )?([^\s:]+)")

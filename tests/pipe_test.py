@@ -37,7 +37,8 @@ def live():
 
 
 def start(program, *words):
-    return subprocess.Popen([program, "serve", *words], stdin=subprocess.PIPE, stdout=subprocess.PIPE, stderr=subprocess.PIPE)
+    pipes = {it: subprocess.PIPE for it in ("stdin", "stdout", "stderr")}
+    return subprocess.Popen([program, "serve", *words], **pipes)
 
 
 def come(file, size):
@@ -80,7 +81,10 @@ def bounds_memory(program):
     """A line of 100 MB, in front of the header or behind it, is one fault, and memory stays bounded."""
     head, talk = live()
     wrong = []
-    for text, wanted in [(head + HEADER, (0, HEADER + ",,,service,fault,TooLong,2,,\n" + talk[0][1], "")), (head, (1, "", "prepaid: messages row 1: Header\n"))]:
+    for text, wanted in [
+        (head + HEADER, (0, HEADER + ",,,service,fault,TooLong,2,,\n" + talk[0][1], "")),
+        (head, (1, "", "prepaid: messages row 1: Header\n")),
+    ]:
         it = start(program)
         try:
             send(it.stdin, text)

@@ -21,8 +21,8 @@ pub enum ServeError {
     Header,
     /// The log can't be used.
     Log(LogFault),
-    /// A line of the log isn't accepted: its row, where the header in front of the lines is row 1, and
-    /// what is wrong with it.
+    /// A line of the log isn't accepted: its row, where the header in front of the lines is row 1,
+    /// and what is wrong with it.
     LogRow(u64, LineKind),
     /// The run was ended before its input: what came before is answered, and its books are made.
     Live(LiveFault),

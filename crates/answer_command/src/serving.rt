@@ -38,10 +38,10 @@ use std::thread::Threads;
 /// answer them are printed. The log begins with the options and with what the input has in front of
 /// its rows. The messages that it holds already are heard again before the input is.
 ///
-/// `Input` and then `Header` are faults of what is in front of the rows, and `Log` and `LogRow` of the
-/// log and its lines; nothing is printed then. `Live` says what ended the run before its input: at
-/// `Input` and `Log` all is printed that an input would have that had ended there; at `Output`, and
-/// where the run has no books, a front.
+/// `Input` and then `Header` are faults of what is in front of the rows, and `Log` and `LogRow` of
+/// the log and its lines; nothing is printed then. `Live` says what ended the run before its input:
+/// at `Input` and `Log` all is printed that an input would have that had ended there; at `Output`,
+/// and where the run has no books, a front.
 pub fn serve_input<R: Wait + Threads + Sync + Files<File = File>, I: BufRead + Drop, O: Write>(
     rt: &R,
     alloc: Global,

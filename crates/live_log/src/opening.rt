@@ -21,8 +21,8 @@ pub struct OpenLog {
 /// The file is locked as long as it is open, its torn end is cut off, and what is left of it is on
 /// the disk.
 ///
-/// The fault is `Other` where it begins otherwise; `OutOfMemory`; else `Device`, also where it is no
-/// plain file, and where another process has it.
+/// The fault is `Other` where it begins otherwise; `OutOfMemory`; else `Device`, also where it is
+/// no plain file, and where another process has it.
 pub fn open_log<R: Files<File = File>>(
     rt: &R,
     alloc: Global,

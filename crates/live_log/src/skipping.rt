@@ -9,8 +9,8 @@ use std::io::{ErrorKind, Write};
 /// A writer that holds some bytes at its end already, and passes over these where they are written
 /// again; what comes behind them is written. Other bytes in their place are an error.
 ///
-/// What it is said to hold is what is in front of those that it hasn't passed over yet. So what a log
-/// is said to hold grows line by line also where its lines are heard again.
+/// What it is said to hold is what is in front of those that it hasn't passed over yet. So what a
+/// log is said to hold grows line by line also where its lines are heard again.
 #[derive(Drop)]
 pub struct Skipping<'a, L> {
     left: &'a [u8],

@@ -1,5 +1,5 @@
-//! The tests of a live run and its log: they stand apart so that the crates under them aren't proved
-//! a second time for their tests.
+//! The tests of a live run and its log: they stand apart so that the crates under them aren't
+//! proved a second time for their tests.
 #![tactic(auto)]
 
 #[cfg(test)]

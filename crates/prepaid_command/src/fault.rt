@@ -61,10 +61,11 @@ pub enum Fault {
     Arguments,
     /// A time that `run` or `serve` is asked for is out of its range.
     Config,
-    /// The input has more than `MAX_INPUT` bytes; of `rate` and `serve`, a part in front of a divider
-    /// has more than `MAX_PART`.
+    /// The input has more than `MAX_INPUT` bytes; of `rate` and `serve`, a part in front of a
+    /// divider has more than `MAX_PART`.
     TooLong,
-    /// The input of `run` doesn't have three parts, or that of `rate` or `serve` has too few dividers.
+    /// The input of `run` doesn't have three parts, or that of `rate` or `serve` has too few
+    /// dividers.
     Parts,
     /// A row of the tariff has a fault.
     Tariff(TariffFault),
@@ -72,8 +73,8 @@ pub enum Fault {
     Table(Part, RowFault),
     /// The log of `serve` can't be used.
     Log(LogFault),
-    /// A line of the log of `serve` isn't accepted: its row, where the header in front of the lines is
-    /// row 1, and what is wrong with it.
+    /// A line of the log of `serve` isn't accepted: its row, where the header in front of the lines
+    /// is row 1, and what is wrong with it.
     LogRow(u64, LineKind),
     /// Standard input failed.
     Device,

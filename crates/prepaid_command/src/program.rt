@@ -46,10 +46,10 @@ use tariff_core::Plan;
 ///
 /// A fault goes to `faults` as one line, and then nothing goes to `output`; but the rows of `rate`
 /// and of `serve` are printed as they come, so where their input, a log or memory fails in the
-/// middle, `output` has what was printed before. Where the accounts of a run refused anything, a line
-/// about it goes to `faults` behind the answer. Where `output` failed, what went to it is a front of
-/// the answer, and nothing goes to `faults`; a failing `faults` has a front of the line, and changes
-/// no status.
+/// middle, `output` has what was printed before. Where the accounts of a run refused anything, a
+/// line about it goes to `faults` behind the answer. Where `output` failed, what went to it is a
+/// front of the answer, and nothing goes to `faults`; a failing `faults` has a front of the line,
+/// and changes no status.
 pub fn command<R, S: AsStr, I: BufRead + Drop, O: Write, E: Write>(
     rt: &R,
     words: &[S],

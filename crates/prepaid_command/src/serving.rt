@@ -18,8 +18,8 @@ use std::sync::Wait;
 use std::thread::Threads;
 
 /// Answers the messages in the input as they come, and gives the status: 0 where the input has
-/// ended and all was printed; 1 for a fault of what is in front of the messages, and then nothing is
-/// printed; 2 where the input, the log, memory, the output or the run failed.
+/// ended and all was printed; 1 for a fault of what is in front of the messages, and then nothing
+/// is printed; 2 where the input, the log, memory, the output or the run failed.
 pub(crate) fn serve_messages<R, I: BufRead + Drop, O: Write, E: Write>(
     rt: &R,
     alloc: Global,
