@@ -29,7 +29,7 @@ abbrev pub TakesHeader : List ℕ → Option (List ℕ) → Bool → Type 0
 TakesHeader text left true = (rows : List ℕ) × (left ≡ Some rows) × (behind_header text ≡ Ok rows)
 TakesHeader text left false = behind_header text ≡ Err error.Header
 
--- a fault of what stands before the rows
+-- a fault of what is in front of the rows
 abbrev pub IsOfHead : ServeError → Type 0
 IsOfHead (error.Input why) = ⊤
 IsOfHead error.Header = ⊤

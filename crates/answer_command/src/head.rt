@@ -1,4 +1,4 @@
-//! What stands before the message rows of an input: a tariff, a setup and the header.
+//! What is in front of the message rows of an input: a tariff, a setup and the header.
 
 ghost use Rattle.std.specs.Prelude.{◌≡◌, IfErr, IfOk, IfSome};
 ghost use Rattle.run_texts.specs.FirstParts.{MayAlwaysCome};

@@ -111,7 +111,7 @@ A fault is one line on standard error, and then nothing is printed:
   prepaid: input: TooLong
       More than 16777216 bytes
   prepaid: input: Parts
-      A line that is %% alone stands exactly twice: behind the tariff and behind the setup
+      A line that is %% alone comes exactly twice: behind the tariff and behind the setup
   prepaid: tariff row N: KIND
   prepaid: setup row N: KIND
   prepaid: script row N: KIND
@@ -140,9 +140,9 @@ Kinds:
   Empty           A field has something that the row doesn't take
   Order           This moment is below that of the row before; often the row before is wrong
   Repeated        A prefix with the same start, an account, a subscriber or a start of a call
-                  stands there already
-  Unknown         In a setup accounts stand above their subscribers; in a script a call's start
-                  stands above its other rows, and a recharge is of an account of the setup";
+                  is there already
+  Unknown         In a setup accounts are above their subscribers; in a script a call's start
+                  is above its other rows, and a recharge is of an account of the setup";
 
 /// Behind the options of `audit`.
 pub(crate) const AUDIT: &str = "\
@@ -180,7 +180,7 @@ Kinds:
   Number       Digits only, within the range: no plus, no point, no space
   Empty        A field has something that the row doesn't take
   Repeated     A second opening of an account
-  Unknown      An entry stands above its account's opening";
+  Unknown      An entry is above its account's opening";
 
 /// Behind the options of `quote`.
 pub(crate) const QUOTE: &str = "\
@@ -218,7 +218,7 @@ Kinds:
   Free            Free units are digits only, 0 to 864000
   First           The least time that is billed is digits only, 0 to 864000
   Step            A billing step is digits only, 1 to 864000
-  Repeated        A prefix with the same start stands there already
+  Repeated        A prefix with the same start is there already
   NoMidnightBand  A prefix has no row from 00:00";
 
 /// Behind the options of `rate`.
@@ -256,7 +256,7 @@ memory failed in the middle of the rows:
   prepaid: input: TooLong
       The tariff has more than 16777216 bytes
   prepaid: input: Parts
-      No line is %% alone: it stands between the tariff and the records
+      No line is %% alone: one has to be between the tariff and the records
   prepaid: tariff row N: KIND
       Rows count from 1, which is the header; empty lines don't count
   prepaid: records row N: KIND
@@ -274,7 +274,7 @@ Kinds:
   Free            Free units are digits only, 0 to 864000
   First           The least time that is billed is digits only, 0 to 864000
   Step            A billing step is digits only, 1 to 864000
-  Repeated        A prefix with the same start stands there already
+  Repeated        A prefix with the same start is there already
   NoMidnightBand  A prefix has no row from 00:00
 
 Faults of a row, in its column fault; the next row is rated all the same:
@@ -331,7 +331,7 @@ A fault is one line on standard error; with status 1 nothing is printed:
   prepaid: input: TooLong
       More than 16777216 bytes in the tariff or in the setup
   prepaid: input: Parts
-      A line that is %% alone stands behind the tariff and behind the setup
+      A line that is %% alone comes behind the tariff and behind the setup
   prepaid: tariff row N: KIND
   prepaid: setup row N: KIND
       Rows count from 1, which is the header of that part; empty lines don't count
@@ -364,8 +364,8 @@ Kinds:
   Number          Digits only, in the smallest coin, within the range: no plus, no point; a party
                   is 1 to 15 digits
   Empty           A field has something that the row doesn't take
-  Repeated        A prefix with the same start, an account or a subscriber stands there already
-  Unknown         Accounts stand above their subscribers
+  Repeated        A prefix with the same start, an account or a subscriber is there already
+  Unknown         Accounts are above their subscribers
 
 Faults of a line, the first that fits; the next line is answered all the same:
   TooLong   More than 4096 bytes

@@ -9,7 +9,7 @@ use std::io::{Read, Write};
 use std::test::Fail;
 use table_core::RowKind;
 
-/// What stands for the head of a log.
+/// What the head of a log is here.
 pub(crate) const HEAD: &str = "log,1,600,50,50\nprefix,from,fee,rate\n";
 
 /// How many messages are logged.

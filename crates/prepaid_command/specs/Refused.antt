@@ -6,7 +6,7 @@ use Rattle.account_core.specs.declared.fault.AccountFault.{AccountFault}
 use Rattle.account_core.specs.declared.fault.AccountFault.TheVariants as fault
 use Rattle.run_command.specs.declared.refusals.Refusals.{Refusals}
 
--- what stands before a kind: the beginning of the line before the first one, and a comma before others
+-- what is in front of a kind: the beginning of the line before the first one, and a comma before others
 abbrev pub before_kind : List ℕ → List ℕ
 before_kind line = if length line == 0 then codes "prepaid: refused: " else line ++ codes ", "
 

@@ -21,7 +21,7 @@ use std::io::Read;
 use table_core::{RowKind, Table, TableFault};
 use tariff_core::MAX_MONEY;
 
-/// Where the seat stands in a row.
+/// Where the seat is in a row.
 const SEAT: usize = 0;
 
 /// Where the columns of the operation begin in a row.

@@ -146,7 +146,7 @@ fn takes_lines_by_each_of_their_ends(rt: HostRuntime) -> Result<(), Fail> {
     Ok(())
 }
 
-/// What stands behind the setup and isn't the header.
+/// What is behind the setup and isn't the header.
 const NO_HEADERS: [&str; 8] = [
     "",
     "\n",
