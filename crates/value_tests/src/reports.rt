@@ -1,6 +1,6 @@
 //! The times of a call, and the reports that they are read from.
 
-ghost use Rattle.std.specs.Prelude.◌≡◌;
+ghost use Rattle.std.specs.Prelude.{◌≡◌};
 
 use crate::looking::gives;
 use crate::plans::{CHEAPER, SINGLE};
