@@ -311,20 +311,29 @@ def one_by_one(trial):
 
 
 def synced_first(trial):
-    """By the calls to the system: a row is written to the log, and synced, before its answer is written, and rows that
-    come together are synced together; the head and the folder of a new log are synced before the header is printed.
-    Where a sync fails, nothing of its rows is printed."""
+    """By the calls to the system: a row is written to the log, and synced, before its answer is written; the head and
+    the folder of a new log are synced before the header is printed. Where a sync fails, nothing of its rows is
+    printed."""
     if not can_trace():
         return "passed over: strace doesn't run here: apt-get install strace"
-    talk, path = trial.numbered, trial.new()
-    said, calls = traced(trial, path, talk)
-    same("the answer", said, talk.served())
-    same("syncs of rows that come together", prints_what_is_synced(talk, calls), (talk.logged(), 2))
-    said, calls = traced(trial, trial.new(), talk, speak=speak)
-    same("the answer", said, talk.served())
-    same("syncs of rows that come one by one", prints_what_is_synced(talk, calls), (talk.logged(), 1 + len(talk.rows)))
+    talk = trial.numbered
+    for how in (None, speak):
+        said, calls = traced(trial, trial.new(), talk, speak=how)
+        same("the answer", said, talk.served())
+        same("what is synced", prints_what_is_synced(talk, calls)[0], talk.logged())
     failed = [sync_fails(trial, call, number) for call in ("fdatasync", "fsync") for number in range(1, 8)]
-    return f"{len(talk.rows)} rows by one sync, and by one each; {sum(failed)} syncs failed"
+    return f"{len(talk.rows)} rows, at once and one by one, and {sum(failed)} syncs that failed"
+
+
+def synced_together(trial):
+    """By the calls to the system: rows that come together are synced together, and one that comes alone by itself."""
+    if not can_trace():
+        return "passed over: strace doesn't run here: apt-get install strace"
+    talk, rows = trial.numbered, len(trial.numbered.rows)
+    for how, wanted in [(None, 1), (speak, rows)]:
+        _, calls = traced(trial, trial.new(), talk, speak=how)
+        same("syncs", prints_what_is_synced(talk, calls)[1] - 1, wanted)
+    return f"{rows} rows by one sync, and by {rows}"
 
 
 def prints_what_is_synced(talk, calls):
@@ -360,7 +369,8 @@ def sync_fails(trial, call, number):
 
 
 TRIES = [cut_at_each_byte, altered_at_each_byte, altered_in_a_row, begun_otherwise, no_log, unreadable, disk_is_full]
-TRIES += [bad_lines, again, sent_again, reader_is_gone, one_by_one, synced_first, next_day, days, kills]
+TRIES += [bad_lines, again, sent_again, reader_is_gone, one_by_one, synced_first, synced_together, next_day]
+TRIES += [days, kills]
 # Those whose logs lie on a disk, where a row takes the time of a sync.
 ON_DISK = [kills]
 
