@@ -28,4 +28,6 @@ played_paid first sums unrouted routed ask said given heard books may_be account
       sums_up = λ records are_records. sums run records served are_records;
       unrouted = λ call is none. unrouted run call served is none;
       routed = λ call is lawful. routed run call served starts is lawful;
+      served = served;
+      starts = starts;
     }

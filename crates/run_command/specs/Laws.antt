@@ -12,7 +12,8 @@ use Rattle.call_records.specs.declared.outcome.Outcome.TheVariants as outcome
 use Rattle.run_command.specs.Books.{AreBooksOf}
 use Rattle.run_command.specs.Plays.{IsGivenBy}
 use Rattle.run_options.specs.declared.options.RunAsk.{RunAsk}
-use Rattle.run_records.specs.Laws.{IsUntalked, PaysItsRoute, paid_by_calls}
+use Rattle.run_records.specs.Laws.{IsServedRun, IsUntalked, PaysItsRoute, paid_by_calls}
+use Rattle.run_records.specs.Starts.{HaveTheirStarts}
 use Rattle.run_texts.specs.Happenings.{is_in_time}
 use Rattle.run_texts.specs.Inputs.{RunInput}
 use Rattle.run_values.specs.declared.post.Answer.{Answer}
@@ -20,6 +21,7 @@ use Rattle.run_values.specs.declared.post.Body.{Body}
 use Rattle.run_values.specs.declared.setup.TheConstants.{MAX_ACCOUNTS}
 use Rattle.runs_core.specs.Teams.{are_workers}
 use Rattle.shared_account.specs.Closed.{Closed}
+use Rattle.shared_account.specs.Seen.{StoodIn}
 
 -- an input of at most 1,000 accounts, which rise, each with an opening in its range, and whose recharges are in time, as those that are read are
 pub record IsInRange (said : RunInput) : Type 0 where
@@ -46,6 +48,9 @@ pub record CallsHavePaid (run : Run) : Type 0 where
   pub unrouted : (call : CallRecord) → IsRecord run call → call.outcome ≡ outcome.NoRoute → call.paid ≡ 0
   -- a call without a forfeit, the price of its times by the route at its start; or nothing, where it has no times
   pub routed : (call : CallRecord) → IsRecord run call → call.outcome ≢ outcome.Forfeit → IsUntalked call ⊎ PaysItsRoute run call
+  -- and it is such a run as the laws of records are about: one that was served, where each InitialDP is the one that its call starts with
+  pub served : IsServedRun StoodIn run
+  pub starts : HaveTheirStarts run.given
 
 -- so it is where a script is played
 abbrev pub PlayedCallsHavePaid : Type 0
