@@ -2,11 +2,12 @@
 //! nothing.
 
 ghost use Rattle.rated_records.specs.Laws.{ReadTariffsAreProper, RecordsHaveNoDifference};
+ghost use Rattle.rated_records.specs.Runs.{RunsHaveNoDifference};
 ghost use Rattle.rated_records.specs.Tables.{NoRowIsPrinted, TablesHaveNoDifference};
 
 use moment_texts::printed_moments_are_read;
 use run_records::{calls_pay_their_route, records_are_in_range};
-use shared_account::Shared;
+use shared_account::{Shared, TurnAccount};
 use table_core::{printed_decimals_are_read, printed_tables_are_read};
 
 /// The records of a run have no difference: whatever `rate` says of a record, where its start is
@@ -48,4 +49,12 @@ pub fn tables_have_no_difference<S: Shared>()
     printed_decimals_are_read();
     printed_moments_are_read();
     printed_tables_are_read();
+}
+
+/// The table that `prepaid run --calls` prints of any script is such an input. Of the premises only
+/// `IsPrintable` is left.
+pub fn runs_have_no_difference()
+    ensures { RunsHaveNoDifference }
+{
+    tables_have_no_difference::<TurnAccount>();
 }

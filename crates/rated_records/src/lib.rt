@@ -4,4 +4,7 @@
 
 mod laws;
 
-pub use laws::{read_tariffs_are_proper, records_have_no_difference, tables_have_no_difference};
+pub use laws::{
+    read_tariffs_are_proper, records_have_no_difference, runs_have_no_difference,
+    tables_have_no_difference,
+};
