@@ -118,6 +118,58 @@ fn rates_records(rt: HostRuntime) -> Result<(), Fail> {
     Ok(())
 }
 
+/// Calls about eight, when the rate falls: the first is talking then, the third is answered after
+/// it, the last starts after it. The others are free for a minute, without a route, of nobody's and
+/// not answered.
+const AT_EIGHT: &str =
+    "kind,key,value\naccount,7,9000\nsubscriber,491700001,7\n%%\nmoment,call,what,x,y\n287400,1,start,491700001,4930\n287500,1,answer,,\n287900,2,start,491700001,4915\n287950,3,start,491700001,4930\n288000,2,answer,,\n288010,4,start,491700001,33\n288020,5,start,491700002,4930\n288050,3,answer,,\n288100,6,start,491700001,4930\n288200,6,noanswer,,\n288300,7,start,491700001,4930\n288350,7,answer,,\n288650,3,disconnect,1,\n288700,1,disconnect,1,\n288800,2,disconnect,1,\n288900,7,disconnect,1,\n";
+
+/// Words, the status, and what is printed of these calls below the header. By their starts none
+/// differs; by its answer the third would have had the rates of the later band.
+const RATED_AT_EIGHT: [(&str, u8, &str); 3] = [
+    (
+        "rate --answer start",
+        3,
+        "1,491700001,4930,7,49,287400,287500,288702,502,698,1352,ended,49,502,698,1352,0,\n2,491700001,4915,7,4915,287900,288000,288802,800,0,634,ended,4915,800,0,634,0,\n3,491700001,4930,7,49,287950,288050,288652,0,600,450,ended,49,0,600,450,0,\n4,491700001,33,7,,288010,,288012,0,0,0,noroute,,,,,,noroute\n5,491700002,4930,,49,288020,,288022,0,0,0,unknown,49,0,0,0,0,\n6,491700001,4930,7,49,288100,,288200,0,0,0,noanswer,49,0,0,0,0,\n7,491700001,4930,7,49,288300,288350,288902,550,0,417,ended,49,550,0,417,0,\n",
+    ),
+    (
+        "rate --differing --answer start",
+        3,
+        "4,491700001,33,7,,288010,,288012,0,0,0,noroute,,,,,,noroute\n",
+    ),
+    (
+        "rate --differing",
+        3,
+        "3,491700001,4930,7,49,287950,288050,288652,0,600,450,ended,49,0,600,1050,600,\n",
+    ),
+];
+
+#[test]
+fn rates_the_calls_of_a_run(rt: HostRuntime) -> Result<(), Fail> {
+    let script = input_of(rt.alloc(), AT_EIGHT)?;
+    let mut input = Vec::from_slice(rt.alloc(), TARIFF.as_bytes())?;
+    input.extend_from_slice(b"%%\n")?;
+    let mut faults = Vec::new(rt.alloc());
+    let status = run(
+        &rt,
+        "run --calls",
+        script.as_bytes(),
+        &mut input,
+        &mut faults,
+    )?;
+    assert_eq!(rt; (status, faults.len()), (0, 0));
+    let header = "call,calling,called,account,prefix,start,answer,end,before,after,paid,outcome";
+    let names = "prefix,before,after,price,difference,fault";
+    for (words, status, rows) in RATED_AT_EIGHT {
+        let want = format!(in rt.alloc(); "{header},{names}\n{rows}")?;
+        let mut output = Vec::new(rt.alloc());
+        let was = run(&rt, words, input.as_slice(), &mut output, &mut faults)?;
+        assert_eq!(rt; output.as_slice(), want.as_bytes(), "of {words:?}");
+        assert_eq!(rt; (was, faults.len()), (status, 0), "of {words:?}");
+    }
+    Ok(())
+}
+
 /// Words, records, and the line that says what was counted.
 const COUNTED: [(&str, &str, u8, &str); 2] = [
     (
