@@ -1,5 +1,4 @@
 pub mod Fields
 pub mod Tables
-pub mod Tariffs
 pub mod Undiffering
 pub mod Unprinted

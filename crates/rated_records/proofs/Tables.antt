@@ -14,13 +14,13 @@ use Rattle.cap_values.specs.NumberDigits.{digits_of}
 use Rattle.cap_values.specs.Numbers.{is_number}
 use Rattle.cap_values.specs.declared.number.Number.{Number}
 use Rattle.csv.specs.Reading.{strip_bom}
-use Rattle.live_recovery.specs.Laws.{IsProper}
+use Rattle.live_recovery.specs.Laws.{IsProper, ReadTariffsAreProper}
 use Rattle.moment_texts.specs.Laws.{MomentsArePlain, MomentsAreRead}
 use Rattle.moment_texts.specs.Printing.{moment_text}
 use Rattle.moment_texts.specs.Reading.{moment_of}
 use Rattle.moment_texts.specs.declared.clock.Clock.{Clock}
 use Rattle.rated_records.proofs.Fields.{fields_plain, record_size}
-use Rattle.rated_records.specs.Laws.{IsRatedBy, ReadTariffsAreProper, RecordsHaveNoDifference, said_by}
+use Rattle.rated_records.specs.Laws.{IsRatedBy, RecordsHaveNoDifference, said_by}
 use Rattle.rated_records.specs.Tables.{IsInputOf, IsPrintable, IsRatedTable, IsRowOf, TablesHaveNoDifference, header_fields, names_by_start, record_fields}
 use Rattle.rating.specs.Calls.{CallSaid, call_in, said_in, size_of}
 use Rattle.rating.specs.Columns.{columns_in, place_from}
@@ -196,5 +196,5 @@ was_told tell (Err why) x is = cc
 pub tables_rated : (Stood : Closed → ℕ → Knowing) → DecimalsAreRead → DecimalsArePlain → MomentsAreRead → MomentsArePlain → TablesAreRead → RecordsHaveNoDifference Stood → RecordsAreInRange Stood
     → ReadTariffsAreProper → TablesHaveNoDifference Stood
 tables_rated Stood read plain moments moments_plain tables right ranges propers run clock table input is starts text printable input_is =
-    let proper : IsProper run.setup.tariff = propers (rows_of input_is.first.part) run.setup.tariff (was_told fault.Tariff (tariff_of (rows_of input_is.first.part)) run.setup.tariff input_is.tariff) in
+    let proper : IsProper run.setup.tariff = propers run.setup.tariff (rows_of input_is.first.part, was_told fault.Tariff (tariff_of (rows_of input_is.first.part)) run.setup.tariff input_is.tariff) in
     table_rated Stood read plain moments moments_plain tables right ranges run clock is starts proper table input text printable input_is

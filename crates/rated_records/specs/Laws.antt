@@ -15,9 +15,6 @@ use Rattle.run_records.specs.Starts.{HaveTheirStarts}
 use Rattle.shared_account.specs.Closed.{Closed}
 use Rattle.shared_account.specs.Refusals.{Knowing}
 use Rattle.table_core.specs.Judging.{after}
-use Rattle.table_core.specs.Rows.{Fields}
-use Rattle.tariff_core.specs.Bands.{Band}
-use Rattle.tariff_core.specs.TariffTable.{tariff_of}
 
 -- what a record says to `rate`, where its start is taken for the answer, and its times before the switch and after it as they are
 abbrev pub said_by : CallRecord → Result CallSaid RateKind
@@ -44,7 +41,3 @@ abbrev pub RecordsHaveNoDifference : (Closed → ℕ → Knowing) → Type 0
 RecordsHaveNoDifference Stood =
     (run : Run) (call : CallRecord) (rating : Rating) → IsServedRun Stood run → HaveTheirStarts run.given → IsProper run.setup.tariff → IsRecord run call → call.outcome ≢ outcome.Forfeit
     → IsRatedBy run call rating → rating ≡ paid_rightly call (prefix_of call)
-
--- a tariff that is read has no two rows of the same prefix and the same start, and each starts within a day
-abbrev pub ReadTariffsAreProper : Type 0
-ReadTariffsAreProper = (rows : List Fields) (bands : List Band) → tariff_of rows ≡ Ok bands → IsProper bands

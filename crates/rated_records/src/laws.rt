@@ -1,10 +1,11 @@
 //! Laws of the records of a run's calls under its tariff, each the contract of a function that does
 //! nothing.
 
-ghost use Rattle.rated_records.specs.Laws.{ReadTariffsAreProper, RecordsHaveNoDifference};
+ghost use Rattle.rated_records.specs.Laws.{RecordsHaveNoDifference};
 ghost use Rattle.rated_records.specs.Runs.{RunsHaveNoDifference};
 ghost use Rattle.rated_records.specs.Tables.{NoRowIsPrinted, TablesHaveNoDifference};
 
+use live_recovery::read_tariffs_are_proper;
 use moment_texts::printed_moments_are_read;
 use run_records::{calls_pay_their_route, records_are_in_range};
 use shared_account::{Shared, TurnAccount};
@@ -25,11 +26,6 @@ pub fn records_have_no_difference<S: Shared>()
     calls_pay_their_route::<S>();
     records_are_in_range::<S>();
 }
-
-/// A tariff that is read has no two rows of the same prefix and start, and each starts within a day.
-pub fn read_tariffs_are_proper()
-    ensures { ReadTariffsAreProper }
-{}
 
 /// The table of a run's calls is such an input as it stands: of the run's tariff with the table
 /// behind it `rate --answer start` prints each record in its row, and what the law of records says

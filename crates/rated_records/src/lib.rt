@@ -4,7 +4,4 @@
 
 mod laws;
 
-pub use laws::{
-    read_tariffs_are_proper, records_have_no_difference, runs_have_no_difference,
-    tables_have_no_difference,
-};
+pub use laws::{records_have_no_difference, runs_have_no_difference, tables_have_no_difference};
