@@ -57,6 +57,7 @@ echo "$(rows 20000 | wc -l) rows, sent without waiting:"
 times all 10 -- "$program" serve --lines -- "$work/plain_serve"
 echo "the same, the least processor time:"
 bench/beside.py 10 "$work/input" "$program" serve --lines -- "$work/plain_serve"
-echo "the same with a log:"
-times all 10 -- "$program" serve --lines --log "$work/log" -- "$work/plain_serve" "$work/log" \
+make_input 1000
+echo "$(rows 1000 | wc -l) rows with a log, sent without waiting:"
+times all 3 -- "$program" serve --lines --log "$work/log" -- "$work/plain_serve" "$work/log" \
     -- "$work/plain_serve" "$work/log" silent
