@@ -1,22 +1,28 @@
 -- What a live run prints, gives and logs over its rounds.
-use Rattle.std.proofs.Common.{◌≡◌, ◌+◌, ◌-◌, ◌<◌, ◌≤◌, ℕ, suc, true, false, Option, Some, None, List, [], ◌∷◌, ◌++◌, Ok, Err, drop, length, length-append, map, take, refl, sym, ap, subst, ◌∙◌, arith, append_assoc, append-nil}
-use Rattle.std.proofs.lemmas.List.{length-map}
+use Rattle.std.proofs.Common.{◌≡◌, ◌+◌, ◌-◌, ◌<◌, ◌≤◌, ◌⊎◌, inl, inr, ℕ, suc, true, false, Option, Some, None, List, [], ◌∷◌, ◌++◌, Ok, Err, drop, length, length-append, map, take, refl, sym, ap, subst, subst₂, ◌∙◌, arith, append_assoc, append-nil, take_all}
+use Rattle.std.proofs.Math.Seq.{take-append-add}
+use Rattle.std.proofs.lemmas.Bool.{cases_lt}
+use Rattle.std.proofs.lemmas.List.{length-map, take-append-le}
 use Rattle.std.proofs.lemmas.Option.{slice_get-map}
-use Rattle.std.specs.Prelude.{option_map, slice_get}
-use Rattle.std.specs.Io.BufRead.{drop_through}
+use Rattle.std.specs.Prelude.{IfSome, option_map, slice_get}
 use Rattle.std.specs.Io.KnownBytes.{Appends}
+use Rattle.live_answers.proofs.GroupLemmas.{given_many, given_on, heard_on, logged_on, rows_are, text_on}
 use Rattle.live_answers.proofs.Growing.{kept_is_grown, logs_twice, prints_twice}
-use Rattle.live_answers.proofs.LineLemmas.{line_first, no_line}
+use Rattle.live_answers.proofs.LineLemmas.{no_line}
+use Rattle.live_answers.specs.Groups.{BeginsWith, LeftAt, LeftIn, TakesOf, group_rows, heard_behind, line_behind, views_in}
+use Rattle.live_answers.specs.Laws.{last_behind, next_behind}
 use Rattle.live_answers.specs.Lines.{live_lines}
 use Rattle.live_answers.specs.Live.{Heard, given_by, given_of, heard_after, heard_in, item_view, last_after, logged_of, next_after, replayed_text, text_after}
-use Rattle.live_answers.specs.Rounds.{Hears, LeadsTo, TakesLine, TakesOf, WritesOn, due}
-use Rattle.live_answers.specs.Rows.{counted_line, put_down, rows_of_line}
+use Rattle.live_answers.specs.Rounds.{Hears, LeadsTo, TakesLines, WritesOn, due, first_of, last_line}
 use Rattle.live_answers.specs.Runs.{Answers, Logs, Prints}
 use Rattle.live_answers.specs.Said.{said_of}
 use Rattle.live_answers.specs.Stages.{fault_of, has_ended}
-use Rattle.live_answers.specs.Standing.{LineView, last_moment, moment_of, said_in}
+use Rattle.live_answers.specs.Standing.{LineView, last_moment, moment_of, said_after}
 use Rattle.live_answers.specs.declared.driver.LiveDriver.{LiveDriver}
+use Rattle.live_answers.specs.declared.group.TheConstants.{MAX_GROUP}
 use Rattle.live_answers.specs.declared.replay.Replay.{Replay}
+use Rattle.live_answers.specs.declared.stage.Left.{Left}
+use Rattle.live_answers.specs.declared.stage.Left.TheVariants as left
 use Rattle.live_answers.specs.declared.stage.LiveFault.{LiveFault}
 use Rattle.live_answers.specs.declared.stage.LiveFault.TheVariants as fault
 use Rattle.live_answers.specs.declared.stage.Stage.{Stage}
@@ -41,17 +47,7 @@ behind : {X : Type 0} (xs ys : List X) → slice_get (xs ++ ys) (length xs) ≡ 
 behind [] ys = refl
 behind (x ∷ xs) ys = behind xs ys
 
-first_of : {X : Type 0} (xs ys : List X) → 0 < length xs → slice_get (xs ++ ys) 0 ≡ slice_get xs 0
-first_of [] ys some = absurd (omega (arith, some))
-first_of (x ∷ xs) ys some = refl
-
--- the answer to the last item is the first of the next round
-at_place : (front next more : List Answer) (n : ℕ) → length front ≡ n → length (front ++ next) ≡ n + 1 → slice_get (front ++ (next ++ more)) n ≡ slice_get next 0
-at_place front next more n many one =
-    let some : 0 < length next = omega (arith, many, one, length-append front next) in
-    ap (slice_get (front ++ (next ++ more))) (sym many) ∙ behind front (next ++ more) ∙ first_of next more some
-
--- ---- a line
+-- ---- what was given
 
 -- the moment of an item that a trace prints so
 abbrev moment_seen : Option (ℕ × Speech) → ℕ
@@ -71,53 +67,68 @@ last_so given =
     seen_so (slice_get given (length given - 1)) ∙ ap moment_seen (sym (slice_get-map item_view given (length given - 1)))
     ∙ ap (λ n. moment_seen (slice_get (map item_view given) (n - 1))) (sym (length-map given item_view))
 
-last_behind : (items : List (ℕ × Speech)) (item : ℕ × Speech) → last_seen (items ++ item ∷ []) ≡ item.0
-last_behind items item =
+last_pushed : (items : List (ℕ × Speech)) (item : ℕ × Speech) → last_seen (items ++ item ∷ []) ≡ item.0
+last_pushed items item =
     let here : length (items ++ item ∷ []) - 1 ≡ length items = omega (arith, length-append items (item ∷ [])) in
     ap (λ n. moment_seen (slice_get (items ++ item ∷ []) n)) here ∙ ap moment_seen (behind items (item ∷ []))
 
--- what stands after a line
-pub record Steps (quiet : ℕ) (said : LineView) (old new : List (ℕ × Body)) (all next : List Answer) (line : ℕ) : Type 0 where
-  pub count : length new ≡ next_after (length old) said
-  pub last : last_moment new ≡ last_after (last_moment old) said
-  pub rows : rows_of_line quiet line (length new - 1) (slice_get next 0) said ≡ rows_of_line quiet line (length old) (slice_get all (length old)) said
+last_one : (items : List (ℕ × Speech)) (said : LineView) → last_seen (items ++ given_by said) ≡ last_after (last_seen items) said
+last_one items None = ap last_seen (append-nil items)
+last_one items (Some (Err why)) = ap last_seen (append-nil items)
+last_one items (Some (Ok message)) = last_pushed items (message.at, message.speech)
 
-step : (quiet : ℕ) (said : LineView) (old new : List (ℕ × Body)) (all next : List Answer) (line : ℕ) → map item_view new ≡ map item_view old ++ given_by said
-    → (length new ≡ length old + 1 → slice_get all (length old) ≡ slice_get next 0) → Steps quiet said old new all next line
-step quiet None old new all next line gives at =
-    let same = gives ∙ append-nil (map item_view old) in
-    record {
-      count = sym (length-map new item_view) ∙ ap length same ∙ length-map old item_view;
-      last = last_so new ∙ ap last_seen same ∙ sym (last_so old);
-      rows = refl;
-    }
-step quiet (Some (Err kind)) old new all next line gives at =
-    let same = gives ∙ append-nil (map item_view old) in
-    record {
-      count = sym (length-map new item_view) ∙ ap length same ∙ length-map old item_view;
-      last = last_so new ∙ ap last_seen same ∙ sym (last_so old);
-      rows = refl;
-    }
-step quiet (Some (Ok message)) old new all next line gives at =
-    let one : ℕ × Speech = (message.at, message.speech) in
-    let many : length new ≡ length old + 1 =
-    sym (length-map new item_view) ∙ ap length gives ∙ length-append (map item_view old) (one ∷ []) ∙ ap (λ n. n + 1) (length-map old item_view) in
-    let place : length new - 1 ≡ length old = omega (arith, many) in
-    record {
-      count = many;
-      last = last_so new ∙ ap last_seen gives ∙ last_behind (map item_view old) one;
-      rows = ap (λ n. rows_of_line quiet line n (slice_get next 0) (Some (Ok message))) place
-          ∙ ap (λ answer. rows_of_line quiet line (length old) answer (Some (Ok message))) (sym (at many));
-    }
+last_many : (items : List (ℕ × Speech)) (heard : List Heard) → last_seen (items ++ given_of heard) ≡ last_behind (last_seen items) heard
+last_many items [] = ap last_seen (append-nil items)
+last_many items (one ∷ heard) =
+    ap last_seen (sym (append_assoc items (given_by one.said) (given_of heard))) ∙ last_many (items ++ given_by one.said) heard
+    ∙ ap (λ m. last_behind m heard) (last_one items one.said)
 
--- the first line of a text that was taken, and those after it
-heard_front : (known left : Option (List ℕ)) (old : List (ℕ × Body)) (text line : List ℕ) → known ≡ Some text → TakesOf known left line
-    → (left ≡ Some (drop_through 10 text)) × (heard_after (length old) (last_moment old) (live_lines text) ≡ record { line = line; said = said_in old line }
-    ∷ heard_after (next_after (length old) (said_in old line)) (last_after (last_moment old) (said_in old line)) (live_lines (drop_through 10 text)))
-heard_front known left old text line is takes =
-    let (some, line_is, left_is) = rw is at takes in
-    let rest = live_lines (drop_through 10 text) in
-    (left_is, ap (heard_after (length old) (last_moment old)) (line_first text some ∙ ap (λ l. l ∷ rest) (sym line_is)))
+-- how many messages were given, and the moment of the last, behind lines
+pub count_behind : (old new : List (ℕ × Body)) (heard : List Heard) → map item_view new ≡ map item_view old ++ given_of heard → length new ≡ next_behind (length old) heard
+count_behind old new heard gives =
+    sym (length-map new item_view) ∙ ap length gives ∙ length-append (map item_view old) (given_of heard) ∙ ap (λ n. n + length (given_of heard)) (length-map old item_view)
+    ∙ given_many (length old) heard
+
+pub moment_behind : (old new : List (ℕ × Body)) (heard : List Heard) → map item_view new ≡ map item_view old ++ given_of heard → last_moment new ≡ last_behind (last_moment old) heard
+moment_behind old new heard gives =
+    last_so new ∙ ap last_seen gives ∙ last_many (map item_view old) heard ∙ ap (λ m. last_behind m heard) (sym (last_so old))
+
+-- the lines behind those that were taken
+behind_lines : (old new : List (ℕ × Body)) (lines more : List (List ℕ)) → map item_view new ≡ map item_view old ++ given_of (heard_behind old lines)
+    → heard_behind old (lines ++ more) ≡ heard_behind old lines ++ heard_behind new more
+behind_lines old new lines more gives =
+    let heard = heard_behind old lines in
+    heard_on (length old) (last_moment old) lines more
+    ∙ ap (λ n. heard ++ heard_after n (last_behind (last_moment old) heard) more) (sym (count_behind old new heard gives))
+    ∙ ap (λ m. heard ++ heard_after (length new) m more) (sym (moment_behind old new heard gives))
+
+heard_many : (next last : ℕ) (lines : List (List ℕ)) → length (heard_after next last lines) ≡ length lines
+heard_many next last [] = refl
+heard_many next last (line ∷ lines) = ap suc (heard_many (next_after next (said_after next last line)) (last_after last (said_after next last line)) lines)
+
+-- ---- fronts
+
+-- a front of a text is one of any longer text
+front_more : (n : ℕ) (xs ys : List ℕ) → (m : ℕ) × (take m (xs ++ ys) ≡ take n xs)
+front_more n xs ys = by_size (cases_lt n (length xs))
+  where
+    by_size : (n < length xs) ⊎ (length xs ≤ n) → (m : ℕ) × (take m (xs ++ ys) ≡ take n xs)
+    by_size (inl less) = (n, take-append-le n xs ys (omega (arith, less)))
+    by_size (inr more) = (length xs, take-append-le (length xs) xs ys (omega arith) ∙ take_all (length xs) xs (omega arith) ∙ sym (take_all n xs more))
+
+-- the first so many of some lines and of those behind them
+take_both : {X : Type 0} (xs ys : List X) (n : ℕ) → length xs ≤ n → take n (xs ++ ys) ≡ xs ++ take (n - length xs) ys
+take_both xs ys n more =
+    let many : n ≡ length xs + (n - length xs) = omega (arith, more) in
+    ap (λ k. take k (xs ++ ys)) many ∙ take-append-add xs ys (n - length xs)
+
+drop_both : {X : Type 0} (xs ys : List X) (n : ℕ) → drop (length xs + n) (xs ++ ys) ≡ drop n ys
+drop_both [] ys n =
+    let none : 0 + n ≡ n = omega arith in
+    ap (λ k. drop k ys) none
+drop_both (x ∷ xs) ys n =
+    let one : suc (length xs) + n ≡ suc (length xs + n) = omega arith in
+    ap (λ k. drop k (x ∷ (xs ++ ys))) one ∙ drop_both xs ys n
 
 pub none_heard : (next last : ℕ) (text : List ℕ) → text ≡ [] → heard_after next last (live_lines text) ≡ []
 none_heard next last text empty = rw (empty, no_line) refl
@@ -143,11 +154,11 @@ module _ {I O L : Type 0} (remaining : I → Option (List ℕ)) (contents : O �
   first_each before_this old answers [] new rounds = rounds.0.each
   first_each before_this old answers (next ∷ heard) new rounds = rounds.1.each
 
-  goes_on : (s : Stage) (old : LiveDriver I O L) (answers : List Answer) (new : LiveDriver I O L) → has_ended s ≡ false
-      → LeadsTo remaining contents logged old answers new s → TakesLine remaining contents logged old answers new
-  goes_on stage.Open old answers new on leads = leads
-  goes_on stage.Ended old answers new on leads = absurd (cc)
-  goes_on (stage.Failed why) old answers new on leads = absurd (cc)
+  goes_on : (s : Stage) (known : Option (List ℕ)) (old : LiveDriver I O L) (answers : List Answer) (new : LiveDriver I O L) → has_ended s ≡ false → known ≡ remaining new.input
+      → LeadsTo remaining contents logged old answers new s → (behind : Left) × (s ≡ stage.Open behind) × TakesLines remaining contents logged old answers new behind
+  goes_on (stage.Open behind) known old answers new on is leads = (behind, refl, leads)
+  goes_on stage.Ended known old answers new on is leads = absurd (cc)
+  goes_on (stage.Failed why) known old answers new on is leads = absurd (cc)
 
   -- what a driver does with lines that say this, from a round with these answers on, where these are the answers to all
   pub record Goes (why : Option LiveFault) (heard : List Heard) (all : List Answer) (old : LiveDriver I O L) (answers : List Answer) (new : LiveDriver I O L) : Type 0 where
@@ -155,12 +166,12 @@ module _ {I O L : Type 0} (remaining : I → Option (List ℕ)) (contents : O �
     pub whole : why ≡ None → length heard ≤ count
     pub takes : map item_view new.given.items ≡ map item_view old.given.items ++ given_of (take count heard)
     pub prints : Prints why (contents old.output.now) (contents new.output.now)
-        (due old answers ++ text_after old.replay all old.lines (length old.given.items) (take count heard))
-    pub logs : Logs why (logged old.log.now) (logged new.log.now) (logged_of (take count heard)) (logged_of (take 1 (drop count heard)))
+        (due old answers ++ text_after old.replay all (last_line old answers) (length old.given.items) (take count heard))
+    pub logs : Logs why (logged old.log.now) (logged new.log.now) (logged_of (take count heard)) (logged_of (take MAX_GROUP (drop count heard)))
 
   -- the lines that a driver has left
   abbrev pub left_to : LiveDriver I O L → List ℕ → List Heard
-  left_to driver text = heard_after (length driver.given.items) (last_moment driver.given.items) (live_lines text)
+  left_to driver text = heard_behind driver.given.items (live_lines text)
 
   same_items : (old new : LiveDriver I O L) → new.given.items ≡ old.given.items → map item_view new.given.items ≡ map item_view old.given.items ++ []
   same_items old new same = ap (map item_view) same ∙ sym (append-nil (map item_view old.given.items))
@@ -168,11 +179,22 @@ module _ {I O L : Type 0} (remaining : I → Option (List ℕ)) (contents : O �
   grown : (old new : Option (List ℕ)) (xs : List ℕ) → Appends old new xs → Appends old new (xs ++ [])
   grown old new xs grows = subst (λ l. Appends old new l) (sym (append-nil xs)) grows
 
-  last_round : (s : Stage) (text : List ℕ) (all : List Answer) (old : LiveDriver I O L) (answers : List Answer) (new : LiveDriver I O L) → remaining old.input ≡ Some text
+  -- a driver that takes lines has all of the text that is left
+  is_known : (s : Stage) (known : Option (List ℕ)) (text : List ℕ) → s ≡ stage.Open left.Lines → LeftAt s known text → known ≡ Some text
+  is_known s known text opened has = subst (λ it. LeftAt it known text) opened has
+
+  begins_so : (known : Option (List ℕ)) (text : List ℕ) (lines : List (List ℕ)) → known ≡ Some text → IfSome known (BeginsWith lines) → BeginsWith lines text
+  begins_so known text lines is begins = rw is at begins
+
+  takes_so : (known new : Option (List ℕ)) (text : List ℕ) (behind : Left) (lines : List (List ℕ)) → known ≡ Some text → TakesOf known new behind lines
+      → (rest : List ℕ) × (live_lines text ≡ lines ++ live_lines rest) × LeftIn behind new rest
+  takes_so known new text behind lines is takes = rw is at takes
+
+  last_round : (s : Stage) (text : List ℕ) (all : List Answer) (old : LiveDriver I O L) (answers : List Answer) (new : LiveDriver I O L) → LeftAt old.stage (remaining old.input) text
       → has_ended s ≡ true → LeadsTo remaining contents logged old answers new s → Goes (fault_of s) (left_to old text) all old answers new
-  last_round stage.Open text all old answers new known over leads = absurd (cc)
-  last_round stage.Ended text all old answers new known over leads =
-      let empty : text ≡ [] = rw known at leads.ends in
+  last_round (stage.Open behind) text all old answers new has over leads = absurd (cc)
+  last_round stage.Ended text all old answers new has over leads =
+      let empty : text ≡ [] = leads.ends text has in
       let none = none_heard (length old.given.items) (last_moment old.given.items) text empty in
       record {
         count = 0;
@@ -181,106 +203,140 @@ module _ {I O L : Type 0} (remaining : I → Option (List ℕ)) (contents : O �
         prints = grown _ _ _ leads.prints;
         logs = kept_is_grown _ _ leads.logs;
       }
-  last_round (stage.Failed fault.Input) text all old answers new known over leads = record {
+  last_round (stage.Failed fault.Input) text all old answers new has over leads = record {
     count = 0;
     whole = λ none. absurd (cc);
     takes = same_items old new leads.gives;
     prints = grown _ _ _ leads.prints;
     logs = kept_is_grown _ _ leads.logs;
   }
-  last_round (stage.Failed fault.Output) text all old answers new known over leads = record {
+  last_round (stage.Failed fault.Output) text all old answers new has over leads = record {
     count = 0;
     whole = λ none. absurd (cc);
     takes = same_items old new leads.gives;
     prints = (leads.prints.0, subst (λ l. Appends (contents old.output.now) (contents new.output.now) (take leads.prints.0 l)) (sym (append-nil (due old answers))) leads.prints.1);
     logs = kept_is_grown _ _ leads.logs;
   }
-  last_round (stage.Failed fault.Log) text all old answers new known over leads =
-      let line = leads.line in
-      let front = (heard_front _ _ old.given.items text line known leads.takes).1 in
-      let is : put_down line (said_in old.given.items line) ≡ logged_of (take 1 (left_to old text)) =
-      sym (append-nil (put_down line (said_in old.given.items line))) ∙ ap (λ h. logged_of (take 1 h)) (sym front) in
+  last_round (stage.Failed fault.Log) text all old answers new has over leads =
+      let was = old.given.items in
+      let lines = leads.lines in
+      let group = heard_behind was lines in
+      let (rest, split) = begins_so _ text lines (is_known old.stage _ text leads.opened has) leads.takes in
+      let later = heard_after (next_behind (length was) group) (last_behind (last_moment was) group) (live_lines rest) in
+      let all_left : left_to old text ≡ group ++ later = ap (heard_behind was) split ∙ heard_on (length was) (last_moment was) lines (live_lines rest) in
+      let few : length group ≤ MAX_GROUP = omega (arith, leads.few, heard_many (length was) (last_moment was) lines) in
+      let more = take (MAX_GROUP - length group) later in
+      let next : logged_of (take MAX_GROUP (left_to old text)) ≡ logged_of group ++ logged_of more =
+      ap (λ h. logged_of (take MAX_GROUP h)) all_left ∙ ap logged_of (take_both group later MAX_GROUP few) ∙ logged_on group more in
+      let (size, front) = front_more leads.logs.0 (logged_of group) (logged_of more) in
+      let is : take leads.logs.0 (logged_of group) ≡ take size (logged_of (take MAX_GROUP (left_to old text))) = sym front ∙ ap (take size) (sym next) in
       record {
         count = 0;
         whole = λ none. absurd (cc);
         takes = same_items old new leads.gives;
         prints = grown _ _ _ leads.prints;
-        logs = (leads.logs.0, subst (λ l. Appends (logged old.log.now) (logged new.log.now) (take leads.logs.0 l)) is leads.logs.1);
+        logs = (size, subst (λ l. Appends (logged old.log.now) (logged new.log.now) l) is leads.logs.1);
       }
 
-  -- a line, and then those after it
-  a_round : (why : Option LiveFault) (heard later : List Heard) (all : List Answer) (old : LiveDriver I O L) (answers : List Answer) (between : LiveDriver I O L) (next : List Answer) (new : LiveDriver I O L)
-      → (took : TakesLine remaining contents logged old answers between) → heard ≡ record { line = took.line; said = said_in old.given.items took.line } ∷ later
-      → Steps old.replay.quiet (said_in old.given.items took.line) old.given.items between.given.items all next (counted_line old.replay (length old.given.items) old.lines)
+  -- lines that were taken at once, and then those after them
+  a_round : (why : Option LiveFault) (heard later : List Heard) (all : List Answer) (old : LiveDriver I O L) (answers : List Answer) (between : LiveDriver I O L) (behind : Left) (next : List Answer) (new : LiveDriver I O L)
+      → (took : TakesLines remaining contents logged old answers between behind) → heard ≡ heard_behind old.given.items took.lines ++ later
+      → due between next ≡ text_after old.replay all (last_line old answers) (length old.given.items) (heard_behind old.given.items took.lines)
+      → last_line between next ≡ line_behind old.replay (last_line old answers) (length old.given.items) (views_in (heard_behind old.given.items took.lines))
       → Goes why later all between next new → Goes why heard all old answers new
-  a_round why heard later all old answers between next new took is steps goes =
+  a_round why heard later all old answers between behind next new took is due_is line_is goes =
       let was = old.given.items in
       let now = between.given.items in
-      let said = said_in was took.line in
-      let this : Heard = record { line = took.line; said = said } in
+      let group = heard_behind was took.lines in
       let some = take goes.count later in
-      let line = counted_line old.replay (length was) old.lines in
-      let quiet = old.replay.quiet in
-      let due_next : due between next ≡ rows_of_line quiet line (length was) (slice_get all (length was)) said =
-      ap (λ (r : Replay). rows_of_line r.quiet between.lines (length now - 1) (slice_get next 0) (said_of between.said)) took.replay
-      ∙ ap (λ n. rows_of_line quiet n (length now - 1) (slice_get next 0) (said_of between.said)) took.lines
-      ∙ ap (λ s. rows_of_line quiet line (length now - 1) (slice_get next 0) s) took.said ∙ steps.rows in
-      let text_next : text_after between.replay all between.lines (length now) some ≡ text_after old.replay all line (next_after (length was) said) some =
-      ap (λ (r : Replay). text_after r all between.lines (length now) some) took.replay
-      ∙ ap (λ l. text_after old.replay all l (length now) some) took.lines ∙ ap (λ n. text_after old.replay all line n some) steps.count in
-      let text_is : due between next ++ text_after between.replay all between.lines (length now) some ≡ text_after old.replay all old.lines (length was) (this ∷ some) =
-      ap (λ l. l ++ text_after between.replay all between.lines (length now) some) due_next
-      ∙ ap (λ l. rows_of_line quiet line (length was) (slice_get all (length was)) said ++ l) text_next in
+      let line = last_line old answers in
+      let text_next : text_after between.replay all (last_line between next) (length now) some
+      ≡ text_after old.replay all (line_behind old.replay line (length was) (views_in group)) (next_behind (length was) group) some =
+      ap (λ (r : Replay). text_after r all (last_line between next) (length now) some) took.replay
+      ∙ ap (λ l. text_after old.replay all l (length now) some) line_is
+      ∙ ap (λ n. text_after old.replay all (line_behind old.replay line (length was) (views_in group)) n some) (count_behind was now group took.gives) in
+      let text_is : due between next ++ text_after between.replay all (last_line between next) (length now) some ≡ text_after old.replay all line (length was) (group ++ some) =
+      ap (λ l. l ++ text_after between.replay all (last_line between next) (length now) some) due_is
+      ∙ ap (λ l. text_after old.replay all line (length was) group ++ l) text_next ∙ sym (text_on old.replay all line (length was) group some) in
+      let taken : take (length group + goes.count) (group ++ later) ≡ group ++ some = take-append-add group later goes.count in
+      let dropped : drop (length group + goes.count) (group ++ later) ≡ drop goes.count later = drop_both group later goes.count in
       subst (λ h. Goes why h all old answers new) (sym is) (record {
-        count = suc goes.count;
-        whole = λ none. let most = goes.whole none in omega (arith, most);
-        takes = goes.takes ∙ ap (λ l. l ++ given_of some) took.gives ∙ append_assoc (map item_view was) (given_by said) (given_of some);
-        prints = prints_twice why _ _ _ _ _ took.prints
-            (subst (λ l. Prints why (contents between.output.now) (contents new.output.now) l) text_is goes.prints);
-        logs = logs_twice why _ _ _ _ _ _ took.logs goes.logs;
+        count = length group + goes.count;
+        whole = λ none. let most = goes.whole none in omega (arith, most, length-append group later);
+        takes = goes.takes ∙ ap (λ l. l ++ given_of some) took.gives ∙ append_assoc (map item_view was) (given_of group) (given_of some)
+            ∙ ap (λ l. map item_view was ++ l) (sym (given_on group some) ∙ ap given_of (sym taken));
+        prints = subst (λ h. Prints why (contents old.output.now) (contents new.output.now) (due old answers ++ text_after old.replay all line (length was) h)) (sym taken)
+            (prints_twice why _ _ _ _ _ took.prints (subst (λ l. Prints why (contents between.output.now) (contents new.output.now) l) text_is goes.prints));
+        logs = subst₂ (λ l h. Logs why (logged old.log.now) (logged new.log.now) l (logged_of (take MAX_GROUP h))) (sym (logged_on group some) ∙ ap logged_of (sym taken)) (sym dropped)
+            (logs_twice why _ _ _ _ _ _ took.logs goes.logs);
       })
+
+  -- what is due of lines that were taken at once, and the number of the last of them
+  record IsDue (all : List Answer) (old : LiveDriver I O L) (answers : List Answer) (between : LiveDriver I O L) (behind : Left) (next : List Answer) (took : TakesLines remaining contents logged old answers between behind) : Type 0 where
+    rows : due between next ≡ text_after old.replay all (last_line old answers) (length old.given.items) (heard_behind old.given.items took.lines)
+    line : last_line between next ≡ line_behind old.replay (last_line old answers) (length old.given.items) (views_in (heard_behind old.given.items took.lines))
+
+  is_due : (before_next next more : List Answer) (old : LiveDriver I O L) (answers : List Answer) (between : LiveDriver I O L) (behind : Left) (took : TakesLines remaining contents logged old answers between behind)
+      → length before_next ≡ length old.given.items → length (before_next ++ next) ≡ length between.given.items → IsDue (before_next ++ (next ++ more)) old answers between behind next took
+  is_due before_next next more old answers between behind took many all_many =
+      let was = old.given.items in
+      let group = heard_behind was took.lines in
+      let line = last_line old answers in
+      let first : first_of between next ≡ length was = omega (arith, many, all_many, length-append before_next next) in
+      let most : next_behind (length was) group ≤ length before_next + length next =
+      omega (arith, count_behind was between.given.items group took.gives, all_many, length-append before_next next) in
+      let rows = rows_are old.replay before_next next more line (length was) group (omega (arith, many)) most in
+      let line_so : last_line between next ≡ line_behind old.replay line (length was) (views_in group) =
+      ap (λ (r : Replay). line_behind r between.line (first_of between next) (map said_of between.said.items)) took.replay
+      ∙ ap (λ l. line_behind old.replay l (first_of between next) (map said_of between.said.items)) took.line
+      ∙ ap (λ n. line_behind old.replay line n (map said_of between.said.items)) first ∙ ap (line_behind old.replay line (length was)) took.said in
+      record {
+        rows = ap (λ (r : Replay). group_rows r (first_of between next) next between.line (first_of between next) (map said_of between.said.items)) took.replay
+            ∙ ap (λ l. group_rows old.replay (first_of between next) next l (first_of between next) (map said_of between.said.items)) took.line
+            ∙ ap (λ n. group_rows old.replay n next line n (map said_of between.said.items)) first
+            ∙ ap (group_rows old.replay (length was) next line (length was)) took.said
+            ∙ ap (λ n. group_rows old.replay n next line (length was) (views_in group)) (sym many) ∙ rows;
+        line = line_so;
+      }
 
   -- from round to round, to the end of the run
   pub goes_to_end : (before_this : List Answer) (old : LiveDriver I O L) (answers : List Answer) (heard : List (List Answer)) (new : LiveDriver I O L) (text : List ℕ)
-      → LiveRounds before_this old (answers ∷ heard) new → remaining old.input ≡ Some text
+      → LiveRounds before_this old (answers ∷ heard) new → LeftAt old.stage (remaining old.input) text
       → Goes (fault_of new.stage) (left_to old text) (before_this ++ all_heard (answers ∷ heard)) old answers new
-  goes_to_end before_this old answers [] new text rounds known =
-      last_round new.stage text _ old answers new known rounds.1 rounds.0.hears_them.leads
-  goes_to_end before_this old answers (next ∷ heard) new text rounds known =
+  goes_to_end before_this old answers [] new text rounds has =
+      last_round new.stage text _ old answers new has rounds.1 rounds.0.hears_them.leads
+  goes_to_end before_this old answers (next ∷ heard) new text rounds has =
       let (between, hears, on, later) = rounds in
-      let took = goes_on between.stage old answers between on hears.hears_them.leads in
+      let (behind, stage_is, took) = goes_on between.stage (remaining between.input) old answers between on refl hears.hears_them.leads in
       let was = old.given.items in
-      let said = said_in was took.line in
-      let (left, front) = heard_front _ _ was text took.line known took.takes in
+      let (rest, split, there) = takes_so _ _ text behind took.lines (is_known old.stage _ text took.opened has) took.takes in
       let before_next = before_this ++ answers in
       let many = as_many was before_next hears.each in
-      let one = as_many between.given.items (before_next ++ next) (first_each before_next between next heard new later) in
+      let all_many = as_many between.given.items (before_next ++ next) (first_each before_next between next heard new later) in
+      let due_is = is_due before_next next (all_heard heard) old answers between behind took many all_many in
       let all = before_next ++ all_heard (next ∷ heard) in
-      let steps = step old.replay.quiet said was between.given.items all next (counted_line old.replay (length was) old.lines) took.gives
-      (λ longer. at_place before_next next (all_heard heard) (length was) many (one ∙ longer)) in
-      let rest = drop_through 10 text in
-      let is : left_to old text ≡ record { line = took.line; said = said } ∷ left_to between rest =
-      front ∙ ap (λ n. record { line = took.line; said = said } ∷ heard_after n (last_after (last_moment was) said) (live_lines rest)) (sym steps.count)
-      ∙ ap (λ m. record { line = took.line; said = said } ∷ heard_after (length between.given.items) m (live_lines rest)) (sym steps.last) in
+      let is : left_to old text ≡ heard_behind was took.lines ++ left_to between rest = ap (heard_behind was) split ∙ behind_lines was between.given.items took.lines (live_lines rest) took.gives in
       subst (λ a. Goes (fault_of new.stage) (left_to old text) a old answers new) (append_assoc before_this answers (all_heard (next ∷ heard)))
-      (a_round (fault_of new.stage) (left_to old text) (left_to between rest) all old answers between next new took is steps
-      (goes_to_end before_next between next heard new rest later left))
+      (a_round (fault_of new.stage) (left_to old text) (left_to between rest) all old answers between behind next new took is due_is.rows due_is.line
+      (goes_to_end before_next between next heard new rest later (subst (λ s. LeftAt s (remaining between.input) rest) (sym stage_is) there)))
 
   -- of a run from its first line on
   pub answered : (replay : Replay) (old : LiveDriver I O L) (heard : List (List Answer)) (new : LiveDriver I O L) (text : List ℕ)
-      → LiveRounds [] old heard new → old.replay ≡ replay → old.given.items ≡ [] → old.lines ≡ 1 → said_of old.said ≡ None → remaining old.input ≡ Some text
+      → LiveRounds [] old heard new → old.replay ≡ replay → old.given.items ≡ [] → old.line ≡ 1 → old.said.items ≡ [] → old.stage ≡ stage.Open left.Lines → remaining old.input ≡ Some text
       → Answers replay (fault_of new.stage) (heard_in text) (all_heard heard) new.given.items (contents old.output.now) (contents new.output.now) (logged old.log.now) (logged new.log.now)
-  answered replay old [] new text rounds again none first nothing known = absurd rounds
-  answered replay old (answers ∷ heard) new text rounds again none first nothing known =
+  answered replay old [] new text rounds again none first nothing opened known = absurd rounds
+  answered replay old (answers ∷ heard) new text rounds again none first nothing opened known =
       let why = fault_of new.stage in
       let all = all_heard (answers ∷ heard) in
-      let goes = goes_to_end [] old answers heard new text rounds known in
-      let lines : left_to old text ≡ heard_in text = ap (λ g. heard_after (length g) (last_moment g) (live_lines text)) none in
-      let nothing_due : due old answers ≡ [] = ap (rows_of_line old.replay.quiet old.lines (length old.given.items - 1) (slice_get answers 0)) nothing in
-      let text_is : due old answers ++ text_after old.replay all old.lines (length old.given.items) (take goes.count (left_to old text)) ≡ replayed_text replay all (take goes.count (heard_in text)) =
-      ap (λ l. l ++ text_after old.replay all old.lines (length old.given.items) (take goes.count (left_to old text))) nothing_due
-      ∙ ap (λ (r : Replay). text_after r all old.lines (length old.given.items) (take goes.count (left_to old text))) again
-      ∙ ap (λ l. text_after replay all l (length old.given.items) (take goes.count (left_to old text))) first
+      let has : LeftAt old.stage (remaining old.input) text = subst (λ s. LeftAt s (remaining old.input) text) (sym opened) known in
+      let goes = goes_to_end [] old answers heard new text rounds has in
+      let lines : left_to old text ≡ heard_in text = ap (λ g. heard_behind g (live_lines text)) none in
+      let nothing_due : due old answers ≡ [] = ap (λ s. group_rows old.replay (first_of old answers) answers old.line (first_of old answers) (map said_of s)) nothing in
+      let line : last_line old answers ≡ 1 = ap (λ s. line_behind old.replay old.line (first_of old answers) (map said_of s)) nothing ∙ first in
+      let text_is : due old answers ++ text_after old.replay all (last_line old answers) (length old.given.items) (take goes.count (left_to old text)) ≡ replayed_text replay all (take goes.count (heard_in text)) =
+      ap (λ l. l ++ text_after old.replay all (last_line old answers) (length old.given.items) (take goes.count (left_to old text))) nothing_due
+      ∙ ap (λ (r : Replay). text_after r all (last_line old answers) (length old.given.items) (take goes.count (left_to old text))) again
+      ∙ ap (λ l. text_after replay all l (length old.given.items) (take goes.count (left_to old text))) line
       ∙ ap (λ g. text_after replay all 1 (length g) (take goes.count (left_to old text))) none
       ∙ ap (λ h. text_after replay all 1 0 (take goes.count h)) lines in
       record {
@@ -288,5 +344,5 @@ module _ {I O L : Type 0} (remaining : I → Option (List ℕ)) (contents : O �
         whole = λ ended. subst (λ h. length h ≤ goes.count) lines (goes.whole ended);
         takes = goes.takes ∙ ap (λ g. map item_view g ++ given_of (take goes.count (left_to old text))) none ∙ ap (λ h. given_of (take goes.count h)) lines;
         prints = subst (λ l. Prints why (contents old.output.now) (contents new.output.now) l) text_is goes.prints;
-        logs = subst (λ h. Logs why (logged old.log.now) (logged new.log.now) (logged_of (take goes.count h)) (logged_of (take 1 (drop goes.count h)))) lines goes.logs;
+        logs = subst (λ h. Logs why (logged old.log.now) (logged new.log.now) (logged_of (take goes.count h)) (logged_of (take MAX_GROUP (drop goes.count h)))) lines goes.logs;
       }

@@ -1,5 +1,6 @@
 pub mod Again
 pub mod Chain
+pub mod GroupLemmas
 pub mod Growing
 pub mod LineLemmas
 pub mod Replaying

@@ -2,6 +2,7 @@
 use Rattle.std.specs.Prelude.{◌≡◌, ◌≤◌, ◌++◌, ℕ, Option, Some, None, List, drop, length, map, take, IfSome, ⊤}
 use Rattle.std.specs.Io.KnownBytes.{Appends}
 use Rattle.live_answers.specs.Live.{Heard, given_of, heard_in, item_view, logged_of, replayed_text}
+use Rattle.live_answers.specs.declared.group.TheConstants.{MAX_GROUP}
 use Rattle.live_answers.specs.declared.replay.Replay.{Replay}
 use Rattle.live_answers.specs.declared.stage.LiveFault.{LiveFault}
 use Rattle.live_answers.specs.declared.stage.LiveFault.TheVariants as fault
@@ -22,12 +23,12 @@ Prints (Some fault.Input) old new text = Appends old new text
 Prints (Some fault.Output) old new text = AppendsFront old new text
 Prints (Some fault.Log) old new text = Appends old new text
 
--- what was logged: all of a text, and only where the log failed also a front of the next line
+-- what was logged: all of a text, and only where the log failed also a front of the text behind it
 abbrev pub Logs : Option LiveFault → Option (List ℕ) → Option (List ℕ) → List ℕ → List ℕ → Type 0
-Logs None old new text line = Appends old new text
-Logs (Some fault.Input) old new text line = Appends old new text
-Logs (Some fault.Output) old new text line = Appends old new text
-Logs (Some fault.Log) old new text line = (count : ℕ) × Appends old new (text ++ take count line)
+Logs None old new text behind = Appends old new text
+Logs (Some fault.Input) old new text behind = Appends old new text
+Logs (Some fault.Output) old new text behind = Appends old new text
+Logs (Some fault.Log) old new text behind = (size : ℕ) × Appends old new (text ++ take size behind)
 
 -- what was done with lines that say this, where these are the answers to all that was given of them
 pub record Answers (replay : Replay) (fault : Option LiveFault) (heard : List Heard) (answers : List Answer) (given : List (ℕ × Body)) (output_old output_new log_old log_new : Option (List ℕ)) : Type 0 where
@@ -38,8 +39,8 @@ pub record Answers (replay : Replay) (fault : Option LiveFault) (heard : List He
   pub takes : map item_view given ≡ given_of (take count heard)
   -- each was printed with its answer, and of each line that wasn't accepted what is wrong with it
   pub prints : Prints fault output_old output_new (replayed_text replay answers (take count heard))
-  -- and the lines of the accepted messages were logged
-  pub logs : Logs fault log_old log_new (logged_of (take count heard)) (logged_of (take 1 (drop count heard)))
+  -- and the lines of the accepted messages were logged: where the log failed also a front of those that were to be logged at once behind them
+  pub logs : Logs fault log_old log_new (logged_of (take count heard)) (logged_of (take MAX_GROUP (drop count heard)))
 
 -- a live run over an input has come to these books
 pub record IsAnswered (setup : Setup) (replay : Replay) (input output_old output_new log_old log_new : Option (List ℕ)) (given : List (ℕ × Body)) (books : List Closed) (fault : Option LiveFault) : Type 0 where

@@ -1,5 +1,5 @@
 -- What the code says of a line.
-use Rattle.std.specs.Prelude.{◌≤◌, Some, None, Ok, Err, ⊤}
+use Rattle.std.specs.Prelude.{◌≤◌, ℕ, Some, None, Ok, Err}
 use Rattle.live_answers.specs.Standing.{LineView}
 use Rattle.live_answers.specs.declared.judging.Said.{Said}
 use Rattle.live_answers.specs.declared.judging.Said.TheVariants as said
@@ -12,8 +12,12 @@ said_of said.Nothing = None
 said_of (said.Message message) = Some (Ok (view_of message))
 said_of (said.Fault kind) = Some (Err kind)
 
+-- the moment of a message, and 0 where there is none
+abbrev pub said_at : Said → ℕ
+said_at said.Nothing = 0
+said_at (said.Message message) = message.at
+said_at (said.Fault kind) = 0
+
 -- the moment of a message is within the horizon
 abbrev pub IsInRange : Said → Type 0
-IsInRange said.Nothing = ⊤
-IsInRange (said.Message message) = message.at ≤ HORIZON
-IsInRange (said.Fault kind) = ⊤
+IsInRange said = said_at said ≤ HORIZON

@@ -6,12 +6,12 @@ use Rattle.live_answers.specs.declared.stage.Stage.TheVariants as stage
 
 -- whether it goes on no more
 abbrev pub has_ended : Stage → Bool
-has_ended stage.Open = false
+has_ended (stage.Open left) = false
 has_ended stage.Ended = true
 has_ended (stage.Failed why) = true
 
 -- the fault that has ended it
 abbrev pub fault_of : Stage → Option LiveFault
-fault_of stage.Open = None
+fault_of (stage.Open left) = None
 fault_of stage.Ended = None
 fault_of (stage.Failed why) = Some why

@@ -28,24 +28,32 @@ pub struct Answered {
 /// The lines stand behind a header, which is line 1.
 ///
 /// A line is a row of a trace that a switch or an operator says, as `message_rows::read_line` reads
-/// it, ended by LF, or by the end of the input. It is accepted where its moment is not below that of
-/// the last accepted one, and where its number, if it has one, is how many were accepted before it.
-/// An accepted line is written to the log, with its LF, and flushed; then it is handled, and its row
-/// and those of its answer are written to the output, as `run_trace::trace_table` has them, and
-/// flushed. Only then is the next line read. A line that isn't accepted changes nothing: its row
-/// `,,,service,fault,KIND,LINE,,` goes to the output. KIND is `TooLong` where it has more than
-/// `MAX_LINE` bytes; else what `read_line` says of it; else `Repeated` where its number is one that
-/// was accepted before; else `Order`, for a number that is too high, or for its moment. An empty line
-/// is passed over.
+/// it, ended by LF, or by the end of the input. It is accepted where its moment is not below that
+/// of the last accepted one, and where its number, if it has one, is how many were accepted before
+/// it. A line that isn't accepted changes nothing: its row `,,,service,fault,KIND,LINE,,` goes to
+/// the output. KIND is `TooLong` where it has more than `MAX_LINE` bytes; else what `read_line`
+/// says of it; else `Repeated` where its number is one that was accepted before; else `Order`, for
+/// a number that is too high, or for its moment. An empty line is passed over.
+///
+/// The run waits for the next line, and takes with it the whole lines that the reader has at hand
+/// behind it, but no more than `MAX_GROUP` lines. The accepted ones are written to the log, each
+/// with its LF, by one write, and flushed; then they are handled; then the rows of all of them,
+/// with those of the answers as `run_trace::trace_table` has them, are written to the output in
+/// order, by one write, and flushed. Only then the run waits for a further line. So lines that come
+/// together share a flush of the log and one of the output, and a line alone waits for no other.
+/// The lines of a replay are taken one by one.
 ///
 /// A run that was cut off goes on where the lines of its log stand in front of the input: `replay`
 /// says how many they are, and how many of them are heard in silence. LINE doesn't count them.
 ///
-/// Where the input, the output or the log fails, the run ends with its books, and `fault` says which
-/// it was: what is in the log was given, but for a front of one more line where the log failed.
+/// Where the input, the output or the log fails, the run ends with its books, and `fault` says
+/// which it was. What was taken before the input failed or ended is answered first. Where the log
+/// failed, it may have a front of the lines that were taken at once, none of which was given; all
+/// else that is in the log was given.
 ///
-/// * `answered`: the books are those of a run of one worker (`IsRun`) to which the accepted messages
-///   were given, and output and log have grown by just what the lines and the answers come to.
+/// * `answered`: the books are those of a run of one worker (`IsRun`) to which the accepted
+///   messages were given, and output and log have grown by just what the lines and the answers come
+///   to.
 /// * `fault`: the errors are those of `runs_core::serve`, but for `Workers` and `GateClosed`.
 pub fn answer_live<R: Wait + Threads + Sync, I: BufRead + Drop, O: Write, L: Write>(
     rt: &R,
@@ -71,7 +79,7 @@ pub fn answer_live<R: Wait + Threads + Sync, I: BufRead + Drop, O: Write, L: Wri
         log,
         replay: _replay,
         given,
-        lines: _lines,
+        line: _line,
         said: _said,
         stage,
     } = driver;

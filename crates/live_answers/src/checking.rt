@@ -54,9 +54,10 @@ pub fn check_replay(alloc: Global, lines: &[u8]) -> Result<usize, ReplayFault>
 {
     let mut input = lines;
     let mut line = Vec::new(alloc);
+    let mut more = false;
     let mut last = 0;
     for next in 0..usize::MAX - 1 {
-        if !take_line(&mut input, &mut line)? {
+        if !take_line(&mut input, &mut line, &mut more)? {
             return Ok(next);
         }
         let said = judge(alloc, next as u64, last, line.as_slice())?;

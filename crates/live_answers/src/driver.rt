@@ -5,12 +5,12 @@ ghost use Rattle.tariff_core.specs.declared.times.TheConstants.{HORIZON};
 
 use crate::Replay;
 use crate::judging::Said;
-use crate::stage::Stage;
+use crate::stage::{Left, Stage};
 use run_values::Body;
 use std::alloc::Global;
 
-/// Drives a live run: in each round it prints what the last line said, with the answer to its
-/// message, takes one line more, and gives the message of that, or nothing.
+/// Drives a live run: in each round it prints what the last lines said, with the answers to their
+/// messages, takes the next line and those that are at hand behind it, and gives their messages.
 #[derive(Drop)]
 pub(crate) struct LiveDriver<'o, 'l, I, O, L> {
     pub alloc: Global,
@@ -24,17 +24,19 @@ pub(crate) struct LiveDriver<'o, 'l, I, O, L> {
     pub replay: Replay,
     /// All that was given.
     pub given: Vec<(u64, Body)>,
-    /// The number of the last line.
-    pub lines: u64,
-    /// What it said, which is printed before the next one is taken: its message is the last item.
-    pub said: Said,
+    /// The number of the last line that was printed.
+    pub line: u64,
+    /// What the lines behind it said, which is printed before more are taken: their messages are
+    /// the last items.
+    pub said: Vec<Said>,
     pub stage: Stage,
     ghost moments: { All (λ item. item.0 ≤ HORIZON) given.items },
 }
 
 impl<'o, 'l, I, O, L> LiveDriver<'o, 'l, I, O, L> {
     ghost use Rattle.std.specs.Prelude.{◌≡◌, []};
-    ghost use Rattle.live_answers.specs.declared.judging.Said.TheVariants as says;
+    ghost use Rattle.live_answers.specs.declared.stage.Left.TheVariants as left;
+    ghost use Rattle.live_answers.specs.declared.stage.Stage.TheVariants as stage;
 
     /// A driver before its first line, behind the header of the messages, which is line 1.
     pub(crate) fn new(
@@ -51,8 +53,9 @@ impl<'o, 'l, I, O, L> LiveDriver<'o, 'l, I, O, L> {
         ensures same_log { result.log.ghost_name ≡ log.entry.ghost_name }
         ensures replay { result.replay ≡ replay }
         ensures given { result.given.items ≡ [] }
-        ensures lines { result.lines ≡ 1 }
-        ensures said { result.said ≡ says.Nothing }
+        ensures line { result.line ≡ 1 }
+        ensures said { result.said.items ≡ [] }
+        ensures stage { result.stage ≡ stage.Open left.Lines }
     {
         LiveDriver {
             alloc,
@@ -61,9 +64,9 @@ impl<'o, 'l, I, O, L> LiveDriver<'o, 'l, I, O, L> {
             log,
             replay,
             given: Vec::new(alloc),
-            lines: 1,
-            said: Said::Nothing,
-            stage: Stage::Open,
+            line: 1,
+            said: Vec::new(alloc),
+            stage: Stage::Open(Left::Lines),
         }
     }
 }

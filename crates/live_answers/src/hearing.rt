@@ -1,14 +1,15 @@
 //! The rounds of a live run.
 
-ghost use Rattle.std.specs.Prelude.{◌≡◌, ◌++◌, ℕ, List, IfErr, IfOk, OnErr, OnOk};
+ghost use Rattle.std.specs.Prelude.{◌≡◌, ◌++◌, ℕ, List, IfErr, IfOk, OnOk};
 ghost use Rattle.run_values.specs.declared.post.Body.{Body};
 
+use crate::LiveFault;
 use crate::driver::LiveDriver;
 use crate::fault::Stop;
-use crate::judging::{judge, last_moment};
-use crate::line::take_line;
-use crate::saying::{take_in, tell};
-use crate::stage::Stage;
+use crate::group::{Group, take_group};
+use crate::judging::last_moment;
+use crate::saying::{give, put_down, tell};
+use crate::stage::{Left, Stage};
 use run_values::{Answer, Body};
 use runs_core::Driver;
 use std::alloc::AllocError;
@@ -16,39 +17,43 @@ use std::io::{BufRead, Write};
 
 impl<I: BufRead, O: Write, L: Write> LiveDriver<'_, '_, I, O, L> {
     ghost use Rattle.live_answers.specs.Cuts.{WhereFailed};
-    ghost use Rattle.live_answers.specs.Rounds.{HearsLine, IsStoppedBy, WritesOn};
+    ghost use Rattle.live_answers.specs.Rounds.{HearsLines, IsStoppedBy, WritesOn};
 
-    /// Prints what is due, and takes a line; false where none is left.
-    fn hear_line(&mut self, answers: &[Answer]) -> Result<bool, Stop>
-        ensures hears { IfOk result (HearsLine I.remaining O.contents L.contents
+    /// Prints what is due, and takes the next lines; none where no line is left.
+    fn hear_lines(&mut self, answers: &[Answer]) -> Result<Option<Left>, Stop>
+        ensures hears { IfOk result (HearsLines I.remaining O.contents L.contents
             self.old answers.now self.new) }
         ensures stopped { IfErr result (WhereFailed (IsStoppedBy I.remaining O.contents L.contents
             self.old answers.now self.new)) }
         ensures writes { WritesOn self.old self.new }
         ensures grows { OnOk result ((added : List (ℕ × Body))
             × (self.new.given.items ≡ self.old.given.items ++ added)) }
-        ensures failed { OnErr result (self.new.given.items ≡ self.old.given.items) }
+        ensures failed { IfErr result (WhereFailed (λ _.
+            self.new.given.items ≡ self.old.given.items)) }
     {
-        let place = self.given.len().saturating_sub(1);
-        tell(
+        let first = self.given.len().saturating_sub(answers.len());
+        self.line = tell(
             self.alloc,
             self.output,
-            &self.said,
-            self.replay.quiet,
-            self.lines,
-            place,
-            answers.first(),
+            self.said.as_slice(),
+            self.replay,
+            self.line,
+            first,
+            answers,
         )?;
-        let mut line = Vec::new(self.alloc);
-        if !take_line(&mut self.input, &mut line)? {
-            return Ok(false);
+        match self.stage {
+            Stage::Open(Left::Lines) => {}
+            Stage::Open(Left::Unread) => return Err(Stop::Failed(LiveFault::Input)),
+            Stage::Open(Left::Nothing) | Stage::Ended | Stage::Failed(_) => return Ok(None),
         }
-        let next = self.given.len();
-        self.lines = self.replay.next_line(next, self.lines);
         let last = last_moment(self.given.as_slice());
-        self.said = judge(self.alloc, next as u64, last, line.as_slice())?;
-        take_in(self.log, &mut self.given, &self.said, line.as_slice())?;
-        Ok(true)
+        let mut group = Group::new(self.alloc, self.given.len(), last);
+        let left = take_group(self.alloc, &mut self.input, self.replay, &mut group)?;
+        self.given.reserve(group.said.len())?;
+        put_down(self.log, group.logged.as_slice())?;
+        give(&mut self.given, group.said.as_slice())?;
+        self.said = group.said;
+        Ok(Some(left))
     }
 }
 
@@ -75,10 +80,14 @@ impl<I: BufRead, O: Write, L: Write> Driver for LiveDriver<'_, '_, I, O, L> {
     }
 
     fn round(&mut self, answers: &[Answer]) -> Result<bool, AllocError> {
-        match self.hear_line(answers) {
-            Ok(more) => {
-                self.stage = if more { Stage::Open } else { Stage::Ended };
-                Ok(more)
+        match self.hear_lines(answers) {
+            Ok(Some(left)) => {
+                self.stage = Stage::Open(left);
+                Ok(true)
+            }
+            Ok(None) => {
+                self.stage = Stage::Ended;
+                Ok(false)
             }
             Err(Stop::Failed(fault)) => {
                 self.stage = Stage::Failed(fault);

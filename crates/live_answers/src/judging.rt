@@ -1,7 +1,8 @@
 //! What a line says, after those before it.
 
-ghost use Rattle.std.specs.Prelude.{◌≡◌, ◌≤◌, IfOk, Some};
+ghost use Rattle.std.specs.Prelude.{◌≡◌, ◌<◌, ◌≤◌, ◌-◌, ◌^◌, IfOk, Some};
 ghost use Rattle.std.specs.Result.{result_map_both};
+ghost use Rattle.live_answers.specs.Live.{next_after};
 ghost use Rattle.live_answers.specs.Said.{IsInRange, said_of};
 ghost use Rattle.live_answers.specs.Standing.{in_time, last_moment, placed, said_after};
 ghost use Rattle.live_answers.specs.declared.kind.LineKind.TheVariants as kinds;
@@ -24,6 +25,19 @@ pub(crate) enum Said {
     Message(Message),
     /// What is wrong with it.
     Fault(LineKind),
+}
+
+impl Said {
+    /// How many messages are accepted, where so many were before it.
+    pub(crate) fn next_place(self, place: usize) -> usize
+        requires room { place < 2 ^ 64 - 1 }
+        ensures { result ≡ next_after place (said_of self) }
+    {
+        match self {
+            Said::Message(_) => place + 1,
+            Said::Nothing | Said::Fault(_) => place,
+        }
+    }
 }
 
 /// What a line says where so many messages were accepted, the last of them at this moment.

@@ -2,11 +2,13 @@
 
 ghost use Rattle.std.specs.Prelude.{◌≡◌};
 ghost use Rattle.live_answers.specs.Laws.{LogsAreHeardAgain, ReplaysAreSilent};
+ghost use Rattle.live_answers.specs.declared.group.TheConstants.{MAX_GROUP};
 ghost use Rattle.live_answers.specs.declared.line.TheConstants.{MAX_LINE};
 
-/// The limit of a line in plain numbers.
+/// The limits of a line, and of the lines that are taken at once, in plain numbers.
 pub fn limits_in_numbers()
     ensures most_bytes { MAX_LINE ≡ 4096 }
+    ensures most_lines { MAX_GROUP ≡ 256 }
 {}
 
 /// Nothing that was logged is lost, and nothing is made: an input of the lines of a log, with more

@@ -5,6 +5,7 @@ mod answering;
 mod checking;
 mod driver;
 mod fault;
+mod group;
 mod hearing;
 mod judging;
 mod kind;
@@ -16,6 +17,7 @@ mod stage;
 
 pub use answering::{Answered, answer_live};
 pub use checking::{ReplayFault, check_replay};
+pub use group::MAX_GROUP;
 pub use kind::LineKind;
 pub use laws::{limits_in_numbers, logs_are_heard_again, replays_are_silent};
 pub use line::MAX_LINE;

@@ -17,8 +17,13 @@ use std::io::{BufRead, ErrorKind};
 pub const MAX_LINE: usize = 4096;
 
 /// Takes the next line of an input, with its LF, of which a line that is too long leaves its first
-/// `MAX_LINE + 1` bytes. False at the end of the input.
-pub(crate) fn take_line<I: BufRead>(input: &mut I, line: &mut Vec<u8>) -> Result<bool, Stop>
+/// `MAX_LINE + 1` bytes. False at the end of the input. `more` says whether the reader has a whole
+/// line at hand behind it, for which it wouldn't have to wait.
+pub(crate) fn take_line<I: BufRead>(
+    input: &mut I,
+    line: &mut Vec<u8>,
+    more: &mut bool,
+) -> Result<bool, Stop>
     requires { line.old.items ≡ [] }
     ensures taken { result ≡ Ok true → IfSome (I.remaining input.old) (λ text. (0 < length text)
         × (line.new.items ≡ kept (take_through 10 text))
@@ -27,7 +32,7 @@ pub(crate) fn take_line<I: BufRead>(input: &mut I, line: &mut Vec<u8>) -> Result
     ensures fault { IfErr result (WhereFailed (λ why. why ≡ LiveFault.Input)) }
 {
     for _turn in 0..u64::MAX {
-        if take_part(input, line)? {
+        if take_part(input, line, more)? {
             if line.is_empty() {
                 return Ok(false);
             }
@@ -40,7 +45,7 @@ pub(crate) fn take_line<I: BufRead>(input: &mut I, line: &mut Vec<u8>) -> Result
 
 /// Takes what the input has at hand of a line, up to its LF, and keeps it as far as there is room.
 /// True where the line or the input has ended.
-fn take_part<I: BufRead>(input: &mut I, line: &mut Vec<u8>) -> Result<bool, Stop>
+fn take_part<I: BufRead>(input: &mut I, line: &mut Vec<u8>, more: &mut bool) -> Result<bool, Stop>
     requires { length line.old.items ≤ MAX_LINE + 1 }
     ensures takes { IfOk result (λ whole. (part : List ℕ)
         × (line.new.items ≡ line.old.items ++ take (MAX_LINE + 1 - length line.old.items) part)
@@ -60,6 +65,7 @@ fn take_part<I: BufRead>(input: &mut I, line: &mut Vec<u8>) -> Result<bool, Stop
     let end = end_of_line(shown);
     let room = MAX_LINE + 1 - line.len();
     line.extend_from_slice(&shown[..end.min(room)])?;
+    *more = memchr(b'\n', &shown[end..]).is_some();
     let whole = end == 0 || shown[end - 1] == b'\n';
     input.consume(end);
     Ok(whole)

@@ -1,17 +1,18 @@
 //! What is printed and logged in a round.
 
-ghost use Rattle.std.specs.Prelude.{◌≡◌, ◌≤◌, ◌++◌, ℕ, List, All, IfErr, OnErr, OnOk, map, option_copied, string_bytes};
+ghost use Rattle.std.specs.Prelude.{◌≡◌, ◌<◌, ◌≤◌, ◌^◌, ◌++◌, ℕ, List, All, IfErr, IfOk, OnOk, flat_map, map, option_copied, string_bytes};
 ghost use Rattle.std.specs.Io.KnownBytes.{Appends};
 ghost use Rattle.live_answers.specs.Cuts.{CutsLog, CutsOutput, WhereFailed};
+ghost use Rattle.live_answers.specs.Groups.{group_rows, line_behind};
 ghost use Rattle.live_answers.specs.Live.{given_by, item_view};
-ghost use Rattle.live_answers.specs.Rows.{put_down, rows_of_line};
+ghost use Rattle.live_answers.specs.Rows.{rows_of_line};
 ghost use Rattle.live_answers.specs.Said.{IsInRange, said_of};
 ghost use Rattle.rating.specs.Fronts.{Writes};
 ghost use Rattle.run_values.specs.declared.post.Body.{Body};
 
-use crate::LiveFault;
 use crate::fault::Stop;
 use crate::judging::Said;
+use crate::{LiveFault, Replay};
 use moment_texts::Clock;
 use rating::write_text;
 use run_trace::write_rows;
@@ -20,28 +21,39 @@ use std::alloc::{AllocError, Global};
 use std::io::Write;
 use tariff_core::HORIZON;
 
-/// Prints what a line of a number said: the rows of its message, which is the item of this place,
-/// with those of its answer, or the row of what is wrong with it. The first `quiet` messages are not
-/// printed. All is flushed.
+/// Prints what lines said that are behind the line of a number: of each the rows of its message,
+/// with those of its answer, or the row of what is wrong with it. So many messages were accepted
+/// before them, and these are the answers to theirs. The quiet messages are not printed. All is
+/// written at once and flushed. The result is the number of the last line.
 pub(crate) fn tell<O: Write>(
     alloc: Global,
     output: &mut O,
-    said: &Said,
-    quiet: usize,
-    line: u64,
-    place: usize,
-    answer: Option<&Answer>,
-) -> Result<(), Stop>
+    said: &[Said],
+    replay: Replay,
+    before: u64,
+    first: usize,
+    answers: &[Answer],
+) -> Result<u64, Stop>
+    requires room { first < 2 ^ 63 }
     ensures told { OnOk result (Appends (O.contents output.old) (O.contents output.new)
-        (rows_of_line quiet line place (option_copied answer.entry) (said_of said.now))) }
+        (group_rows replay first answers.now before first (map said_of said.now))) }
+    ensures line { IfOk result (λ line. line
+        ≡ line_behind replay before first (map said_of said.now)) }
     ensures cut { IfErr result (WhereFailed (CutsOutput (O.contents output.old)
         (O.contents output.new)
-        (rows_of_line quiet line place (option_copied answer.entry) (said_of said.now)))) }
+        (group_rows replay first answers.now before first (map said_of said.now)))) }
 {
     let mut text = String::new(alloc);
-    write_line_rows(&mut text, said, quiet, line, place, answer)?;
+    let mut line = before;
+    let mut place = first;
+    for one in said {
+        line = replay.next_line(place, line);
+        let answer = answers.get(place - first);
+        write_line_rows(&mut text, one, replay.quiet, line, place, answer)?;
+        place = one.next_place(place);
+    }
     if text.is_empty() || send(output, text.as_bytes()) {
-        Ok(())
+        Ok(line)
     } else {
         Err(Stop::Failed(LiveFault::Output))
     }
@@ -75,37 +87,49 @@ fn write_line_rows(
     }
 }
 
-/// Logs a line that says a message, and gives the message. Room for it is made before.
-pub(crate) fn take_in<L: Write>(
-    log: &mut L,
-    given: &mut Vec<(u64, Body)>,
-    said: &Said,
-    line: &[u8],
-) -> Result<(), Stop>
+/// Logs a text: all is written at once and flushed.
+pub(crate) fn put_down<L: Write>(log: &mut L, text: &[u8]) -> Result<(), Stop>
+    ensures logs { OnOk result (Appends (L.contents log.old) (L.contents log.new) text.now) }
+    ensures cut { IfErr result (WhereFailed (CutsLog (L.contents log.old) (L.contents log.new)
+        text.now)) }
+{
+    if text.is_empty() || send(log, text) {
+        Ok(())
+    } else {
+        Err(Stop::Failed(LiveFault::Log))
+    }
+}
+
+/// Gives the messages that lines said.
+pub(crate) fn give(given: &mut Vec<(u64, Body)>, said: &[Said]) -> Result<(), AllocError>
     requires moments { All (λ item. item.0 ≤ HORIZON) given.old.items }
-    requires in_range { IsInRange said.now }
+    requires in_range { All IsInRange said.now }
     ensures moments { All (λ item. item.0 ≤ HORIZON) given.new.items }
     ensures grows { OnOk result ((added : List (ℕ × Body))
         × (given.new.items ≡ given.old.items ++ added)) }
     ensures gives { OnOk result (map item_view given.new.items
-        ≡ map item_view given.old.items ++ given_by (said_of said.now)) }
-    ensures logs { OnOk result (Appends (L.contents log.old) (L.contents log.new)
-        (put_down line.now (said_of said.now))) }
-    ensures failed { OnErr result (given.new.items ≡ given.old.items) }
-    ensures cut { IfErr result (WhereFailed (CutsLog (L.contents log.old) (L.contents log.new)
-        (put_down line.now (said_of said.now)))) }
+        ≡ map item_view given.old.items ++ flat_map given_by (map said_of said.now)) }
 {
-    match *said {
-        Said::Message(message) => {
-            given.reserve(1)?;
-            if !send(log, line) {
-                return Err(Stop::Failed(LiveFault::Log));
-            }
-            given.push((message.at, message.body))?;
-            Ok(())
-        }
-        Said::Nothing | Said::Fault(_) => Ok(()),
+    for one in said {
+        give_one(given, *one)?;
     }
+    Ok(())
+}
+
+/// Gives the message that a line said.
+fn give_one(given: &mut Vec<(u64, Body)>, said: Said) -> Result<(), AllocError>
+    requires moments { All (λ item. item.0 ≤ HORIZON) given.old.items }
+    requires in_range { IsInRange said }
+    ensures moments { All (λ item. item.0 ≤ HORIZON) given.new.items }
+    ensures grows { OnOk result ((added : List (ℕ × Body))
+        × (given.new.items ≡ given.old.items ++ added)) }
+    ensures gives { OnOk result (map item_view given.new.items
+        ≡ map item_view given.old.items ++ given_by (said_of said)) }
+{
+    if let Said::Message(message) = said {
+        given.push((message.at, message.body))?;
+    }
+    Ok(())
 }
 
 /// Writes a text and flushes it, and answers whether the writer did both. Where it didn't, what it

@@ -10,15 +10,26 @@ pub enum LiveFault {
     Input,
     /// The output failed.
     Output,
-    /// The log failed: how much of the last line is in it is not known.
+    /// The log failed: how much of the last lines is in it is not known.
     Log,
+}
+
+/// What is left of an input.
+#[derive(Clone, Copy)]
+pub(crate) enum Left {
+    /// Lines may be left.
+    Lines,
+    /// No line: it has ended.
+    Nothing,
+    /// Lines that can't be read: it has failed.
+    Unread,
 }
 
 /// How far a live run has come.
 #[derive(Clone, Copy)]
 pub(crate) enum Stage {
-    /// It takes lines.
-    Open,
+    /// It goes on: what was taken in is to be answered, and then what is left is to be taken.
+    Open(Left),
     /// Its input has ended.
     Ended,
     /// A fault has ended it.
@@ -26,11 +37,11 @@ pub(crate) enum Stage {
 }
 
 impl Stage {
-    /// Whether no more lines are taken.
+    /// Whether it goes on no more.
     pub(crate) fn has_ended(self) -> bool
         ensures { result ≡ has_ended self }
     {
-        !matches!(self, Stage::Open)
+        !matches!(self, Stage::Open(_))
     }
 
     /// The fault that has ended the run, if one has.
@@ -39,7 +50,7 @@ impl Stage {
     {
         match self {
             Stage::Failed(fault) => Some(fault),
-            Stage::Open | Stage::Ended => None,
+            Stage::Open(_) | Stage::Ended => None,
         }
     }
 }

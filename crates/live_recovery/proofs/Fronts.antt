@@ -123,7 +123,7 @@ given_accepted (one ∷ heard) = one_again one.said one.line (given_of heard) (a
 
 -- ---- what is logged of lines
 
-logged_both : (heard later : List Heard) → logged_of (heard ++ later) ≡ logged_of heard ++ logged_of later
+pub logged_both : (heard later : List Heard) → logged_of (heard ++ later) ≡ logged_of heard ++ logged_of later
 logged_both [] later = refl
 logged_both (one ∷ heard) later =
     ap (λ l. put_down one.line one.said ++ l) (logged_both heard later) ∙ sym (append_assoc (put_down one.line one.said) (logged_of heard) (logged_of later))

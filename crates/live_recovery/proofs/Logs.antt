@@ -1,31 +1,22 @@
 -- What the whole lines of a log are, whose writer was stopped anywhere.
 use Rattle.std.proofs.Common.{◌≡◌, ◌<◌, ◌≤◌, ◌+◌, ◌-◌, ◌++◌, ◌⊎◌, ◌∙◌, inl, inr, ℕ, zero, suc, Option, Some, None, List, [], ◌∷◌, Ok, Err, length, take, drop, refl, sym, ap, subst, arith, append_assoc, append-nil}
-use Rattle.std.proofs.Math.Seq.{take-append-add}
-use Rattle.std.proofs.lemmas.List.{append_cancel_left, take-append-le}
+use Rattle.std.proofs.Math.Seq.{take-add, take-append-add}
+use Rattle.std.proofs.lemmas.List.{append_cancel_left, length-take, take-append-le, take-take}
 use Rattle.std.proofs.lemmas.Bool.{cases_lt}
 use Rattle.live_answers.specs.Live.{Heard, heard_in, logged_of}
 use Rattle.live_answers.specs.Rows.{put_down}
 use Rattle.live_answers.specs.Runs.{Logs}
 use Rattle.live_answers.specs.Standing.{LineView}
+use Rattle.live_answers.specs.declared.group.TheConstants.{MAX_GROUP}
 use Rattle.live_answers.specs.declared.stage.LiveFault.{LiveFault}
 use Rattle.live_answers.specs.declared.stage.LiveFault.TheVariants as fault
 use Rattle.live_log.specs.Logs.{HasLines, HasLinesBehind}
 use Rattle.live_recovery.specs.Recovery.{IsLogOf, LiveRun}
 use Rattle.run_texts.specs.Parts.{lines_of}
+use Rattle.live_recovery.proofs.Fronts.{logged_both}
 use Rattle.live_recovery.proofs.Lines.{AreEnded, HasNone, IsLine, LineEnds, all_raw, are_ended, drop_ends, ends_so, logged_ends, none_so, same_cut, take_ends}
 
 -- ---- the log
-
--- a line more
-logged_more : (count : ℕ) (heard later : List Heard) (one : Heard) → drop count heard ≡ one ∷ later → logged_of (take (suc count) heard) ≡ logged_of (take count heard) ++ put_down one.line one.said
-logged_more zero [] later one is = absurd (cc)
-logged_more zero (first ∷ heard) later one is =
-    let same : first ≡ one = cc is in
-    append-nil (put_down first.line first.said) ∙ ap (λ (h : Heard). put_down h.line h.said) same
-logged_more (suc count) [] later one is = absurd (cc)
-logged_more (suc count) (first ∷ heard) later one is =
-    ap (λ l. put_down first.line first.said ++ l) (logged_more count heard later one is)
-    ∙ sym (append_assoc (put_down first.line first.said) (logged_of (take count heard)) (put_down one.line one.said))
 
 nothing : (count : ℕ) → take {A = ℕ} count [] ≡ []
 nothing zero = refl
@@ -42,59 +33,73 @@ none_front (suc count) (x ∷ body) none = further (none_front count body none.1
     further (inl all) = inl (ap (λ l. x ∷ l) all)
     further (inr some) = inr (none.0, some)
 
--- what the lines of a log are, of which so many lines of an input were taken in
-record AreOf (heard : List Heard) (taken : ℕ) (lines : List ℕ) : Type 0 where
-  count : ℕ
-  lines_are : lines ≡ logged_of (take count heard)
-  least : taken ≤ count
-  most : count ≤ taken + 1
-
 cut_there : (heard : List Heard) (taken : ℕ) (log lines torn : List ℕ) → AreEnded heard → log ≡ logged_of (take taken heard) ++ torn → HasNone torn → HasLines log lines
     → lines ≡ logged_of (take taken heard)
 cut_there heard taken log lines torn ends is none has =
     same_cut lines (logged_of (take taken heard)) has.torn torn (sym has.parts ∙ is) (ends_so lines has.whole) (logged_ends (take taken heard) (take_ends taken heard ends)) (none_so has.torn has.no_line) none
 
-cut_or_more : (heard : List Heard) (taken kept_bytes : ℕ) (log lines : List ℕ) (left : List Heard) → AreEnded heard → AreEnded left → drop taken heard ≡ left
-    → log ≡ logged_of (take taken heard) ++ take kept_bytes (logged_of (take 1 left)) → HasLines log lines → AreOf heard taken lines
-cut_or_more heard taken bytes log lines [] ends left_ends rest is has = record {
-  count = taken;
-  lines_are = cut_there heard taken log lines [] ends (is ∙ ap (λ l. logged_of (take taken heard) ++ l) (nothing bytes)) tt has;
-  least = omega arith;
-  most = omega arith;
-}
-cut_or_more heard taken bytes log lines (one ∷ later) ends left_ends rest is has = by_said one.said refl left_ends.0
+-- the first bytes of a log are whole lines, and some bytes without LF
+record IsFront (heard : List Heard) (size : ℕ) : Type 0 where
+  count : ℕ
+  most : count ≤ length heard
+  torn : List ℕ
+  none : HasNone torn
+  is : take size (logged_of heard) ≡ logged_of (take count heard) ++ torn
+
+front_line : (line : List ℕ) (heard : List Heard) (one : Heard) (size : ℕ) → put_down one.line one.said ≡ line → IsLine line → ((left : ℕ) → IsFront heard left) → IsFront (one ∷ heard) size
+front_line line heard one size put is front = by_size (cases_lt size (length line))
   where
-    here : List ℕ
-    here = logged_of (take taken heard)
+    logged : List ℕ
+    logged = logged_of heard
 
-    ends_there : log ≡ here ++ [] → AreOf heard taken lines
-    ends_there so = record { count = taken; lines_are = cut_there heard taken log lines [] ends so tt has; least = omega arith; most = omega arith }
+    here : logged_of (one ∷ heard) ≡ line ++ logged
+    here = ap (λ l. l ++ logged) put
 
-    by_front : (line : IsLine one.line) → log ≡ here ++ take bytes one.line → logged_of (take (suc taken) heard) ≡ here ++ one.line
-        → (take bytes (line.body ++ 10 ∷ []) ≡ line.body ++ 10 ∷ []) ⊎ HasNone (take bytes (line.body ++ 10 ∷ [])) → AreOf heard taken lines
-    by_front line so more (inl all) =
-        let whole : take bytes one.line ≡ one.line = ap (take bytes) line.is ∙ all ∙ sym line.is in
-        let next : log ≡ logged_of (take (suc taken) heard) ++ [] = so ∙ ap (λ l. here ++ l) whole ∙ sym more ∙ sym (append-nil (logged_of (take (suc taken) heard))) in
-        record { count = suc taken; lines_are = cut_there heard (suc taken) log lines [] ends next tt has; least = omega arith; most = omega arith }
-    by_front line so more (inr some) =
-        let none : HasNone (take bytes one.line) = subst (λ l. HasNone (take bytes l)) (sym line.is) some in
-        record { count = taken; lines_are = cut_there heard taken log lines (take bytes one.line) ends so none has; least = omega arith; most = omega arith }
+    by_part : take size (logged_of (one ∷ heard)) ≡ take size line → (take size (is.body ++ 10 ∷ []) ≡ is.body ++ 10 ∷ []) ⊎ HasNone (take size (is.body ++ 10 ∷ [])) → IsFront (one ∷ heard) size
+    by_part so (inl all) = record {
+      count = 1;
+      most = omega arith;
+      torn = [];
+      none = tt;
+      is = so ∙ ap (take size) is.is ∙ all ∙ sym is.is ∙ sym (append-nil (put_down one.line one.said ++ []) ∙ append-nil (put_down one.line one.said) ∙ put);
+    }
+    by_part so (inr some) = record { count = 0; most = omega arith; torn = take size line; none = subst (λ l. HasNone (take size l)) (sym is.is) some; is = so }
 
-    by_said : (said : LineView) → one.said ≡ said → LineEnds one.line one.said → AreOf heard taken lines
-    by_said None so line =
-        ends_there (is ∙ ap (λ (s : LineView). here ++ take bytes (put_down one.line s ++ [])) so ∙ ap (λ l. here ++ l) (nothing bytes))
-    by_said (Some (Err why)) so line =
-        ends_there (is ∙ ap (λ (s : LineView). here ++ take bytes (put_down one.line s ++ [])) so ∙ ap (λ l. here ++ l) (nothing bytes))
-    by_said (Some (Ok message)) so line =
-        let whole = subst (LineEnds one.line) so line in
-        let bytes_are : log ≡ here ++ take bytes one.line =
-        is ∙ ap (λ (s : LineView). here ++ take bytes (put_down one.line s ++ [])) so ∙ ap (λ l. here ++ take bytes l) (append-nil one.line) in
-        let more = logged_more taken heard later one rest ∙ ap (λ (s : LineView). here ++ put_down one.line s) so in
-        by_front whole bytes_are more (none_front bytes whole.body whole.none)
+    by_size : (size < length line) ⊎ (length line ≤ size) → IsFront (one ∷ heard) size
+    by_size (inl less) = by_part (ap (take size) here ∙ take-append-le size line logged (omega (arith, less))) (none_front size is.body is.none)
+    by_size (inr more) =
+        let left = front (size - length line) in
+        let many : size ≡ length line + (size - length line) = omega (arith, more) in
+        record {
+          count = suc left.count;
+          most = omega (arith, left.most);
+          torn = left.torn;
+          none = left.none;
+          is = ap (take size) here ∙ ap (λ n. take n (line ++ logged)) many ∙ take-append-add line logged (size - length line) ∙ ap (λ l. line ++ l) left.is
+              ∙ sym (append_assoc line (logged_of (take left.count heard)) left.torn) ∙ sym (ap (λ l. (l ++ logged_of (take left.count heard)) ++ left.torn) put);
+        }
+
+any_front : (heard : List Heard) → AreEnded heard → (size : ℕ) → IsFront heard size
+any_front [] ends size = record { count = 0; most = omega arith; torn = []; none = tt; is = nothing size }
+any_front (one ∷ heard) ends size = by_said one.said refl ends.0 (any_front heard ends.1)
+  where
+    passed : put_down one.line one.said ≡ [] → IsFront heard size → IsFront (one ∷ heard) size
+    passed put left = record {
+      count = suc left.count;
+      most = omega (arith, left.most);
+      torn = left.torn;
+      none = left.none;
+      is = ap (λ l. take size (l ++ logged_of heard)) put ∙ left.is ∙ sym (ap (λ l. (l ++ logged_of (take left.count heard)) ++ left.torn) put);
+    }
+
+    by_said : (said : LineView) → one.said ≡ said → LineEnds one.line one.said → ((left : ℕ) → IsFront heard left) → IsFront (one ∷ heard) size
+    by_said None so line front = passed (ap (put_down one.line) so) (front size)
+    by_said (Some (Err why)) so line front = passed (ap (put_down one.line) so) (front size)
+    by_said (Some (Ok message)) so line front = front_line one.line heard one size (ap (put_down one.line) so) (subst (LineEnds one.line) so line) front
 
 -- the log of a run that began with a head alone
 pub log_is : (it : LiveRun) (taken : ℕ) (head log lines : List ℕ) → it.log_old ≡ Some head → it.log_new ≡ Some log → HasLinesBehind head log lines
-    → Logs it.fault it.log_old it.log_new (logged_of (take taken (heard_in it.input))) (logged_of (take 1 (drop taken (heard_in it.input))))
+    → Logs it.fault it.log_old it.log_new (logged_of (take taken (heard_in it.input))) (logged_of (take MAX_GROUP (drop taken (heard_in it.input))))
     → (count : ℕ) × IsLogOf it taken lines count
 log_is it taken head log lines was is has logs = by_fault it.fault refl (subst known is (subst began was logs))
   where
@@ -102,13 +107,13 @@ log_is it taken head log lines was is has logs = by_fault it.fault refl (subst k
     heard = heard_in it.input
 
     began : Option (List ℕ) → Type 0
-    began old = Logs it.fault old it.log_new (logged_of (take taken heard)) (logged_of (take 1 (drop taken heard)))
+    began old = Logs it.fault old it.log_new (logged_of (take taken heard)) (logged_of (take MAX_GROUP (drop taken heard)))
 
     known : Option (List ℕ) → Type 0
-    known new = Logs it.fault (Some head) new (logged_of (take taken heard)) (logged_of (take 1 (drop taken heard)))
+    known new = Logs it.fault (Some head) new (logged_of (take taken heard)) (logged_of (take MAX_GROUP (drop taken heard)))
 
     by : Option LiveFault → Type 0
-    by why = Logs why (Some head) (Some log) (logged_of (take taken heard)) (logged_of (take 1 (drop taken heard)))
+    by why = Logs why (Some head) (Some log) (logged_of (take taken heard)) (logged_of (take MAX_GROUP (drop taken heard)))
 
     ends : AreEnded heard
     ends = are_ended 0 0 (lines_of it.input) (all_raw it.input)
@@ -134,66 +139,27 @@ log_is it taken head log lines was is has logs = by_fault it.fault refl (subst k
     by_fault (Some fault.Input) so logged = whole (subst by so logged)
     by_fault (Some fault.Output) so logged = whole (subst by so logged)
     by_fault (Some fault.Log) so logged =
-        let cut = subst by so logged in
-        let of = cut_or_more heard taken cut.0 has.behind lines (drop taken heard) ends (drop_ends taken heard ends) refl (behind_is _ cut.1) has.lines_are in
-        (of.count, record { lines_are = of.lines_are; least = of.least; most = of.most; same = λ other. absurd (other so) })
+        let (size, cut) = subst by so logged in
+        let left = drop taken heard in
+        let group = take MAX_GROUP left in
+        let front = any_front group (take_ends MAX_GROUP left (drop_ends taken heard ends)) size in
+        let few : front.count ≤ MAX_GROUP = omega (arith, front.most, length-take MAX_GROUP left) in
+        let here = logged_of (take taken heard) in
+        let more : here ++ logged_of (take front.count group) ≡ logged_of (take (taken + front.count) heard) =
+        sym (logged_both (take taken heard) (take front.count group)) ∙ ap (λ h. logged_of (take taken heard ++ h)) (take-take front.count MAX_GROUP left few)
+        ∙ ap logged_of (sym (take-add taken front.count heard)) in
+        let whole_and_torn : has.behind ≡ logged_of (take (taken + front.count) heard) ++ front.torn =
+        behind_is _ cut ∙ ap (λ l. here ++ l) front.is ∙ sym (append_assoc here (logged_of (take front.count group)) front.torn) ∙ ap (λ l. l ++ front.torn) more in (
+          taken + front.count,
+          record {
+            lines_are = cut_there heard (taken + front.count) has.behind lines front.torn ends whole_and_torn front.none has.lines_are;
+            least = omega arith;
+            most = omega (arith, few);
+            same = λ other. absurd (other so);
+          },
+        )
 
 -- ---- a log that was stopped anywhere
-
--- the first bytes of a log are whole lines, and some bytes without LF
-record IsFront (heard : List Heard) (size : ℕ) : Type 0 where
-  count : ℕ
-  torn : List ℕ
-  none : HasNone torn
-  is : take size (logged_of heard) ≡ logged_of (take count heard) ++ torn
-
-front_line : (line : List ℕ) (heard : List Heard) (one : Heard) (size : ℕ) → put_down one.line one.said ≡ line → IsLine line → ((left : ℕ) → IsFront heard left) → IsFront (one ∷ heard) size
-front_line line heard one size put is front = by_size (cases_lt size (length line))
-  where
-    logged : List ℕ
-    logged = logged_of heard
-
-    here : logged_of (one ∷ heard) ≡ line ++ logged
-    here = ap (λ l. l ++ logged) put
-
-    by_part : take size (logged_of (one ∷ heard)) ≡ take size line → (take size (is.body ++ 10 ∷ []) ≡ is.body ++ 10 ∷ []) ⊎ HasNone (take size (is.body ++ 10 ∷ [])) → IsFront (one ∷ heard) size
-    by_part so (inl all) = record {
-      count = 1;
-      torn = [];
-      none = tt;
-      is = so ∙ ap (take size) is.is ∙ all ∙ sym is.is ∙ sym (append-nil (put_down one.line one.said ++ []) ∙ append-nil (put_down one.line one.said) ∙ put);
-    }
-    by_part so (inr some) = record { count = 0; torn = take size line; none = subst (λ l. HasNone (take size l)) (sym is.is) some; is = so }
-
-    by_size : (size < length line) ⊎ (length line ≤ size) → IsFront (one ∷ heard) size
-    by_size (inl less) = by_part (ap (take size) here ∙ take-append-le size line logged (omega (arith, less))) (none_front size is.body is.none)
-    by_size (inr more) =
-        let left = front (size - length line) in
-        let many : size ≡ length line + (size - length line) = omega (arith, more) in
-        record {
-          count = suc left.count;
-          torn = left.torn;
-          none = left.none;
-          is = ap (take size) here ∙ ap (λ n. take n (line ++ logged)) many ∙ take-append-add line logged (size - length line) ∙ ap (λ l. line ++ l) left.is
-              ∙ sym (append_assoc line (logged_of (take left.count heard)) left.torn) ∙ sym (ap (λ l. (l ++ logged_of (take left.count heard)) ++ left.torn) put);
-        }
-
-any_front : (heard : List Heard) → AreEnded heard → (size : ℕ) → IsFront heard size
-any_front [] ends size = record { count = 0; torn = []; none = tt; is = nothing size }
-any_front (one ∷ heard) ends size = by_said one.said refl ends.0 (any_front heard ends.1)
-  where
-    passed : put_down one.line one.said ≡ [] → IsFront heard size → IsFront (one ∷ heard) size
-    passed put left = record {
-      count = suc left.count;
-      torn = left.torn;
-      none = left.none;
-      is = ap (λ l. take size (l ++ logged_of heard)) put ∙ left.is ∙ sym (ap (λ l. (l ++ logged_of (take left.count heard)) ++ left.torn) put);
-    }
-
-    by_said : (said : LineView) → one.said ≡ said → LineEnds one.line one.said → ((left : ℕ) → IsFront heard left) → IsFront (one ∷ heard) size
-    by_said None so line front = passed (ap (put_down one.line) so) (front size)
-    by_said (Some (Err why)) so line front = passed (ap (put_down one.line) so) (front size)
-    by_said (Some (Ok message)) so line front = front_line one.line heard one size (ap (put_down one.line) so) (subst (LineEnds one.line) so line) front
 
 pub stopped_is : (input : List ℕ) (size : ℕ) (lines : List ℕ) → HasLines (take size (logged_of (heard_in input))) lines → (count : ℕ) × (lines ≡ logged_of (take count (heard_in input)))
 stopped_is input size lines has =

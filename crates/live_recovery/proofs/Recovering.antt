@@ -7,6 +7,7 @@ use Rattle.live_answers.specs.Laws.{LogsAreHeardAgain, accepted, next_behind}
 use Rattle.live_answers.specs.Lines.{live_lines}
 use Rattle.live_answers.specs.Live.{Heard, given_of, heard_in, item_view, logged_of, replayed_text}
 use Rattle.live_answers.specs.Runs.{Logs, Prints}
+use Rattle.live_answers.specs.declared.group.TheConstants.{MAX_GROUP}
 use Rattle.live_answers.specs.declared.replay.Replay.{Replay}
 use Rattle.live_recovery.proofs.Alone.{as_many, books_are, both_alike}
 use Rattle.live_recovery.proofs.Fronts.{accepted_many, front_alone, fronts_again, given_accepted, given_both, given_many, given_split, logged_again, none_wrong}
@@ -121,7 +122,7 @@ module _ (again : LogsAreHeardAgain) (setup : Setup) (input : List ℕ) (count :
 
   logs : it.fault ≡ None → Appends it.log_old it.log_new (logged_of (with_further heard rest))
   logs ended =
-      let whole = subst (λ why. Logs why it.log_old it.log_new (logged_of (front_of it taken)) (logged_of (take 1 (drop taken (heard_in it.input))))) ended served.answered.lines.logs in
+      let whole = subst (λ why. Logs why it.log_old it.log_new (logged_of (front_of it taken)) (logged_of (take MAX_GROUP (drop taken (heard_in it.input))))) ended served.answered.lines.logs in
       subst (λ l. Appends it.log_old it.log_new l) (ap logged_of (all_taken ended ∙ hears) ∙ logged_again heard behind) whole
 
   goes_on : (answers : List Answer) (books : List Closed) → IsUncut setup (with_further heard rest) answers books → GoesOn setup it served heard rest answers books

@@ -8,6 +8,7 @@ use Rattle.live_answers.specs.Live.{Heard, given_of, heard_after, heard_in, item
 use Rattle.live_answers.specs.Rows.{message_rows}
 use Rattle.live_answers.specs.Runs.{IsAnswered, Prints}
 use Rattle.live_answers.specs.Standing.{LineView}
+use Rattle.live_answers.specs.declared.group.TheConstants.{MAX_GROUP}
 use Rattle.live_answers.specs.declared.replay.Replay.{Replay}
 use Rattle.live_answers.specs.declared.stage.LiveFault.{LiveFault}
 use Rattle.live_answers.specs.declared.stage.LiveFault.TheVariants as fault
@@ -135,11 +136,11 @@ StoppedRunsGoOn = (setup : Setup) (input : List ℕ) (size : ℕ) (it : LiveRun)
 -- ---- two runs
 
 -- the lines of a log, by the run that wrote it: those of the messages in the first so many lines of its input. These are all that it took in, and where
--- the log failed perhaps one more, which was written and not handled
+-- the log failed perhaps some of those that were to be logged at once behind them, which were written and not handled
 pub record IsLogOf (it : LiveRun) (taken : ℕ) (lines : List ℕ) (count : ℕ) : Type 0 where
   pub lines_are : lines ≡ logged_of (front_of it count)
   pub least : taken ≤ count
-  pub most : count ≤ taken + 1
+  pub most : count ≤ taken + MAX_GROUP
   pub same : it.fault ≢ Some fault.Log → count ≡ taken
 
 -- the log of the first run has the messages of its first so many lines, and with the further lines both are as one run that was never cut off: the first has

@@ -74,7 +74,7 @@ pub fn stopped_runs_go_on()
 /// goes on with further lines. Besides what `stopped_runs_go_on` says:
 ///
 /// * the log has the messages of just the lines that the first run took in. Where the log failed it
-///   may have one more, which was not answered;
+///   may have some of the next `live_answers::MAX_GROUP` lines, which were not answered;
 /// * of these lines the first run has printed what a run over all the lines prints that was never
 ///   cut off: all, or where the output failed a front.
 pub fn cut_off_runs_go_on()

@@ -1,0 +1,43 @@
+use Rattle.std.proofs.Common.{◌≡◌, arith, rules}
+use Rattle.live_answers.proofs.GroupLemmas.{cut_off, one_taken}
+use Rattle.live_answers.proofs.group.take_group.Goals as goal
+
+pub returns-in-Err-Failed : goal.returns-in-Err-Failed
+returns-in-Err-Failed g c =
+    let has = c.loop-count.invariant in
+    record {
+      taken = (
+        has.lines,
+        omega (arith, has.few, c.loop-count-test.true),
+        cut_off (g.I.Read.remaining c.args.input.now) (g.I.Read.remaining c.loop-count.input) (g.I.Read.remaining c.take_line.new.input) has.lines has.takes,
+        has.said_is,
+        has.logged_is,
+      );
+    }
+
+pub returns-then-not-more : goal.returns-then-not-more
+returns-then-not-more g c =
+    let old = c.loop-count.group in
+    let line = c.take_line.new.line.items in
+    let is : c.as_slice.result.now ≡ line = c.as_slice.ensures.value in
+    let adds = rw is at c.in_ok-add-in-Ok-true.ensures in
+    let has = one_taken _ _ _ c.args.group.now.next c.args.group.now.last _ _ old.logged.items c.add.new.self.logged.items old.next old.last c.add.new.self.next c.add.new.self.last c.loop-count._count line
+    c.loop-count.invariant (c.take_line.ensures.taken (search rules)) adds.said adds.logged adds.next adds.last in
+    record {
+      taken = (
+        has.lines,
+        omega (arith, has.few, c.loop-count-test.true),
+        has.takes,
+        has.said_is,
+        has.logged_is,
+      );
+    }
+
+pub loop-count-preserved : goal.loop-count-preserved
+loop-count-preserved g c =
+    let old = c.loop-count.group in
+    let line = c.take_line.new.line.items in
+    let is : c.as_slice.result.now ≡ line = c.as_slice.ensures.value in
+    let adds = rw is at c.in_ok-add-in-Ok-true.ensures in
+    one_taken _ _ _ c.args.group.now.next c.args.group.now.last _ _ old.logged.items c.add.new.self.logged.items old.next old.last c.add.new.self.next c.add.new.self.last c.loop-count._count line
+    c.loop-count.invariant (c.take_line.ensures.taken (search rules)) adds.said adds.logged adds.next adds.last
