@@ -31,8 +31,9 @@ use std::thread::Threads;
 
 /// Serves an input: a tariff, a line `%%`, a setup, a line `%%`, the header
 /// `moment,number,call,from,what,x1,x2,x3,x4`, and message rows, each a line. The header is printed
-/// and flushed, then each row is answered as `live_answers::answer_live` has it before the next one
-/// is read, and at the end of the input a line `%%` and what the options ask for are printed.
+/// and flushed, then the rows that are there are answered as `live_answers::answer_live` has it
+/// before a further one is waited for, and at the end of the input a line `%%` and what the options
+/// ask for are printed.
 ///
 /// Where a log is kept, the lines of accepted messages are in it, on the disk, before the rows that
 /// answer them are printed. The log begins with the options and with what the input has in front of

@@ -287,9 +287,9 @@ Faults of a row, in its column fault; the next row is rated all the same:
 
 /// Behind the options of `serve`.
 pub(crate) const SERVE: &str = "\
-Each message is printed again, and behind it what the service says to it, before the next line
-is read. Times are in units of 100 ms: 1 <= tccd <= least <= wanted <= 864000. Money is in the
-smallest coin, a rate is money a minute.
+Each message is printed again, and behind it what the service says to it, before a further line
+is waited for. Times are in units of 100 ms: 1 <= tccd <= least <= wanted <= 864000. Money is in
+the smallest coin, a rate is money a minute.
 Input, for example:
 
   prefix,from,fee,rate
