@@ -147,6 +147,11 @@ impl BufRead for Switch<'_> {
 #[derive(Drop)]
 pub(crate) struct Kept<'a> {
     pub text: Vec<u8>,
+    /// The most bytes that it takes in a call.
+    pub room: usize,
+    /// How many calls wrote, and how many flushed.
+    pub writes: usize,
+    pub flushes: usize,
     flushed: &'a Cell<usize>,
     calls: usize,
 }
@@ -155,6 +160,9 @@ impl<'a> Kept<'a> {
     pub fn new(alloc: Global, flushed: &'a Cell<usize>, calls: usize) -> Kept<'a> {
         Kept {
             text: Vec::new(alloc),
+            room: usize::MAX,
+            writes: 0,
+            flushes: 0,
             flushed,
             calls,
         }
@@ -173,8 +181,10 @@ impl Write for Kept<'_> {
         if !self.takes_call() {
             return Err(io::Error::from(ErrorKind::Other));
         }
-        self.text.extend_from_slice(buf)?;
-        Ok(buf.len())
+        let count = buf.len().min(self.room);
+        self.text.extend_from_slice(&buf[..count])?;
+        self.writes = self.writes.saturating_add(1);
+        Ok(count)
     }
 
     fn flush(&mut self) -> io::Result<()> {
@@ -182,6 +192,7 @@ impl Write for Kept<'_> {
             return Err(io::Error::from(ErrorKind::Other));
         }
         self.flushed.set(self.text.len());
+        self.flushes = self.flushes.saturating_add(1);
         Ok(())
     }
 }
