@@ -2,8 +2,10 @@
 
 use crate::program::{expect, expect_fault, run};
 use std::alloc::{AllocError, Global};
+use std::fs::File;
 use std::io::{self, Read};
 use std::process::Abort;
+use std::rt::Files;
 use std::sync::Wait;
 use std::test::Fail;
 use std::thread::Threads;
@@ -111,7 +113,7 @@ fn table_of(alloc: Global, front: &str, rows: &str) -> Result<String, AllocError
 }
 
 /// Compares the audit of a table with these rows, and the long one.
-fn expect_audit<R: Abort + AllocGlobal + Wait + Threads + Sync>(
+fn expect_audit<R: Abort + AllocGlobal + Wait + Threads + Sync + Files<File = File>>(
     rt: &R,
     front: &str,
     rows: &str,

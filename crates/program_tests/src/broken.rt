@@ -3,8 +3,10 @@
 use crate::devices::{Failing, Full};
 use crate::looking::gives;
 use crate::program::run;
+use std::fs::File;
 use std::io::ErrorKind;
 use std::process::Abort;
+use std::rt::Files;
 use std::sync::Wait;
 use std::test::Fail;
 use std::thread::Threads;
@@ -59,7 +61,7 @@ const CUT: [(&str, &str); 2] = [
 ];
 
 /// The status of a line of words over an input, how much was printed, and the fault that was told.
-fn told<R: Abort + AllocGlobal + Wait + Threads + Sync>(
+fn told<R: Abort + AllocGlobal + Wait + Threads + Sync + Files<File = File>>(
     rt: &R,
     words: &str,
     input: &[u8],

@@ -2,8 +2,10 @@
 
 use prepaid_command::command;
 use std::alloc::{AllocError, Global};
+use std::fs::File;
 use std::io::{BufReader, Read, Write};
 use std::process::Abort;
+use std::rt::Files;
 use std::sync::Wait;
 use std::test::Fail;
 use std::thread::Threads;
@@ -33,7 +35,7 @@ pub(crate) fn run<R, I: Read + Drop, O: Write, E: Write>(
     faults: &mut E,
 ) -> Result<u8, AllocError>
 where
-    R: AllocGlobal + Wait + Threads + Sync,
+    R: AllocGlobal + Wait + Threads + Sync + Files<File = File>,
 {
     let words = words_of(rt.alloc(), line)?;
     let Ok(input) = BufReader::new(rt.alloc(), input) else {
@@ -43,7 +45,7 @@ where
 }
 
 /// Runs a line of words over an input, and compares the status and all that was written.
-pub(crate) fn expect<R: Abort + AllocGlobal + Wait + Threads + Sync>(
+pub(crate) fn expect<R: Abort + AllocGlobal + Wait + Threads + Sync + Files<File = File>>(
     rt: &R,
     line: &str,
     input: &str,
@@ -68,7 +70,7 @@ pub(crate) fn expect<R: Abort + AllocGlobal + Wait + Threads + Sync>(
 }
 
 /// As `expect`, where the input is refused with this fault of its own.
-pub(crate) fn expect_fault<R: Abort + AllocGlobal + Wait + Threads + Sync>(
+pub(crate) fn expect_fault<R: Abort + AllocGlobal + Wait + Threads + Sync + Files<File = File>>(
     rt: &R,
     line: &str,
     input: &str,
@@ -80,13 +82,10 @@ pub(crate) fn expect_fault<R: Abort + AllocGlobal + Wait + Threads + Sync>(
 
 /// Runs a line of words over a reader of this length, and compares the status and the fault.
 /// Nothing else is written.
-pub(crate) fn expect_refusal<R: Abort + AllocGlobal + Wait + Threads + Sync, I: Read + Drop>(
-    rt: &R,
-    line: &str,
-    input: I,
-    length: u64,
-    want: (u8, &str),
-) -> Result<(), Fail> {
+pub(crate) fn expect_refusal<
+    R: Abort + AllocGlobal + Wait + Threads + Sync + Files<File = File>,
+    I: Read + Drop,
+>(rt: &R, line: &str, input: I, length: u64, want: (u8, &str)) -> Result<(), Fail> {
     let mut output = Vec::new(rt.alloc());
     let mut faults = Vec::new(rt.alloc());
     let status = run(rt, line, input, &mut output, &mut faults)?;
