@@ -32,36 +32,36 @@ pub fn restarts_print_the_rest()
     replays_are_silent();
 }
 
-/// An input has one output and one set of books: two live runs over it, with the same setup, that were
-/// not cut off and that heard as many of its messages before and in silence, print the same, byte for
-/// byte, and come to the same books. The tariff was read, and no account refuses an ask.
+/// An input has one output and one set of books: two live runs over it, with the same setup, that
+/// were not cut off and that heard as many of its messages before and in silence, print the same,
+/// byte for byte, and come to the same books. The tariff was read, and no account refuses an ask.
 pub fn live_runs_are_alike()
     ensures { LiveRunsAreAlike }
 {}
 
-/// What is left of the log of a run that was stopped at any byte, as where its process was killed: its
-/// whole lines are those of the messages in the first lines of the input, so many of them as are left,
-/// each once and in order. `live_answers::check_replay` finds none of them wrong.
+/// What is left of the log of a run that was stopped at any byte, as where its process was killed:
+/// its whole lines are those of the messages in the first lines of the input, so many of them as
+/// are left, each once and in order. `live_answers::check_replay` finds none of them wrong.
 pub fn stopped_logs_are_right()
     ensures { StoppedLogsAreRight }
 {
     logs_are_heard_again();
 }
 
-/// A run begins with the whole lines that are left of such a log, and goes on with further lines. Where
-/// the tariff was read, and no account refuses an ask, it goes on as a run over all the lines that was
-/// never cut off:
+/// A run begins with the whole lines that are left of such a log, and goes on with further lines.
+/// Where the tariff was read, and no account refuses an ask, it goes on as a run over all the lines
+/// that was never cut off:
 ///
 /// * each line of the log is accepted again, as the same message;
 /// * of the further lines just that is printed which that run prints of them, with the same numbers
 ///   and the same answers. Before it come the messages of the log again, but for the quiet ones, as
 ///   that run prints them. Lines that weren't accepted are not printed again, and those that aren't
 ///   are counted anew;
-/// * its log has grown by what that run logs, each message once, and it has come to the books of that
-///   run.
+/// * its log has grown by what that run logs, each message once, and it has come to the books of
+///   that run.
 ///
-/// Where it is cut off too, it has printed what that run prints of the lines that it took in, as far
-/// as its output took that.
+/// Where it is cut off too, it has printed what that run prints of the lines that it took in, as
+/// far as its output took that.
 pub fn stopped_runs_go_on()
     ensures { StoppedRunsGoOn }
 {
@@ -69,9 +69,9 @@ pub fn stopped_runs_go_on()
 }
 
 /// The same by what two live runs come to (`live_answers::answer_live`). The first was cut off
-/// anywhere, be it that the output, the log or the input failed, or it has ended; its log was a head
-/// alone before. The second begins with the whole lines of that log (`live_log::find_lines`), and
-/// goes on with further lines. Besides what `stopped_runs_go_on` says:
+/// anywhere, be it that the output, the log or the input failed, or it has ended; its log was a
+/// head alone before. The second begins with the whole lines of that log (`live_log::find_lines`),
+/// and goes on with further lines. Besides what `stopped_runs_go_on` says:
 ///
 /// * the log has the messages of just the lines that the first run took in. Where the log failed it
 ///   may have some of the next `live_answers::MAX_GROUP` lines, which were not answered;
@@ -85,8 +85,8 @@ pub fn cut_off_runs_go_on()
 
 /// The outputs of two such runs put together are the output of one run over all the lines, byte for
 /// byte: where the first heard nothing before, and ended with its input or where that failed; where
-/// the second heard all of the log in silence, and wasn't cut off; and where no further line is wrong,
-/// since a wrong line is printed with its own number, which the second counts anew.
+/// the second heard all of the log in silence, and wasn't cut off; and where no further line is
+/// wrong, since a wrong line is printed with its own number, which the second counts anew.
 pub fn outputs_are_joined()
     ensures { OutputsAreJoined }
 {
