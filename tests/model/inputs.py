@@ -16,7 +16,7 @@ FIELDS = (
     "|1972-02-29T00:00:00|1973-02-29T00:00:00|2100-02-29T00:00:00|1970-04-31T00:00:00|1970-13-01T00:00:00|1970-01-01T24:00:00|1970-01-01T00:00:60"
     "|5138-11-16T09:46:40|5138-11-16T09:46:40.1|9999-12-31T23:59:59.9"
 ).split("|")
-# What stands for the path of a log.
+# What is in the place of the path of a log.
 LOG = "LOG"
 BYTES = b'",\r\n%0a\x00\xff\xef'
 OPERATIONS = ["opening", "credit", "reserve", "settle", "return"]

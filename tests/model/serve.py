@@ -126,7 +126,7 @@ class Service:
 
 
 def read_part(source):
-    """What stands before the next line that is %% alone, and the same with that line."""
+    """What is in front of the next line that is %% alone, and the same with that line."""
     lines, left = [], MAX_PART
     while line := source.readline(left + 1):
         left -= len(line)
