@@ -8,7 +8,8 @@ use Rattle.account_core.specs.Events.{EntryData}
 use Rattle.live_recovery.proofs.Alike.{GoAlike, goes_itself}
 use Rattle.live_recovery.proofs.Chains.{ChainsAreAlike, NoFault, chains_alike}
 use Rattle.live_recovery.proofs.Handling.{AreLegal}
-use Rattle.live_recovery.specs.Laws.{LongerRunsAnswerAlike, NoneIsRefused, IsProper, RunsAreAlike, views_of}
+use Rattle.live_recovery.specs.Laws.{LongerRunsAnswerAlike, NoneIsRefused, RunsAreAlike, views_of}
+use Rattle.tariff_core.specs.Laws.{IsProper}
 use Rattle.run_values.specs.Openings.{no_credit}
 use Rattle.run_values.specs.Setups.{Setup}
 use Rattle.run_values.specs.declared.directory.OpeningCredit.{OpeningCredit}

@@ -3,7 +3,7 @@ use Rattle.std.proofs.Common.{◌≡◌, ◌++◌, ℕ, Option, None, List, [], 
 use Rattle.account_core.specs.Events.{EntryData}
 use Rattle.live_recovery.proofs.Alike.{GoAlike, ItemsAlike, done_as}
 use Rattle.live_recovery.proofs.Handling.{AreAlike, AreLegal, Begin, HoldAlike, begin_further, begin_itself, done_alike, done_goes_on}
-use Rattle.live_recovery.specs.Laws.{IsProper}
+use Rattle.tariff_core.specs.Laws.{IsProper}
 use Rattle.run_values.specs.Setups.{Setup}
 use Rattle.run_values.specs.declared.post.Body.{Body}
 use Rattle.run_values.specs.declared.post.Body.TheVariants.{Ssf, Recharge}

@@ -12,7 +12,7 @@ use Rattle.dialogue_core.specs.Table.{on_begin}
 use Rattle.dialogue_core.specs.Talks.{Got, is_ask, sent_by, talked}
 use Rattle.live_recovery.proofs.Routing.{begins_alike}
 use Rattle.live_recovery.proofs.Talking.{AreEntered, same_got, same_gots}
-use Rattle.live_recovery.specs.Laws.{IsProper}
+use Rattle.tariff_core.specs.Laws.{IsProper}
 use Rattle.run_values.specs.Setups.{Setup}
 use Rattle.run_values.specs.declared.post.Post.{Post}
 use Rattle.shared_account.proofs.Beginnings.{begins_itself, begins_further}

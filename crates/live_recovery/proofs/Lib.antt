@@ -8,7 +8,6 @@ pub mod Joining
 pub mod Lines
 pub mod Logs
 pub mod Printing
-pub mod Proper
 pub mod Readable
 pub mod Recovering
 pub mod Routing

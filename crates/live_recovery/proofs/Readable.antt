@@ -13,7 +13,6 @@ use Rattle.live_answers.specs.Live.{Heard, given_by, given_of, heard_after, last
 use Rattle.live_answers.specs.Standing.{LineView, in_time, numbered, placed, said_after, standing}
 use Rattle.live_answers.specs.declared.kind.LineKind.TheVariants as kind
 use Rattle.live_recovery.proofs.Decimals.{IsShort, is_short}
-use Rattle.live_recovery.proofs.Proper.{after_is, decimal_within}
 use Rattle.message_rows.specs.Lines.{line_message, message_of, nine}
 use Rattle.message_rows.specs.Messages.{MessageView, Speech, call_in, charging_report_in, ended_in, event_in, event_report_in, initial_in, interval_in, leg_in, message_in, mode_in, no_switch_in, of_switch, recharge_in, state_in, switch_in, switched_in, when_blank}
 use Rattle.moment_texts.specs.Fields.{moment_in}
@@ -28,6 +27,8 @@ use Rattle.table_core.specs.declared.fault.RowKind.{RowKind}
 use Rattle.table_core.specs.declared.fault.RowKind.TheVariants as row
 use Rattle.tariff_core.specs.declared.times.TimeInfo.{TimeInfo}
 use Rattle.tariff_core.specs.declared.times.TimeInfo.TheVariants as info
+use Rattle.tariff_core.proofs.Proper.{decimal_within}
+use Rattle.tariff_core.proofs.TableLemmas.{after_is}
 
 -- ---- the numbers of what was read are short
 

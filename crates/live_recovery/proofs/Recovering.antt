@@ -12,11 +12,12 @@ use Rattle.live_answers.specs.declared.replay.Replay.{Replay}
 use Rattle.live_recovery.proofs.Alone.{as_many, books_are, both_alike}
 use Rattle.live_recovery.proofs.Fronts.{accepted_many, front_alone, fronts_again, given_accepted, given_both, given_many, given_split, logged_again, none_wrong}
 use Rattle.live_recovery.proofs.Logs.{log_is, stopped_is}
-use Rattle.live_recovery.proofs.Proper.{read_is_proper}
 use Rattle.live_recovery.proofs.Readable.{ItemsRead, all_read, given_read, take_read}
 use Rattle.live_recovery.proofs.SameSpeech.{follow}
 use Rattle.live_recovery.proofs.Texts.{begun_text, printed_again}
-use Rattle.live_recovery.specs.Laws.{IsProper, views_of}
+use Rattle.live_recovery.specs.Laws.{views_of}
+use Rattle.tariff_core.proofs.Proper.{read_is_proper}
+use Rattle.tariff_core.specs.Laws.{IsProper}
 use Rattle.live_recovery.specs.Recovery.{CutOffRunsGoOn, GoesOn, HearsAgain, IsLive, IsResumed, IsUncut, LiveRun, LiveRunsAreAlike, StoppedLogsAreRight, StoppedRunsGoOn, front_of, heard_behind, text_again, text_anew, with_further}
 use Rattle.message_rows.specs.Messages.{Speech}
 use Rattle.run_values.specs.Setups.{Setup}

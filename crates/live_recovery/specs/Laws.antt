@@ -1,5 +1,5 @@
 -- Two runs of one worker that are given the same.
-use Rattle.std.specs.Prelude.{◌≡◌, ◌<◌, ◌++◌, ℕ, None, Ok, List, All, Contains, map}
+use Rattle.std.specs.Prelude.{◌≡◌, ◌++◌, ℕ, None, List, All, map}
 use Rattle.live_answers.specs.Laws.{last_behind, next_behind, silence}
 use Rattle.live_answers.specs.Lines.{live_lines}
 use Rattle.live_answers.specs.Live.{heard_after, heard_in, logged_of, replayed_text, text_after}
@@ -9,28 +9,12 @@ use Rattle.run_values.specs.declared.post.Body.{Body}
 use Rattle.runs_core.specs.Runs.{IsRun}
 use Rattle.shared_account.specs.Closed.{Closed}
 use Rattle.shared_account.specs.Seen.{StoodIn}
-use Rattle.table_core.specs.Rows.{Fields}
-use Rattle.tariff_core.specs.Bands.{Band}
-use Rattle.tariff_core.specs.TariffTable.{tariff_of}
-use Rattle.tariff_core.specs.declared.times.TheConstants.{DAY}
+use Rattle.tariff_core.specs.Laws.{IsProper}
 use Rattle.workers_core.specs.Handled.{AnswerView, answer_view}
 
 -- no account has refused an ask for any of these answers
 abbrev pub NoneIsRefused : List Answer → Type 0
 NoneIsRefused answers = All (λ answer. answer.refused ≡ None) answers
-
--- no two rows of a tariff have the same prefix and the same start, and each starts within a day
-pub record IsProper (bands : List Band) : Type 0 where
-  pub apart : (one other : Band) → Contains bands one → Contains bands other → one.prefix ≡ other.prefix → one.start ≡ other.start → one ≡ other
-  pub within : All (λ band. band.start < DAY) bands
-
--- a tariff that was read of a table
-abbrev pub IsReadTariff : List Band → Type 0
-IsReadTariff bands = (rows : List Fields) × (tariff_of rows ≡ Ok bands)
-
--- a tariff that was read is proper
-abbrev pub ReadTariffsAreProper : Type 0
-ReadTariffsAreProper = (bands : List Band) → IsReadTariff bands → IsProper bands
 
 -- what the answers tell
 abbrev pub views_of : List Answer → List AnswerView

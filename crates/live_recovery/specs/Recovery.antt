@@ -13,13 +13,14 @@ use Rattle.live_answers.specs.declared.replay.Replay.{Replay}
 use Rattle.live_answers.specs.declared.stage.LiveFault.{LiveFault}
 use Rattle.live_answers.specs.declared.stage.LiveFault.TheVariants as fault
 use Rattle.live_log.specs.Logs.{HasLines, HasLinesBehind}
-use Rattle.live_recovery.specs.Laws.{IsReadTariff, NoneIsRefused, views_of}
+use Rattle.live_recovery.specs.Laws.{NoneIsRefused, views_of}
 use Rattle.run_values.specs.Setups.{Setup}
 use Rattle.run_values.specs.declared.post.Answer.{Answer}
 use Rattle.run_values.specs.declared.post.Body.{Body}
 use Rattle.runs_core.specs.Runs.{IsRun}
 use Rattle.shared_account.specs.Closed.{Closed}
 use Rattle.shared_account.specs.Seen.{StoodIn}
+use Rattle.tariff_core.specs.Laws.{IsReadTariff}
 use Rattle.workers_core.specs.Handled.{AnswerView}
 
 -- ---- runs

@@ -1,15 +1,9 @@
 //! The laws of recovery, each the contract of a function that does nothing.
 
-ghost use Rattle.live_recovery.specs.Laws.{LongerRunsAnswerAlike, ReadTariffsAreProper, RestartsPrintTheRest, RunsAreAlike};
+ghost use Rattle.live_recovery.specs.Laws.{LongerRunsAnswerAlike, RestartsPrintTheRest, RunsAreAlike};
 ghost use Rattle.live_recovery.specs.Recovery.{CutOffRunsGoOn, LiveRunsAreAlike, OutputsAreJoined, StoppedLogsAreRight, StoppedRunsGoOn};
 
 use live_answers::{logs_are_heard_again, replays_are_silent};
-
-/// A tariff that was read is as the other laws need it: no two of its rows have the same prefix and
-/// the same start, and each starts within a day.
-pub fn read_tariffs_are_proper()
-    ensures { ReadTariffsAreProper }
-{}
 
 /// Where two runs of one worker over the same setup are given the same messages, and no account
 /// refuses an ask in either, they answer the same, and come to the same books.

@@ -6,6 +6,5 @@ mod laws;
 
 pub use laws::{
     cut_off_runs_go_on, live_runs_are_alike, longer_runs_answer_alike, outputs_are_joined,
-    read_tariffs_are_proper, restarts_print_the_rest, runs_are_alike, stopped_logs_are_right,
-    stopped_runs_go_on,
+    restarts_print_the_rest, runs_are_alike, stopped_logs_are_right, stopped_runs_go_on,
 };

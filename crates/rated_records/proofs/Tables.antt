@@ -14,7 +14,7 @@ use Rattle.cap_values.specs.NumberDigits.{digits_of}
 use Rattle.cap_values.specs.Numbers.{is_number}
 use Rattle.cap_values.specs.declared.number.Number.{Number}
 use Rattle.csv.specs.Reading.{strip_bom}
-use Rattle.live_recovery.specs.Laws.{IsProper, ReadTariffsAreProper}
+use Rattle.tariff_core.specs.Laws.{IsProper, ReadTariffsAreProper}
 use Rattle.moment_texts.specs.Laws.{MomentsArePlain, MomentsAreRead}
 use Rattle.moment_texts.specs.Printing.{moment_text}
 use Rattle.moment_texts.specs.Reading.{moment_of}

@@ -8,8 +8,6 @@ use Rattle.call_records.specs.Records.{IsPrefixOf, Run, prefix_of}
 use Rattle.call_records.specs.declared.call_record.CallRecord.{CallRecord}
 use Rattle.cap_values.specs.NumberDigits.{digits_of}
 use Rattle.cap_values.specs.declared.number.Number.{Number}
-use Rattle.live_recovery.proofs.Routing.{same_terms}
-use Rattle.live_recovery.specs.Laws.{IsProper}
 use Rattle.rated_records.specs.Laws.{IsRatedBy, RecordsHaveNoDifference, paid_rightly}
 use Rattle.rating.specs.Rated.{Rating, Faulty, Priced}
 use Rattle.rating.specs.declared.charge.Charge.{Charge}
@@ -18,26 +16,13 @@ use Rattle.run_records.proofs.Unrouted.{routed}
 use Rattle.run_records.specs.Laws.{CallsPayTheirRoute, IsUntalked, PaysItsRoute, RecordsAreInRange}
 use Rattle.shared_account.specs.Closed.{Closed}
 use Rattle.shared_account.specs.Refusals.{Knowing}
-use Rattle.tariff_core.specs.Bands.{Band}
+use Rattle.tariff_core.proofs.Routing.{one_prefix, same_terms}
+use Rattle.tariff_core.specs.Laws.{IsProper}
 use Rattle.tariff_core.specs.Price.{price_at, price_of}
 use Rattle.tariff_core.specs.Rates.{Rates}
 use Rattle.tariff_core.specs.RatesOf.{rates_of}
-use Rattle.tariff_core.specs.Routes.{BeginsWith, HasNoRoute, IsPrefixFor, IsRoute}
+use Rattle.tariff_core.specs.Routes.{HasNoRoute, IsPrefixFor, IsRoute}
 use Rattle.tariff_core.specs.declared.route.Route.{Route}
-
--- ---- of a number one prefix counts
-
-no_longer : (bands : List Band) (called one other : List ℕ) → IsPrefixFor bands called one → IsPrefixFor bands called other → length one ≤ length other
-no_longer bands called one other is too =
-    let (k, band, within, stands, own) = is.listed in
-    let Short : List ℕ → Type 0 = λ prefix. length prefix ≤ length other in
-    let Begins : List ℕ → Type 0 = BeginsWith called in
-    subst Short own (All-contains (λ (b : Band). BeginsWith called b.prefix → length b.prefix ≤ length other) bands band too.longest (k, within, stands) (subst Begins (sym own) is.begins))
-
-one_prefix : (bands : List Band) (called one other : List ℕ) → IsPrefixFor bands called one → IsPrefixFor bands called other → one ≡ other
-one_prefix bands called one other is too =
-    let long : length one ≡ length other = omega (arith, no_longer bands called one other is too, no_longer bands called other one too is) in
-    sym (take_at one is.begins.0 (length one) refl) ∙ ap (take (length one)) (sym is.begins.1 ∙ too.begins.1) ∙ take_at other too.begins.0 (length one) (sym long)
 
 -- ---- the price by the tariff is what was paid
 
@@ -46,7 +31,7 @@ module _ (run : Run) (call : CallRecord) (proper : IsProper run.setup.tariff) wh
       → price_of (rates_of route.plan) call.times.before call.times.after ≡ call.paid
   price_paid (inl untalked) route is = ap (price_at (rates_of route.plan)) untalked.times ∙ sym untalked.paid
   price_paid (inr pays) route is =
-      ap (λ (rates : Rates). price_at rates call.times) (same_terms run.setup.tariff proper (digits_of call.called) call.start route pays.route is pays.routed).0 ∙ sym pays.paid
+      ap (λ (rates : Rates). price_at rates call.times) (same_terms run.setup.tariff (digits_of call.called) call.start route pays.route proper is pays.routed).0 ∙ sym pays.paid
 
   abbrev charge : ℕ → Charge
   charge price = record { before = call.times.before; after = call.times.after; price = price }

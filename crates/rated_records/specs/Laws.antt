@@ -4,7 +4,7 @@ use Rattle.call_records.specs.Records.{IsRecord, Run, prefix_of}
 use Rattle.call_records.specs.declared.call_record.CallRecord.{CallRecord}
 use Rattle.call_records.specs.declared.outcome.Outcome.TheVariants as outcome
 use Rattle.cap_values.specs.NumberDigits.{digits_of}
-use Rattle.live_recovery.specs.Laws.{IsProper}
+use Rattle.tariff_core.specs.Laws.{IsProper}
 use Rattle.rating.specs.Calls.{CallSaid, talk_split}
 use Rattle.rating.specs.Rated.{IsPriced, Rating, Faulty, Priced}
 use Rattle.rating.specs.declared.charge.Charge.{Charge}

@@ -5,11 +5,11 @@ ghost use Rattle.rated_records.specs.Laws.{RecordsHaveNoDifference};
 ghost use Rattle.rated_records.specs.Runs.{RunsHaveNoDifference};
 ghost use Rattle.rated_records.specs.Tables.{NoRowIsPrinted, TablesHaveNoDifference};
 
-use live_recovery::read_tariffs_are_proper;
 use moment_texts::printed_moments_are_read;
 use run_records::{calls_pay_their_route, records_are_in_range};
 use shared_account::{Shared, TurnAccount};
 use table_core::{printed_decimals_are_read, printed_tables_are_read};
+use tariff_core::read_tariffs_are_proper;
 
 /// The records of a run have no difference: whatever `rate` says of a record, where its start is
 /// taken for the answer and its times before the switch and after it as they are, it finds the
@@ -17,9 +17,8 @@ use table_core::{printed_decimals_are_read, printed_tables_are_read};
 /// record has no prefix.
 ///
 /// It holds of each record but those with a forfeit, which have paid all that was held for them. It
-/// takes what `run_records::calls_pay_their_route` takes, and of the tariff that no two rows have
-/// the same prefix and the same start, and that each starts within a day (`IsProper`), as in each
-/// that is read.
+/// takes what `run_records::calls_pay_their_route` takes, and that the tariff is proper
+/// (`IsProper`), as each that is read.
 pub fn records_have_no_difference<S: Shared>()
     ensures { RecordsHaveNoDifference S.stood }
 {

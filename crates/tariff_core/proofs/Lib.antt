@@ -1,10 +1,15 @@
 pub mod AffordLemmas
 pub mod CeilingLemmas
+pub mod EnteringLemmas
 pub mod IndexLemmas
 pub mod Known
 pub mod Lawfuls
 pub mod MidnightLemmas
 pub mod PrefixLemmas
 pub mod Prices
+pub mod Proper
 pub mod RangeLemmas
+pub mod Routing
+pub mod SwitchLemmas
 pub mod TableLemmas
+pub mod WeekdayLemmas

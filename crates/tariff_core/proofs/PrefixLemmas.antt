@@ -1,70 +1,56 @@
 -- The longest prefix of the table that a called number begins with.
-use Rattle.std.proofs.Common.{◌≡◌, ℕ, ◌-◌, ◌<◌, ◌≤◌, Bool, true, false, List, [], ◌∷◌, length, get_or, take, drop, min, Option, Some, None, refl, sym, ap, ◌∙◌, inl, inr, arith, length-take, length-append}
+use Rattle.std.proofs.Common.{◌≡◌, ℕ, ◌+◌, ◌-◌, ◌/◌, ◌%◌, ◌<◌, ◌≤◌, Bool, true, false, List, length, get_or, take, drop, min, Option, Some, None, refl, sym, ap, subst, ◌∙◌, inl, inr, arith, length-take, length-append}
 use Rattle.std.proofs.Math.Seq.{take-append_seam}
 use Rattle.std.proofs.lemmas.List.{take-append-drop}
-use Rattle.std.specs.Prelude.{◌==◌, ◌&&◌, if◌then◌else◌, is_some, All, Contains, IfNone, IsSome}
-use Rattle.std.specs.Str.{bytes_eq}
+use Rattle.std.specs.Prelude.{is_some, All, Contains, IfNone, IsSome}
 use Rattle.std.proofs.lemmas.Bool.{cases_lt}
-use Rattle.std.proofs.lemmas.Bool.Decides.{nat_tests}
 use Rattle.std.proofs.lemmas.List.Elements.{All-contains, Contains-get_or}
 use Rattle.std.proofs.lemmas.List.Folds.{list_all_at}
-use Rattle.tariff_core.specs.Bands.{Band, band_at, has_band, is_at}
-use Rattle.tariff_core.specs.Prefixes.{digits_of}
+use Rattle.tariff_core.specs.Bands.{Band, band_at, counts_on, has_band, has_midnights, weekday}
+use Rattle.tariff_core.specs.Digits.{digits_of}
 use Rattle.tariff_core.specs.Routes.{BeginsWith, HasNoRoute, IsPrefixFor}
-use Rattle.tariff_core.specs.Tariff.{is_complete}
-use Rattle.tariff_core.specs.declared.prefix.Prefix.{Prefix}
+use Rattle.tariff_core.specs.Tariff.{is_complete, key_of}
+use Rattle.tariff_core.specs.declared.digits.Digits.{Digits}
 use Rattle.tariff_core.specs.declared.row.Row.{Row}
-use Rattle.tariff_core.proofs.RangeLemmas.{found_listed, same_bytes_is}
+use Rattle.tariff_core.specs.declared.times.TheConstants.{DAY}
+use Rattle.tariff_core.proofs.IndexLemmas.{IsKey}
+use Rattle.tariff_core.proofs.RangeLemmas.{IsListed, found_listed}
+use Rattle.tariff_core.proofs.WeekdayLemmas.{each_weekday}
 
 -- ---- the row of a prefix from midnight on
 
-found_at : (prefix : List ℕ) (start : ℕ) (bands : List Band) (band : Band) → band_at prefix start bands ≡ Some band → is_at prefix start band ≡ true
-unfolding band_at
-found_at prefix start [] band is = cc
-found_at prefix start (first ∷ bands) band is =
-    by_first (is_at prefix start first) refl (found_at prefix start bands band) is
+pub weekday_within : (moment : ℕ) → (1 ≤ weekday moment) × (weekday moment ≤ 7)
+weekday_within moment = within (moment / DAY)
   where
-    by_first : (b : Bool) → is_at prefix start first ≡ b → (band_at prefix start bands ≡ Some band → is_at prefix start band ≡ true)
-        → (if b then Some first else band_at prefix start bands) ≡ Some band → is_at prefix start band ≡ true
-    by_first true at later is = let same : first ≡ band = cc in rw (← same) at
-    by_first false at later is = later is
+    within : (days : ℕ) → (1 ≤ (days + 3) % 7 + 1) × ((days + 3) % 7 + 1 ≤ 7)
+    within days = (omega arith, omega arith)
 
--- a row of the list for a prefix and a start
-pub record IsListed (bands : List Band) (prefix : List ℕ) (start : ℕ) (band : Band) : Type 0 where
-  pub listed : Contains bands band
-  pub own : band.prefix ≡ prefix
-  pub starts : band.start ≡ start
+-- the day of the places of a moment
+pub keyed_at : (by_days : Bool) (now on day : ℕ) → on ≡ weekday now → day ≡ key_of by_days on → IsKey by_days (weekday now) day
+keyed_at by_days now on day on_is day_is =
+    let (low, high) = weekday_within now in record { low = low; high = high; key = day_is ∙ ap (key_of by_days) on_is }
 
-own_parts : (a b : Bool) → (a && b) ≡ true → (a ≡ true) × (b ≡ true)
-own_parts true b is = (refl, is)
-own_parts false b is = cc
+listed_at : (bands : List Band) (prefix : List ℕ) (day start : ℕ) (found : Option Band) → band_at prefix day start bands ≡ found → is_some found ≡ true
+    → (band : Band) × IsListed bands prefix day start band
+listed_at bands prefix day start None is has = cc
+listed_at bands prefix day start (Some band) is has = (band, found_listed prefix day start bands band is)
 
-start_is : (s t : ℕ) → (s == t) ≡ true → s ≡ t
-start_is s t is = grind (arith, nat_tests)
+pub has_listed : (bands : List Band) (prefix : List ℕ) (day start : ℕ) → has_band prefix day start bands ≡ true → (band : Band) × IsListed bands prefix day start band
+has_listed bands prefix day start has = listed_at bands prefix day start (band_at prefix day start bands) refl has
 
-pub listed_at : (bands : List Band) (prefix : List ℕ) (start : ℕ) (found : Option Band) → band_at prefix start bands ≡ found → is_some found ≡ true
-    → (band : Band) × IsListed bands prefix start band
-listed_at bands prefix start None is has = cc
-listed_at bands prefix start (Some band) is has =
-    let parts = own_parts (bytes_eq band.prefix prefix) (band.start == start) (found_at prefix start bands band is) in (
-      band,
-      record { listed = found_listed prefix start bands band is; own = same_bytes_is band.prefix prefix parts.0; starts = start_is _ _ parts.1 },
-    )
-
-pub has_listed : (bands : List Band) (prefix : List ℕ) (start : ℕ) → has_band prefix start bands ≡ true → (band : Band) × IsListed bands prefix start band
-has_listed bands prefix start has = listed_at bands prefix start (band_at prefix start bands) refl has
-
--- a prefix with a row from midnight on has one at each time of day
-pub some_latest : (bands : List Band) (prefix : List ℕ) (time : ℕ) (answer : Option Row) → has_band prefix 0 bands ≡ true
-    → IfNone answer (All (λ band. band.prefix ≡ prefix → time < band.start) bands) → IsSome answer
-some_latest bands prefix time (Some row) has none = refl
-some_latest bands prefix time None has none =
-    let (band, is) = has_listed bands prefix 0 has in
-    let later : time < band.start = All-contains (λ b. b.prefix ≡ prefix → time < b.start) bands band none is.listed is.own in
+-- a prefix with a row from midnight on, on each weekday, has one at each moment
+pub some_latest : (bands : List Band) (prefix : List ℕ) (now : ℕ) (answer : Option Row) → has_midnights prefix bands ≡ true
+    → IfNone answer (All (λ band. band.prefix ≡ prefix → counts_on (weekday now) band ≡ true → now % DAY < band.start) bands) → IsSome answer
+some_latest bands prefix now (Some row) has none = refl
+some_latest bands prefix now None has none =
+    let (from_monday, to_sunday) = weekday_within now in
+    let at = each_weekday (λ day. has_band prefix day 0 bands) (weekday now) from_monday to_sunday has in
+    let (band, is) = has_listed bands prefix (weekday now) 0 at in
+    let later : now % DAY < band.start = All-contains (λ b. b.prefix ≡ prefix → counts_on (weekday now) b ≡ true → now % DAY < b.start) bands band none is.listed is.own is.counts in
     absurd (omega (arith, is.starts))
 
 -- a prefix of the code is short
-pub short_digits : (prefix : Prefix) → length (digits_of prefix) ≤ 15
+pub short_digits : (prefix : Digits) → length (digits_of prefix) ≤ 15
 short_digits prefix = let short = prefix.short in omega (arith, length-take prefix.len prefix.bytes)
 
 -- ---- prefixes of a called number
@@ -87,16 +73,23 @@ true_by : (b : Bool) → (b ≡ false → ⊥) → b ≡ true
 true_by true h = refl
 true_by false h = absurd (h refl)
 
-complete_at : (bands : List Band) (band : Band) → is_complete bands ≡ true → Contains bands band → has_band band.prefix 0 bands ≡ true
+complete_at : (bands : List Band) (band : Band) → is_complete bands ≡ true → Contains bands band → has_midnights band.prefix bands ≡ true
 complete_at bands band complete (k, below, is) =
-    true_by (has_band band.prefix 0 bands) (λ no.
-    let none = list_all_at (λ b. has_band b.prefix 0 bands) bands k band below (rw is no) in
+    true_by (has_midnights band.prefix bands) (λ no.
+    let none = list_all_at (λ b. has_midnights b.prefix bands) bands k band below (rw is no) in
     let both : true ≡ false = sym complete ∙ none in cc)
 
-pub is_longest : (bands : List Band) (called prefix : List ℕ) (most : ℕ) → prefix ≡ take most called → most ≤ length called → has_band prefix 0 bands ≡ true
+-- a prefix that has a row from midnight on, on Mondays, has one on each weekday
+pub complete_prefix : (bands : List Band) (prefix : List ℕ) → is_complete bands ≡ true → has_band prefix 1 0 bands ≡ true → has_midnights prefix bands ≡ true
+complete_prefix bands prefix complete has =
+    let (band, is) = has_listed bands prefix 1 0 has in
+    let all : has_midnights band.prefix bands ≡ true = complete_at bands band complete is.listed in
+    subst (λ p. has_midnights p bands ≡ true) is.own all
+
+pub is_longest : (bands : List Band) (called prefix : List ℕ) (most : ℕ) → prefix ≡ take most called → most ≤ length called → has_band prefix 1 0 bands ≡ true
     → All (λ band. length band.prefix ≤ 15) bands → NoneLonger bands called most → IsPrefixFor bands called prefix
 is_longest bands called prefix most is within has short none =
-    let (band, found) = has_listed bands prefix 0 has in
+    let (band, found) = has_listed bands prefix 1 0 has in
     let (place, below, at) = found.listed in
     let count : length prefix ≡ min most (length called) = ap length is ∙ length-take most called in
     record {
@@ -106,15 +99,16 @@ is_longest bands called prefix most is within has short none =
     }
 
 -- no row's prefix is one that isn't in the table
-absent : (bands : List Band) (called prefix : List ℕ) (most : ℕ) → prefix ≡ take most called → is_complete bands ≡ true → has_band prefix 0 bands ≡ false
+absent : (bands : List Band) (called prefix : List ℕ) (most : ℕ) → prefix ≡ take most called → is_complete bands ≡ true → has_band prefix 1 0 bands ≡ false
     → (band : Band) → Contains bands band → BeginsWith called band.prefix → length band.prefix ≡ most → ⊥
 absent bands called prefix most is complete none band listed begins long =
     let same : band.prefix ≡ prefix = sym (begins_take called band.prefix begins) ∙ ap (λ n. take n called) long ∙ sym is in
-    let has : has_band prefix 0 bands ≡ true = rw same at (complete_at bands band complete listed) in
+    let all : has_midnights prefix bands ≡ true = subst (λ p. has_midnights p bands ≡ true) same (complete_at bands band complete listed) in
+    let has : has_band prefix 1 0 bands ≡ true = each_weekday (λ day. has_band prefix day 0 bands) 1 (omega arith) (omega arith) all in
     let both : true ≡ false = sym has ∙ none in cc
 
 pub none_longer_next : (bands : List Band) (called prefix : List ℕ) (most : ℕ) → prefix ≡ take most called → is_complete bands ≡ true
-    → has_band prefix 0 bands ≡ false → NoneLonger bands called most → NoneLonger bands called (most - 1)
+    → has_band prefix 1 0 bands ≡ false → NoneLonger bands called most → NoneLonger bands called (most - 1)
 none_longer_next bands called prefix most is complete none longer k d below begins short =
     let le = longer k d below begins short in
     let other = absent bands called prefix most is complete none (get_or bands k d) (Contains-get_or bands k d below) begins in
@@ -124,7 +118,7 @@ none_longer_next bands called prefix most is complete none longer k d below begi
     ]
 
 pub no_route : (bands : List Band) (called prefix : List ℕ) (most : ℕ) → prefix ≡ take most called → is_complete bands ≡ true
-    → has_band prefix 0 bands ≡ false → All (λ band. length band.prefix ≤ 15) bands → NoneLonger bands called most → most ≡ 0 → HasNoRoute bands called
+    → has_band prefix 1 0 bands ≡ false → All (λ band. length band.prefix ≤ 15) bands → NoneLonger bands called most → most ≡ 0 → HasNoRoute bands called
 no_route bands called prefix most is complete none short longer last k d below begins =
     let le = longer k d below begins (short k d below) in
     absent bands called prefix most is complete none (get_or bands k d) (Contains-get_or bands k d below) begins (omega arith)

@@ -1,6 +1,6 @@
 -- The rows of a prefix that a range of the index has.
 use Rattle.std.proofs.Common.{◌≡◌, ℕ, zero, suc, ◌<◌, ◌≤◌, Bool, true, false, List, [], ◌∷◌, ◌++◌, get_or, Option, Some, None, refl, sym, ap, ◌∙◌, arith}
-use Rattle.std.specs.Prelude.{if◌then◌else◌, is_some, map, option_map, All, Contains, IfNone, IsSome}
+use Rattle.std.specs.Prelude.{◌==◌, ◌&&◌, if◌then◌else◌, is_some, map, option_map, All, Contains, IfNone, IsSome}
 use Rattle.std.specs.BTreeMap.{BTreeMap, get}
 use Rattle.std.specs.BTreeMap.Range.{IsInRange, IsRangeOf}
 use Rattle.std.specs.Cmp.Lexicographic.{slice_cmp}
@@ -14,59 +14,75 @@ use Rattle.std.proofs.lemmas.Bool.Decides.{nat_tests}
 use Rattle.std.proofs.lemmas.Cmp.{nat_list_cmp_total, tied_itself}
 use Rattle.std.proofs.lemmas.List.Elements.{All-map, Contains-get_or}
 use Rattle.std.proofs.lemmas.Map.Keys.{ge_from_not_lt, le_from_not_gt}
-use Rattle.std.proofs.lemmas.Map.Lookups.{exact_bytes}
+use Rattle.std.proofs.lemmas.Map.Lookups.{exact_bytes, exact_unsigned}
 use Rattle.std.proofs.lemmas.Map.Text.{is_eq-slice_cmp}
-use Rattle.tariff_core.specs.Bands.{Band, band_at, has_band, is_at}
+use Rattle.tariff_core.specs.Bands.{Band, band_at, counts_on, has_band, is_at}
+use Rattle.tariff_core.specs.Digits.{digits_of}
 use Rattle.tariff_core.specs.Places.{by_place}
-use Rattle.tariff_core.specs.Prefixes.{digits_of}
-use Rattle.tariff_core.specs.Tariff.{Indexes, band_of, band_with}
-use Rattle.tariff_core.specs.declared.prefix.Place.{Place}
-use Rattle.tariff_core.specs.declared.prefix.Prefix.{Prefix}
-use Rattle.tariff_core.specs.declared.row.Cost.{Cost}
+use Rattle.tariff_core.specs.Tariff.{Indexes, IsOn, band_of}
+use Rattle.tariff_core.specs.declared.place.Place.{Place}
+use Rattle.tariff_core.specs.declared.digits.Digits.{Digits}
 use Rattle.tariff_core.specs.declared.row.Row.{Row}
+use Rattle.tariff_core.proofs.IndexLemmas.{IsKey, at_parts}
 
 -- ---- rows that a list has
 
 pub same_bytes : (digits : List ℕ) → bytes_eq digits digits ≡ true
 same_bytes digits = sym (is_eq-slice_cmp digits digits) ∙ ap is_eq (tied_itself nat_list_cmp_total digits)
 
-pub same_bytes_is : (xs ys : List ℕ) → bytes_eq xs ys ≡ true → xs ≡ ys
-same_bytes_is xs ys is = equal_is (slice_cmp nat_cmp xs ys) refl (is_eq-slice_cmp xs ys ∙ is)
+same_number : (s : ℕ) → (s == s) ≡ true
+same_number s = grind (arith, nat_tests)
+
+-- a row is found by its own prefix and start on a day on which it counts
+pub own_place : (band : Band) (day : ℕ) → counts_on day band ≡ true → is_at band.prefix day band.start band ≡ true
+own_place band day counts = all_three (same_bytes band.prefix) (same_number band.start) counts
   where
-    equal_is : (o : Ordering) → slice_cmp nat_cmp xs ys ≡ o → is_eq o ≡ true → xs ≡ ys
-    equal_is Less at is = cc
-    equal_is Equal at is = exact_bytes xs ys at
-    equal_is Greater at is = cc
+    all_three : {a b c : Bool} → a ≡ true → b ≡ true → c ≡ true → ((a && b) && c) ≡ true
+    all_three one two three = rw (one, two, three) refl
 
-own_place : (band : Band) → is_at band.prefix band.start band ≡ true
-own_place band = let same = same_bytes band.prefix in rw same (grind (arith, nat_tests))
-
-listed_first : (band first : Band) (rest : Option Band) → first ≡ band → is_some (if is_at band.prefix band.start first then Some first else rest) ≡ true
-listed_first band first rest is = rw (is, own_place band) refl
+listed_first : (band first : Band) (day : ℕ) (rest : Option Band) → counts_on day band ≡ true → first ≡ band
+    → is_some (if is_at band.prefix day band.start first then Some first else rest) ≡ true
+listed_first band first day rest counts is =
+    let at : is_at band.prefix day band.start first ≡ true = rw is (own_place band day counts) in
+    rw at refl
 
 listed_later : (at : Bool) (first : Band) (rest : Option Band) → is_some rest ≡ true → is_some (if at then Some first else rest) ≡ true
 listed_later true first rest is = refl
 listed_later false first rest is = is
 
--- a row of the list is found by its prefix and its start
-pub listed_found : (bands : List Band) (band : Band) → Contains bands band → has_band band.prefix band.start bands ≡ true
+-- a row of the list is found by its prefix, a weekday on which it counts, and its start
+pub listed_found : (bands : List Band) (band : Band) (day : ℕ) → Contains bands band → counts_on day band ≡ true → has_band band.prefix day band.start bands ≡ true
 unfolding band_at
-listed_found [] band (k, below, is) = absurd (omega arith)
-listed_found (first ∷ bands) band (zero, below, is) = listed_first band first _ is
-listed_found (first ∷ bands) band (suc k, below, is) =
-    listed_later (is_at band.prefix band.start first) first _ (listed_found bands band (k, omega arith, is))
+listed_found [] band day (k, below, is) counts = absurd (omega arith)
+listed_found (first ∷ bands) band day (zero, below, is) counts = listed_first band first day _ counts is
+listed_found (first ∷ bands) band day (suc k, below, is) counts =
+    listed_later (is_at band.prefix day band.start first) first _ (listed_found bands band day (k, omega arith, is) counts)
 
-found_first : (at : Bool) (first band : Band) (bands : List Band) (rest : Option Band) → (rest ≡ Some band → Contains bands band)
-    → (if at then Some first else rest) ≡ Some band → Contains (first ∷ bands) band
-found_first true first band bands rest later is = let same : first ≡ band = cc in (0, omega arith, same)
-found_first false first band bands rest later is = let (k, below, at) = later is in (suc k, omega arith, at)
+-- a row of the list for a prefix, a weekday and a start
+pub record IsListed (bands : List Band) (prefix : List ℕ) (day start : ℕ) (band : Band) : Type 0 where
+  pub listed : Contains bands band
+  pub own : band.prefix ≡ prefix
+  pub starts : band.start ≡ start
+  pub counts : counts_on day band ≡ true
+
+listed_with : (first band : Band) (bands : List Band) (prefix : List ℕ) (day start : ℕ) → IsListed bands prefix day start band → IsListed (first ∷ bands) prefix day start band
+listed_with first band bands prefix day start is =
+    let (k, below, at) = is.listed in record { listed = (suc k, omega arith, at); own = is.own; starts = is.starts; counts = is.counts }
+
+found_first : (at : Bool) (first band : Band) (bands : List Band) (prefix : List ℕ) (day start : ℕ) (rest : Option Band) → is_at prefix day start first ≡ at
+    → (rest ≡ Some band → IsListed bands prefix day start band) → (if at then Some first else rest) ≡ Some band → IsListed (first ∷ bands) prefix day start band
+found_first true first band bands prefix day start rest at later is =
+    let same : first ≡ band = cc in
+    let parts = at_parts prefix day start first at in
+    record { listed = (0, omega arith, same); own = rw (← same) parts.0; starts = rw (← same) parts.1; counts = rw (← same) parts.2 }
+found_first false first band bands prefix day start rest at later is = listed_with first band bands prefix day start (later is)
 
 -- a row that was found is one of the list
-pub found_listed : (prefix : List ℕ) (start : ℕ) (bands : List Band) (band : Band) → band_at prefix start bands ≡ Some band → Contains bands band
+pub found_listed : (prefix : List ℕ) (day start : ℕ) (bands : List Band) (band : Band) → band_at prefix day start bands ≡ Some band → IsListed bands prefix day start band
 unfolding band_at
-found_listed prefix start [] band is = cc
-found_listed prefix start (first ∷ bands) band is =
-    found_first (is_at prefix start first) first band bands (band_at prefix start bands) (found_listed prefix start bands band) is
+found_listed prefix day start [] band is = cc
+found_listed prefix day start (first ∷ bands) band is =
+    found_first (is_at prefix day start first) first band bands prefix day start (band_at prefix day start bands) refl (found_listed prefix day start bands band) is
 
 Contains-map : (rows : List Row) (row : Row) → Contains rows row → Contains (map band_of rows) (band_of row)
 Contains-map rows row (k, below, is) = (k, rw (length-map rows band_of) below, get_or-map band_of rows k row ∙ ap band_of is)
@@ -79,23 +95,20 @@ some_seen : {X Y : Type 0} (view : X → Y) (found : Option X) → is_some (opti
 some_seen view None is = cc
 some_seen view (Some x) is = refl
 
-pub indexed_found : (index : BTreeMap Place Cost) (rows : List Row) (row : Row) → Indexes index (map band_of rows) → Contains rows row
-    → IsSome (get by_place index row.place)
-indexed_found index rows row indexed listed =
-    some_seen (band_with row.place) (get by_place index row.place)
-    (rw (indexed row.place) (listed_found (map band_of rows) (band_of row) (Contains-map rows row listed)))
-
 -- ---- the places of a prefix
 
-abbrev place_at : Prefix → ℕ → Place
-place_at prefix start = record { prefix = prefix; start = start }
+abbrev pub place_at : Digits → ℕ → ℕ → Place
+place_at prefix day start = record { prefix = prefix; day = day; start = start }
 
--- places of one prefix are in the order of their starts
-same_prefix : (k q : Place) → digits_of k.prefix ≡ digits_of q.prefix → by_place k q ≡ nat_cmp k.start q.start
-same_prefix k q same = rw (same, tied_itself nat_list_cmp_total (digits_of q.prefix)) refl
+-- places of one prefix and one day are in the order of their starts
+same_prefix : (k q : Place) → digits_of k.prefix ≡ digits_of q.prefix → k.day ≡ q.day → by_place k q ≡ nat_cmp k.start q.start
+same_prefix k q same days = rw (same, days, tied_itself nat_list_cmp_total (digits_of q.prefix), tied q.day) refl
+  where
+    tied : (n : ℕ) → nat_cmp n n ≡ Equal
+    tied n = grind (arith, nat_tests)
 
-pub forward : (prefix : Prefix) (from to : ℕ) → from ≤ to → is_gt (by_place (place_at prefix from) (place_at prefix to)) ≡ false
-forward prefix from to le = rw (same_prefix (place_at prefix from) (place_at prefix to) refl) (grind (arith, nat_tests))
+pub forward : (prefix : Digits) (day from to : ℕ) → from ≤ to → is_gt (by_place (place_at prefix day from) (place_at prefix day to)) ≡ false
+forward prefix day from to le = rw (same_prefix (place_at prefix day from) (place_at prefix day to) refl refl) (grind (arith, nat_tests))
 
 ends_equal : (o a b : Ordering) → is_gt (ordering_then o a) ≡ false → ordering_then (ordering_reverse o) b ≡ Less → (o ≡ Equal) × (is_gt a ≡ false) × (b ≡ Less)
 ends_equal Less a b low high = cc
@@ -108,66 +121,105 @@ less_is s t is = grind (arith, nat_tests)
 is_less : (s t : ℕ) → s < t → nat_cmp s t ≡ Less
 is_less s t below = grind (arith, nat_tests)
 
--- a place of a prefix, from a start on and before another
-pub record IsOf (prefix : Prefix) (from to : ℕ) (place : Place) : Type 0 where
+back_nat : (s t : ℕ) → nat_cmp t s ≡ ordering_reverse (nat_cmp s t)
+back_nat s t = grind (arith, nat_tests)
+
+-- a place of a prefix and a day, from a start on and before another
+pub record IsOf (prefix : Digits) (day from to : ℕ) (place : Place) : Type 0 where
   pub own : digits_of place.prefix ≡ digits_of prefix
+  pub on_day : place.day ≡ day
   pub from_start : from ≤ place.start
   pub to_end : place.start < to
 
-module _ (prefix : Prefix) (from to : ℕ) where
-  within : (k : Place) → IsInRange by_place (Included (place_at prefix from)) (Excluded (place_at prefix to)) k → IsOf prefix from to k
+module _ (prefix : Digits) (day from to : ℕ) where
+  within : (k : Place) → IsInRange by_place (Included (place_at prefix day from)) (Excluded (place_at prefix day to)) k → IsOf prefix day from to k
   within k (low, high) =
       let back = nat_list_cmp_total.antisymm (digits_of k.prefix) (digits_of prefix) in
-      let ends = ends_equal (slice_cmp nat_cmp (digits_of prefix) (digits_of k.prefix)) (nat_cmp from k.start) (nat_cmp k.start to) low (rw back at high) in
+      let ends = ends_equal (slice_cmp nat_cmp (digits_of prefix) (digits_of k.prefix)) (ordering_then (nat_cmp day k.day) (nat_cmp from k.start))
+      (ordering_then (nat_cmp k.day day) (nat_cmp k.start to)) low (rw back at high) in
+      let starts = ends_equal (nat_cmp day k.day) (nat_cmp from k.start) (nat_cmp k.start to) ends.1 (rw (back_nat day k.day) at ends.2) in
       record {
         own = sym (exact_bytes _ _ ends.0);
-        from_start = le_from_not_gt _ _ ends.1;
-        to_end = less_is _ _ ends.2;
+        on_day = sym (exact_unsigned _ _ starts.0);
+        from_start = le_from_not_gt _ _ starts.1;
+        to_end = less_is _ _ starts.2;
       }
 
-  into : (k : Place) → IsOf prefix from to k → IsInRange by_place (Included (place_at prefix from)) (Excluded (place_at prefix to)) k
+  into : (k : Place) → IsOf prefix day from to k → IsInRange by_place (Included (place_at prefix day from)) (Excluded (place_at prefix day to)) k
   into k is = (
-    let above = is.from_start in rw (same_prefix (place_at prefix from) k (sym is.own)) (grind (arith, nat_tests)),
-    rw (same_prefix k (place_at prefix to) is.own) (is_less k.start to is.to_end),
+    let above = is.from_start in rw (same_prefix (place_at prefix day from) k (sym is.own) (sym is.on_day)) (grind (arith, nat_tests)),
+    rw (same_prefix k (place_at prefix day to) is.own is.on_day) (is_less k.start to is.to_end),
   )
 
-  module _ (index : BTreeMap Place Cost) (rows : List Row) (found : List (Place × Cost)) (indexed : Indexes index (map band_of rows))
-      (range : IsRangeOf by_place (Included (place_at prefix from)) (Excluded (place_at prefix to)) index found) where
-    entry_listed : (e : Place × Cost) → get by_place index e.0 ≡ Some e.1 → Contains (map band_of rows) (band_with e.0 e.1)
-    entry_listed e is =
-        found_listed (digits_of e.0.prefix) e.0.start (map band_of rows) (band_with e.0 e.1) (sym (indexed e.0) ∙ ap (option_map (band_with e.0)) is)
+-- a row of a prefix that counts on a weekday, from a start on and before another
+pub record IsRowOf (prefix : Digits) (weekday from to : ℕ) (row : Row) : Type 0 where
+  pub own : digits_of row.prefix ≡ digits_of prefix
+  pub counts : counts_on weekday (band_of row) ≡ true
+  pub from_start : from ≤ row.start
+  pub to_end : row.start < to
 
-    -- the range has no rows
-    pub none_of : found ≡ [] → (row : Row) → Contains rows row → IsOf prefix from to row.place → ⊥
-    none_of none row listed is =
-        let no = range.5 none row.place (into row.place is) in
-        let yes = indexed_found index rows row indexed listed in
-        cc
+module _ (by_days : Bool) (weekday day : ℕ) (keyed : IsKey by_days weekday day) (prefix : Digits) (from to : ℕ) (index : BTreeMap Place Row) (rows : List Row) (found : List (Place × Row))
+    (indexed : Indexes by_days index (map band_of rows))
+    (range : IsRangeOf by_place (Included (place_at prefix day from)) (Excluded (place_at prefix day to)) index found) where
+  -- where a row is found on the weekday
+  abbrev own_place_of : Row → Place
+  own_place_of row = place_at row.prefix day row.start
 
-    -- an entry of the range is a row of the prefix
-    pub record IsEntry (e : Place × Cost) : Type 0 where
-      pub listed : Contains (map band_of rows) (band_with e.0 e.1)
-      pub place : IsOf prefix from to e.0
+  own_of : (row : Row) → IsRowOf prefix weekday from to row → IsOf prefix day from to (own_place_of row)
+  own_of row is = record { own = is.own; on_day = refl; from_start = is.from_start; to_end = is.to_end }
 
-    pub last_is : (e : Place × Cost) (front : List (Place × Cost)) → found ≡ front ++ e ∷ [] → IsEntry e
-    last_is e front is = let entry = range.3 e front is in record { listed = entry_listed e entry.1; place = within e.0 entry.0 }
+  is_on : (place : Place) → place.day ≡ day → IsOn by_days weekday place
+  is_on place is = record { from_monday = keyed.low; to_sunday = keyed.high; key = is ∙ keyed.key }
 
-    pub last_latest : (e : Place × Cost) (front : List (Place × Cost)) → found ≡ front ++ e ∷ [] → (row : Row) → Contains rows row
-        → IsOf prefix from to row.place → row.place.start ≤ e.0.start
-    last_latest e front is row listed of =
-        let place = (last_is e front is).place in
-        let order = range.4 e front is row.place (into row.place of) (indexed_found index rows row indexed listed) in
-        ge_from_not_lt e.0.start row.place.start (rw (same_prefix e.0 row.place (place.own ∙ sym of.own)) at order)
+  indexed_found : (row : Row) → Contains rows row → counts_on weekday (band_of row) ≡ true → IsSome (get by_place index (own_place_of row))
+  indexed_found row listed counts =
+      some_seen band_of (get by_place index (own_place_of row))
+      (rw (indexed (own_place_of row) weekday (is_on (own_place_of row) refl)) (listed_found (map band_of rows) (band_of row) weekday (Contains-map rows row listed) counts))
 
-    pub first_is : (e : Place × Cost) (rest : List (Place × Cost)) → found ≡ e ∷ rest → IsEntry e
-    first_is e rest is = let entry = rw is at range.1 in record { listed = entry_listed e entry.1; place = within e.0 entry.0 }
+  -- the range has no rows
+  pub none_of : found ≡ [] → (row : Row) → Contains rows row → IsRowOf prefix weekday from to row → ⊥
+  none_of none row listed is =
+      let no = range.5 none (own_place_of row) (into prefix day from to (own_place_of row) (own_of row is)) in
+      let yes = indexed_found row listed is.counts in
+      cc
 
-    pub first_soonest : (e : Place × Cost) (rest : List (Place × Cost)) → found ≡ e ∷ rest → (row : Row) → Contains rows row
-        → IsOf prefix from to row.place → e.0.start ≤ row.place.start
-    first_soonest e rest is row listed of =
-        let place = (first_is e rest is).place in
-        let order = rw is at range.2 row.place (into row.place of) (indexed_found index rows row indexed listed) in
-        le_from_not_gt e.0.start row.place.start (rw (same_prefix e.0 row.place (place.own ∙ sym of.own)) at order)
+  -- an entry of the range is a row of the prefix
+  pub record IsEntry (e : Place × Row) : Type 0 where
+    pub listed : Contains (map band_of rows) (band_of e.1)
+    pub row_of : IsRowOf prefix weekday from to e.1
+    pub place : IsOf prefix day from to e.0
+    pub starts : e.1.start ≡ e.0.start
+
+  entry_of : (e : Place × Row) → IsOf prefix day from to e.0 → get by_place index e.0 ≡ Some e.1 → IsEntry e
+  entry_of e of is =
+      let at = found_listed (digits_of e.0.prefix) weekday e.0.start (map band_of rows) (band_of e.1) (sym (indexed e.0 weekday (is_on e.0 of.on_day)) ∙ ap (option_map band_of) is) in
+      let starts : e.1.start ≡ e.0.start = at.starts in
+      record {
+        listed = at.listed;
+        row_of = record { own = at.own ∙ of.own; counts = at.counts; from_start = omega (arith, starts, of.from_start); to_end = omega (arith, starts, of.to_end) };
+        place = of;
+        starts = starts;
+      }
+
+  pub last_is : (e : Place × Row) (front : List (Place × Row)) → found ≡ front ++ e ∷ [] → IsEntry e
+  last_is e front is = let entry = range.3 e front is in entry_of e (within prefix day from to e.0 entry.0) entry.1
+
+  pub last_latest : (e : Place × Row) (front : List (Place × Row)) → found ≡ front ++ e ∷ [] → (row : Row) → Contains rows row
+      → IsRowOf prefix weekday from to row → row.start ≤ e.1.start
+  last_latest e front is row listed of =
+      let entry = last_is e front is in
+      let order = range.4 e front is (own_place_of row) (into prefix day from to (own_place_of row) (own_of row of)) (indexed_found row listed of.counts) in
+      rw entry.starts (ge_from_not_lt e.0.start row.start (rw (same_prefix e.0 (own_place_of row) (entry.place.own ∙ sym of.own) entry.place.on_day) at order))
+
+  pub first_is : (e : Place × Row) (rest : List (Place × Row)) → found ≡ e ∷ rest → IsEntry e
+  first_is e rest is = let entry = rw is at range.1 in entry_of e (within prefix day from to e.0 entry.0) entry.1
+
+  pub first_soonest : (e : Place × Row) (rest : List (Place × Row)) → found ≡ e ∷ rest → (row : Row) → Contains rows row
+      → IsRowOf prefix weekday from to row → e.1.start ≤ row.start
+  first_soonest e rest is row listed of =
+      let entry = first_is e rest is in
+      let order = rw is at range.2 (own_place_of row) (into prefix day from to (own_place_of row) (own_of row of)) (indexed_found row listed of.counts) in
+      rw entry.starts (le_from_not_gt e.0.start row.start (rw (same_prefix e.0 (own_place_of row) (entry.place.own ∙ sym of.own) entry.place.on_day) at order))
 
 pub if_none : {X : Type 0} (answer : Option X) (P : Type 0) → P → IfNone answer P
 if_none None P holds = holds

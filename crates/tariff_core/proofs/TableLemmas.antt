@@ -1,6 +1,7 @@
 -- The rows so far and those that are left are the rows of the table.
-use Rattle.std.proofs.Common.{◌≡◌, ℕ, zero, suc, ◌<◌, ◌+◌, ◌≤◌, Bool, true, false, List, [], ◌∷◌, length, Option, Some, None, Result, Ok, Err, refl, arith}
-use Rattle.std.specs.Prelude.{IsErrAnd, if◌then◌else◌, map}
+use Rattle.std.proofs.Common.{◌≡◌, ℕ, zero, suc, ◌<◌, ◌+◌, ◌≤◌, Bool, true, false, List, [], ◌∷◌, length, Option, Some, None, Result, Ok, Err, refl, ap, ◌∙◌, arith}
+use Rattle.std.specs.Prelude.{IsErrAnd, if◌then◌else◌, map, nat_le, nat_lt}
+use Rattle.std.proofs.lemmas.Bool.Decides.{nat_tests}
 use Rattle.std.specs.List.{list_any}
 use Rattle.table_core.specs.Judging.{after}
 use Rattle.table_core.specs.Rows.{Fields, rows_of}
@@ -11,11 +12,11 @@ use Rattle.table_core.specs.Reading.{header_of, number_of, width_of}
 use Rattle.table_core.specs.declared.table.Table.{Table}
 use Rattle.table_core.proofs.TableLemmas.{IsRead, Stops}
 use Rattle.tariff_core.proofs.Known.{at_known}
-use Rattle.tariff_core.specs.Bands.{Band, has_band, have_steps}
+use Rattle.tariff_core.specs.Bands.{Band, have_steps}
 use Rattle.tariff_core.specs.Rates.{are_steps}
 use Rattle.tariff_core.specs.Tariff.{band_of}
 use Rattle.tariff_core.specs.TariffFaults.{fault_from, kind_from}
-use Rattle.tariff_core.specs.TariffTable.{ComesBy, Gives, HasColumns, NotBefore, Refuses, band_in, bands_of, complete, complete_by, header, header_with_free, header_with_steps, new_band, new_band_in, tariff_form, without_midnight}
+use Rattle.tariff_core.specs.TariffTable.{ComesBy, Gives, HasColumns, NotBefore, Refuses, band_in, bands_of, complete, complete_by, days_in, first_in, free_in, header, header_with_days, header_with_free, header_with_steps, money_in, new_band, new_band_in, prefix_in, repeats, start_in, step_in, tariff_form, without_midnight}
 use Rattle.tariff_core.specs.declared.row.Row.{Row}
 use Rattle.tariff_core.specs.declared.tariff_fault.TariffFault.{TariffFault}
 use Rattle.tariff_core.specs.declared.tariff_fault.TariffKind.{TariffKind}
@@ -23,20 +24,56 @@ use Rattle.tariff_core.specs.declared.tariff_fault.TariffKind.TheVariants as kin
 
 -- ---- one row
 
--- a row that is read comes behind the earlier ones
-is_new_band : (earlier : List Band) (given band : Band) (b : Bool) → has_band given.prefix given.start earlier ≡ b
-    → (if b then Err kind.Repeated else Ok given) ≡ Ok band → has_band band.prefix band.start earlier ≡ false
-is_new_band earlier given band true has is = cc
-is_new_band earlier given band false has is = let same : given ≡ band = cc in rw (← same) has
+-- a step that was taken, and those after it
+pub after_is : {X Y E : Type 0} (step : Result X E) (next : X → Result Y E) (y : Y) → after step next ≡ Ok y → (x : X) × (step ≡ Ok x) × (next x ≡ Ok y)
+after_is (Ok x) next y is = (x, refl, is)
+after_is (Err why) next y is = absurd (cc)
 
-is_new_in : (earlier : List Band) (band : Band) (given : Result Band TariffKind) → after given (new_band earlier) ≡ Ok band
-    → has_band band.prefix band.start earlier ≡ false
-is_new_in earlier band (Ok given) is = is_new_band earlier given band _ refl is
-is_new_in earlier band (Err why) is = cc
+new_is : (repeated : Bool) (band new : Band) → (if repeated then Err kind.Repeated else Ok band) ≡ Ok new → (repeated ≡ false) × (band ≡ new)
+new_is true band new is = absurd (cc)
+new_is false band new is = (refl, cc is)
 
-pub is_new : (which : ℕ) (earlier : List Band) (fields : Fields) (band : Band) → new_band_in which earlier fields ≡ Ok band
-    → has_band band.prefix band.start earlier ≡ false
-is_new which earlier fields band is = is_new_in earlier band (band_in which fields) is
+-- a row that is taken is what its fields say, and no repetition
+pub taken_band : (which : ℕ) (earlier : List Band) (fields : Fields) (band : Band) → new_band_in which earlier fields ≡ Ok band
+    → (band_in which fields ≡ Ok band) × (repeats earlier band ≡ false)
+taken_band which earlier fields band is =
+    let (given, read, kept) = after_is (band_in which fields) (new_band earlier) band is in
+    let (new, same) = new_is (repeats earlier given) given band kept in
+    (rw (← same) read, rw (← same) new)
+
+-- the start and the days of a row are what its fields say
+pub read_parts : (which : ℕ) (fields : Fields) (band : Band) → band_in which fields ≡ Ok band → (start_in fields ≡ Ok band.start) × (days_in which fields ≡ Ok band.days)
+read_parts which fields band is =
+    let one = after_is (prefix_in fields) _ band is in
+    let two = after_is (start_in fields) _ band one.2 in
+    let three = after_is (money_in fields 2) _ band two.2 in
+    let four = after_is (money_in fields 3) _ band three.2 in
+    let five = after_is (free_in which fields) _ band four.2 in
+    let six = after_is (first_in which fields) _ band five.2 in
+    let seven = after_is (step_in which fields) _ band six.2 in
+    let eight = after_is (days_in which fields) _ band seven.2 in
+    let start : two.0 ≡ band.start = ap (start_of two.0) eight.2 in
+    let days : eight.0 ≡ band.days = ap (days_of eight.0) eight.2 in
+    (two.1 ∙ ap Ok start, eight.1 ∙ ap Ok days)
+  where
+    start_of : ℕ → Result Band TariffKind → ℕ
+    start_of none (Ok band) = band.start
+    start_of none (Err why) = none
+
+    days_of : List ℕ → Result Band TariffKind → List ℕ
+    days_of none (Ok band) = band.days
+    days_of none (Err why) = none
+
+older : (which : ℕ) → nat_le 3 which ≡ false → nat_lt which 3 ≡ true
+older which is = grind (arith, nat_tests, is)
+
+no_days : (lower : Bool) (rest : Result (List ℕ) TariffKind) (days : List ℕ) → lower ≡ true → (if lower then Ok [] else rest) ≡ Ok days → days ≡ []
+no_days true rest days low is = cc
+no_days false rest days low is = cc
+
+-- under an older header a row has no days of its own
+pub without_days : (which : ℕ) (fields : Fields) (band : Band) → nat_le 3 which ≡ false → band_in which fields ≡ Ok band → band.days ≡ []
+without_days which fields band is read = no_days (nat_lt which 3) _ band.days (older which is) (read_parts which fields band read).1
 
 -- ---- rows that bill in steps
 
@@ -48,11 +85,13 @@ steps_of_rows (row ∷ rows) = rw (steps_of_rows rows) refl
 -- ---- the columns of a row
 
 -- a row that is as wide as its header has its columns
-pub has_columns : (which : ℕ) (fields : Fields) → which < 3 → length fields ≡ width_at (header ∷ header_with_free ∷ header_with_steps ∷ []) which → HasColumns which fields
-has_columns zero fields one wide = (omega (arith, wide), λ more. absurd (omega (arith, more)), λ more. absurd (omega (arith, more)))
-has_columns (suc zero) fields one wide = (omega (arith, wide), λ more. omega (arith, wide), λ more. absurd (omega (arith, more)))
-has_columns (suc (suc zero)) fields one wide = (omega (arith, wide), λ more. omega (arith, wide), λ more. omega (arith, wide))
-has_columns (suc (suc (suc which))) fields one wide = absurd (omega (arith, one))
+pub has_columns : (which : ℕ) (fields : Fields) → which < 4 → length fields ≡ width_at (header ∷ header_with_free ∷ header_with_steps ∷ header_with_days ∷ []) which
+    → HasColumns which fields
+has_columns zero fields one wide = (omega (arith, wide), λ more. absurd (omega (arith, more)), λ more. absurd (omega (arith, more)), λ more. absurd (omega (arith, more)))
+has_columns (suc zero) fields one wide = (omega (arith, wide), λ more. omega (arith, wide), λ more. absurd (omega (arith, more)), λ more. absurd (omega (arith, more)))
+has_columns (suc (suc zero)) fields one wide = (omega (arith, wide), λ more. omega (arith, wide), λ more. omega (arith, wide), λ more. absurd (omega (arith, more)))
+has_columns (suc (suc (suc zero))) fields one wide = (omega (arith, wide), λ more. omega (arith, wide), λ more. omega (arith, wide), λ more. omega (arith, wide))
+has_columns (suc (suc (suc (suc which)))) fields one wide = absurd (omega (arith, one))
 
 -- a fault of the table's own
 pub refused_at : (why : TariffKind) (number : ℕ) (meaning : Result (List Band) TariffFault) → meaning ≡ Err (record { row = number; kind = why }) → Refuses why number meaning
@@ -69,6 +108,7 @@ refused_at kind.TooManyRows number meaning is = is
 refused_at kind.Free number meaning is = is
 refused_at kind.First number meaning is = is
 refused_at kind.Step number meaning is = is
+refused_at kind.Days number meaning is = is
 
 -- ---- where a table that can't be read on may be given up
 
@@ -87,6 +127,7 @@ comes_at kind.TooManyRows row = omega arith
 comes_at kind.Free row = omega arith
 comes_at kind.First row = omega arith
 comes_at kind.Step row = omega arith
+comes_at kind.Days row = omega arith
 
 comes_later : (why : TariffKind) (low high row : ℕ) → low ≤ high → ComesBy high why row → ComesBy low why row
 comes_later kind.Csv low high row le by = omega (arith, by)
@@ -102,6 +143,7 @@ comes_later kind.TooManyRows low high row le by = omega (arith, by)
 comes_later kind.Free low high row le by = omega (arith, by)
 comes_later kind.First low high row le by = omega (arith, by)
 comes_later kind.Step low high row le by = omega (arith, by)
+comes_later kind.Days low high row le by = omega (arith, by)
 
 not_before_later : (meaning : Result (List Band) TariffFault) (low high : ℕ) → low ≤ high → NotBefore high meaning → NotBefore low meaning
 not_before_later (Ok bands) low high le by = tt
@@ -168,6 +210,7 @@ refused_whole kind.TooManyRows row meaning is = rw is refl
 refused_whole kind.Free row meaning is = rw is refl
 refused_whole kind.First row meaning is = rw is refl
 refused_whole kind.Step row meaning is = rw is refl
+refused_whole kind.Days row meaning is = rw is refl
 
 -- a fault that is passed on
 pub passed_on : (answer : Result (List Band) TariffFault) (fault : TariffFault) (meaning : Result (List Band) TariffFault)

@@ -1,41 +1,53 @@
 -- What a tariff keeps.
-use Rattle.std.specs.Prelude.{◌≡◌, ◌≤◌, ◌++◌, ◌∷◌, [], Bool, List, length, map, Some, option_map, Result, Ok, Err}
-use Rattle.std.specs.BTreeMap.{BTreeMap, Updates, get}
+use Rattle.std.specs.Prelude.{◌≡◌, ◌≤◌, ◌++◌, ◌∷◌, [], ℕ, Bool, List, if◌then◌else◌, length, map, Some, option_map, Result, Ok, Err}
+use Rattle.std.specs.BTreeMap.{BTreeMap, get}
 use Rattle.std.specs.List.{list_all}
-use Rattle.tariff_core.specs.Bands.{Band, band_at, has_band}
+use Rattle.tariff_core.specs.Bands.{Band, band_at, has_midnights, is_at}
+use Rattle.tariff_core.specs.Digits.{digits_of}
 use Rattle.tariff_core.specs.Places.{by_place}
-use Rattle.tariff_core.specs.Prefixes.{digits_of}
-use Rattle.tariff_core.specs.declared.row.Cost.{Cost}
 use Rattle.tariff_core.specs.declared.row.Row.{Row}
-use Rattle.tariff_core.specs.declared.prefix.Place.{Place}
+use Rattle.tariff_core.specs.declared.place.Place.{Place}
 
 -- what a row of the code says
 abbrev pub band_of : Row → Band
-band_of row = record { prefix = digits_of row.place.prefix; start = row.place.start; fee = row.cost.fee; rate = row.cost.rate; free = row.cost.free; first = row.cost.first; step = row.cost.step }
-
--- what a place and its cost say
-abbrev pub band_with : Place → Cost → Band
-band_with place cost = record { prefix = digits_of place.prefix; start = place.start; fee = cost.fee; rate = cost.rate; free = cost.free; first = cost.first; step = cost.step }
+band_of row = record { prefix = digits_of row.prefix; start = row.start; fee = row.cost.fee; rate = row.cost.rate; free = row.cost.free; first = row.cost.first; step = row.cost.step; days = digits_of row.days }
 
 -- what is told of a value, seen by `view`, is what its meaning says
 abbrev pub Tells : {X Y E : Type 0} → (X → Y) → Result X E → Result Y E → Type 0
 Tells view (Ok x) meaning = meaning ≡ Ok (view x)
 Tells view (Err why) meaning = meaning ≡ Err why
 
--- the index finds each row by its place, and nothing else
-abbrev pub Indexes : BTreeMap Place Cost → List Band → Type 0
-Indexes index bands = (place : Place) → option_map (band_with place) (get by_place index place) ≡ band_at (digits_of place.prefix) place.start bands
+-- the day of a place at which the rows of a weekday are found: that weekday, or 0 in a table without days
+abbrev pub key_of : Bool → ℕ → ℕ
+key_of by_days day = if by_days then day else 0
+
+-- a place is one for a weekday
+pub record IsOn (by_days : Bool) (day : ℕ) (place : Place) : Type 0 where
+  pub from_monday : 1 ≤ day
+  pub to_sunday : day ≤ 7
+  pub key : place.day ≡ key_of by_days day
+
+-- at the place for a weekday the index finds the row that counts on it
+abbrev pub Indexes : Bool → BTreeMap Place Row → List Band → Type 0
+Indexes by_days index bands =
+    (place : Place) (day : ℕ) → IsOn by_days day place → option_map band_of (get by_place index place) ≡ band_at (digits_of place.prefix) day place.start bands
 
 -- the index of the rows of a table
-pub record IsIndexed (rows : List Row) (index : BTreeMap Place Cost) : Type 0 where
+pub record IsIndexed (rows : List Row) (by_days : Bool) (index : BTreeMap Place Row) : Type 0 where
   pub few : length rows ≤ 10000
-  pub indexed : Indexes index (map band_of rows)
+  pub indexed : Indexes by_days index (map band_of rows)
+
+-- a row came into the index, at its places for the weekdays on which it counts
+abbrev pub Finds : Bool → BTreeMap Place Row → Row → BTreeMap Place Row → Type 0
+Finds by_days before row after =
+    (place : Place) (day : ℕ) → IsOn by_days day place
+    → get by_place after place ≡ (if is_at (digits_of place.prefix) day place.start (band_of row) then Some row else get by_place before place)
 
 -- a row came to the end, and into the index
-pub record Keeps (old : List Row) (before : BTreeMap Place Cost) (row : Row) (new : List Row) (after : BTreeMap Place Cost) : Type 0 where
+pub record Keeps (by_days : Bool) (old : List Row) (before : BTreeMap Place Row) (row : Row) (new : List Row) (after : BTreeMap Place Row) : Type 0 where
   pub rows : new ≡ old ++ row ∷ []
-  pub index : Updates by_place before after row.place (Some row.cost)
+  pub index : Finds by_days before row after
 
--- each prefix has a row from midnight on
+-- each prefix has a row from midnight on, on each weekday
 abbrev pub is_complete : List Band → Bool
-is_complete bands = list_all (λ band. has_band band.prefix 0 bands) bands
+is_complete bands = list_all (λ band. has_midnights band.prefix bands) bands

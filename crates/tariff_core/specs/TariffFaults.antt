@@ -24,6 +24,7 @@ code_of kind.TooManyRows = 10
 code_of kind.Free = 11
 code_of kind.First = 12
 code_of kind.Step = 13
+code_of kind.Days = 14
 
 -- the name of a kind
 abbrev pub name_of : TariffKind → List ℕ
@@ -40,6 +41,7 @@ name_of kind.TooManyRows = codes "TooManyRows"
 name_of kind.Free = codes "Free"
 name_of kind.First = codes "First"
 name_of kind.Step = codes "Step"
+name_of kind.Days = codes "Days"
 
 -- `row N: KIND`
 abbrev pub text_of : TariffFault → List ℕ

@@ -1,12 +1,12 @@
 -- The meaning of a tariff table: its rows, or the first fault.
-use Rattle.std.specs.Prelude.{◌≡◌, ◌≤◌, ◌+◌, ◌*◌, ◌==◌, ◌&&◌, ℕ, Bool, List, [], ◌∷◌, ◌++◌, length, Option, Some, None, Result, Ok, Err, ⊤, if◌then◌else◌, nat_le, nat_lt, ok_or, slice_index, take, drop, codes}
+use Rattle.std.specs.Prelude.{◌≡◌, ◌≤◌, ◌+◌, ◌*◌, ◌==◌, ◌&&◌, ℕ, Bool, true, List, [], ◌∷◌, ◌++◌, length, Option, Some, None, Result, Ok, Err, ⊤, if◌then◌else◌, nat_le, nat_lt, ok_or, slice_index, take, drop, codes}
 use Rattle.std.specs.Char.{is_ascii_digit}
-use Rattle.std.specs.List.{list_all}
+use Rattle.std.specs.List.{list_all, list_any}
 use Rattle.table_core.specs.Decimals.{decimal_of}
 use Rattle.table_core.specs.Fields.{field_in}
 use Rattle.table_core.specs.Judging.{adds, after}
 use Rattle.table_core.specs.Tables.{TableForm, table_of}
-use Rattle.tariff_core.specs.Bands.{Band, has_band}
+use Rattle.tariff_core.specs.Bands.{Band, counts_on, has_band, has_midnights, weekdays}
 use Rattle.tariff_core.specs.TariffFaults.{kind_from}
 use Rattle.tariff_core.specs.declared.tariff_fault.TariffFault.{TariffFault}
 use Rattle.tariff_core.specs.declared.tariff_fault.TariffKind.{TariffKind}
@@ -41,9 +41,10 @@ start_in fields = ok_or (time_of (field_in fields 1)) kind.From
 abbrev pub money_in : List (List ℕ) → ℕ → Result ℕ TariffKind
 money_in fields place = ok_or (decimal_of MAX_RATE (field_in fields place)) kind.Money
 
--- a row has the four fields of the first header, five with free units, or seven with steps
+-- a row has the four fields of the first header, five with free units, seven with steps, or eight with days
 abbrev pub HasColumns : ℕ → List (List ℕ) → Type 0
-HasColumns header fields = (4 ≤ length fields) × (1 ≤ header → 5 ≤ length fields) × (2 ≤ header → 7 ≤ length fields)
+HasColumns header fields =
+    (4 ≤ length fields) × (1 ≤ header → 5 ≤ length fields) × (2 ≤ header → 7 ≤ length fields) × (3 ≤ header → 8 ≤ length fields)
 
 -- the free units in a row: none under the first header
 abbrev pub free_in : ℕ → List (List ℕ) → Result ℕ TariffKind
@@ -62,22 +63,40 @@ step_of (Some units) = if units == 0 then Err kind.Step else Ok units
 abbrev pub step_in : ℕ → List (List ℕ) → Result ℕ TariffKind
 step_in header fields = if nat_lt header 2 then Ok 1 else step_of (decimal_of DAY (field_in fields 6))
 
+-- digits up to 7, each above the one before it
+unfoldable pub rise_from : ℕ → List ℕ → Bool
+rise_from last [] = true
+rise_from last (digit ∷ text) = nat_lt last digit && nat_le digit 55 && rise_from digit text
+
+-- digits from 1 to 7, each above the one before it
+abbrev pub are_days : List ℕ → Bool
+are_days text = rise_from 48 text
+
+-- the days in a row: none, for each day, under the first three headers
+abbrev pub days_in : ℕ → List (List ℕ) → Result (List ℕ) TariffKind
+days_in header fields =
+    if nat_lt header 3 then Ok [] else if are_days (field_in fields 7) then Ok (field_in fields 7) else Err kind.Days
+
 -- what a row says
 abbrev pub band_in : ℕ → List (List ℕ) → Result Band TariffKind
 band_in header fields =
     after (prefix_in fields) (λ prefix. after (start_in fields) (λ start. after (money_in fields 2) (λ fee. after (money_in fields 3) (λ rate.
-    after (free_in header fields) (λ free. after (first_in header fields) (λ first. after (step_in header fields) (λ step.
-    Ok (record { prefix = prefix; start = start; fee = fee; rate = rate; free = free; first = first; step = step }))))))))
+    after (free_in header fields) (λ free. after (first_in header fields) (λ first. after (step_in header fields) (λ step. after (days_in header fields) (λ days.
+    Ok (record { prefix = prefix; start = start; fee = fee; rate = rate; free = free; first = first; step = step; days = days })))))))))
 
--- the row, where no earlier one has its prefix and its start
+-- on a weekday on which the row counts, an earlier one that counts too has its prefix and its start
+abbrev pub repeats : List Band → Band → Bool
+repeats earlier band = list_any (λ day. counts_on day band && has_band band.prefix day band.start earlier) weekdays
+
+-- the row, where no earlier one has its prefix and its start on a common day
 abbrev pub new_band : List Band → Band → Result Band TariffKind
-new_band earlier band = if has_band band.prefix band.start earlier then Err kind.Repeated else Ok band
+new_band earlier band = if repeats earlier band then Err kind.Repeated else Ok band
 
 -- what a row says, after the earlier ones
 abbrev pub new_band_in : ℕ → List Band → List (List ℕ) → Result Band TariffKind
 new_band_in header earlier fields = after (band_in header fields) (new_band earlier)
 
--- `prefix,from,fee,rate`, the same with `free`, and that with `first,step`
+-- `prefix,from,fee,rate`, the same with `free`, that with `first,step`, and that with `days`
 abbrev pub header : List (List ℕ)
 header = codes "prefix" ∷ codes "from" ∷ codes "fee" ∷ codes "rate" ∷ []
 
@@ -89,10 +108,14 @@ header_with_free = header ++ codes "free" ∷ []
 abbrev pub header_with_steps : List (List ℕ)
 header_with_steps = header_with_free ++ codes "first" ∷ codes "step" ∷ []
 
+-- the header with one more for days
+abbrev pub header_with_days : List (List ℕ)
+header_with_days = header_with_steps ++ codes "days" ∷ []
+
 -- a tariff table of at most 10,000 rows
 abbrev pub tariff_form : TableForm (List Band) TariffKind TariffFault
 tariff_form = record {
-  headers = header ∷ header_with_free ∷ header_with_steps ∷ [];
+  headers = header ∷ header_with_free ∷ header_with_steps ∷ header_with_days ∷ [];
   limit = 10000;
   start = [];
   judge = λ header. adds (new_band_in header);
@@ -104,17 +127,17 @@ tariff_form = record {
 abbrev pub bands_of : List (List (List ℕ)) → Result (List Band) TariffFault
 bands_of rows = table_of tariff_form rows
 
--- the first row, from this number on, whose prefix has no row from midnight on
+-- the first row, from this number on, whose prefix has no row from midnight on, on some weekday
 unfoldable pub without_midnight : List Band → ℕ → List Band → Option ℕ
 without_midnight all number [] = None
-without_midnight all number (band ∷ bands) = if has_band band.prefix 0 all then without_midnight all (number + 1) bands else Some number
+without_midnight all number (band ∷ bands) = if has_midnights band.prefix all then without_midnight all (number + 1) bands else Some number
 
--- the rows of a table, where each prefix has a row from midnight on
+-- the rows of a table, where each prefix has a row from midnight on, on each weekday
 abbrev pub complete_by : List Band → Option ℕ → Result (List Band) TariffFault
 complete_by bands None = Ok bands
 complete_by bands (Some number) = Err (record { row = number; kind = kind.NoMidnightBand })
 
--- the bands, where each prefix has one from midnight on
+-- the bands, where each prefix has one from midnight on, on each weekday
 abbrev pub complete : List Band → Result (List Band) TariffFault
 complete bands = complete_by bands (without_midnight bands 2 bands)
 
@@ -122,7 +145,7 @@ complete bands = complete_by bands (without_midnight bands 2 bands)
 abbrev pub tariff_of : List (List (List ℕ)) → Result (List Band) TariffFault
 tariff_of rows = after (bands_of rows) complete
 
--- where a fault comes: at its row, but after the last where a prefix has no row from midnight on
+-- where a fault comes: at its row, but after the last where a prefix has no row from midnight on, on some weekday
 abbrev pub ComesBy : ℕ → TariffKind → ℕ → Type 0
 ComesBy number kind.NoMidnightBand row = ⊤
 ComesBy number _ row = number ≤ row

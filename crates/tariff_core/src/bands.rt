@@ -1,38 +1,41 @@
 //! The rows of a tariff table, and an index that finds them.
 
-ghost use Rattle.std.specs.Prelude.{◌≡◌, ◌≤◌, ◌<◌, ◌+◌, ◌++◌, ◌∷◌, [], length, Some, None, IfNone, IfSome, IfOk, OnOk, All};
-ghost use Rattle.std.specs.BTreeMap.{Updates};
+ghost use Rattle.std.specs.Prelude.{◌≡◌, ◌≤◌, ◌<◌, ◌+◌, ◌%◌, [], false, true, length, nat_le, Some, None, IfNone, IfSome, OnOk, All};
 ghost use Rattle.std.specs.List.{list_any};
 ghost use Rattle.tariff_core.specs.Rates.{are_steps};
-ghost use Rattle.tariff_core.specs.Bands.{has_band, have_steps};
-ghost use Rattle.tariff_core.specs.Places.{by_place};
-ghost use Rattle.tariff_core.specs.Prefixes.{digits_of};
+ghost use Rattle.tariff_core.specs.Bands.{counts_on, has_band, has_midnights, have_steps, weekday};
+ghost use Rattle.tariff_core.specs.Digits.{digits_of};
 ghost use Rattle.tariff_core.specs.Routes.{IsBandAt, IsSoonest};
-ghost use Rattle.tariff_core.specs.Tariff.{Indexes, IsIndexed, Tells, Keeps, band_of};
-ghost use Rattle.tariff_core.specs.TariffTable.{Gives, HasColumns, bands_of, new_band_in, without_midnight, band_in, first_in, free_in, is_prefix, step_in, time_of};
+ghost use Rattle.tariff_core.specs.Tariff.{Finds, Indexes, IsIndexed, Tells, Keeps, band_of, key_of};
+ghost use Rattle.tariff_core.specs.TariffTable.{Gives, HasColumns, bands_of, new_band_in, repeats, without_midnight};
 ghost use Rattle.csv.specs.Records.{fields_of};
 ghost use Rattle.table_core.specs.Rows.{rows_of};
 
 use crate::DAY;
-use crate::plan::MAX_RATE;
-use crate::prefix::{PREFIX_DIGITS, Place, Prefix};
-use crate::row::{Cost, Row};
+use crate::digits::Digits;
+use crate::fields::{WITH_DAYS, read_row};
+use crate::place::Place;
+use crate::row::Row;
 use crate::tariff_fault::{TariffFault, TariffKind};
+use crate::times::{since_midnight, weekday};
 use csv::ByteRecord;
 use std::alloc::{AllocError, Global};
 use std::collections::BTreeMap;
 use std::io::Read;
 use std::marker::Model;
-use table_core::{Table, are_digits, decimal, field};
+use table_core::Table;
 
 /// The most rows of a table, its header not counted.
 const MAX_ROWS: u32 = 10_000;
 
-/// The rows of a tariff table in their order, no two for the same prefix and start.
+/// The rows of a tariff table in their order, no two for the same prefix and start on one weekday.
+///
+/// With days a row is in the index once for each weekday on which it counts, else once.
 #[derive(Drop)]
 pub(crate) struct Bands {
     rows: Vec<Row>,
-    index: BTreeMap<Place, Cost>,
+    by_days: bool,
+    index: BTreeMap<Place, Row>,
 }
 
 impl Model for Bands {
@@ -45,7 +48,7 @@ impl Model for Bands {
 
     ghost view = { λ b. map band_of b.rows.items };
 
-    ghost invariant = { λ b. IsIndexed b.rows.items b.index };
+    ghost invariant = { λ b. IsIndexed b.rows.items b.by_days b.index };
 }
 
 impl Bands {
@@ -57,11 +60,15 @@ impl Bands {
             &["prefix", "from", "fee", "rate"],
             &["prefix", "from", "fee", "rate", "free"],
             &["prefix", "from", "fee", "rate", "free", "first", "step"],
+            &[
+                "prefix", "from", "fee", "rate", "free", "first", "step", "days",
+            ],
         ];
         let mut table = match Table::open(alloc, reader, headers, MAX_ROWS) {
             Ok(table) => table,
             Err(fault) => return Err(TariffFault::at(1, fault)),
         };
+        let by_days = table.header() >= WITH_DAYS;
         let mut rows = Vec::new(alloc);
         let mut index = BTreeMap::new(alloc);
         loop {
@@ -70,7 +77,11 @@ impl Bands {
                 Err(fault) => return Err(TariffFault::at(table.number() + 1, fault)),
             };
             if !found {
-                return Ok(Bands { rows, index });
+                return Ok(Bands {
+                    rows,
+                    by_days,
+                    index,
+                });
             }
             let row = match judge(&index, table.header(), table.row()) {
                 Ok(row) => row,
@@ -79,7 +90,7 @@ impl Bands {
                     kind,
                 }),
             };
-            match keep(&mut rows, &mut index, row) {
+            match keep(&mut rows, &mut index, by_days, row) {
                 Ok(()) => {}
                 Err(_) => {
                     return Err(TariffFault {
@@ -91,12 +102,12 @@ impl Bands {
         }
     }
 
-    /// The number of the first row whose prefix has no row from midnight on.
+    /// The number of the first row whose prefix has no row from midnight on, on some weekday.
     pub fn without_midnight(&self) -> Option<u32>
         ensures { result ≡ without_midnight self.now 2 self.now }
     {
         for (position, row) in self.rows.iter().enumerate() {
-            if !self.has(row.place.prefix, 0) {
+            if !self.has_midnights(row.prefix) {
                 return Some(position as u32 + 2);
             }
         }
@@ -110,51 +121,90 @@ impl Bands {
         any_has_steps(self.rows.as_slice())
     }
 
-    /// Whether there is a row for a prefix, from a start on.
-    pub fn has(&self, prefix: Prefix, start: u32) -> bool
-        ensures value { result ≡ has_band (digits_of prefix) start self.now }
+    /// Whether a prefix has a row from midnight on, on each weekday.
+    fn has_midnights(&self, prefix: Digits) -> bool
+        ensures { result ≡ has_midnights (digits_of prefix) self.now }
+    {
+        let (first, end) = keys(self.by_days);
+        for day in first..end {
+            let midnight = Place {
+                prefix,
+                day,
+                start: 0,
+            };
+            if !self.index.contains_key(&midnight) {
+                return false;
+            }
+        }
+        true
+    }
+
+    /// Whether there is a row for a prefix that counts on a weekday, with this start.
+    pub fn has(&self, prefix: Digits, day: u8, start: u32) -> bool
+        requires weekday { (1 ≤ day) × (day ≤ 7) }
+        ensures value { result ≡ has_band (digits_of prefix) day start self.now }
         ensures short { All (λ band. length band.prefix ≤ 15) self.now }
     {
-        self.index.contains_key(&Place { prefix, start })
+        let day = key_of(self.by_days, day);
+        self.index.contains_key(&Place { prefix, day, start })
     }
 
-    /// The row of a prefix at a time of day: the latest that starts at it or before.
-    pub fn latest(&self, prefix: Prefix, time: u32) -> Option<Row>
-        requires { time < DAY }
-        ensures none { IfNone result
-            (All (λ band. band.prefix ≡ digits_of prefix → time < band.start) self.now) }
+    /// The row of a prefix at a moment: of those that count on its weekday, the latest that starts
+    /// at the time of day or before.
+    pub fn latest(&self, prefix: Digits, now: u64) -> Option<Row>
+        ensures none { IfNone result (All (λ band. band.prefix ≡ digits_of prefix
+            → counts_on (weekday now) band ≡ true → now % DAY < band.start) self.now) }
         ensures row { IfSome result
-            (λ row. IsBandAt self.now (digits_of prefix) time (band_of row)) }
+            (λ row. IsBandAt self.now (digits_of prefix) now (band_of row)) }
     {
-        let first = Place { prefix, start: 0 };
+        let day = key_of(self.by_days, weekday(now));
+        let first = Place {
+            prefix,
+            day,
+            start: 0,
+        };
         let end = Place {
             prefix,
-            start: time + 1,
+            day,
+            start: since_midnight(now) + 1,
         };
-        let (place, cost) = self.index.range(first..end).next_back()?;
-        Some(Row {
-            place: *place,
-            cost: *cost,
-        })
+        let (_, row) = self.index.range(first..end).next_back()?;
+        Some(*row)
     }
 
-    /// The row of a prefix that starts next after a time of day, on that day.
-    pub fn soonest(&self, prefix: Prefix, time: u32) -> Option<Row>
-        requires { time < DAY }
-        ensures none { IfNone result
-            (All (λ band. band.prefix ≡ digits_of prefix → band.start ≤ time) self.now) }
+    /// The row of a prefix that starts next after a moment, on its day.
+    pub fn soonest(&self, prefix: Digits, now: u64) -> Option<Row>
+        ensures none { IfNone result (All (λ band. band.prefix ≡ digits_of prefix
+            → counts_on (weekday now) band ≡ true → band.start ≤ now % DAY) self.now) }
         ensures row { IfSome result
-            (λ row. IsSoonest self.now (digits_of prefix) time (band_of row)) }
+            (λ row. IsSoonest self.now (digits_of prefix) now (band_of row)) }
     {
-        let start = time + 1;
-        let first = Place { prefix, start };
-        let end = Place { prefix, start: DAY };
-        let (place, cost) = self.index.range(first..end).next()?;
-        Some(Row {
-            place: *place,
-            cost: *cost,
-        })
+        let day = key_of(self.by_days, weekday(now));
+        let start = since_midnight(now) + 1;
+        let first = Place { prefix, day, start };
+        let end = Place {
+            prefix,
+            day,
+            start: DAY,
+        };
+        let (_, row) = self.index.range(first..end).next()?;
+        Some(*row)
     }
+}
+
+/// The day of the places of a weekday: that weekday, or 0 in a table without days.
+fn key_of(by_days: bool, day: u8) -> u8
+    ensures { result ≡ key_of by_days day }
+{
+    if by_days { day } else { 0 }
+}
+
+/// The days of all places, from the first to before the end: each weekday, or 0.
+fn keys(by_days: bool) -> (u8, u8)
+    ensures first { result.0 ≡ key_of by_days 1 }
+    ensures end { result.1 ≡ key_of by_days 7 + 1 }
+{
+    (key_of(by_days, 1), key_of(by_days, 7) + 1)
 }
 
 /// Whether any of these rows bills in steps.
@@ -166,117 +216,61 @@ fn any_has_steps(rows: &[Row]) -> bool
 
 /// The row that these fields say, after the rows that are in the index.
 fn judge(
-    index: &BTreeMap<Place, Cost>,
+    index: &BTreeMap<Place, Row>,
     header: usize,
     fields: &ByteRecord,
 ) -> Result<Row, TariffKind>
     requires { HasColumns header (fields_of fields.now) }
-    ensures { (bands : _) → Indexes index.now bands
+    ensures { (bands : _) → Indexes (nat_le 3 header) index.now bands
         → Tells band_of result (new_band_in header bands (fields_of fields.now)) }
 {
     let row = read_row(header, fields)?;
-    if index.contains_key(&row.place) {
+    if is_repeated(index, header >= WITH_DAYS, &row) {
         return Err(TariffKind::Repeated);
     }
     Ok(row)
 }
 
-/// Puts a row at the end and into the index.
-fn keep(rows: &mut Vec<Row>, index: &mut BTreeMap<Place, Cost>, row: Row) -> Result<(), AllocError>
-    ensures { OnOk result (Keeps rows.old.items index.old row rows.new.items index.new) }
+/// Whether the index has a row with the prefix and the start of this one on one of its days.
+fn is_repeated(index: &BTreeMap<Place, Row>, by_days: bool, row: &Row) -> bool
+    requires { by_days ≡ false → digits_of row.now.days ≡ [] }
+    ensures { (bands : _) → Indexes by_days index.now bands
+        → result ≡ repeats bands (band_of row.now) }
 {
-    index.insert(row.place, row.cost)?;
+    let (first, end) = keys(by_days);
+    for day in first..end {
+        if row.counts_on(day) && index.contains_key(&row.place(day)) {
+            return true;
+        }
+    }
+    false
+}
+
+/// Puts a row at the end and into the index.
+fn keep(
+    rows: &mut Vec<Row>,
+    index: &mut BTreeMap<Place, Row>,
+    by_days: bool,
+    row: Row,
+) -> Result<(), AllocError>
+    requires { by_days ≡ false → digits_of row.days ≡ [] }
+    ensures { OnOk result (Keeps by_days rows.old.items index.old row rows.new.items index.new) }
+{
+    enter(index, by_days, row)?;
     rows.push(row)?;
     Ok(())
 }
 
-/// The row of these fields, under the first header (0), the one with free units, or the one with
-/// steps too.
-fn read_row(header: usize, fields: &ByteRecord) -> Result<Row, TariffKind>
-    requires { HasColumns header (fields_of fields.now) }
-    ensures { Tells band_of result (band_in header (fields_of fields.now)) }
+/// Puts a row into the index, at its place for each day on which it counts.
+fn enter(index: &mut BTreeMap<Place, Row>, by_days: bool, row: Row) -> Result<(), AllocError>
+    requires { by_days ≡ false → digits_of row.days ≡ [] }
+    ensures { OnOk result (Finds by_days index.old row index.new) }
 {
-    let digits = field(fields, 0);
-    if !is_prefix(digits) {
-        return Err(TariffKind::Digits);
+    let (first, end) = keys(by_days);
+    for day in first..end {
+        if row.counts_on(day) {
+            index.insert(row.place(day), row)?;
+        }
     }
-    let prefix = Prefix::new(digits);
-    let start = time_of_day(field(fields, 1)).ok_or(TariffKind::From)?;
-    let fee = decimal(field(fields, 2), MAX_RATE).ok_or(TariffKind::Money)?;
-    let rate = decimal(field(fields, 3), MAX_RATE).ok_or(TariffKind::Money)?;
-    let free = free_units(header, fields)?;
-    let first = first_step(header, fields)?;
-    let step = further_step(header, fields)?;
-    Ok(Row {
-        place: Place { prefix, start },
-        cost: Cost {
-            fee,
-            rate,
-            free,
-            first,
-            step,
-        },
-    })
-}
-
-/// The free units of these fields: none under the first header.
-fn free_units(header: usize, fields: &ByteRecord) -> Result<u32, TariffKind>
-    requires { HasColumns header (fields_of fields.now) }
-    ensures value { result ≡ free_in header (fields_of fields.now) }
-    ensures within_day { IfOk result (λ free. free ≤ DAY) }
-{
-    if header == 0 {
-        return Ok(0);
-    }
-    let free = decimal(field(fields, 4), u64::from(DAY)).ok_or(TariffKind::Free)?;
-    Ok(free as u32)
-}
-
-/// The least units that are billed by these fields: none under the headers without steps.
-fn first_step(header: usize, fields: &ByteRecord) -> Result<u32, TariffKind>
-    requires { HasColumns header (fields_of fields.now) }
-    ensures value { result ≡ first_in header (fields_of fields.now) }
-    ensures within_day { IfOk result (λ first. first ≤ DAY) }
-{
-    if header < 2 {
-        return Ok(0);
-    }
-    let first = decimal(field(fields, 5), u64::from(DAY)).ok_or(TariffKind::First)?;
-    Ok(first as u32)
-}
-
-/// The units of a further step by these fields: one under the headers without steps.
-fn further_step(header: usize, fields: &ByteRecord) -> Result<u32, TariffKind>
-    requires { HasColumns header (fields_of fields.now) }
-    ensures value { result ≡ step_in header (fields_of fields.now) }
-    ensures positive { IfOk result (λ step. 1 ≤ step) }
-    ensures within_day { IfOk result (λ step. step ≤ DAY) }
-{
-    if header < 2 {
-        return Ok(1);
-    }
-    match decimal(field(fields, 6), u64::from(DAY)) {
-        Some(step) if step > 0 => Ok(step as u32),
-        _ => Err(TariffKind::Step),
-    }
-}
-
-fn is_prefix(text: &[u8]) -> bool
-    ensures { result ≡ is_prefix text.now }
-{
-    text.len() <= PREFIX_DIGITS && are_digits(text)
-}
-
-/// The time of day that `HH:MM` writes, 00:00 to 23:59, in units of 100 ms after midnight.
-#[tactic(auto, unfolding(crate::specs::TariffTable::time_of))]
-pub fn time_of_day(text: &[u8]) -> Option<u32>
-    ensures value { result ≡ time_of text.now }
-    ensures in_day { IfSome result (λ time. time < DAY) }
-{
-    if text.len() != 5 || text[2] != b':' {
-        return None;
-    }
-    let hours = decimal(&text[..2], 23)? as u32;
-    let minutes = decimal(&text[3..], 59)? as u32;
-    Some((hours * 60 + minutes) * 600)
+    Ok(())
 }

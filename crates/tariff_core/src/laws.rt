@@ -1,10 +1,10 @@
 //! Laws of the definitions, each the contract of a function that does nothing: the limits in plain
-//! numbers, and what the ceiling of a call and the units afforded are, in words that know nothing
-//! of how they are found.
+//! numbers, what the ceiling of a call and the units afforded are, in words that know nothing of
+//! how they are found, and that a called number has one route at a moment.
 
 ghost use Rattle.std.specs.Prelude.{◌≡◌, ◌*◌, ◌^◌};
 ghost use Rattle.tariff_core.specs.Price.{price_of};
-ghost use Rattle.tariff_core.specs.Laws.{dearest_plan, AffordedAreCovered, AffordedAreLast, AffordedAreWithin, CeilingIsAttained, CeilingIsNotPassed, ComingIsTransitive, ComingTimesStand, ReadTimesAre, TimesMayStay};
+ghost use Rattle.tariff_core.specs.Laws.{dearest_plan, AffordedAreCovered, AffordedAreLast, AffordedAreWithin, CeilingIsAttained, CeilingIsNotPassed, ComingIsTransitive, ComingTimesStand, OnePrefixCounts, ReadTariffsAreProper, ReadTimesAre, RoutesAreAlike, RoutesHavePrefixes, TimesMayStay};
 ghost use Rattle.tariff_core.specs.declared.plan.TheConstants.{MAX_MONEY, MAX_RATE};
 ghost use Rattle.tariff_core.specs.declared.pricing.TheConstants.{MAX_PRICE};
 ghost use Rattle.tariff_core.specs.declared.times.TheConstants.{DAY, HORIZON, LAST_MOMENT};
@@ -40,4 +40,18 @@ pub fn lawful_times_follow()
     ensures stay { TimesMayStay }
     ensures follow { ComingIsTransitive }
     ensures read { ReadTimesAre }
+{}
+
+/// A tariff that was read is as the next laws need it: two of its rows with the same prefix and the
+/// same start that count on a common day are the same, and each starts within a day.
+pub fn read_tariffs_are_proper()
+    ensures { ReadTariffsAreProper }
+{}
+
+/// For a called number one prefix of a tariff counts, or none. In a proper tariff it has one route
+/// at a moment, by what that costs and when it switches, or none.
+pub fn routes_are_single()
+    ensures prefix { OnePrefixCounts }
+    ensures route { RoutesAreAlike }
+    ensures listed { RoutesHavePrefixes }
 {}

@@ -3,9 +3,11 @@
 #![tactic(auto)]
 
 mod bands;
+mod digits;
+mod fields;
 mod laws;
+mod place;
 mod plan;
-mod prefix;
 mod pricing;
 mod reading;
 mod route;
@@ -14,8 +16,11 @@ mod tariff;
 mod tariff_fault;
 mod times;
 
-pub use bands::time_of_day;
-pub use laws::{afforded_is_greatest, ceiling_is_greatest, lawful_times_follow, limits_in_numbers};
+pub use fields::time_of_day;
+pub use laws::{
+    afforded_is_greatest, ceiling_is_greatest, lawful_times_follow, limits_in_numbers,
+    read_tariffs_are_proper, routes_are_single,
+};
 pub use plan::{MAX_MONEY, MAX_RATE, Plan, PlanRange};
 pub use pricing::{MAX_PRICE, afford, ceiling, debit, lawful, price};
 pub use reading::read_times;

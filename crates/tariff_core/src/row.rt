@@ -5,7 +5,8 @@ ghost use Rattle.tariff_core.specs.Rates.{are_steps};
 ghost use Rattle.tariff_core.specs.declared.plan.TheConstants.{MAX_RATE};
 ghost use Rattle.tariff_core.specs.declared.times.TheConstants.{DAY};
 
-use crate::prefix::Place;
+use crate::digits::Digits;
+use crate::place::Place;
 
 /// What the calls of a row cost: the fee, the rate a minute, how many units are free, and the
 /// billing steps.
@@ -27,16 +28,43 @@ pub(crate) struct Cost {
 /// A row of a tariff table.
 #[derive(Clone, Copy, Debug)]
 pub(crate) struct Row {
-    pub place: Place,
+    pub prefix: Digits,
+    /// In units of 100 ms after midnight.
+    pub start: u32,
+    /// The weekdays on which the row counts, as digits 1 (Monday) to 7 (Sunday); none for each day.
+    pub days: Digits,
     pub cost: Cost,
-    pub ghost in_day: { place.start < DAY },
+    pub ghost in_day: { start < DAY },
 }
 
 impl Row {
+    ghost use Rattle.tariff_core.specs.Bands.{counts_on};
+    ghost use Rattle.tariff_core.specs.Tariff.{band_of};
+
     /// Whether calls of the row are billed in steps.
     pub fn has_steps(&self) -> bool
         ensures { result ≡ are_steps self.now.cost.first self.now.cost.step }
     {
         self.cost.first != 0 || self.cost.step != 1
+    }
+
+    /// Whether the row counts on a weekday.
+    pub fn counts_on(&self, day: u8) -> bool
+        requires { day ≤ 7 }
+        ensures { result ≡ counts_on day (band_of self.now) }
+    {
+        let days = self.days.digits();
+        days.is_empty() || days.contains(&(b'0' + day))
+    }
+
+    /// Where the row is found on a day.
+    pub fn place(&self, day: u8) -> Place
+        ensures { result ≡ record { prefix = self.now.prefix; day = day; start = self.now.start } }
+    {
+        Place {
+            prefix: self.prefix,
+            day,
+            start: self.start,
+        }
     }
 }

@@ -1,24 +1,29 @@
 //! The tariff: what a call to a number costs at a moment.
 
-ghost use Rattle.std.specs.Prelude.{◌≡◌, ◌+◌, ◌<◌, ◌≤◌, ◌%◌, true, is_some, length, unwrap_or, IfNone, IfSome};
+ghost use Rattle.std.specs.Prelude.{◌≡◌, ◌+◌, ◌<◌, ◌≤◌, true, is_some, length, unwrap_or, IfNone, IfSome, Some};
 ghost use Rattle.table_core.specs.Rows.{rows_of};
-ghost use Rattle.tariff_core.specs.Bands.{has_band, have_steps};
-ghost use Rattle.tariff_core.specs.Prefixes.{digits_of};
-ghost use Rattle.tariff_core.specs.Routes.{HasAnother, HasNoRoute, IsBandAt, IsNextBand, IsOnly, IsPrefixFor, IsQuote, IsRoute, wait};
+ghost use Rattle.tariff_core.specs.Bands.{counts_on, has_midnights, have_steps, weekday};
+ghost use Rattle.tariff_core.specs.Digits.{digits_of};
+ghost use Rattle.tariff_core.specs.Routes.{HasNoRoute, IsBandAt, IsOnly, IsPrefixFor, IsQuote, IsRoute, IsSwitch};
 ghost use Rattle.tariff_core.specs.Tariff.{band_of};
 ghost use Rattle.tariff_core.specs.TariffTable.{Gives, tariff_of};
 
 use crate::bands::Bands;
-use crate::prefix::{PREFIX_DIGITS, Prefix};
+use crate::digits::{Digits, PREFIX_DIGITS};
 use crate::route::{Quote, Route};
 use crate::row::Row;
 use crate::tariff_fault::{TariffFault, TariffKind};
+use crate::times::{since_midnight, weekday};
 use crate::{DAY, HORIZON, MAX_RATE, Plan};
 use std::alloc::Global;
 use std::io::Read;
 use std::marker::Model;
 
-/// A tariff: for each prefix of called numbers the bands of a day, with a fee and a rate each.
+/// A weekday: where a prefix has rows from midnight on, on each weekday, it has one on this.
+const MONDAY: u8 = 1;
+
+/// A tariff: for each prefix of called numbers the bands of each weekday, with a fee and a rate
+/// each.
 ///
 /// Contracts see the rows of its table, in their order.
 #[derive(Drop)]
@@ -40,17 +45,19 @@ impl Model for Tariff {
 }
 
 impl Tariff {
-    /// The tariff of a CSV table with the header `prefix,from,fee,rate,free,first,step`: a prefix of
-    /// 0 to 15 ASCII digits, a start `HH:MM`, a fee and a rate a minute up to `MAX_RATE`, free units
-    /// of 100 ms up to `DAY`, and the billing steps, `first` up to `DAY` and `step` from 1 to `DAY`.
-    /// Under the older header that ends with `free` each unit is billed by itself, and under
+    /// The tariff of a CSV table with the header `prefix,from,fee,rate,free,first,step,days`: a
+    /// prefix of 0 to 15 ASCII digits, a start `HH:MM`, a fee and a rate a minute up to `MAX_RATE`,
+    /// free units of 100 ms up to `DAY`, the billing steps, `first` up to `DAY` and `step` from 1
+    /// to `DAY`, and the weekdays on which the row counts, as rising digits from 1 (Monday) to 7
+    /// (Sunday), or none for each day. Under the older header that ends with `step` each row counts
+    /// on each day, under that with `free` each unit is billed by itself too, and under
     /// `prefix,from,fee,rate` there are no free units either. At most 10,000 rows, no two for one
-    /// prefix and start, and for each prefix one from `00:00` on.
+    /// prefix and start on a common day, and for each prefix one from `00:00` on, on each weekday.
     ///
     /// Rows are judged in order as they are read, and within a row the faults in the order Csv,
-    /// TooManyRows, Digits, From, Money, Free, First, Step, Repeated. NoMidnightBand comes after the last row,
-    /// at the first row of the first prefix that has it. OutOfMemory and Device come at the row
-    /// that was being read.
+    /// TooManyRows, Digits, From, Money, Free, First, Step, Days, Repeated. NoMidnightBand comes
+    /// after the last row, at the first row whose prefix has that fault. OutOfMemory and Device
+    /// come at the row that was being read.
     pub fn read<R: Read + Drop>(alloc: Global, reader: R) -> Result<Tariff, TariffFault>
         ensures { IfSome (R.remaining reader) (λ text. Gives result (tariff_of (rows_of text))) }
     {
@@ -74,9 +81,9 @@ impl Tariff {
     /// The route of a called number at a moment, in units of 100 ms; none where no prefix of the
     /// table fits.
     ///
-    /// The longest prefix counts, and of its bands the latest that has begun at the time of day.
-    /// The next band of the prefix, perhaps on the next day, gives the second rate, and neither free
-    /// units nor steps.
+    /// The longest prefix counts, and of its bands on that weekday the latest that has begun at the
+    /// time of day. The band of the first moment, at most a day on, at which another one counts
+    /// gives the second rate, and neither free units nor steps.
     pub fn plan(&self, called: &[u8], now: u64) -> Option<Route>
         requires { now ≤ HORIZON }
         ensures none { IfNone result (HasNoRoute self.now called.now) }
@@ -97,19 +104,15 @@ impl Tariff {
             (λ at. (now < at) × (at ≤ now + DAY))) }
     {
         let digits = self.longest_prefix(called)?;
-        let prefix = Prefix::new(digits);
-        let time = (now % u64::from(DAY)) as u32;
-        let band = self.band_at(prefix, time);
-        let route = match self.next_band(prefix, time, band) {
+        let prefix = Digits::new(digits);
+        let band = self.band_at(prefix, now);
+        let route = match self.switch(prefix, now, band) {
             None => route(band, None, None),
-            Some(next) => {
-                let switch_at = now + u64::from(wait(time, next.place.start));
-                route(band, Some(next.cost.rate), Some(switch_at))
-            }
+            Some(Switch { at, next }) => route(band, Some(next.cost.rate), Some(at)),
         };
         Some(Quote {
             prefix: digits,
-            start: band.place.start,
+            start: band.start,
             route,
         })
     }
@@ -120,58 +123,60 @@ impl Tariff {
         ensures prefix { IfSome result
             (λ digits. IsPrefixFor self.now called.now digits.now) }
         ensures midnight { IfSome result
-            (λ digits. has_band digits.now 0 self.now ≡ true) }
+            (λ digits. has_midnights digits.now self.now ≡ true) }
         ensures short { IfSome result (λ digits. length digits.now ≤ 15) }
     {
         for length in (0..=called.len().min(PREFIX_DIGITS)).rev() {
             let digits = &called[..length];
-            if self.bands.has(Prefix::new(digits), 0) {
+            if self.bands.has(Digits::new(digits), MONDAY, 0) {
                 return Some(digits);
             }
         }
         None
     }
 
-    /// The row of a prefix at a time of day.
-    fn band_at(&self, prefix: Prefix, time: u32) -> Row
-        requires in_day { time < DAY }
-        requires midnight { has_band (digits_of prefix) 0 self.now ≡ true }
-        ensures { IsBandAt self.now (digits_of prefix) time (band_of result) }
+    /// The row of a prefix at a moment.
+    fn band_at(&self, prefix: Digits, now: u64) -> Row
+        requires { has_midnights (digits_of prefix) self.now ≡ true }
+        ensures { IsBandAt self.now (digits_of prefix) now (band_of result) }
     {
-        self.bands.latest(prefix, time).unwrap()
+        self.bands.latest(prefix, now).unwrap()
     }
 
-    /// The row of a prefix that starts next after a time of day, where it has more than `band`.
-    fn next_band(&self, prefix: Prefix, time: u32, band: Row) -> Option<Row>
-        requires in_day { time < DAY }
-        requires midnight { has_band (digits_of prefix) 0 self.now ≡ true }
-        requires band { IsBandAt self.now (digits_of prefix) time (band_of band) }
-        ensures only { IfNone result (IsOnly self.now (digits_of prefix) (band_of band)) }
-        ensures next { IfSome result
-            (λ next. IsNextBand self.now (digits_of prefix) time (band_of next)) }
-        ensures another { IfSome result
-            (λ next. HasAnother self.now (digits_of prefix) (band_of band)) }
+    /// The first moment behind this one, at most a day behind it, at which another row of the
+    /// prefix counts than `band`, and that row.
+    fn switch(&self, prefix: Digits, now: u64, band: Row) -> Option<Switch>
+        requires now { now ≤ HORIZON }
+        requires midnights { has_midnights (digits_of prefix) self.now ≡ true }
+        requires band { IsBandAt self.now (digits_of prefix) now (band_of band) }
+        ensures only { IfNone result (IsOnly self.now (digits_of prefix) (band_of band) now) }
+        ensures switch { IfSome result (λ switch. IsSwitch self.now (digits_of prefix)
+            (band_of band) now switch.at (Some switch.next.cost.rate)) }
     {
-        match self.bands.soonest(prefix, time) {
-            Some(next) => Some(next),
-            None if band.place.start > 0 => Some(self.band_at(prefix, 0)),
-            None => None,
+        let midnight = now - u64::from(since_midnight(now));
+        if let Some(next) = self.bands.soonest(prefix, now) {
+            let at = midnight + u64::from(next.start);
+            return Some(Switch { at, next });
         }
+        let tomorrow = midnight + u64::from(DAY);
+        if band.start > 0 || !band.counts_on(weekday(tomorrow)) {
+            let next = self.band_at(prefix, tomorrow);
+            return Some(Switch { at: tomorrow, next });
+        }
+        let next = self.bands.soonest(prefix, tomorrow)?;
+        let at = tomorrow + u64::from(next.start);
+        if at > now + u64::from(DAY) {
+            return None;
+        }
+        Some(Switch { at, next })
     }
 }
 
-/// How long after a time of day a start is: later on that day, else on the next.
-fn wait(time: u32, start: u32) -> u32
-    requires time { time < DAY }
-    requires start { start < DAY }
-    ensures value { result ≡ wait time start }
-    ensures within_day { (1 ≤ result) × (result ≤ DAY) }
-{
-    if time < start {
-        start - time
-    } else {
-        DAY - time + start
-    }
+/// When another row counts, and which.
+#[derive(Clone, Copy, Debug)]
+struct Switch {
+    at: u64,
+    next: Row,
 }
 
 /// The route of a row, and the rate and the moment of its switch.

@@ -20,9 +20,9 @@ pub enum TariffKind {
     From = 4,
     /// A fee or a rate that is not a decimal up to `MAX_RATE`.
     Money = 5,
-    /// The prefix and the start of an earlier row.
+    /// The prefix and the start of an earlier row, on a day on which both count.
     Repeated = 6,
-    /// The first row of a prefix that has no row from `00:00` on.
+    /// The first row of a prefix that has no row from `00:00` on, on some weekday.
     NoMidnightBand = 7,
     /// The row found no memory.
     OutOfMemory = 8,
@@ -36,6 +36,8 @@ pub enum TariffKind {
     First = 12,
     /// A further step that is not a decimal from 1 to `DAY`.
     Step = 13,
+    /// Days that are not rising digits from 1 to 7.
+    Days = 14,
 }
 
 impl TariffKind {
@@ -65,6 +67,7 @@ impl fmt::Display for TariffKind {
             TariffKind::Free => f.write_str("Free"),
             TariffKind::First => f.write_str("First"),
             TariffKind::Step => f.write_str("Step"),
+            TariffKind::Days => f.write_str("Days"),
         }
     }
 }

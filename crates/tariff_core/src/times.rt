@@ -1,6 +1,7 @@
 //! The times of a call.
 
-ghost use Rattle.std.specs.Prelude.{◌≡◌, ◌+◌, ◌≤◌, ◌↔◌, Bool, false, IsSome, IfSome, IsOk, IfOk, Some};
+ghost use Rattle.std.specs.Prelude.{◌≡◌, ◌+◌, ◌≤◌, ◌<◌, ◌%◌, ◌↔◌, Bool, false, IsSome, IfSome, IsOk, IfOk, Some};
+ghost use Rattle.tariff_core.specs.Bands.{weekday};
 ghost use Rattle.tariff_core.specs.RangeTexts.{time_range_text};
 ghost use Rattle.tariff_core.specs.Times.{IsTimes, no_times};
 ghost use Rattle.tariff_core.specs.TimeInfo.{IsNoSwitch, IsSwitch};
@@ -19,6 +20,23 @@ pub const LAST_MOMENT: u64 = 1_000_000_000_000;
 /// The last moment that a switch takes, in units of 100 ms: twice the last that an input may name.
 /// What follows an input takes a few days, so no call comes there.
 pub const HORIZON: u64 = 2_000_000_000_000;
+
+/// The weekday of a moment in units of 100 ms, 1 (Monday) to 7 (Sunday): moment 0 is midnight at
+/// the start of a Thursday.
+pub(crate) fn weekday(moment: u64) -> u8
+    ensures value { result ≡ weekday moment }
+    ensures weekday { (1 ≤ result) × (result ≤ 7) }
+{
+    ((moment / u64::from(DAY) + 3) % 7) as u8 + 1
+}
+
+/// The time of day at a moment: the units of 100 ms since midnight.
+pub(crate) fn since_midnight(moment: u64) -> u32
+    ensures value { result ≡ moment % DAY }
+    ensures in_day { result < DAY }
+{
+    (moment % u64::from(DAY)) as u32
+}
 
 /// How long a call has been talked, in units of 100 ms, cumulative from its answer: before the
 /// tariff switch and after it.

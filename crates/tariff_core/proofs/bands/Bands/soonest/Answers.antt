@@ -1,40 +1,42 @@
-use Rattle.std.proofs.Common.{◌≡◌, ◌+◌, ◌<◌, ◌≤◌, inl, inr, arith}
+use Rattle.std.proofs.Common.{◌≡◌, ◌+◌, ◌%◌, ◌<◌, ◌≤◌, true, inl, inr, arith}
 use Rattle.std.specs.Prelude.{All}
 use Rattle.std.proofs.lemmas.Bool.{cases_lt}
-use Rattle.tariff_core.specs.Prefixes.{digits_of}
+use Rattle.tariff_core.specs.Bands.{counts_on, weekday}
+use Rattle.tariff_core.specs.Digits.{digits_of}
+use Rattle.tariff_core.specs.declared.place.Place.{Place}
+use Rattle.tariff_core.specs.declared.row.Row.{Row}
+use Rattle.tariff_core.specs.declared.times.TheConstants.{DAY}
+use Rattle.tariff_core.proofs.PrefixLemmas.{keyed_at}
 use Rattle.tariff_core.proofs.RangeLemmas.{each_row, first_is, first_soonest, forward, if_none, none_of}
 use Rattle.tariff_core.proofs.bands.Bands.soonest.Goals as goal
 
 pub range-requires : goal.range-requires
-range-requires c = forward c.args.prefix (c.args.time + 1) 864000 (omega arith)
+range-requires c = forward c.args.prefix c.key_of-day.result (c.since_midnight-start.result + 1) 864000 (omega (arith, c.since_midnight-start.ensures.in_day))
 
-pub returns-in_err-place-clause-none : goal.returns-in_err-place-clause-none
-returns-in_err-place-clause-none c =
-    let none = none_of c.args.prefix (c.args.time + 1) 864000 c.self.inside.index c.self.inside.rows.items c.range.result
-    c.self.invariant.indexed (c.range.ensures.in_range tt) c.in_err-place.ensures.steps.0 in
-    let all : All (λ band. band.prefix ≡ digits_of c.args.prefix → band.start ≤ c.args.time) c.args.self.now = rw (← c.self.view_is) (each_row c.self.inside.rows.items (λ band. band.prefix ≡ digits_of c.args.prefix → band.start ≤ c.args.time) (λ row listed own.
-    elim (cases_lt c.args.time row.place.start) [
-      | inl after ↦ absurd (none row listed (record { own = own; from_start = omega arith; to_end = row.in_day }))
+pub returns-in_err-row-clause-none : goal.returns-in_err-row-clause-none
+returns-in_err-row-clause-none c =
+    let none = none_of c.self.inside.by_days (weekday c.args.now) c.key_of-day.result (keyed_at _ c.args.now _ _ c.weekday.ensures.value c.key_of-day.ensures) c.args.prefix (c.since_midnight-start.result + 1) 864000 c.self.inside.index c.self.inside.rows.items c.range.result
+    c.self.invariant.indexed (c.range.ensures.in_range tt) c.in_err-row.ensures.steps.0 in
+    let all : All (λ band. band.prefix ≡ digits_of c.args.prefix → counts_on (weekday c.args.now) band ≡ true → band.start ≤ c.args.now % DAY) c.args.self.now =
+    rw (← c.self.view_is) (each_row c.self.inside.rows.items (λ band. band.prefix ≡ digits_of c.args.prefix → counts_on (weekday c.args.now) band ≡ true → band.start ≤ c.args.now % DAY) (λ row listed own counts.
+    elim (cases_lt (c.args.now % DAY) row.start) [
+      | inl after ↦ absurd (none row listed (record { own = own; counts = counts; from_start = omega (arith, after, c.since_midnight-start.ensures.value); to_end = row.in_day }))
       | inr begun ↦ begun
     ])) in
     if_none c.from_residual.result _ all
 
-pub invariant_of-result : goal.invariant_of-result
-invariant_of-result c =
-    let entry = first_is c.args.prefix (c.args.time + 1) 864000 c.self.inside.index c.self.inside.rows.items c.range.result
-    c.self.invariant.indexed (c.range.ensures.in_range tt) (c.in_ok-place.place.now, c.in_ok-place.cost.now) c.next.new.self c.in_ok-place.ensures.steps in
-    record { in_day = entry.place.to_end }
-
 pub returns-clause-row : goal.returns-clause-row
 returns-clause-row c =
-    let entry = first_is c.args.prefix (c.args.time + 1) 864000 c.self.inside.index c.self.inside.rows.items c.range.result
-    c.self.invariant.indexed (c.range.ensures.in_range tt) (c.in_ok-place.place.now, c.in_ok-place.cost.now) c.next.new.self c.in_ok-place.ensures.steps in
-    let soonest = first_soonest c.args.prefix (c.args.time + 1) 864000 c.self.inside.index c.self.inside.rows.items c.range.result
-    c.self.invariant.indexed (c.range.ensures.in_range tt) (c.in_ok-place.place.now, c.in_ok-place.cost.now) c.next.new.self c.in_ok-place.ensures.steps in
+    let e : Place × Row = (c.in_ok-row.field-0-0.now, c.in_ok-row.row.now) in
+    let entry = first_is c.self.inside.by_days (weekday c.args.now) c.key_of-day.result (keyed_at _ c.args.now _ _ c.weekday.ensures.value c.key_of-day.ensures) c.args.prefix (c.since_midnight-start.result + 1) 864000 c.self.inside.index c.self.inside.rows.items c.range.result
+    c.self.invariant.indexed (c.range.ensures.in_range tt) e c.next.new.self c.in_ok-row.ensures.steps in
+    let soonest = first_soonest c.self.inside.by_days (weekday c.args.now) c.key_of-day.result (keyed_at _ c.args.now _ _ c.weekday.ensures.value c.key_of-day.ensures) c.args.prefix (c.since_midnight-start.result + 1) 864000 c.self.inside.index c.self.inside.rows.items c.range.result
+    c.self.invariant.indexed (c.range.ensures.in_range tt) e c.next.new.self c.in_ok-row.ensures.steps in
     rw (← c.self.view_is) (record {
       listed = entry.listed;
-      own = entry.place.own;
-      later = omega (arith, entry.place.from_start);
-      soonest = each_row c.self.inside.rows.items (λ other. other.prefix ≡ digits_of c.args.prefix → c.args.time < other.start → c.in_ok-place.place.now.start ≤ other.start) (λ row listed own after.
-          soonest row listed (record { own = own; from_start = omega arith; to_end = row.in_day }));
+      own = entry.row_of.own;
+      counts = entry.row_of.counts;
+      later = omega (arith, entry.row_of.from_start, c.since_midnight-start.ensures.value);
+      soonest = each_row c.self.inside.rows.items (λ other. other.prefix ≡ digits_of c.args.prefix → counts_on (weekday c.args.now) other ≡ true → c.args.now % DAY < other.start → c.in_ok-row.row.now.start ≤ other.start) (λ row listed own counts after.
+          soonest row listed (record { own = own; counts = counts; from_start = omega (arith, after, c.since_midnight-start.ensures.value); to_end = row.in_day }));
     })

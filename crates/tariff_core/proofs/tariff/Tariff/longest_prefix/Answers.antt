@@ -1,6 +1,7 @@
-use Rattle.std.proofs.Common.{◌≡◌, ◌∙◌, ℕ, List, sym, subst, arith}
-use Rattle.tariff_core.specs.Prefixes.{digits_of}
-use Rattle.tariff_core.proofs.PrefixLemmas.{is_longest, no_route, none_longer_first, none_longer_next}
+use Rattle.std.proofs.Common.{◌≡◌, ◌∙◌, ℕ, List, true, sym, subst, arith}
+use Rattle.tariff_core.specs.Bands.{has_midnights}
+use Rattle.tariff_core.specs.Digits.{digits_of}
+use Rattle.tariff_core.proofs.PrefixLemmas.{complete_prefix, is_longest, no_route, none_longer_first, none_longer_next}
 use Rattle.tariff_core.proofs.tariff.Tariff.longest_prefix.Goals as goal
 use Rattle.tariff_core.proofs.tariff.Tariff.longest_prefix.Goals.{else-loop-length-test, then-loop-length-test+else-has+else-length-gt0}
 use Rattle.tariff_core.specs.Routes.{IsPrefixFor}
@@ -14,6 +15,12 @@ returns-then-has-clause-prefix c =
     let Is : List ℕ → Type 0 = λ digits. IsPrefixFor c.args.self.now c.args.called.now digits in
     subst Is c.new.ensures (is_longest c.args.self.now c.args.called.now (digits_of c.new.result) c.loop-length.length c.new.ensures
     (omega (arith, c.min-length.ensures)) (rw (← view) (sym c.has.ensures.value ∙ c.if-has.true)) (rw view at c.has.ensures.short) c.loop-length.invariant)
+
+pub returns-then-has-clause-midnight : goal.returns-then-has-clause-midnight
+returns-then-has-clause-midnight c =
+    let view : c.self.inside.bands ≡ c.args.self.now = c.self.view_is in
+    let Has : List ℕ → Type 0 = λ digits. has_midnights digits c.args.self.now ≡ true in
+    subst Has c.new.ensures (complete_prefix c.args.self.now (digits_of c.new.result) (rw (← view) c.self.invariant) (rw (← view) (sym c.has.ensures.value ∙ c.if-has.true)))
 
 pub loop-length-preserved : goal.loop-length-preserved
 loop-length-preserved c =

@@ -1,28 +1,23 @@
--- No two rows of a tariff that was read have one prefix and one start, and each starts within a day.
+-- No two rows of a tariff that was read have one prefix and one start on a common day, and each starts within a day.
 use Rattle.std.proofs.Common.{◌≡◌, ◌<◌, ◌≤◌, ◌+◌, ◌*◌, ◌++◌, ◌&&◌, ◌⊎◌, ◌∙◌, inl, inr, ℕ, Bool, true, false, true≢false, Option, Some, None, List, [], ◌∷◌, Ok, Err, length, refl, sym, ap, subst, arith}
 use Rattle.std.specs.Prelude.{Contains, Result, if◌then◌else◌, nat_le, ok_or}
 use Rattle.std.specs.Str.Parse.{digits_value}
 use Rattle.std.proofs.lemmas.Bool.Decides.{nat_tests}
 use Rattle.std.proofs.lemmas.List.Elements.{All-nil, All-push, Contains-push_cases}
-use Rattle.live_recovery.specs.Laws.{IsProper, ReadTariffsAreProper}
 use Rattle.table_core.specs.Decimals.{decimal_of, is_decimal}
-use Rattle.table_core.specs.Judging.{after}
 use Rattle.table_core.specs.Rows.{Fields}
 use Rattle.table_core.specs.Tables.{below, own_fault, rows_from, table_of, then_rows, unless_own, which_header}
 use Rattle.table_core.specs.declared.fault.RowKind.{RowKind}
-use Rattle.tariff_core.proofs.RangeLemmas.{listed_found}
-use Rattle.tariff_core.proofs.TableLemmas.{is_new}
-use Rattle.tariff_core.specs.Bands.{Band, has_band}
-use Rattle.tariff_core.specs.TariffTable.{band_in, bands_of, complete, complete_by, first_in, free_in, money_in, new_band, new_band_in, prefix_in, start_in, step_in, tariff_form, time_at, time_of, without_midnight}
+use Rattle.tariff_core.specs.Bands.{Band, counts_on, has_band}
+use Rattle.tariff_core.specs.Laws.{IsProper, ReadTariffsAreProper}
+use Rattle.tariff_core.specs.TariffTable.{bands_of, complete, complete_by, new_band_in, repeats, tariff_form, time_at, time_of, without_midnight}
 use Rattle.tariff_core.specs.declared.tariff_fault.TariffFault.{TariffFault}
 use Rattle.tariff_core.specs.declared.tariff_fault.TariffKind.{TariffKind}
 use Rattle.tariff_core.specs.declared.tariff_fault.TariffKind.TheVariants as kind
 use Rattle.tariff_core.specs.declared.times.TheConstants.{DAY}
-
--- a step that was taken, and those after it
-pub after_is : {X Y E : Type 0} (step : Result X E) (next : X → Result Y E) (y : Y) → after step next ≡ Ok y → (x : X) × (step ≡ Ok x) × (next x ≡ Ok y)
-after_is (Ok x) next y is = (x, refl, is)
-after_is (Err why) next y is = absurd (cc)
+use Rattle.tariff_core.proofs.IndexLemmas.{not_there}
+use Rattle.tariff_core.proofs.RangeLemmas.{listed_found}
+use Rattle.tariff_core.proofs.TableLemmas.{after_is, read_parts, taken_band}
 
 -- ---- a start
 
@@ -56,58 +51,50 @@ some_start : (found : Option ℕ) (start : ℕ) → ((s : ℕ) → found ≡ Som
 some_start None start within is = absurd (cc)
 some_start (Some s) start within is = let same : s ≡ start = cc is in subst (λ t. t < 864000) same (within s refl)
 
-band_within : (which : ℕ) (fields : Fields) (band : Band) → band_in which fields ≡ Ok band → band.start < 864000
-band_within which fields band is =
-    let one = after_is (prefix_in fields) _ band is in
-    let two = after_is (start_in fields) _ band one.2 in
-    let three = after_is (money_in fields 2) _ band two.2 in
-    let four = after_is (money_in fields 3) _ band three.2 in
-    let five = after_is (free_in which fields) _ band four.2 in
-    let six = after_is (first_in which fields) _ band five.2 in
-    let seven = after_is (step_in which fields) _ band six.2 in
-    let same : two.0 ≡ band.start = ap (start_of two.0) seven.2 in
-    subst (λ start. start < 864000) same (some_start _ two.0 (starts_within _) two.1)
-  where
-    start_of : ℕ → Result Band TariffKind → ℕ
-    start_of none (Ok band) = band.start
-    start_of none (Err why) = none
-
 -- ---- rows
 
 none_proper : IsProper []
-none_proper = record { apart = λ one other at too prefix start. absurd (omega (arith, at.1)); within = All-nil (λ (band : Band). band.start < DAY) }
+none_proper = record { apart = λ one other on at too prefix start low high counts also. absurd (omega (arith, at.1)); within = All-nil (λ (band : Band). band.start < DAY) }
 
-more_proper : (bands : List Band) (band : Band) → IsProper bands → has_band band.prefix band.start bands ≡ false → band.start < 864000 → IsProper (bands ++ band ∷ [])
+more_proper : (bands : List Band) (band : Band) → IsProper bands → repeats bands band ≡ false → band.start < 864000 → IsProper (bands ++ band ∷ [])
 more_proper bands band proper new day = record {
-  apart = λ one other at too prefix start. apart one other (Contains-push_cases bands band one at) (Contains-push_cases bands band other too) prefix start;
+  apart = λ one other on at too prefix start low high counts also.
+      apart one other on (Contains-push_cases bands band one at) (Contains-push_cases bands band other too) prefix start low high counts also;
   within = All-push (λ (b : Band). b.start < DAY) bands band proper.within day;
 }
   where
-    not_there : (one : Band) → Contains bands one → one.prefix ≡ band.prefix → one.start ≡ band.start → ⊥
-    not_there one at prefix start =
-        let there : has_band band.prefix band.start bands ≡ true = ap (λ p. has_band p band.start bands) (sym prefix) ∙ ap (λ s. has_band one.prefix s bands) (sym start) ∙ listed_found bands one at in
-        true≢false (sym there ∙ new)
+    -- an earlier row that counts on a day of this one has another prefix or another start
+    other_place : (one : Band) (on : ℕ) → Contains bands one → one.prefix ≡ band.prefix → one.start ≡ band.start → 1 ≤ on → on ≤ 7 → counts_on on one ≡ true → counts_on on band ≡ true → ⊥
+    other_place one on at prefix start low high counts also =
+        let there : has_band band.prefix on band.start bands ≡ true =
+        ap (λ p. has_band p on band.start bands) (sym prefix) ∙ ap (λ s. has_band one.prefix on s bands) (sym start) ∙ listed_found bands one on at counts in
+        true≢false (sym there ∙ not_there bands band on low high new also)
 
-    apart : (one other : Band) → Contains bands one ⊎ (band ≡ one) → Contains bands other ⊎ (band ≡ other) → one.prefix ≡ other.prefix → one.start ≡ other.start → one ≡ other
-    apart one other (inl at) (inl too) prefix start = proper.apart one other at too prefix start
-    apart one other (inl at) (inr is) prefix start =
-        absurd (not_there one at (prefix ∙ ap (λ (b : Band). b.prefix) (sym is)) (start ∙ ap (λ (b : Band). b.start) (sym is)))
-    apart one other (inr is) (inl too) prefix start =
-        absurd (not_there other too (sym prefix ∙ ap (λ (b : Band). b.prefix) (sym is)) (sym start ∙ ap (λ (b : Band). b.start) (sym is)))
-    apart one other (inr is) (inr too) prefix start = sym is ∙ too
+    own_prefix : (one : Band) → band ≡ one → one.prefix ≡ band.prefix
+    own_prefix one is = ap (λ (b : Band). b.prefix) (sym is)
 
-new_is : (named : Bool) (band new : Band) → (if named then Err kind.Repeated else Ok band) ≡ Ok new → band ≡ new
-new_is true band new is = absurd (cc)
-new_is false band new is = cc is
+    own_start : (one : Band) → band ≡ one → one.start ≡ band.start
+    own_start one is = ap (λ (b : Band). b.start) (sym is)
+
+    own_day : (one : Band) (on : ℕ) → band ≡ one → counts_on on one ≡ true → counts_on on band ≡ true
+    own_day one on is counts = ap (λ b. counts_on on b) is ∙ counts
+
+    apart : (one other : Band) (on : ℕ) → Contains bands one ⊎ (band ≡ one) → Contains bands other ⊎ (band ≡ other) → one.prefix ≡ other.prefix → one.start ≡ other.start
+        → 1 ≤ on → on ≤ 7 → counts_on on one ≡ true → counts_on on other ≡ true → one ≡ other
+    apart one other on (inl at) (inl too) prefix start low high counts also = proper.apart one other on at too prefix start low high counts also
+    apart one other on (inl at) (inr is) prefix start low high counts also =
+        absurd (other_place one on at (prefix ∙ own_prefix other is) (start ∙ own_start other is) low high counts (own_day other on is also))
+    apart one other on (inr is) (inl too) prefix start low high counts also =
+        absurd (other_place other on too (sym prefix ∙ own_prefix one is) (sym start ∙ own_start one is) low high also (own_day one on is counts))
+    apart one other on (inr is) (inr too) prefix start low high counts also = sym is ∙ too
 
 adds_proper : (which : ℕ) (earlier : List Band) (fields : Fields) (read : List Band) → IsProper earlier → tariff_form.judge which earlier fields ≡ Ok read → IsProper read
 adds_proper which earlier fields read proper is =
     let (band, new, added) = after_is (new_band_in which earlier fields) _ read is in
-    let (given, read_so, kept) = after_is (band_in which fields) (new_band earlier) band new in
-    let same = new_is (has_band given.prefix given.start earlier) given band kept in
-    let day = subst (λ (b : Band). b.start < 864000) same (band_within which fields given read_so) in
+    let (told, apart) = taken_band which earlier fields band new in
+    let day = some_start _ band.start (starts_within _) (read_parts which fields band told).0 in
     let all : earlier ++ band ∷ [] ≡ read = cc added in
-    subst IsProper all (more_proper earlier band proper (is_new which earlier fields band new) day)
+    subst IsProper all (more_proper earlier band proper apart day)
 
 then_is : (number : ℕ) (own : Option RowKind) (judged : Result (List Band) TariffKind) (next : List Band → Result (List Band) TariffFault) (bands : List Band)
     → then_rows tariff_form number (unless_own tariff_form own judged) next ≡ Ok bands → (read : List Band) × (judged ≡ Ok read) × (next read ≡ Ok bands)

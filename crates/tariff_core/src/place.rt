@@ -1,48 +1,14 @@
-//! The first digits of a called number.
+//! Where a row of a tariff is found.
 
-ghost use Rattle.std.specs.Prelude.{◌≡◌, ◌≤◌, ◌<◌, length};
-
+use crate::digits::Digits;
 use std::cmp::Ordering;
 
-/// The most digits that a prefix has.
-pub(crate) const PREFIX_DIGITS: usize = 15;
-
-/// The digits that a called number begins with, at most `PREFIX_DIGITS`.
-#[derive(Clone, Copy, Debug)]
-pub(crate) struct Prefix {
-    pub bytes: [u8; 15],
-    pub len: u8,
-    pub ghost short: { len ≤ 15 },
-}
-
-impl Prefix {
-    ghost use Rattle.tariff_core.specs.Prefixes.{digits_of};
-
-    /// The prefix of these digits.
-    pub fn new(digits: &[u8]) -> Prefix
-        requires { length digits.now ≤ 15 }
-        ensures { digits_of result ≡ digits.now }
-    {
-        let mut bytes = [0; 15];
-        bytes[..digits.len()].copy_from_slice(digits);
-        Prefix {
-            bytes,
-            len: digits.len() as u8,
-        }
-    }
-
-    /// Its digits.
-    pub fn digits(&self) -> &[u8]
-        ensures { result.now ≡ digits_of self.now }
-    {
-        &self.bytes[..usize::from(self.len)]
-    }
-}
-
-/// What a row of the tariff is for: the calls to a prefix, from a time of day on.
+/// Where a row of the tariff is found: the calls to a prefix, on a day, from a time of day on.
 #[derive(Clone, Copy, Debug)]
 pub(crate) struct Place {
-    pub prefix: Prefix,
+    pub prefix: Digits,
+    /// A weekday, 1 (Monday) to 7 (Sunday); 0 in a table without days, where a row stands for each.
+    pub day: u8,
     /// In units of 100 ms after midnight.
     pub start: u32,
 }
@@ -61,10 +27,9 @@ impl Ord for Place {
     ghost matches_eq = { Prim.search (comparing, rules) };
 
     fn cmp(&self, other: &Place) -> Ordering {
-        self.prefix
-            .digits()
-            .cmp(other.prefix.digits())
-            .then(self.start.cmp(&other.start))
+        self.prefix.digits().cmp(other.prefix.digits()).then(
+            self.day.cmp(&other.day).then(self.start.cmp(&other.start)),
+        )
     }
 }
 
@@ -87,13 +52,16 @@ impl PartialOrd for Place {
 
 impl PartialEq for Place {
     ghost use Rattle.std.proofs.Common.{rules};
+    ghost use Rattle.std.proofs.lemmas.Cmp.{eq_by_cmp_equiv};
+    ghost use Rattle.std.specs.Cmp.{partial_equiv_from_equiv};
     ghost use Rattle.std.specs.Cmp.Rules.{comparing};
     ghost use Rattle.std.specs.Ordering.{eq_by_cmp};
     ghost use Rattle.tariff_core.specs.Places.{by_place};
 
     ghost eq = { eq_by_cmp by_place };
 
-    ghost laws = { Prim.search (comparing, rules) };
+    ghost laws = { partial_equiv_from_equiv
+        (eq_by_cmp_equiv {R = by_place} (Prim.search (comparing, rules))) };
 
     fn eq(&self, other: &Place) -> bool {
         self.cmp(other).is_eq()

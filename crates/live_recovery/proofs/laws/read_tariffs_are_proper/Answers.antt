@@ -1,5 +1,0 @@
-use Rattle.live_recovery.proofs.Proper.{read_is_proper}
-use Rattle.live_recovery.proofs.laws.read_tariffs_are_proper.Goals as goal
-
-pub returns : goal.returns
-returns c = read_is_proper

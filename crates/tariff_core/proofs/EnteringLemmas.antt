@@ -1,0 +1,106 @@
+-- A row that comes into the index, day by day.
+use Rattle.std.proofs.Common.{◌≡◌, ℕ, ◌+◌, ◌<◌, ◌≤◌, Bool, true, false, [], Some, refl, sym, ap, ◌∙◌, arith}
+use Rattle.std.specs.Prelude.{◌==◌, ◌&&◌, if◌then◌else◌, nat_le, nat_lt}
+use Rattle.std.specs.BTreeMap.{BTreeMap, Updates, get}
+use Rattle.std.specs.Ordering.{is_eq}
+use Rattle.std.specs.Str.{bytes_eq}
+use Rattle.std.proofs.lemmas.Bool.Decides.{nat_tests}
+use Rattle.tariff_core.specs.Bands.{counts_on, is_at}
+use Rattle.tariff_core.specs.Digits.{digits_of}
+use Rattle.tariff_core.specs.Places.{by_place}
+use Rattle.tariff_core.specs.Tariff.{Finds, band_of, key_of}
+use Rattle.tariff_core.specs.declared.place.Place.{Place}
+use Rattle.tariff_core.specs.declared.row.Row.{Row}
+use Rattle.tariff_core.proofs.IndexLemmas.{counts_key, key_above, key_below, same_digits, same_number_is, same_place}
+use Rattle.tariff_core.proofs.RangeLemmas.{own_place, place_at}
+
+-- whether a place is one of the row on a day from the first to before the end
+abbrev pub is_entered : ℕ → ℕ → Row → Place → Bool
+is_entered first end row place = (nat_le first place.day && nat_lt place.day end) && is_at (digits_of place.prefix) place.day place.start (band_of row)
+
+-- the row is found on these days, and nothing else changed
+abbrev pub Entered : ℕ → ℕ → BTreeMap Place Row → Row → BTreeMap Place Row → Type 0
+Entered first end before row after = (place : Place) → get by_place after place ≡ (if is_entered first end row place then Some row else get by_place before place)
+
+no_day : (first day : ℕ) → (nat_le first day && nat_lt day first) ≡ false
+no_day first day = grind (arith, nat_tests)
+
+-- before the first day
+pub none_entered : (first : ℕ) (index : BTreeMap Place Row) (row : Row) → Entered first first index row index
+none_entered first index row place = let none = no_day first place.day in rw none refl
+
+one_day : (first day on : ℕ) → first ≤ day → day ≡ on → (nat_le first on && nat_lt on (day + 1)) ≡ true
+one_day first day on low is = grind (arith, nat_tests, low, is)
+
+no_more : (day on : ℕ) → (day == on) ≡ false → nat_lt on (day + 1) ≡ nat_lt on day
+no_more day on is = grind (arith, nat_tests, is)
+
+both : {a b : Bool} → a ≡ true → b ≡ true → (a && b) ≡ true
+both one two = rw (one, two) refl
+
+never : (a b : Bool) → b ≡ false → (a && b) ≡ false
+never true b is = is
+never false b is = refl
+
+-- a place that isn't the row's on a day is found behind it as it was before
+still : (first day : ℕ) (row : Row) (place : Place) → ((day == place.day) ≡ true → is_at (digits_of place.prefix) place.day place.start (band_of row) ≡ false)
+    → is_entered first (day + 1) row place ≡ is_entered first day row place
+still first day row place not_at = by_day (day == place.day) refl
+  where
+    by_day : (b : Bool) → (day == place.day) ≡ b → is_entered first (day + 1) row place ≡ is_entered first day row place
+    by_day true is =
+        never (nat_le first place.day && nat_lt place.day (day + 1)) (is_at (digits_of place.prefix) place.day place.start (band_of row)) (not_at is)
+        ∙ sym (never (nat_le first place.day && nat_lt place.day day) (is_at (digits_of place.prefix) place.day place.start (band_of row)) (not_at is))
+    by_day false is = ap (λ b. (nat_le first place.day && b) && is_at (digits_of place.prefix) place.day place.start (band_of row)) (no_more day place.day is)
+
+not_same : (bytes day start counts : Bool) → (bytes && (day && start)) ≡ false → day ≡ true → ((bytes && start) && counts) ≡ false
+not_same true true start counts is on = rw is refl
+not_same true false start counts is on = cc
+not_same false day start counts is on = refl
+
+-- a day on which the row counts
+pub entered_more : (first day : ℕ) (row : Row) (before now after : BTreeMap Place Row) → first ≤ day → counts_on day (band_of row) ≡ true → Entered first day before row now
+    → Updates by_place now after (place_at row.prefix day row.start) (Some row) → Entered first (day + 1) before row after
+entered_more first day row before now after low counts so_far updates place =
+    updates.0 place ∙ by_same (is_eq (by_place (place_at row.prefix day row.start) place)) refl
+  where
+    by_same : (b : Bool) → is_eq (by_place (place_at row.prefix day row.start) place) ≡ b
+        → (if b then Some row else get by_place now place) ≡ (if is_entered first (day + 1) row place then Some row else get by_place before place)
+    by_same true is =
+        let same = same_digits (place_at row.prefix day row.start) place is in
+        let at : is_at (digits_of place.prefix) place.day place.start (band_of row) ≡ true = rw (← same.0, ← same.1, ← same.2) (own_place (band_of row) day counts) in
+        let there : is_entered first (day + 1) row place ≡ true = both (one_day first day place.day low same.1) at in
+        rw there refl
+    by_same false is =
+        let other = sym (same_place (place_at row.prefix day row.start) place) ∙ is in
+        let as_before = still first day row place (λ on. not_same (bytes_eq (digits_of row.prefix) (digits_of place.prefix)) (day == place.day) (row.start == place.start)
+        (counts_on place.day (band_of row)) other on) in
+        so_far place ∙ ap (λ b. if b then Some row else get by_place before place) (sym as_before)
+
+-- a day on which it doesn't
+pub entered_not : (first day : ℕ) (row : Row) (before now : BTreeMap Place Row) → counts_on day (band_of row) ≡ false → Entered first day before row now
+    → Entered first (day + 1) before row now
+entered_not first day row before now counts so_far place =
+    so_far place ∙ ap (λ b. if b then Some row else get by_place before place) (sym (still first day row place (λ on.
+    never (bytes_eq (digits_of row.prefix) (digits_of place.prefix) && (row.start == place.start)) (counts_on place.day (band_of row))
+    (ap (λ d. counts_on d (band_of row)) (sym (same_number_is day place.day on)) ∙ counts))))
+
+within : (first day on : ℕ) → first ≤ on → on < day → (nat_le first on && nat_lt on day) ≡ true
+within first day on low high = grind (arith, nat_tests, low, high)
+
+-- all days
+pub entered_all : (by_days : Bool) (first end day : ℕ) (row : Row) (before after : BTreeMap Place Row) → first ≡ key_of by_days 1 → end ≡ key_of by_days 7 + 1 → end ≤ day
+    → (by_days ≡ false → digits_of row.days ≡ []) → Entered first day before row after → Finds by_days before row after
+entered_all by_days first end day row before after first_is end_is past none entered place weekday on =
+    entered place ∙ ap (λ b. if b then Some row else get by_place before place) same
+  where
+    low : first ≤ place.day
+    low = let above = key_above by_days first weekday first_is on.from_monday in omega (arith, above, on.key)
+
+    high : place.day < day
+    high = let below = key_below by_days end weekday end_is on.to_sunday in omega (arith, below, on.key, past)
+
+    same : is_entered first day row place ≡ is_at (digits_of place.prefix) weekday place.start (band_of row)
+    same =
+        ap (λ b. b && is_at (digits_of place.prefix) place.day place.start (band_of row)) (within first day place.day low high)
+        ∙ ap (λ b. (bytes_eq (digits_of row.prefix) (digits_of place.prefix) && (row.start == place.start)) && b) (counts_key by_days (band_of row) weekday place.day none on.key)

@@ -1,0 +1,7 @@
+-- What a few digits of the code say.
+use Rattle.std.specs.Prelude.{ℕ, List, take}
+use Rattle.tariff_core.specs.declared.digits.Digits.{Digits}
+
+-- the text of the digits
+abbrev pub digits_of : Digits → List ℕ
+digits_of digits = take digits.len digits.bytes

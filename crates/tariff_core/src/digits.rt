@@ -1,0 +1,38 @@
+//! A few digits: the prefix of a row, and the days on which it counts.
+
+ghost use Rattle.std.specs.Prelude.{◌≡◌, ◌≤◌, length};
+
+/// The most digits that a prefix has.
+pub(crate) const PREFIX_DIGITS: usize = 15;
+
+/// A text of digits, at most `PREFIX_DIGITS`.
+#[derive(Clone, Copy, Debug)]
+pub(crate) struct Digits {
+    pub bytes: [u8; 15],
+    pub len: u8,
+    pub ghost short: { len ≤ 15 },
+}
+
+impl Digits {
+    ghost use Rattle.tariff_core.specs.Digits.{digits_of};
+
+    /// These digits.
+    pub fn new(digits: &[u8]) -> Digits
+        requires { length digits.now ≤ 15 }
+        ensures { digits_of result ≡ digits.now }
+    {
+        let mut bytes = [0; 15];
+        bytes[..digits.len()].copy_from_slice(digits);
+        Digits {
+            bytes,
+            len: digits.len() as u8,
+        }
+    }
+
+    /// The text.
+    pub fn digits(&self) -> &[u8]
+        ensures { result.now ≡ digits_of self.now }
+    {
+        &self.bytes[..usize::from(self.len)]
+    }
+}
