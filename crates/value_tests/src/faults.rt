@@ -5,7 +5,7 @@ use cap_values::ValueFault;
 use table_core::{RowFault, RowKind, TableFault};
 use tariff_core::{PlanRange, TariffFault, TariffKind, TimeRange};
 
-const KINDS: [(TariffKind, u8, &str); 13] = [
+const KINDS: [(TariffKind, u8, &str); 14] = [
     (TariffKind::Csv, 1, "row 7: Csv"),
     (TariffKind::Header, 2, "row 7: Header"),
     (TariffKind::Digits, 3, "row 7: Digits"),
@@ -19,6 +19,7 @@ const KINDS: [(TariffKind, u8, &str); 13] = [
     (TariffKind::Free, 11, "row 7: Free"),
     (TariffKind::First, 12, "row 7: First"),
     (TariffKind::Step, 13, "row 7: Step"),
+    (TariffKind::Days, 14, "row 7: Days"),
 ];
 
 const PLAN_RANGE: &str =

@@ -23,6 +23,8 @@ mod table_reading;
 #[cfg(test)]
 mod tables;
 #[cfg(test)]
+mod tariff_days;
+#[cfg(test)]
 mod tariffs;
 #[cfg(test)]
 mod values;

@@ -8,7 +8,7 @@ use std::test::Fail;
 use tariff_core::{Plan, Route, Tariff, TariffFault, TariffKind};
 
 /// The fee, the rates and the free units of a route, and the moment of its switch.
-type Rates = (u64, u64, Option<u64>, u32, Option<u64>);
+pub(crate) type Rates = (u64, u64, Option<u64>, u32, Option<u64>);
 
 /// Two bands for 49, and one for 4930.
 pub(crate) const TABLE: &[u8] =
@@ -244,7 +244,11 @@ fn rates_of(route: Option<Route>) -> Option<Rates> {
 }
 
 /// Reads a table, and looks at its routes.
-fn routes<R: Abort + AllocGlobal>(rt: &R, table: &[u8], rows: &[(&str, u64, Option<Rates>)]) {
+pub(crate) fn routes<R: Abort + AllocGlobal>(
+    rt: &R,
+    table: &[u8],
+    rows: &[(&str, u64, Option<Rates>)],
+) {
     let tariff = Tariff::read(rt.alloc(), table).expect(rt, "a tariff");
     for &(called, now, want) in rows {
         assert!(rt; now <= LATEST);
