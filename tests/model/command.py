@@ -10,6 +10,7 @@ from .tables import (
     LAST_MOMENT,
     MAX_RATE,
     Fault,
+    band_at,
     dated,
     divide,
     moment,
@@ -146,7 +147,7 @@ def do_quote(given, text):
         return "no route\n"
     plan, switch = found
     prefix = max((it for it in tariff if called.startswith(it)), key=len)
-    start = max(it[0] for it in tariff[prefix] if it[0] <= now % DAY)
+    start, *_ = band_at(tariff[prefix], now)
     steps = f" first {plan.first} step {plan.step}" if plan.has_steps() else ""
     lines = [f"prefix {prefix or '-'} from {start // 36000:02}:{start // 600 % 60:02} fee {plan.fee} rate {plan.before} free {plan.free}{steps}\n"]
     if switch is not None:

@@ -190,7 +190,8 @@ def runs(it, few=False):
     words += ["--clock"] if it.random() < (0.5 if table_of in ("--calls", "--trace") else 0.03) else []
     first, starts = tariff(it)
     # the last of these days is the last but one before the last moment
-    base = max(0, it.choice([0, 0, 1, 3, 10**12 // DAY - 1]) * DAY + it.choice(starts) - it.choice([0, 5, 10, 100, 305]))
+    day, start = it.choice([0, 0, 1, 3, 10**12 // DAY - 1]), it.choice(starts)
+    base = max(0, day * DAY + (start if day < 4 else start % DAY) - it.choice([0, 5, 10, 100, 305]))
     second, accounts, subscribers = setup(it, base, wanted)
     third = script(it, given, base, accounts, subscribers)
     return words, first + b"%%\n" + second + b"%%\n" + third
@@ -211,15 +212,32 @@ def full_run(it):
 
 
 def tariff(it):
+    """A tariff, and the moments of the first week at which a band starts."""
     header = it.choice(TARIFF)
     rows, starts = [header], [0]
     for prefix in it.sample(PREFIXES, it.randrange(1, 4)):
-        for start in sorted({0, *(it.randrange(1440) for _ in range(it.choice([0, 0, 1, 2])))}):
-            free = free_units(it) if it.random() < 0.98 else DAY + 1
-            row = prefix, f"{start // 60:02}:{start % 60:02}", it.choice([0, 50, it.randrange(300), it.randrange(300), 10**9]), rate(it), free
-            rows.append([*row, *steps(it)][: len(header)])
-            starts.append(start * 600)
+        for days in weeks(it) if "days" in header else [""]:
+            for start in sorted({0, *(it.randrange(1440) for _ in range(it.choice([0, 0, 1, 2])))}):
+                free = free_units(it) if it.random() < 0.98 else DAY + 1
+                row = prefix, f"{start // 60:02}:{start % 60:02}", it.choice([0, 50, it.randrange(300), it.randrange(300), 10**9]), rate(it), free
+                rows.append([*row, *steps(it), days][: len(header)])
+                # day 0 is a Thursday
+                starts += [(int(day) + 3) % 7 * DAY + start * 600 for day in days or "4" if day in "1234567"]
+    if "days" in header and it.random() < 0.3:
+        it.shuffle(rows)
+        rows.remove(header)
+        rows.insert(0, header)
     return table(rows), starts
+
+
+def weeks(it):
+    """The days of a week in a few sets, and now and then in some that overlap, leave a day out, or are no sets of days."""
+    if it.random() < 0.08:
+        return it.choice([["8"], ["0"], ["11"], ["21"], ["67", "7"], ["12345"], ["", "7"], ["1234567", ""], ["12345", "6 7"]])
+    sets = it.choice([1, 2, 2, 2, 3, 7])
+    sets_of = [it.randrange(sets) for _ in range(7)]
+    split = ["".join(str(day + 1) for day in range(7) if sets_of[day] == number) for number in range(sets)]
+    return [it.choice(["", "1234567"])] if "1234567" in split else [days for days in split if days]
 
 
 def until(it, base, wanted):

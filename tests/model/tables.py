@@ -13,7 +13,7 @@ EPOCH, UNIT = datetime.datetime(1970, 1, 1), datetime.timedelta(milliseconds=100
 # The headers that a table may have, the oldest first.
 OPS = [["seat", "op", "call", "x1", "x2", "x3", "x4", "x5", *more] for more in ([], ["x6"], ["x6", "x7"], ["x6", "x7", "x8", "x9"])]
 BOOK = [["account", *ops, "reply", "y1", "y2", "y3"] for ops in OPS]
-TARIFF = [["prefix", "from", "fee", "rate", *more] for more in ([], ["free"], ["free", "first", "step"])]
+TARIFF = [["prefix", "from", "fee", "rate", *more] for more in ([], ["free"], ["free", "first", "step"], ["free", "first", "step", "days"])]
 SETUP = [["kind", "key", "value", *more] for more in ([], ["until"])]
 SCRIPT = [["moment", "call", "what", "x", "y", *more] for more in ([], ["z"])]
 
@@ -202,43 +202,60 @@ def read_book(text, most):
 
 
 def read_tariff(text):
-    """The bands of each prefix by rising start, in units of 100 ms, each with its fee, its rate, its free units and its steps."""
-    bands, rows = {}, {}
+    """The bands of each prefix on each weekday, 0 for Monday, by rising start, in units of 100 ms.
+
+    A band is its start, its row, its fee, its rate, its free units and its steps.
+    """
+    weeks, rows = {}, {}
     for row, (prefix, start, fee, rate, *more), fail in rows_of("tariff", text, TARIFF, 10_000):
         at = re.fullmatch(rb"([01][0-9]|2[0-3]):([0-5][0-9])", start)
         money = decimal(fee, MAX_RATE), decimal(rate, MAX_RATE)
         free = decimal(more[0], DAY) if more else 0
         first, step = (decimal(more[1], DAY), decimal(more[2], DAY, 1)) if more[1:] else (0, 1)
+        days = re.fullmatch(rb"1?2?3?4?5?6?7?", more[3]) if more[3:] else True
         fail(("Digits", not re.fullmatch(rb"[0-9]{0,15}", prefix)), ("From", not at), ("Money", None in money))
-        fail(("Free", free is None), ("First", first is None), ("Step", step is None))
+        fail(("Free", free is None), ("First", first is None), ("Step", step is None), ("Days", not days))
         moment = (int(at[1]) * 60 + int(at[2])) * 600
-        of_prefix = bands.setdefault(prefix.decode(), {})
-        fail(("Repeated", moment in of_prefix))
+        week = weeks.setdefault(prefix.decode(), [{} for _ in range(7)])
+        of_days = [week[day - ord("1")] for day in (more[3] if more[3:] else b"") or b"1234567"]
+        fail(("Repeated", any(moment in day for day in of_days)))
         rows.setdefault(prefix.decode(), row)
-        of_prefix[moment] = *money, free, first, step
+        for day in of_days:
+            day[moment] = row, *money, free, first, step
     for prefix, row in rows.items():
-        if 0 not in bands[prefix]:
+        if not all(0 in day for day in weeks[prefix]):
             raise Fault(f"prepaid: tariff row {row}: NoMidnightBand")
-    return {prefix: sorted((start, *band) for start, band in it.items()) for prefix, it in bands.items()}
+    return {prefix: [sorted((start, *band) for start, band in day.items()) for day in week] for prefix, week in weeks.items()}
 
 
 def has_steps(tariff):
     """Whether any band bills in steps."""
-    return any(band[4:] != (0, 1) for bands in tariff.values() for band in bands)
+    return any(band[5:] != (0, 1) for week in tariff.values() for day in week for band in day)
+
+
+def bands_on(week, day):
+    """The bands of a prefix on a day, which is a number of days since moment 0, a Thursday."""
+    return week[(day + 3) % 7]
+
+
+def band_at(week, now):
+    """The band of a prefix that counts at a moment: the latest that has begun on this day."""
+    return max(band for band in bands_on(week, now // DAY) if band[0] <= now % DAY)
 
 
 def route(tariff, called, now):
-    """The plan and the moment of the switch, or None: the longest prefix, its band now, the next one's rate."""
+    """The plan and the moment of the switch, or None: the longest prefix, its band now, the rate of the next within a day."""
     prefix = max((it for it in tariff if called.startswith(it)), key=len, default=None)
     if prefix is None:
         return None
-    bands, time = tariff[prefix], now % DAY
-    at = max(i for i, band in enumerate(bands) if band[0] <= time)
-    _, fee, rate, *more = bands[at]
-    if len(bands) == 1:
-        return Plan(fee, rate, None, *more), None
-    start, _, second, *_ = bands[(at + 1) % len(bands)]
-    return Plan(fee, rate, second, *more), now + ((start - time) % DAY or DAY)
+    week, today = tariff[prefix], now // DAY
+    _, row, fee, rate, *more = band_at(week, now)
+    starts = [day * DAY + start for day in (today, today + 1) for start, *_ in bands_on(week, day)]
+    for at in sorted(it for it in starts if now < it <= now + DAY):
+        _, other, _, second, *_ = band_at(week, at)
+        if other != row:
+            return Plan(fee, rate, second, *more), at
+    return Plan(fee, rate, None, *more), None
 
 
 def read_setup(text):

@@ -132,16 +132,16 @@ Kinds:
   Free            Free units are digits only, 0 to 864000
   First           The least time that is billed is digits only, 0 to 864000
   Step            A billing step is digits only, 1 to 864000
-  Days            The days are digits from 1 (Monday) to 7 (Sunday) that rise, or none
-  NoMidnightBand  A prefix has no row from 00:00 on some weekday
+  Days            The days of a row are digits from 1 (Monday) to 7 (Sunday), rising, or none
+  NoMidnightBand  A prefix has no row from 00:00, or not on each day of the week
   What            A kind is account or subscriber; what happens is start, answer, busy,
                   noanswer, routefail, abandon, disconnect or recharge
   Number          Digits only, in the smallest coin, within the range: no plus, no point; a moment
                   may be YYYY-MM-DDTHH:MM:SS, a day of the calendar; a party is 1 to 15 digits
   Empty           A field has something that the row doesn't take
   Order           This moment is below that of the row before; often the row before is wrong
-  Repeated        A prefix with the same start on a common day, an account, a subscriber or a
-                  start of a call is there already
+  Repeated        A prefix with the same start and a day in common, an account, a subscriber
+                  or a start of a call is there already
   Unknown         In a setup accounts are above their subscribers; in a script a call's start
                   is above its other rows, and a recharge is of an account of the setup";
 
@@ -186,8 +186,8 @@ Kinds:
 /// Behind the options of `quote`.
 pub(crate) const QUOTE: &str = "\
 A moment is in units of 100 ms from 1 January 1970 on, by the operator's own clock, or
-YYYY-MM-DDTHH:MM:SS, or HH:MM of that first day. A time is in units of 100 ms, money in the
-smallest coin, a rate is money a minute.
+YYYY-MM-DDTHH:MM:SS, or HH:MM of that first day, a Thursday. A time is in units of 100 ms,
+money in the smallest coin, a rate is money a minute.
 Input, for example:
 
   prefix,from,fee,rate
@@ -219,9 +219,9 @@ Kinds:
   Free            Free units are digits only, 0 to 864000
   First           The least time that is billed is digits only, 0 to 864000
   Step            A billing step is digits only, 1 to 864000
-  Days            The days are digits from 1 (Monday) to 7 (Sunday) that rise, or none
-  Repeated        A prefix with the same start is there already, on a common day
-  NoMidnightBand  A prefix has no row from 00:00 on some weekday";
+  Days            The days of a row are digits from 1 (Monday) to 7 (Sunday), rising, or none
+  Repeated        A prefix with the same start and a day in common is there already
+  NoMidnightBand  A prefix has no row from 00:00, or not on each day of the week";
 
 /// Behind the options of `rate`.
 pub(crate) const RATE: &str = "\
@@ -276,9 +276,9 @@ Kinds:
   Free            Free units are digits only, 0 to 864000
   First           The least time that is billed is digits only, 0 to 864000
   Step            A billing step is digits only, 1 to 864000
-  Days            The days are digits from 1 (Monday) to 7 (Sunday) that rise, or none
-  Repeated        A prefix with the same start is there already, on a common day
-  NoMidnightBand  A prefix has no row from 00:00 on some weekday
+  Days            The days of a row are digits from 1 (Monday) to 7 (Sunday), rising, or none
+  Repeated        A prefix with the same start and a day in common is there already
+  NoMidnightBand  A prefix has no row from 00:00, or not on each day of the week
 
 Faults of a row, in its column fault; the next row is rated all the same:
   TooLong  More than 65536 bytes
@@ -362,14 +362,14 @@ Kinds:
   Free            Free units are digits only, 0 to 864000
   First           The least time that is billed is digits only, 0 to 864000
   Step            A billing step is digits only, 1 to 864000
-  Days            The days are digits from 1 (Monday) to 7 (Sunday) that rise, or none
-  NoMidnightBand  A prefix has no row from 00:00 on some weekday
+  Days            The days of a row are digits from 1 (Monday) to 7 (Sunday), rising, or none
+  NoMidnightBand  A prefix has no row from 00:00, or not on each day of the week
   What            A kind is account or subscriber
   Number          Digits only, in the smallest coin, within the range: no plus, no point; a party
                   is 1 to 15 digits
   Empty           A field has something that the row doesn't take
-  Repeated        A prefix with the same start on a common day, an account or a subscriber is
-                  there already
+  Repeated        A prefix with the same start and a day in common, an account or a subscriber
+                  is there already
   Unknown         Accounts are above their subscribers
 
 Faults of a line, the first that fits; the next line is answered all the same:

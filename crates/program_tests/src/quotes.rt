@@ -12,8 +12,37 @@ const TWO_BANDS: &str = "prefix,from,fee,rate\n49,00:00,50,1000\n49,08:00,60,400
 /// A minute free, and calls to all other numbers.
 const FREE: &str = "prefix,from,fee,rate,free\n49,00:00,50,1000,600\n,00:00,0,1,0\n,12:34,1,2,3\n";
 
+/// Dear by day, less at night, and at the weekend.
+const WEEKEND: &str = "prefix,from,fee,rate,free,first,step,days\n49,00:00,50,400,0,0,1,12345\n\
+    49,08:00,60,1000,0,0,1,12345\n49,00:00,70,300,0,0,1,67\n";
+
 /// Words, a tariff, and the lines of the quote.
-const QUOTED: [(&str, &str, &str); 17] = [
+const QUOTED: [(&str, &str, &str); 22] = [
+    (
+        "quote --called 49 --at 08:00",
+        WEEKEND,
+        "prefix 49 from 08:00 fee 60 rate 1000 free 0\nswitch 864000 rate 400\n",
+    ),
+    (
+        "quote --called 49 --at 1970-01-02T23:59:59 --for 610 --clock",
+        WEEKEND,
+        "prefix 49 from 08:00 fee 60 rate 1000 free 0\nswitch 1970-01-03T00:00:00.0 rate 300\nprice 377\n",
+    ),
+    (
+        "quote --called 49 --at 1970-01-03T12:00:00 --for 864000",
+        WEEKEND,
+        "prefix 49 from 00:00 fee 70 rate 300 free 0\nprice 432070\n",
+    ),
+    (
+        "quote --called 49 --at 1970-01-04T00:00:00 --for 864000 --clock",
+        WEEKEND,
+        "prefix 49 from 00:00 fee 70 rate 300 free 0\nswitch 1970-01-05T00:00:00.0 rate 400\nprice 432070\n",
+    ),
+    (
+        "quote --called 49 --at 1970-01-05T00:00:00 --clock",
+        WEEKEND,
+        "prefix 49 from 00:00 fee 50 rate 400 free 0\nswitch 1970-01-05T08:00:00.0 rate 1000\n",
+    ),
     (
         "quote --called 4930 --at 0",
         FLAT,
@@ -125,7 +154,11 @@ const REFUSED: [&str; 19] = [
 ];
 
 /// Tariffs that are refused, and their first fault.
-const FAULTS: [(&str, &str); 4] = [
+const FAULTS: [(&str, &str); 5] = [
+    (
+        "prefix,from,fee,rate,free,first,step,days\n49,00:00,0,0,0,0,1,76\n",
+        "tariff row 2: Days",
+    ),
     ("", "tariff row 1: Header"),
     (
         "prefix,from,fee,rate\n4x,00:00,0,0\n",
