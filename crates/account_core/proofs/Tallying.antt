@@ -1,6 +1,6 @@
 -- What is kept of a legal history is kept as legal entries are added to it.
 use Rattle.std.proofs.Common.{◌≡◌, ℕ, ◌+◌, ◌≤◌, Option, Some, None, List, [], ◌∷◌, sym, ap, ◌∙◌, refl, arith}
-use Rattle.std.specs.Prelude.{false, true, is_some}
+use Rattle.std.specs.Prelude.{◌≢◌, Err, Ok, Result}
 use Rattle.account_core.specs.Answers.{IsAnswered, answer, inadmissible, inadmissible_for, shown_by}
 use Rattle.account_core.specs.Available.{credited}
 use Rattle.account_core.specs.Events.{EntryData}
@@ -11,6 +11,7 @@ use Rattle.account_core.specs.Known.{CallFacts, known, known_after, taken_of}
 use Rattle.account_core.specs.Replies.{reply_for}
 use Rattle.account_core.specs.Sound.{HasRoom, LegalPastsAreSound, SoundPastsAnswer}
 use Rattle.account_core.specs.Tallied.{IsTallied, IsToldOf, tally_of}
+use Rattle.account_core.specs.Wrong.{IsWrong, told_by as told_of}
 use Rattle.account_core.specs.declared.entry.Reply.{Reply}
 use Rattle.account_core.specs.declared.fault.AccountFault.{AccountFault}
 use Rattle.account_core.specs.declared.call_states.CallStates.{CallStates}
@@ -36,13 +37,9 @@ tallied_new opening until calls small none = record {
 
 -- ---- an entry, by what is known of its call
 
-none_by : {A : Type 0} (found : Option A) → is_some found ≡ false → found ≡ None
-none_by None not = refl
-none_by (Some a) not = cc
-
-pub not_some : {A : Type 0} (found : Option A) → found ≡ None → is_some found ≡ true → ⊥
-not_some None none some = cc
-not_some (Some a) none some = cc
+abbrev reply_in : Reply → Result Reply AccountFault → Reply
+reply_in other (Ok reply) = reply
+reply_in other (Err why) = other
 
 module _ (opening : ℕ) (until : Option ℕ) (h : List EntryData) (event : EntryData) (call : CallFacts) (funds credit : ℕ) (last : Option ℕ)
     (told : IsToldOf opening until h event call funds credit last) where
@@ -59,19 +56,25 @@ module _ (opening : ℕ) (until : Option ℕ) (h : List EntryData) (event : Entr
       let sound = sounds opening until h told.small told.legal in
       reply_is_answer opening until h sound (fits opening until h sound) event.asked call told.call_is credit funds last told.credit_is told.funds_are told.last_is admissible reply reply_is
 
-  pub told_legal : LegalPastsAreSound → SoundPastsAnswer → (fault : Option AccountFault) → fault ≡ inadmissible_for call event.asked → is_some fault ≡ false
+  pub told_legal : LegalPastsAreSound → SoundPastsAnswer → inadmissible_for call event.asked ≡ None
       → (reply : Reply) → reply ≡ reply_for credit funds last call event.asked → reply ≡ event.reply → IsAnswered opening until h event
-  told_legal sounds fits fault fault_is none reply reply_is same =
-      let admissible : inadmissible h event.asked ≡ None = sym admissible_is ∙ (sym fault_is ∙ none_by fault none) in
+  told_legal sounds fits none reply reply_is same =
+      let admissible : inadmissible h event.asked ≡ None = sym admissible_is ∙ none in
       record { admissible = admissible; answered = sym same ∙ told_answer sounds fits admissible reply reply_is }
 
-  -- a legal entry is admissible by what is kept, and its reply is the one by what is kept
-  pub admissible_told : IsAnswered opening until h event → inadmissible_for call event.asked ≡ None
-  admissible_told answered = admissible_is ∙ answered.admissible
+  -- the fault by what is kept is what the account tells, and so is a reply by it that isn't the entry's
+  pub refused_told : (why : AccountFault) → Some why ≡ inadmissible_for call event.asked → IsWrong opening until h event (Err why)
+  refused_told why why_is =
+      record { is_told = sym (ap (λ found. told_of found (answer opening until h event.asked)) (sym admissible_is ∙ sym why_is)); differs = λ same. cc }
 
-  pub reply_told : LegalPastsAreSound → SoundPastsAnswer → IsAnswered opening until h event
-      → (reply : Reply) → reply ≡ reply_for credit funds last call event.asked → reply ≡ event.reply
-  reply_told sounds fits answered reply reply_is = told_answer sounds fits answered.admissible reply reply_is ∙ sym answered.answered
+  pub replied_told : LegalPastsAreSound → SoundPastsAnswer → inadmissible_for call event.asked ≡ None
+      → (reply : Reply) → reply ≡ reply_for credit funds last call event.asked → reply ≢ event.reply → IsWrong opening until h event (Ok reply)
+  replied_told sounds fits none reply reply_is other =
+      let admissible : inadmissible h event.asked ≡ None = sym admissible_is ∙ none in
+      record {
+        is_told = ap Ok (told_answer sounds fits admissible reply reply_is) ∙ sym (ap (λ found. told_of found (answer opening until h event.asked)) admissible);
+        differs = λ same. other (ap (reply_in reply) same);
+      }
 
   pub told_room : LegalPastsAreSound → SoundPastsAnswer → IsAnswered opening until h event → HasRoom call (its_deed event)
   told_room sounds fits answered = room_walk sounds fits opening until h told.small told.legal event answered call (its_call event) told.call_is refl

@@ -22,3 +22,4 @@ pub mod Sums
 pub mod Tallied
 pub mod TariffLaws
 pub mod Tellers
+pub mod Wrong

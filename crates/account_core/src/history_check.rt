@@ -1,15 +1,16 @@
 //! Whether a history that is told entry by entry is legal.
 
-ghost use Rattle.std.specs.Prelude.{◌≡◌, ◌≤◌, ◌∷◌, [], Ok, true, false, map, ℕ, List, Option, OnErr, OnOk};
+ghost use Rattle.std.specs.Prelude.{◌≡◌, ◌≤◌, ◌∷◌, [], None, Ok, true, false, map, ℕ, List, Option, IfOk, IfSome, OnErr, OnOk};
 ghost use Rattle.std.specs.Bool.{Decides};
-ghost use Rattle.account_core.specs.Answers.{IsLegal, IsLegalPast};
+ghost use Rattle.account_core.specs.Answers.{IsAnswered, IsLegal, IsLegalPast};
 ghost use Rattle.account_core.specs.Events.{entry_data, EntryData, asked_of};
 ghost use Rattle.account_core.specs.Asked.{call_of};
 ghost use Rattle.account_core.specs.Checked.{HasBegun, IsCheckOf};
 ghost use Rattle.account_core.specs.Known.{known, nothing_known};
+ghost use Rattle.account_core.specs.Wrong.{IsWrong};
 
-use crate::tally::Tally;
-use crate::{Account, Entry};
+use crate::tally::{Tally, Told};
+use crate::{Account, AccountFault, Entry, Reply};
 use std::alloc::{AllocError, Global};
 use tariff_core::MAX_MONEY;
 
@@ -76,16 +77,27 @@ impl HistoryCheck {
         }
     }
 
-    /// Takes one entry more, from any seat. The only error is out of memory: some is taken for
-    /// the first entry and for a call that is new; the check is then still that of the entries
-    /// before.
+    /// Takes one entry more, from any seat. Where it is the first whose reply isn't what an account
+    /// tells, the answer is what one tells: `Ok` with its reply, or `Err` with the fault that
+    /// refuses the operation.
+    ///
+    /// The only error is out of memory: some is taken for the first entry and for a call that is
+    /// new; the check is then still that of the entries before.
     #[inline(always)]
-    pub fn hear(&mut self, entry: Entry) -> Result<(), AllocError>
+    pub fn hear(&mut self, entry: Entry) -> Result<Option<Result<Reply, AccountFault>>, AllocError>
         requires { (opening : ℕ) × (until : Option ℕ) × (h : List EntryData)
             × IsCheckOf opening until h self.old }
         ensures heard { OnOk result ((opening : ℕ) (until : Option ℕ) (h : List EntryData) →
             IsCheckOf opening until h self.old
             → IsCheckOf opening until (entry_data entry ∷ h) self.new) }
+        ensures right { IfOk result (λ wrong. wrong ≡ None →
+            (opening : ℕ) (until : Option ℕ) (h : List EntryData) →
+            IsCheckOf opening until h self.old → IsLegalPast opening until h →
+            IsAnswered opening until h (entry_data entry)) }
+        ensures wrong { IfOk result (λ wrong. IfSome wrong (λ told.
+            (opening : ℕ) (until : Option ℕ) (h : List EntryData) →
+            IsCheckOf opening until h self.old →
+            IsLegalPast opening until h × IsWrong opening until h (entry_data entry) told)) }
         ensures kept { OnErr result ((opening : ℕ) (until : Option ℕ) (h : List EntryData) →
             IsCheckOf opening until h self.old → IsCheckOf opening until h self.new) }
         ensures fresh { OnErr result ((opening : ℕ) (until : Option ℕ) (h : List EntryData) →
@@ -107,25 +119,35 @@ impl HistoryCheck {
 
     /// Takes one entry more, where there is a tally, or no need of one.
     #[inline(always)]
-    fn judge(&mut self, entry: Entry) -> Result<(), AllocError>
+    fn judge(&mut self, entry: Entry) -> Result<Option<Told>, AllocError>
         requires begun { HasBegun self.old }
         requires of { (opening : ℕ) × (until : Option ℕ) × (h : List EntryData)
             × IsCheckOf opening until h self.old }
         ensures heard { OnOk result ((opening : ℕ) (until : Option ℕ) (h : List EntryData) →
             IsCheckOf opening until h self.old
             → IsCheckOf opening until (entry_data entry ∷ h) self.new) }
+        ensures right { IfOk result (λ wrong. wrong ≡ None →
+            (opening : ℕ) (until : Option ℕ) (h : List EntryData) →
+            IsCheckOf opening until h self.old → IsLegalPast opening until h →
+            IsAnswered opening until h (entry_data entry)) }
+        ensures wrong { IfOk result (λ wrong. IfSome wrong (λ told.
+            (opening : ℕ) (until : Option ℕ) (h : List EntryData) →
+            IsCheckOf opening until h self.old →
+            IsLegalPast opening until h × IsWrong opening until h (entry_data entry) told)) }
         ensures kept { OnErr result ((opening : ℕ) (until : Option ℕ) (h : List EntryData) →
             IsCheckOf opening until h self.old → IsCheckOf opening until h self.new) }
         ensures fresh { OnErr result ((opening : ℕ) (until : Option ℕ) (h : List EntryData) →
             IsCheckOf opening until h self.old → known (call_of (asked_of entry.op)) h
             ≡ nothing_known) }
     {
-        if let Heard::Legal(tally) = &mut self.heard {
-            if !tally.hear(entry)? {
-                self.heard = Heard::Illegal;
-            }
+        let Heard::Legal(tally) = &mut self.heard else {
+            return Ok(None);
+        };
+        let wrong = tally.hear(entry)?;
+        if wrong.is_some() {
+            self.heard = Heard::Illegal;
         }
-        Ok(())
+        Ok(wrong)
     }
 
     /// Makes the tally where there is none yet.

@@ -1,6 +1,6 @@
 //! What a legal history comes to.
 
-ghost use Rattle.std.specs.Prelude.{◌≡◌, ◌+◌, ◌≤◌, ◌∷◌, [], true, false, ℕ, List, Option, OnErr, IfNone, IfOk, IfSome};
+ghost use Rattle.std.specs.Prelude.{◌≡◌, ◌+◌, ◌≤◌, ◌∷◌, [], ℕ, List, None, Option, OnErr, IfErr, IfOk, IfSome};
 ghost use Rattle.account_core.specs.Answers.{IsAnswered, shown_by};
 ghost use Rattle.account_core.specs.Asked.{call_of};
 ghost use Rattle.account_core.specs.Available.{credited};
@@ -10,12 +10,16 @@ ghost use Rattle.account_core.specs.Expiry.{last_moment_after};
 ghost use Rattle.account_core.specs.Kept.{TellsEach, known_of};
 ghost use Rattle.account_core.specs.Known.{known, nothing_known};
 ghost use Rattle.account_core.specs.Tallied.{IsTallied, IsToldOf, tally_of};
+ghost use Rattle.account_core.specs.Wrong.{IsWrong};
 
 use crate::call_state::{CallState, inadmissible, reply};
 use crate::call_states::CallStates;
-use crate::{Entry, laws};
+use crate::{AccountFault, Entry, Reply, laws};
 use std::alloc::{AllocError, Global};
 use tariff_core::MAX_MONEY;
+
+/// What an account tells an operation: its reply, or why it refuses it.
+pub(crate) type Told = Result<Reply, AccountFault>;
 
 /// What a legal history comes to: the state of each call, the opening with the accepted credits,
 /// the credit that is left, and the last moment, if there is one. The history itself isn't kept:
@@ -42,20 +46,20 @@ impl Tally {
         }
     }
 
-    /// Adds an entry to those so far where it is legal after them, and tells whether it is. Memory
-    /// is taken where the entry's call is new, which is 0 at a Credit.
+    /// Adds an entry to those so far where it is legal after them, and else gives what an account
+    /// tells in its place. Memory is taken where the entry's call is new, which is 0 at a Credit.
     #[inline(always)]
-    pub fn hear(&mut self, entry: Entry) -> Result<bool, AllocError>
+    pub fn hear(&mut self, entry: Entry) -> Result<Option<Told>, AllocError>
         requires { (opening : ℕ) × (until : Option ℕ) × (h : List EntryData)
             × IsTallied opening until h self.old }
-        ensures legal { IfOk result (λ legal. legal ≡ true
+        ensures legal { IfOk result (λ wrong. wrong ≡ None
             → (opening : ℕ) (until : Option ℕ) (h : List EntryData) →
             IsTallied opening until h self.old
             → IsTallied opening until (entry_data entry ∷ h) self.new) }
-        ensures illegal { IfOk result (λ legal. legal ≡ false
-            → (opening : ℕ) (until : Option ℕ) (h : List EntryData) →
-            IsTallied opening until h self.old → IsAnswered opening until h (entry_data entry)
-            → ⊥) }
+        ensures wrong { IfOk result (λ wrong. IfSome wrong (λ right.
+            (opening : ℕ) (until : Option ℕ) (h : List EntryData) →
+            IsTallied opening until h self.old
+            → IsWrong opening until h (entry_data entry) right)) }
         ensures kept { OnErr result ((opening : ℕ) (until : Option ℕ) (h : List EntryData) →
             IsTallied opening until h self.old → IsTallied opening until h self.new) }
         ensures fresh { OnErr result ((opening : ℕ) (until : Option ℕ) (h : List EntryData) →
@@ -63,17 +67,17 @@ impl Tally {
             ≡ nothing_known) }
     {
         laws::legal_pasts_are_sound();
-        if !renew_state(
+        let wrong = renew_state(
             &mut self.calls,
             entry,
             self.funds,
             self.available,
             self.last_moment,
-        )? {
-            return Ok(false);
+        )?;
+        if wrong.is_none() {
+            self.count(&entry);
         }
-        self.count(&entry);
-        Ok(true)
+        Ok(wrong)
     }
 
     /// Adds an entry to the totals, and to the last moment.
@@ -92,7 +96,8 @@ impl Tally {
 }
 
 /// Keeps what is known of a call after an entry of it, where the entry is legal after a history
-/// with these funds, of which so much is available, and this last moment; tells whether it is.
+/// with these funds, of which so much is available, and this last moment; else gives what an
+/// account tells in its place.
 #[inline(always)]
 fn renew_state(
     calls: &mut CallStates,
@@ -100,33 +105,36 @@ fn renew_state(
     funds: u64,
     available: u64,
     last_moment: Option<u64>,
-) -> Result<bool, AllocError>
+) -> Result<Option<Told>, AllocError>
     requires { (opening : ℕ) × (until : Option ℕ) × (h : List EntryData) ×
         IsTallied opening until h (tally_of calls.old funds available last_moment) }
-    ensures legal { IfOk result (λ legal. legal ≡ true
+    ensures legal { IfOk result (λ wrong. wrong ≡ None
         → (opening : ℕ) (until : Option ℕ) (h : List EntryData)
         → IsTallied opening until h (tally_of calls.old funds available last_moment)
         → IsAnswered opening until h (entry_data entry)
         × TellsEach calls.new (entry_data entry ∷ h)) }
-    ensures illegal { IfOk result (λ legal. legal ≡ false
-        → (opening : ℕ) (until : Option ℕ) (h : List EntryData)
+    ensures wrong { IfOk result (λ wrong. IfSome wrong (λ right.
+        (opening : ℕ) (until : Option ℕ) (h : List EntryData)
         → IsTallied opening until h (tally_of calls.old funds available last_moment)
-        → IsAnswered opening until h (entry_data entry) → ⊥) }
+        → IsWrong opening until h (entry_data entry) right)) }
     ensures kept { OnErr result (AreSame calls.old calls.new) }
     ensures fresh { OnErr result (state_of calls.old (call_of (asked_of entry.op))
         ≡ CallState.Fresh) }
 {
     let call = entry.op.call();
     let state = calls.state(call);
-    let Some(after) = after_legal(entry, &state, funds, available, last_moment) else {
-        return Ok(false);
-    };
-    calls.renew(call, after)?;
-    Ok(true)
+    match after_legal(entry, &state, funds, available, last_moment) {
+        Ok(after) => {
+            calls.renew(call, after)?;
+            Ok(None)
+        }
+        Err(right) => Ok(Some(right)),
+    }
 }
 
 /// What is known of a call after an entry of it, where the entry is legal after a history with
-/// these funds, of which so much is available, and this last moment.
+/// these funds, of which so much is available, and this last moment; else what an account tells in
+/// its place.
 #[inline(always)]
 fn after_legal(
     entry: Entry,
@@ -134,26 +142,26 @@ fn after_legal(
     funds: u64,
     available: u64,
     last_moment: Option<u64>,
-) -> Option<CallState>
+) -> Result<CallState, Told>
     requires { (opening : ℕ) × (until : Option ℕ) × (h : List EntryData) ×
         IsToldOf opening until h (entry_data entry) (known_of state.now)
         funds available last_moment }
-    ensures legal { IfSome result (λ after. (opening : ℕ) (until : Option ℕ) (h : List EntryData) →
+    ensures legal { IfOk result (λ after. (opening : ℕ) (until : Option ℕ) (h : List EntryData) →
         IsToldOf opening until h (entry_data entry) (known_of state.now)
         funds available last_moment →
         IsAnswered opening until h (entry_data entry)
         × (known_of after ≡ known (call_of (asked_of entry.op)) (entry_data entry ∷ h))) }
-    ensures illegal { IfNone result ((opening : ℕ) (until : Option ℕ) (h : List EntryData) →
-        IsToldOf opening until h (entry_data entry) (known_of state.now)
-        funds available last_moment →
-        IsAnswered opening until h (entry_data entry) → ⊥) }
+    ensures wrong { IfErr result (λ right. (opening : ℕ) (until : Option ℕ)
+        (h : List EntryData) → IsToldOf opening until h (entry_data entry) (known_of state.now)
+        funds available last_moment → IsWrong opening until h (entry_data entry) right) }
 {
     laws::legal_pasts_are_sound();
-    if inadmissible(&entry.op, state).is_some() {
-        return None;
+    if let Some(fault) = inadmissible(&entry.op, state) {
+        return Err(Err(fault));
     }
-    if reply(entry.op, state, funds, available, last_moment) != entry.reply {
-        return None;
+    let right = reply(entry.op, state, funds, available, last_moment);
+    if right != entry.reply {
+        return Err(Ok(right));
     }
-    Some(state.after(entry.op, entry.reply))
+    Ok(state.after(entry.op, right))
 }

@@ -1,4 +1,5 @@
 use Rattle.std.proofs.Common.{◌≡◌, ℕ, List, Option, ap, rules}
+use Rattle.std.proofs.lemmas.Option.{IfSome_then}
 use Rattle.std.proofs.lemmas.Result.{IfErr-weaker, IfOk-weaker}
 use Rattle.account_core.specs.Asked.{call_of}
 use Rattle.account_core.specs.Checked.{IsCheckOf}
@@ -28,3 +29,11 @@ returns-clause-kept c =
 pub returns-clause-fresh : goal.returns-clause-fresh
 returns-clause-fresh c =
     IfErr-weaker c.judge.result _ _ (λ why all opening until h check. all opening until h (c.begin.ensures.same opening until h check)) c.judge.ensures.fresh
+
+pub returns-clause-right : goal.returns-clause-right
+returns-clause-right c =
+    IfOk-weaker c.judge.result _ _ (λ wrong all none opening until h check. all none opening until h (c.begin.ensures.same opening until h check)) c.judge.ensures.right
+
+pub returns-clause-wrong : goal.returns-clause-wrong
+returns-clause-wrong c =
+    IfOk-weaker c.judge.result _ _ (λ wrong told. IfSome_then wrong told (λ right all opening until h check. all opening until h (c.begin.ensures.same opening until h check))) c.judge.ensures.wrong

@@ -1,4 +1,4 @@
-use Rattle.std.proofs.Common.{◌≡◌, ◌∷◌, rules, subst, sym, true}
+use Rattle.std.proofs.Common.{◌≡◌, ◌∷◌, None, rules, subst, sym}
 use Rattle.account_core.specs.Events.{entry_data}
 use Rattle.account_core.specs.Tallied.{IsTallied}
 use Rattle.account_core.specs.declared.tally.Tally.{Tally}
@@ -8,13 +8,12 @@ use Rattle.account_core.proofs.tally.Tally.hear.Goals as goal
 pub count-requires : goal.count-requires
 count-requires c =
     let (opening, until, h, tallied) = c.requires in
-    let yes : c.in_ok-renew_state.field-0 ≡ true = search rules in
-    let (answered, tells) = c.in_ok-renew_state.ensures.legal yes opening until h tallied in
+    let none : c.in_ok-wrong.wrong ≡ None = search rules in
+    let (answered, tells) = c.in_ok-wrong.ensures.legal none opening until h tallied in
     funds_more opening until h c.args.self.now (entry_data c.args.entry) tallied answered c.legal_pasts_are_sound.ensures.sound
 
-pub returns-clause-legal : goal.returns-clause-legal
-returns-clause-legal c = λ is opening until h tallied.
-    let yes : c.in_ok-renew_state.field-0 ≡ true = search rules in
-    let (answered, tells) = c.in_ok-renew_state.ensures.legal yes opening until h tallied in
+pub returns-then-is_none-clause-legal : goal.returns-then-is_none-clause-legal
+returns-then-is_none-clause-legal c = λ none opening until h tallied.
+    let (answered, tells) = c.in_ok-wrong.ensures.legal none opening until h tallied in
     let P : Tally → Type 0 = IsTallied opening until (entry_data c.args.entry ∷ h) in
     subst P (sym c.count.ensures) (tallied_more opening until h c.args.self.now (entry_data c.args.entry) tallied answered c.renew_state.new.calls tells)
