@@ -1,7 +1,7 @@
 //! The fields of an entry in the row of a table: what is asked of an account, and what it replies.
 //!
 //! They are written here for books, and read here for books and for the operations of `replay`, so
-//! that both forms stand side by side.
+//! that both forms stand side by side. What an account tells is written in words here, too.
 #![tactic(auto)]
 
 mod columns;
@@ -11,6 +11,7 @@ mod operation;
 mod places;
 mod reply;
 mod seat;
+mod told;
 mod version;
 mod words;
 
@@ -20,5 +21,6 @@ pub use laws::{operations_are_read, replies_are_read};
 pub use operation::{is_money_blank, is_op_blank, read_op, read_until};
 pub use reply::{is_reply_blank, read_reply};
 pub use seat::read_seat;
+pub use told::{op_word, write_reply, write_told};
 pub use version::Version;
 pub use words::{OpWord, ReplyWord, read_op_word, read_reply_word};

@@ -3,17 +3,17 @@ use Rattle.std.specs.Prelude.{ℕ, Option, Some, None, List, [], ◌∷◌, ◌+
 use Rattle.account_core.specs.Answers.{answer}
 use Rattle.account_core.specs.Events.{EntryData}
 use Rattle.account_core.specs.Places.{refusal}
+use Rattle.account_core.specs.Wrong.{told_by}
 use Rattle.account_core.specs.declared.entry.Reply.{Reply}
 use Rattle.account_core.specs.declared.fault.AccountFault.{AccountFault}
 use Rattle.table_core.specs.Judging.{after}
 use Rattle.table_core.specs.declared.fault.RowFault.{RowFault}
 use Rattle.prepaid_command.specs.Asks.{Asking, asks_of}
-use Rattle.prepaid_command.specs.ReplayLines.{refused_line, reply_line}
+use Rattle.prepaid_command.specs.ReplayLines.{told_line}
 
 -- the line of an operation: its refusal, or else its reply
 abbrev pub line_by : Option AccountFault → Reply → List ℕ
-line_by (Some why) reply = refused_line why
-line_by None reply = reply_line reply
+line_by refused reply = told_line (told_by refused reply)
 
 -- the history after an operation, newest first: a refused one makes no entry
 abbrev pub history_by : Option AccountFault → EntryData → List EntryData → List EntryData

@@ -2,7 +2,7 @@
 
 ghost use Rattle.std.specs.Prelude.{◌≡◌, ◌≢◌, ◌++◌, ◌≤◌, Err, IfErr, IfSome, OnOk, string_bytes};
 ghost use Rattle.std.specs.Result.{result_map_both};
-ghost use Rattle.prepaid_command.specs.ReplayLines.{told_line, ending, granted_line, paid_and_available, refused_line, reply_line};
+ghost use Rattle.prepaid_command.specs.ReplayLines.{told_line};
 ghost use Rattle.prepaid_command.specs.Replays.{replayed};
 ghost use Rattle.prepaid_command.specs.Asks.{ask_in};
 ghost use Rattle.prepaid_command.specs.AskingOf.{asking_of};
@@ -15,8 +15,8 @@ ghost use Rattle.table_core.specs.declared.fault.TableFault.TheVariants as out;
 use crate::tables::MAX_ROWS;
 use account_core::{AccountFault, Op, Reply, Teller};
 use csv::ByteRecord;
-use entry_rows::{Version, is_op_blank, read_op, read_op_word, read_seat};
-use std::alloc::{AllocError, Global};
+use entry_rows::{Version, is_op_blank, read_op, read_op_word, read_seat, write_told};
+use std::alloc::Global;
 use std::io::Read;
 use table_core::{RowKind, Table, TableFault};
 use tariff_core::MAX_MONEY;
@@ -68,11 +68,11 @@ fn write_answer(text: &mut String, answer: Result<Reply, AccountFault>) -> Resul
     ensures told { OnOk result (answer ≢ Err AccountFault.OutOfMemory) }
     ensures fault { IfErr result (λ fault. fault ≡ out.OutOfMemory) }
 {
-    match answer {
-        Ok(reply) => Ok(write_reply(text, reply)?),
-        Err(AccountFault::OutOfMemory) => Err(TableFault::OutOfMemory),
-        Err(fault) => Ok(write_refused(text, fault)?),
+    if let Err(AccountFault::OutOfMemory) = answer {
+        return Err(TableFault::OutOfMemory);
     }
+    write_told(text, answer)?;
+    Ok(text.push('\n')?)
 }
 
 /// What a seat asks.
@@ -98,63 +98,4 @@ fn read_ask(row: &ByteRecord, version: Version) -> Result<Ask, RowKind>
         return Err(RowKind::Empty);
     }
     Ok(Ask { seat, op })
-}
-
-/// Adds the line of a reply.
-fn write_reply(text: &mut String, reply: Reply) -> Result<(), AllocError>
-    ensures { OnOk result (string_bytes text.new ≡ string_bytes text.old ++ reply_line reply) }
-{
-    match reply {
-        Reply::Credited { available } => write_available(text, "credited available ", available),
-        Reply::CreditOver { available } => write_available(text, "over available ", available),
-        Reply::Granted {
-            units,
-            last,
-            available,
-        } => write_granted(text, units, last, available),
-        Reply::Denied { available } => write_available(text, "denied available ", available),
-        Reply::Settled { paid, available } => write_paid(text, "settled paid ", paid, available),
-        Reply::Forfeit { paid, available } => write_paid(text, "forfeit paid ", paid, available),
-        Reply::Returned { paid, available } => write_paid(text, "returned paid ", paid, available),
-    }
-}
-
-/// Adds the line of what was granted.
-fn write_granted(
-    text: &mut String,
-    units: u32,
-    last: bool,
-    available: u64,
-) -> Result<(), AllocError>
-    ensures { OnOk result (string_bytes text.new
-        ≡ string_bytes text.old ++ granted_line units last available) }
-{
-    if last {
-        writeln!(text, "granted {units} last available {available}")
-    } else {
-        writeln!(text, "granted {units} more available {available}")
-    }
-}
-
-/// Adds a line of these words and what is available.
-fn write_available(text: &mut String, words: &str, available: u64) -> Result<(), AllocError>
-    ensures { OnOk result (string_bytes text.new
-        ≡ string_bytes text.old ++ (words.now ++ ending available)) }
-{
-    writeln!(text, "{words}{available}")
-}
-
-/// Adds a line of these words, what was paid and what is available.
-fn write_paid(text: &mut String, words: &str, paid: u64, available: u64) -> Result<(), AllocError>
-    ensures { OnOk result (string_bytes text.new
-        ≡ string_bytes text.old ++ (words.now ++ paid_and_available paid available)) }
-{
-    writeln!(text, "{words}{paid} available {available}")
-}
-
-/// Adds the line of a refused operation.
-fn write_refused(text: &mut String, fault: AccountFault) -> Result<(), AllocError>
-    ensures { OnOk result (string_bytes text.new ≡ string_bytes text.old ++ refused_line fault) }
-{
-    writeln!(text, "refused {fault}")
 }

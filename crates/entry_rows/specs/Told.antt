@@ -1,0 +1,47 @@
+-- What an account is asked and what it tells, in words.
+use Rattle.std.specs.Prelude.{ℕ, Bool, true, false, List, ◌++◌, Result, Ok, Err, codes}
+use Rattle.std.specs.Fmt.{decimal}
+use Rattle.account_core.specs.Asked.{Asked, Credits, Reserves, Returns, Settles}
+use Rattle.account_core.specs.Faults.{name_of}
+use Rattle.account_core.specs.declared.entry.Reply.{Reply}
+use Rattle.account_core.specs.declared.entry.Reply.TheVariants as reply
+use Rattle.account_core.specs.declared.fault.AccountFault.{AccountFault}
+
+-- what is available
+abbrev pub available_text : ℕ → List ℕ
+available_text available = codes " available " ++ decimal available
+
+-- what was paid, and what is available
+abbrev pub paid_text : ℕ → ℕ → List ℕ
+paid_text paid available = codes " paid " ++ (decimal paid ++ available_text available)
+
+-- whether a grant is the last one
+abbrev pub last_word : Bool → List ℕ
+last_word true = codes "last"
+last_word false = codes "more"
+
+-- a grant
+abbrev pub granted_text : ℕ → Bool → ℕ → List ℕ
+granted_text units last available = codes "granted " ++ (decimal units ++ (codes " " ++ (last_word last ++ available_text available)))
+
+-- a reply
+abbrev pub reply_text : Reply → List ℕ
+reply_text (reply.Credited available) = codes "credited" ++ available_text available
+reply_text (reply.CreditOver available) = codes "over" ++ available_text available
+reply_text (reply.Granted units last available) = granted_text units last available
+reply_text (reply.Denied available) = codes "denied" ++ available_text available
+reply_text (reply.Settled paid available) = codes "settled" ++ paid_text paid available
+reply_text (reply.Forfeit paid available) = codes "forfeit" ++ paid_text paid available
+reply_text (reply.Returned paid available) = codes "returned" ++ paid_text paid available
+
+-- a reply, or `refused` and the fault in its place
+abbrev pub told_text : Result Reply AccountFault → List ℕ
+told_text (Ok reply) = reply_text reply
+told_text (Err why) = codes "refused " ++ name_of why
+
+-- the word of an operation
+abbrev pub word_of : Asked → List ℕ
+word_of (Credits amount until) = codes "credit"
+word_of (Reserves call plan wanted least at) = codes "reserve"
+word_of (Settles call number info) = codes "settle"
+word_of (Returns call) = codes "return"

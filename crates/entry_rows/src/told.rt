@@ -1,0 +1,70 @@
+//! What an account is asked and what it tells, in words.
+
+ghost use Rattle.std.specs.Prelude.{◌≡◌, ◌++◌, OnOk, string_bytes};
+ghost use Rattle.account_core.specs.Events.{asked_of};
+ghost use Rattle.entry_rows.specs.Told.{granted_text, reply_text, told_text, word_of};
+
+use account_core::{AccountFault, Op, Reply};
+use std::alloc::AllocError;
+
+/// Adds what an account tells an operation: its reply, such as `settled paid 550 available 450`, or
+/// `refused` and the name of the fault.
+pub fn write_told(text: &mut String, told: Result<Reply, AccountFault>) -> Result<(), AllocError>
+    ensures { OnOk result (string_bytes text.new ≡ string_bytes text.old ++ told_text told) }
+{
+    match told {
+        Ok(reply) => write_reply(text, reply),
+        Err(fault) => write!(text, "refused {fault}"),
+    }
+}
+
+/// The word of an operation, as it is in a row.
+pub fn op_word(op: &Op) -> &'static str
+    ensures { result.now ≡ word_of (asked_of op.now) }
+{
+    match op {
+        Op::Credit { .. } => "credit",
+        Op::Reserve { .. } => "reserve",
+        Op::Settle { .. } => "settle",
+        Op::Return { .. } => "return",
+    }
+}
+
+/// Adds a reply, such as `settled paid 550 available 450`.
+pub fn write_reply(text: &mut String, reply: Reply) -> Result<(), AllocError>
+    ensures { OnOk result (string_bytes text.new ≡ string_bytes text.old ++ reply_text reply) }
+{
+    match reply {
+        Reply::Credited { available } => write!(text, "credited available {available}"),
+        Reply::CreditOver { available } => write!(text, "over available {available}"),
+        Reply::Granted {
+            units,
+            last,
+            available,
+        } => write_granted(text, units, last, available),
+        Reply::Denied { available } => write!(text, "denied available {available}"),
+        Reply::Settled { paid, available } => {
+            write!(text, "settled paid {paid} available {available}")
+        }
+        Reply::Forfeit { paid, available } => {
+            write!(text, "forfeit paid {paid} available {available}")
+        }
+        Reply::Returned { paid, available } => {
+            write!(text, "returned paid {paid} available {available}")
+        }
+    }
+}
+
+/// Adds what was granted.
+fn write_granted(
+    text: &mut String,
+    units: u32,
+    last: bool,
+    available: u64,
+) -> Result<(), AllocError>
+    ensures { OnOk result (string_bytes text.new
+        ≡ string_bytes text.old ++ granted_text units last available) }
+{
+    let word = if last { "last" } else { "more" };
+    write!(text, "granted {units} {word} available {available}")
+}
