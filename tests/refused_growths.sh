@@ -26,6 +26,7 @@ words_of() {
         command/run_calls) echo 'run --calls' ;;
         command/run_trace) echo 'run --trace' ;;
         command/audit_long) echo 'audit --long' ;;
+        command/audit_altered) echo 'audit --rows' ;;
         command/rate) echo 'rate' ;;
         command/serve) echo 'serve --lines' ;;
         command/serve_log) echo "serve --lines --log $work/log" ;;
@@ -102,6 +103,7 @@ answer_of() {
             ;;
         command/audit_altered)
             echo 'account 7 no'
+            echo 'account 7 row 5: return: returned paid 540 available 960, is returned paid 550 available 950'
             echo 'account 8 yes'
             ;;
     esac

@@ -29,7 +29,7 @@ TABLES = ("--book", "--calls", "--trace")
 # What `serve` may print at its end.
 ENDS = ("--lines", "--book", "--calls")
 # Options without a value.
-FLAGS = (*TABLES, "--lines", "--clock", "--long", "--differing")
+FLAGS = (*TABLES, "--lines", "--clock", "--long", "--rows", "--differing")
 # How many rows a book may have, and a long one.
 MOST_ROWS, MOST_LONG_ROWS = 1_000_000, 4_294_967_293
 # More entries than an input has room for.
@@ -38,7 +38,7 @@ ARGUMENTS = Fault("prepaid: arguments")
 TAKEN = {
     "price": {"--fee", "--before", "--after", "--free", "--first", "--step"},
     "replay": {"--opening", "--limit"},
-    "audit": {"--long"},
+    "audit": {"--long", "--rows"},
     "rate": {"--called", "--answer", "--time", "--end", "--paid", "--before", "--after", "--differing"},
     "quote": {"--called", "--at", "--for", "--credit", "--clock"},
     "run": {"--workers", "--wanted", "--least", "--tssf", "--tccd", "--delay", "--default", "--clock", *TABLES},
@@ -164,18 +164,20 @@ def do_replay(given, text):
     account = Account(number(given, "--opening", most=MAX_MONEY), limit=number(given, "--limit", 1_000_000, 1_000_000, 3))
     lines = []
     for seat, op in read_ops(whole(text)):
-        reply = account.apply(seat, op)
-        lines.append(f"refused {reply}\n" if isinstance(reply, str) else told(reply))
+        lines.append(told(account.apply(seat, op)) + "\n")
     return "".join(lines)
 
 
 def told(reply):
+    """What an account tells an operation, in words: its reply, or the fault that refuses it."""
+    if isinstance(reply, str):
+        return f"refused {reply}"
     kind, *rest, available = reply
     if kind == "granted":
         kind += f" {rest[0]} {'last' if rest[1] else 'more'}"
     elif rest:
         kind += f" paid {rest[0]}"
-    return f"{kind} available {available}\n"
+    return f"{kind} available {available}"
 
 
 def do_audit(given, text):
@@ -184,9 +186,12 @@ def do_audit(given, text):
     lines, status = [], 0
     for number, (opening, until, entries) in sorted(book.items()):
         account = Account(opening, until, NO_LIMIT)
-        legal = all(account.apply(seat, op) == reply for seat, op, reply in entries)
-        status = status if legal else 3
-        lines.append(f"account {number} {'yes' if legal else 'no'}\n")
+        answered = ((row, op[0], reply, account.apply(seat, op)) for row, seat, op, reply in entries)
+        wrong = next((it for it in answered if it[2] != it[3]), None)
+        lines.append(f"account {number} {'no' if wrong else 'yes'}\n")
+        if wrong:
+            status, (row, op, reply, right) = 3, wrong
+            lines += [f"account {number} row {row}: {op}: {told(reply)}, is {told(right)}\n"] if "--rows" in given else []
     return status, "".join(lines)
 
 

@@ -180,9 +180,9 @@ def answer(reply, y):
 
 
 def read_book(text, most):
-    """The opening of each account, its last moment, and its entries as (seat, operation, reply)."""
+    """The opening of each account, its last moment, and its entries as (row, seat, operation, reply)."""
     books = {}
-    for _, fields, fail in rows_of("book", text, BOOK, most):
+    for row, fields, fail in rows_of("book", text, BOOK, most):
         account, seat, op, call, *x = fields[:-4]
         reply, *y = fields[-4:]
         number = decimal(account, 2**32 - 1)
@@ -197,7 +197,7 @@ def read_book(text, most):
         numbers = [number, decimal(seat, 15), *asked[1], *answered[1]]
         fail(("What", not asked[0] or not answered[0]), ("Number", None in numbers), ("Empty", any([*asked[2], *answered[2]])))
         fail(("Unknown", number not in books))
-        books[number][2].append((numbers[1], asked[3], answered[3]))
+        books[number][2].append((row, numbers[1], asked[3], answered[3]))
     return books
 
 

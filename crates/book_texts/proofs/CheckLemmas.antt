@@ -1,34 +1,41 @@
 -- The checks follow the books, row after row.
-use Rattle.std.proofs.Common.{◌≡◌, ◌<◌, ℕ, zero, suc, length, arith, Bool, true, false, cond, List, [], ◌∷◌, ◌++◌, Option, Some, None, Result, Ok, Err, reverse, refl, sym, ap, ◌∙◌, append-nil}
+use Rattle.std.proofs.Common.{◌≡◌, ◌<◌, ℕ, zero, suc, ◌+◌, length, arith, Bool, true, false, cond, List, [], ◌∷◌, ◌++◌, Option, Some, None, Result, Ok, Err, reverse, refl, sym, ap, subst, ◌∙◌, append-nil}
+use Rattle.csv.specs.Records.{fields_of}
 use Rattle.std.specs.BTreeMap.{insert_entry}
-use Rattle.std.specs.Bool.{Decides}
-use Rattle.std.proofs.lemmas.List.Concat.{flat_map-append}
-use Rattle.std.proofs.lemmas.List.Folds.{list_any-append}
-use Rattle.std.specs.List.{flat_map, list_any}
 use Rattle.std.specs.Map.{lookup, set_value}
 use Rattle.std.specs.Ordering.{match_ordering}
-use Rattle.std.specs.Prelude.{⊤, ◌||◌, IfSome, IsErrAnd, is_some, not}
+use Rattle.std.specs.Prelude.{⊤, IfSome, IsErrAnd, is_some}
 use Rattle.std.specs.declared.cmp.Ordering.{Ordering}
 use Rattle.std.specs.declared.cmp.Ordering.TheVariants as order
+use Rattle.account_core.specs.Answers.{IsAnswered, IsLegal}
 use Rattle.account_core.specs.Checked.{IsCheckOf}
-use Rattle.account_core.specs.declared.history_check.HistoryCheck.{HistoryCheck}
-use Rattle.std.specs.Global.{Vec}
-use Rattle.account_core.specs.Answers.{IsLegalPast}
 use Rattle.account_core.specs.Events.{EntryData}
+use Rattle.account_core.specs.Wrong.{IsWrong}
+use Rattle.account_core.specs.declared.entry.Reply.{Reply}
+use Rattle.account_core.specs.declared.fault.AccountFault.{AccountFault}
+use Rattle.account_core.specs.declared.history_check.HistoryCheck.{HistoryCheck}
 use Rattle.table_core.specs.Faults.{Refuses}
+use Rattle.table_core.specs.Judging.{after as after_row}
+use Rattle.table_core.specs.Reading.{IsNextRow, Opens as OpensTable, Steps}
+use Rattle.table_core.specs.Rows.{Fields, rows_of}
+use Rattle.table_core.specs.Tables.{width_at}
 use Rattle.table_core.specs.declared.fault.RowFault.{RowFault}
 use Rattle.table_core.specs.declared.fault.RowKind.{RowKind}
 use Rattle.table_core.specs.declared.fault.TableFault.{TableFault}
+use Rattle.table_core.specs.declared.table.Table.{Table}
 use Rattle.table_core.proofs.Known.{map_known}
-use Rattle.table_core.specs.Rows.{Fields}
-use Rattle.table_core.specs.Tables.{width_at}
 use Rattle.entry_rows.specs.Versions.{version_at}
-use Rattle.book_texts.specs.Audits.{AreVerdicts, GivesAudit, verdict_line}
-use Rattle.book_texts.specs.BookRows.{HasColumns}
-use Rattle.book_texts.specs.Books.{Books, Told, books_headers}
-use Rattle.book_texts.specs.Checks.{AreChecks, AreSaidBy, Comes, GivesChecks, HaveChecks, IsOrdered, ListComes, TellsChecks, audited_by, entries_of}
+use Rattle.book_texts.specs.Audits.{AreVerdicts, GivesAuditOf, audited}
+use Rattle.book_texts.specs.BookRows.{Enters, HasColumns, Opens, Said, columns_in, said_in}
+use Rattle.book_texts.specs.Books.{Books, Told, books_form, books_headers, books_of, entered, judged, opened, row_at, told_of, with_entry, with_opening}
+use Rattle.book_texts.specs.Checks.{AreChecks, AreNoted, AreRight, Comes, GivesChecks, HaveChecks, HearsBy, IsOrdered, IsRight, ListComes, Notes, audited_by, entries_of, verdicts_of, wrong_of}
 use Rattle.book_texts.specs.declared.account_checks.AccountChecks.{AccountChecks}
 use Rattle.book_texts.specs.declared.audit.Audit.{Audit}
+use Rattle.book_texts.specs.declared.audit.Checked.{Checked}
+use Rattle.book_texts.specs.declared.wrong_row.WrongRow.{WrongRow}
+use Rattle.book_texts.proofs.AboveLemmas.{IsAbove, above_is, at_first, next_above}
+use Rattle.book_texts.proofs.ToldLemmas.{AreFoundIn, all_found, books_ascend}
+use Rattle.book_texts.proofs.WrongLemmas.{entry_right, opening_right}
 
 -- a check has heard what is told
 abbrev pub HasHeard : Told → HistoryCheck → Type 0
@@ -141,58 +148,106 @@ has_columns (suc (suc (suc zero))) fields one wide =
 has_columns (suc (suc (suc (suc header)))) fields one wide = absurd (omega (arith, one))
 
 -- a fault that the table's reader passes on is that of the meaning
-pub fault_told : (known : Option (List ℕ)) (answer : Result (Vec (ℕ × HistoryCheck)) TableFault) (why : TableFault) (P : List ℕ → Type 0) (meaning : List ℕ → Result Books RowFault)
-    → IsErrAnd answer (λ met. met ≡ why) → IfSome known P → ((text : List ℕ) → P text → Refuses why (meaning text)) → IfSome known (λ text. GivesChecks answer (meaning text))
-fault_told known (Ok checks) why P meaning met holds so = absurd met
-fault_told known (Err other) why P meaning met holds so = map_known known P _ holds (λ text at. rw met (so text at))
+pub fault_told : (most : ℕ) (known : Option (List ℕ)) (answer : Result Checked TableFault) (why : TableFault) (P : List ℕ → Type 0) (meaning : List ℕ → Result Books RowFault)
+    → IsErrAnd answer (λ met. met ≡ why) → IfSome known P → ((text : List ℕ) → P text → Refuses why (meaning text))
+    → IfSome known (λ text. GivesChecks most (rows_of text) answer (meaning text))
+fault_told most known (Ok checked) why P meaning met holds so = absurd met
+fault_told most known (Err other) why P meaning met holds so = map_known known P _ holds (λ text at. rw met (so text at))
 
--- ---- what the checks say
+-- an entry was heard, by what the check says of it
+pub heard_by : (told : Told) (event : EntryData) (wrong : Option (Result Reply AccountFault))
+    → (wrong ≡ None → IsLegal told.opening told.until told.history → IsAnswered told.opening told.until (reverse told.history) event)
+    → IfSome wrong (λ right. IsLegal told.opening told.until told.history × IsWrong told.opening told.until (reverse told.history) event right)
+    → HearsBy told event wrong
+heard_by told event None answers says = answers refl
+heard_by told event (Some right) answers says = says
 
-pub said_more : (done : List (ℕ × HistoryCheck)) (verdicts : List (ℕ × Bool)) (account : ℕ) (check : HistoryCheck) (legal : Bool) → AreSaidBy done verdicts
-    → ((opening : ℕ) (until : Option ℕ) (h : List EntryData) → IsCheckOf opening until h check → Decides legal (IsLegalPast opening until h))
-    → AreSaidBy (done ++ (account, check) ∷ []) (verdicts ++ (account, legal) ∷ [])
-said_more [] [] account check legal said says = ((refl, says), tt)
-said_more [] (verdict ∷ verdicts) account check legal said says = absurd said
-said_more (first ∷ done) [] account check legal said says = absurd said
-said_more (first ∷ done) (verdict ∷ verdicts) account check legal said says = (said.0, said_more done verdicts account check legal said.1 says)
+-- ---- the wrong rows so far
 
-still_passes : (legal some : Bool) → not some ≡ true → legal ≡ not (some || (not legal || false))
-still_passes true false before = refl
-still_passes false false before = refl
-still_passes legal true before = cc
+module _ {R : Type 0} (most : ℕ) (remaining : R → Option (List ℕ)) where
+  -- each account has its verdict by the rows so far
+  abbrev pub AreRightSoFar : Table R → Books → List (ℕ × WrongRow) → List ℕ → Type 0
+  AreRightSoFar table books wrongs text =
+      (above : IsAbove (books_form most) remaining table books text) × AreRight most (above.first ∷ above.rows) books wrongs
 
-still_fails : (legal some : Bool) → not some ≡ false → false ≡ not (some || (not legal || false))
-still_fails legal true before = refl
-still_fails legal false before = cc
+  none_wrong : (rows : List Fields) → AreRight most rows [] []
+  none_wrong rows = λ account. refl
 
-pub lines_more : (verdicts : List (ℕ × Bool)) (verdict : ℕ × Bool) (text : List ℕ) → text ≡ flat_map verdict_line verdicts
-    → text ++ verdict_line verdict ≡ flat_map verdict_line (verdicts ++ verdict ∷ [])
-lines_more verdicts verdict text so_far = rw (so_far, flat_map-append verdict_line verdicts (verdict ∷ []), append-nil (verdict_line verdict)) refl
+  pub right_at_first : (table : Table R) (known : Option (List ℕ)) → table.number ≡ 1 → IfSome known (λ text. OpensTable remaining books_headers (Ok table) (rows_of text))
+      → IfSome known (AreRightSoFar table [] [])
+  right_at_first table known number opens =
+      map_known known _ _ opens (λ text opened.
+      let above = at_first (books_form most) remaining table text number opened in (above, none_wrong (above.first ∷ above.rows)))
 
-abbrev pub all_pass : List (ℕ × Bool) → Bool
-all_pass verdicts = not (list_any (λ verdict. not verdict.1) verdicts)
+  module _ (number : ℕ) (rows : List Fields) (more : Fields) (books next : Books) (before after : List (ℕ × WrongRow)) (number_is : number ≡ length rows + 1)
+      (so_far : books_of most rows ≡ Ok books) (now : books_of most (rows ++ more ∷ []) ≡ Ok next) (are : AreRight most rows books before) where
+    opens_so : (account opening : ℕ) (until : Option ℕ) (found : Option Told) → told_of account books ≡ found → opened account opening until books found ≡ Ok next → after ≡ before
+        → AreRight most (rows ++ more ∷ []) next after
+    opens_so account opening until None none is same =
+        let with : with_opening account opening until books ≡ next = cc in
+        rw (← with, same) (opening_right most rows more account opening until books before none are)
+    opens_so account opening until (Some told) found is same = cc
 
-pub passes_more : (verdicts : List (ℕ × Bool)) (account : ℕ) (legal before now : Bool) → before ≡ all_pass verdicts → before ≡ true → now ≡ legal
-    → now ≡ all_pass (verdicts ++ (account, legal) ∷ [])
-passes_more verdicts account legal before now so_far passes is =
-    is ∙ rw (list_any-append (λ verdict. not verdict.1) verdicts ((account, legal) ∷ [])) (still_passes legal _ (sym so_far ∙ passes))
+    enters_so : (account : ℕ) (event : EntryData) (found : Option Told) → told_of account books ≡ found → entered account event books found ≡ Ok next
+        → ((told : Told) → told_of account books ≡ Some told → Notes number account told event before after) → AreRight most (rows ++ more ∷ []) next after
+    enters_so account event None none is noted = cc
+    enters_so account event (Some told) found is noted =
+        let with : with_entry account told event books ≡ next = cc in
+        rw (← with) (entry_right most rows more account books told event found number before after number_is so_far (rw (← with) at now) (noted told found) are)
 
-pub fails_more : (verdicts : List (ℕ × Bool)) (account : ℕ) (legal before now : Bool) → before ≡ all_pass verdicts → before ≡ false → now ≡ false
-    → now ≡ all_pass (verdicts ++ (account, legal) ∷ [])
-fails_more verdicts account legal before now so_far fails is =
-    is ∙ rw (list_any-append (λ verdict. not verdict.1) verdicts ((account, legal) ∷ [])) (still_fails legal _ (sym so_far ∙ fails))
+    pub right_next : (said : Result Said RowKind) → after_row said (judged books) ≡ Ok next → AreNoted number books said before after → AreRight most (rows ++ more ∷ []) next after
+    right_next (Ok (Opens account opening until)) is noted = opens_so account opening until (told_of account books) refl is noted
+    right_next (Ok (Enters account event)) is noted = enters_so account event (told_of account books) refl is noted
+    right_next (Err why) is noted = cc
 
-pub verdicts_are : (books : Books) (checks : List (ℕ × HistoryCheck)) (verdicts : List (ℕ × Bool)) → AreChecks books checks → AreSaidBy checks verdicts → AreVerdicts books verdicts
-verdicts_are [] [] [] are said = tt
-verdicts_are [] [] (verdict ∷ verdicts) are said = absurd said
-verdicts_are [] (check ∷ checks) verdicts are said = absurd are
-verdicts_are (book ∷ books) [] verdicts are said = absurd are
-verdicts_are (book ∷ books) (check ∷ checks) [] are said = absurd said
-verdicts_are (book ∷ books) (check ∷ checks) (verdict ∷ verdicts) are said =
-    ((said.0.0 ∙ are.0.0, said.0.1 book.1.opening book.1.until (reverse book.1.history) are.0.1), verdicts_are books checks verdicts are.1 said.1)
+both_known : {X : Type 0} (known : Option X) (P Q : X → Type 0) → IfSome known P → IfSome known Q → IfSome known (λ x. P x × Q x)
+both_known None P Q one other = tt
+both_known (Some x) P Q one other = (one, other)
 
--- from the checks of the table's books to an audit of them
-pub audit_told : (checks : Vec (ℕ × HistoryCheck)) (audit : Audit) (meaning : Result Books RowFault) → TellsChecks checks.items audit → GivesChecks (Ok checks) meaning
-    → GivesAudit (Ok (audited_by audit)) meaning
-audit_told checks audit (Ok books) tells are = record { verdicts = tells.verdicts; are = verdicts_are books checks.items tells.verdicts are tells.said; told = tells.told }
-audit_told checks audit (Err why) tells never = absurd never
+module _ {R : Type 0} (most : ℕ) (remaining : R → Option (List ℕ)) (known : Option (List ℕ)) (table after : Table R) (books next : Books) where
+  -- the same after a row
+  pub right_so_far : (wrongs now : List (ℕ × WrongRow)) → table.limit ≡ most → IsNextRow table after → Steps remaining table after (Ok true)
+      → row_at (version_at table.header) books (fields_of after.rows.row) ≡ Ok next
+      → AreNoted after.number books (said_in (columns_in (version_at table.header) (fields_of after.rows.row))) wrongs now
+      → IfSome known (AreRightSoFar most remaining table books wrongs) → IfSome known (AreRightSoFar most remaining after next now)
+  unfolding row_at
+  right_so_far wrongs now limit moves steps is noted right = map_known known _ _ right (λ text (above, are).
+      let fields = fields_of after.rows.row in
+      let (further, first_is, rows_are) = next_above (books_form most) remaining table after books next text limit moves steps is above in
+      let so_far = above_is (books_form most) remaining table books text above in
+      let whole : books_of most ((above.first ∷ above.rows) ++ fields ∷ []) ≡ Ok next = rw (first_is, rows_are) at (above_is (books_form most) remaining after next text further) in
+      let held = right_next most remaining after.number (above.first ∷ above.rows) fields books next wrongs now
+      (omega (arith, moves.number, above.number)) so_far whole are (said_in (columns_in (version_at table.header) fields)) is noted in
+      let A : List Fields → Type 0 = λ rows. AreRight most rows next now in
+      (further, rw (first_is, rows_are) held))
+
+  -- where no row is left, the checks are those of the table's books
+  pub checks_given : (checks : List (ℕ × HistoryCheck)) (wrongs : List (ℕ × WrongRow)) (checked : Checked) → IfSome known (λ text. books_of most (rows_of text) ≡ Ok books)
+      → Steps remaining table after (Ok false) → checked.checks.items ≡ checks → AreChecks books checks → IfSome known (AreRightSoFar most remaining table books wrongs)
+      → checked.wrongs ≡ wrongs → IfSome known (λ text. GivesChecks most (rows_of text) (Ok checked) (books_of most (rows_of text)))
+  checks_given checks wrongs checked whole steps same are right kept = map_known known _ _ (both_known known _ _ whole right) (λ text (is, (above, holds)).
+      let none = steps above.left above.has in
+      let rows_are : rows_of text ≡ above.first ∷ above.rows = above.rows_are ∙ ap (λ l. above.first ∷ (above.rows ++ l)) none ∙ ap (λ l. above.first ∷ l) (append-nil above.rows) in
+      rw is (record { checks = rw same are; wrongs = rw (rows_are, kept) holds }))
+
+-- ---- the verdicts
+
+pub verdicts_right : (most : ℕ) (rows : List Fields) (all books : Books) (checks : List (ℕ × HistoryCheck)) (wrongs : List (ℕ × WrongRow)) → AreFoundIn all books → AreChecks books checks
+    → AreRight most rows all wrongs → AreVerdicts most rows books (verdicts_of checks wrongs)
+verdicts_right most rows all [] [] wrongs found are right = tt
+verdicts_right most rows all [] (check ∷ checks) wrongs found are right = absurd are
+verdicts_right most rows all (book ∷ books) [] wrongs found are right = absurd are
+verdicts_right most rows all (book ∷ books) (check ∷ checks) wrongs found are right =
+    let R : Option Told → Type 0 = λ told. IsRight most rows book.0 told (wrong_of book.0 wrongs) in
+    ((are.0.0, rw are.0.0 (subst R found.0 (right book.0))), verdicts_right most rows all books checks wrongs found.1 are.1 right)
+
+-- from the checks of a table's books to an audit of them
+pub audit_said : (most : ℕ) (shown : Bool) (rows : List Fields) (checked : Checked) (audit : Audit) (meaning : Result Books RowFault) → books_of most rows ≡ meaning
+    → audited_by audit ≡ audited shown (verdicts_of checked.checks.items checked.wrongs) → GivesChecks most rows (Ok checked) meaning
+    → GivesAuditOf most shown rows (Ok (audited_by audit)) meaning
+audit_said most shown rows checked audit (Ok books) is said of = record {
+  verdicts = verdicts_of checked.checks.items checked.wrongs;
+  are = verdicts_right most rows books books checked.checks.items checked.wrongs (all_found 0 books (books_ascend most rows books is)) of.checks of.wrongs;
+  said = said;
+}
+audit_said most shown rows checked audit (Err why) is said never = absurd never

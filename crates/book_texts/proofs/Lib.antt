@@ -4,3 +4,6 @@ pub mod OneText
 pub mod PrintedRows
 pub mod ReadBooks
 pub mod TextLemmas
+pub mod AboveLemmas
+pub mod ToldLemmas
+pub mod WrongLemmas

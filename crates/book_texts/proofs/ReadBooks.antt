@@ -24,15 +24,15 @@ use Rattle.entry_rows.specs.declared.version.Version.{Version}
 use Rattle.entry_rows.specs.declared.version.Version.TheVariants as version
 use Rattle.shared_account.specs.Closed.{Closed}
 use Rattle.table_core.specs.Printed.{DecimalsArePlain, DecimalsAreRead, TablesAreRead}
-use Rattle.table_core.specs.Rows.{Fields}
+use Rattle.table_core.specs.Rows.{Fields, rows_of}
 use Rattle.table_core.specs.Tables.{rows_from, table_of}
 use Rattle.table_core.proofs.TableLemmas.{no_fault}
 use Rattle.table_core.specs.declared.fault.RowFault.{RowFault}
 use Rattle.tariff_core.specs.Rates.{are_steps}
 use Rattle.tariff_core.specs.declared.times.TimeInfo.TheVariants as info
-use Rattle.book_texts.specs.Audits.{AreVerdicts, IsAuditOf, audited}
+use Rattle.book_texts.specs.Audits.{AreVerdicts, IsAuditOf, Verdict, audited}
 use Rattle.book_texts.specs.BookRows.{Enters, Opens, account_of, columns_in, entry_in, opening_in, said_in}
-use Rattle.book_texts.specs.BookTexts.{asks_steps, history_has_steps, version_of}
+use Rattle.book_texts.specs.BookTexts.{asks_steps, book_text, history_has_steps, version_of}
 use Rattle.book_texts.specs.Books.{Books, Told, books_form, row_at}
 use Rattle.book_texts.specs.Laws.{BooksAreRead, PrintedBooksPass}
 use Rattle.book_texts.specs.Printable.{ArePrintable, FitsBook, row_count, told_by}
@@ -343,16 +343,20 @@ module _ (reads : DecimalsAreRead) (operations : OperationsAreRead) (replies : R
 
     -- ---- verdicts
 
-    each_passes : (books : List Closed) (verdicts : List (ℕ × Bool)) → All (λ book. IsLegal book.opening book.until book.history) books → AreVerdicts (map told_by books) verdicts
-        → verdicts ≡ map (λ book. (book.account, true)) books
-    each_passes [] [] legal are = refl
-    each_passes [] (verdict ∷ verdicts) legal are = absurd are
-    each_passes (book ∷ books) [] legal are = absurd are
-    each_passes (book ∷ books) ((account, verdict) ∷ verdicts) legal are =
+    each_passes : (most : ℕ) (rows : List Fields) (books : List Closed) (verdicts : List Verdict) → All (λ book. IsLegal book.opening book.until book.history) books
+        → AreVerdicts most rows (map told_by books) verdicts → verdicts ≡ map (λ book. (book.account, None)) books
+    each_passes most rows [] [] legal are = refl
+    each_passes most rows [] (verdict ∷ verdicts) legal are = absurd are
+    each_passes most rows (book ∷ books) [] legal are = absurd are
+    each_passes most rows (book ∷ books) ((account, None) ∷ verdicts) legal are =
         let Legal : Closed → Type 0 = λ b. IsLegal b.opening b.until b.history in
-        rw (are.0.0, are.0.1.1 (All-head Legal book books legal), each_passes books verdicts (All-tail Legal book books legal) are.1) refl
+        rw (are.0.0, each_passes most rows books verdicts (All-tail Legal book books legal) are.1) refl
+    each_passes most rows (book ∷ books) ((account, Some wrong) ∷ verdicts) legal are =
+        let Legal : Closed → Type 0 = λ b. IsLegal b.opening b.until b.history in
+        absurd (are.0.1.0 (All-head Legal book books legal))
 
     pub books_pass : PrintedBooksPass
-    books_pass most steps books audit are legal gives =
-        let is_audit : IsAuditOf (map told_by books) audit = rw (books_read most steps books are) at gives in
-        is_audit.told ∙ ap audited (each_passes books is_audit.verdicts legal is_audit.are)
+    books_pass most steps shown books audit are legal gives =
+        let rows = rows_of (book_text (version_of steps books) books) in
+        let is_audit : IsAuditOf most shown rows (map told_by books) audit = rw (books_read most steps books are) at gives in
+        is_audit.said ∙ ap (audited shown) (each_passes most rows books is_audit.verdicts legal is_audit.are)

@@ -1,23 +1,30 @@
 -- What the checks of histories are while a table of books is read, and what they say.
-use Rattle.std.specs.Prelude.{◌≡◌, ℕ, Bool, List, Option, Some, None, Result, Ok, Err, ⊤, reverse}
-use Rattle.std.specs.Bool.{Decides}
+use Rattle.std.specs.Prelude.{◌≡◌, ◌⊎◌, ℕ, List, Option, Some, None, Result, Ok, Err, ⊤, map, reverse, string_bytes}
+use Rattle.std.specs.BTreeMap.{insert_entry, is_at}
 use Rattle.std.specs.List.{AllZip}
-use Rattle.std.specs.Global.{Vec}
-use Rattle.account_core.specs.Answers.{IsLegalPast}
+use Rattle.std.specs.Map.{lookup}
+use Rattle.std.specs.Ordering.{nat_cmp}
+use Rattle.account_core.specs.Answers.{IsAnswered, IsLegal}
 use Rattle.account_core.specs.Checked.{IsCheckOf}
-use Rattle.account_core.specs.Events.{EntryData}
+use Rattle.account_core.specs.Events.{EntryData, entry_data}
+use Rattle.account_core.specs.Wrong.{IsWrong}
+use Rattle.account_core.specs.declared.entry.Reply.{Reply}
+use Rattle.account_core.specs.declared.fault.AccountFault.{AccountFault}
 use Rattle.account_core.specs.declared.history_check.HistoryCheck.{HistoryCheck}
 use Rattle.rising_map.specs.Rising.{AreRising}
 use Rattle.table_core.specs.Faults.{Refuses}
+use Rattle.table_core.specs.Rows.{Fields}
 use Rattle.table_core.specs.declared.fault.RowFault.{RowFault}
 use Rattle.table_core.specs.declared.fault.RowKind.{RowKind}
 use Rattle.table_core.specs.declared.fault.TableFault.{TableFault}
-use Rattle.book_texts.specs.Audits.{Audited, audited}
-use Rattle.book_texts.specs.Books.{Books, Told}
+use Rattle.book_texts.specs.Audits.{Audited, HasVerdict, Verdict}
+use Rattle.book_texts.specs.BookRows.{Enters, Said}
+use Rattle.book_texts.specs.Books.{Books, Told, told_of}
 use Rattle.book_texts.specs.declared.account_checks.AccountChecks.{AccountChecks}
 use Rattle.book_texts.specs.declared.account_checks.AccountChecks.TheVariants.{Rising, Mixed}
 use Rattle.book_texts.specs.declared.audit.Audit.{Audit}
-use Rattle.std.specs.Prelude.{string_bytes}
+use Rattle.book_texts.specs.declared.audit.Checked.{Checked}
+use Rattle.book_texts.specs.declared.wrong_row.WrongRow.{WrongRow}
 
 -- an account's check has heard its history
 abbrev pub IsCheck : ℕ × Told → ℕ × HistoryCheck → Type 0
@@ -55,26 +62,60 @@ Comes before None (Err why) checks = ⊥
 Comes before (Some kind) (Ok books) checks = ⊥
 Comes before (Some kind) (Err why) checks = (kind ≡ why) × HaveChecks before checks
 
+-- an entry of an account was heard: it is what the account tells, where the history before it is legal; or that history is legal, and this is what the account tells in its place
+abbrev pub HearsBy : Told → EntryData → Option (Result Reply AccountFault) → Type 0
+HearsBy told event None = IsLegal told.opening told.until told.history → IsAnswered told.opening told.until (reverse told.history) event
+HearsBy told event (Some right) = IsLegal told.opening told.until told.history × IsWrong told.opening told.until (reverse told.history) event right
+
+-- an entry was heard, or refused, since nothing was told of its account
+abbrev pub IsHeard : Option Told → EntryData → Result (Option (Result Reply AccountFault)) RowKind → Type 0
+IsHeard None event (Ok wrong) = ⊥
+IsHeard (Some told) event (Ok wrong) = HearsBy told event wrong
+IsHeard told event (Err kind) = told ≡ None
+
+-- ---- wrong rows
+
+-- the wrong row of an account, if it has one
+abbrev pub wrong_of : ℕ → List (ℕ × WrongRow) → Option WrongRow
+wrong_of account wrongs = lookup (is_at (nat_cmp account)) wrongs
+
+-- what is told of an account, if it is open, has its verdict by the rows so far
+abbrev pub IsRight : ℕ → List Fields → ℕ → Option Told → Option WrongRow → Type 0
+IsRight most rows account None wrong = wrong ≡ None
+IsRight most rows account (Some told) wrong = HasVerdict most rows account told wrong
+
+-- each account has its verdict by these rows
+abbrev pub AreRight : ℕ → List Fields → Books → List (ℕ × WrongRow) → Type 0
+AreRight most rows books wrongs = (account : ℕ) → IsRight most rows account (told_of account books) (wrong_of account wrongs)
+
+-- an entry of an account in the row of a number adds itself to the wrong rows, where it is the first that is wrong
+abbrev pub Notes : ℕ → ℕ → Told → EntryData → List (ℕ × WrongRow) → List (ℕ × WrongRow) → Type 0
+Notes number account told event before after =
+    ((IsLegal told.opening told.until told.history → IsAnswered told.opening told.until (reverse told.history) event) × (after ≡ before))
+    ⊎ ((wrong : WrongRow) × (wrong.row ≡ number) × (entry_data wrong.entry ≡ event) × HearsBy told event (Some wrong.right) × (after ≡ insert_entry nat_cmp before account wrong))
+
+-- what a row says is noted so: an opening adds nothing
+abbrev pub AreNoted : ℕ → Books → Result Said RowKind → List (ℕ × WrongRow) → List (ℕ × WrongRow) → Type 0
+AreNoted number books (Ok (Enters account event)) before after = (told : Told) → told_of account books ≡ Some told → Notes number account told event before after
+AreNoted number books said before after = after ≡ before
+
+-- ---- all of a table
+
+-- the verdict on each account that has a check
+abbrev pub verdicts_of : List (ℕ × HistoryCheck) → List (ℕ × WrongRow) → List Verdict
+verdicts_of checks wrongs = map (λ check. (check.0, wrong_of check.0 wrongs)) checks
+
+-- the checks and the wrong rows are those of the table's books
+pub record AreOf (most : ℕ) (rows : List Fields) (books : Books) (checked : Checked) : Type 0 where
+  pub checks : AreChecks books checked.checks.items
+  pub wrongs : AreRight most rows books checked.wrongs
+
 -- an answer is the checks of the table's books, or the table's fault
-abbrev pub GivesChecks : Result (Vec (ℕ × HistoryCheck)) TableFault → Result Books RowFault → Type 0
-GivesChecks (Ok checks) (Ok books) = AreChecks books checks.items
-GivesChecks (Ok checks) (Err why) = ⊥
-GivesChecks (Err fault) meaning = Refuses fault meaning
+abbrev pub GivesChecks : ℕ → List Fields → Result Checked TableFault → Result Books RowFault → Type 0
+GivesChecks most rows (Ok checked) (Ok books) = AreOf most rows books checked
+GivesChecks most rows (Ok checked) (Err why) = ⊥
+GivesChecks most rows (Err fault) meaning = Refuses fault meaning
 
--- a verdict is what the account's check says of any history that it has heard
-abbrev pub IsSaidBy : ℕ × HistoryCheck → ℕ × Bool → Type 0
-IsSaidBy check verdict = (verdict.0 ≡ check.0) × ((opening : ℕ) (until : Option ℕ) (h : List EntryData) → IsCheckOf opening until h check.1 → Decides verdict.1 (IsLegalPast opening until h))
-
--- a verdict of each check, in order
-abbrev pub AreSaidBy : List (ℕ × HistoryCheck) → List (ℕ × Bool) → Type 0
-AreSaidBy checks verdicts = AllZip IsSaidBy checks verdicts
-
--- what an audit of the code tells
+-- what an audit of the code says
 abbrev pub audited_by : Audit → Audited
 audited_by audit = record { lines = string_bytes audit.lines; passes = audit.passes }
-
--- an audit tells the verdicts of these checks
-pub record TellsChecks (checks : List (ℕ × HistoryCheck)) (audit : Audit) : Type 0 where
-  pub verdicts : List (ℕ × Bool)
-  pub said : AreSaidBy checks verdicts
-  pub told : audited_by audit ≡ audited verdicts

@@ -1,5 +1,5 @@
 -- What is true of the texts of books, in words of their own.
-use Rattle.std.specs.Prelude.{◌≡◌, ℕ, Bool, true, List, map, Ok}
+use Rattle.std.specs.Prelude.{◌≡◌, ℕ, Bool, List, None, map, Ok}
 use Rattle.std.specs.List.{All}
 use Rattle.account_core.specs.Answers.{IsLegal}
 use Rattle.shared_account.specs.Closed.{Closed}
@@ -22,5 +22,5 @@ BooksAreRead =
 -- where their histories are legal, an audit of that table says yes for each
 abbrev pub PrintedBooksPass : Type 0
 PrintedBooksPass =
-    (most : ℕ) (steps : Bool) (books : List Closed) (audit : Audited) → ArePrintable most books → All (λ book. IsLegal book.opening book.until book.history) books
-    → GivesAudit (Ok audit) (books_of most (rows_of (book_text (version_of steps books) books))) → audit ≡ audited (map (λ book. (book.account, true)) books)
+    (most : ℕ) (steps shown : Bool) (books : List Closed) (audit : Audited) → ArePrintable most books → All (λ book. IsLegal book.opening book.until book.history) books
+    → GivesAudit most shown (rows_of (book_text (version_of steps books) books)) (Ok audit) → audit ≡ audited shown (map (λ book. (book.account, None)) books)

@@ -9,3 +9,4 @@ pub mod RunTexts
 pub mod SaidOf
 pub mod Sizes
 pub mod Typed
+pub mod Wrongs

@@ -1,19 +1,24 @@
 //! The checks of the accounts of a table of books, by the accounts' numbers.
 
 ghost use Rattle.std.specs.Prelude.{◌≡◌, ◌≤◌, ℕ, Option, [], IfOk, OnOk};
+ghost use Rattle.std.specs.Result.{result_err};
 ghost use Rattle.account_core.specs.Checked.{IsCheckOf};
 ghost use Rattle.account_core.specs.Events.{entry_data};
 ghost use Rattle.book_texts.specs.Books.{Books, entered, opened, told_of};
-ghost use Rattle.book_texts.specs.Checks.{AreChecks, Comes, HaveChecks, ListComes, entries_of};
+ghost use Rattle.book_texts.specs.Checks.{AreChecks, Comes, HaveChecks, IsHeard, ListComes, entries_of};
 ghost use Rattle.rising_map.specs.Rising.{AreRising};
 
-use account_core::{Entry, HistoryCheck};
+use account_core::{AccountFault, Entry, HistoryCheck, Reply};
 use rising_map::{is_above, place_of};
 use std::alloc::{AllocError, Global};
 use std::collections::BTreeMap;
 use std::mem;
 use table_core::RowKind;
 use tariff_core::MAX_MONEY;
+
+/// What an account tells in place of an entry, where that is the first of its history which is
+/// wrong; or why the entry is refused.
+pub(crate) type Heard = Result<Option<Result<Reply, AccountFault>>, RowKind>;
 
 /// A check of each account's history.
 #[derive(Drop)]
@@ -65,13 +70,15 @@ impl AccountChecks {
         }
     }
 
-    /// Tells an entry to the check of its account. `Unknown` where it isn't open. A refused entry
-    /// changes nothing.
-    pub fn enter(&mut self, account: u32, entry: Entry) -> Result<Option<RowKind>, AllocError>
+    /// Gives an entry to the check of its account, which answers as `HistoryCheck::hear` does.
+    /// `Unknown` where the account isn't open. A refused entry changes nothing.
+    pub fn enter(&mut self, account: u32, entry: Entry) -> Result<Heard, AllocError>
         requires { (books : Books) × HaveChecks books self.old }
-        ensures { IfOk result (λ refused. (books : Books) → HaveChecks books self.old
-            → Comes books refused (entered account (entry_data entry) books (told_of account books))
-            self.new) }
+        ensures comes { IfOk result (λ heard. (books : Books) → HaveChecks books self.old
+            → Comes books (result_err heard) (entered account (entry_data entry) books
+            (told_of account books)) self.new) }
+        ensures heard { IfOk result (λ heard. (books : Books) → HaveChecks books self.old
+            → IsHeard (told_of account books) (entry_data entry) heard) }
     {
         let account = u64::from(account);
         match self {
@@ -91,43 +98,45 @@ impl AccountChecks {
     }
 }
 
-/// Tells an entry to the check of its account in a list.
+/// Gives an entry to the check of its account in a list.
 #[inline(always)]
 fn enter_list(
     list: &mut Vec<(u64, HistoryCheck)>,
     account: u64,
     entry: Entry,
-) -> Result<Option<RowKind>, AllocError>
+) -> Result<Heard, AllocError>
     requires rising { AreRising list.old.items }
     requires are { (books : Books) × AreChecks books list.old.items }
-    ensures comes { IfOk result (λ refused. (books : Books) → AreChecks books list.old.items
-        → ListComes books refused (entered account (entry_data entry) books (told_of account books))
-        list.new.items) }
+    ensures comes { IfOk result (λ heard. (books : Books) → AreChecks books list.old.items
+        → ListComes books (result_err heard) (entered account (entry_data entry) books
+        (told_of account books)) list.new.items) }
+    ensures heard { IfOk result (λ heard. (books : Books) → AreChecks books list.old.items
+        → IsHeard (told_of account books) (entry_data entry) heard) }
     ensures rising { OnOk result (AreRising list.new.items) }
 {
     let Some(place) = place_of(list.as_slice(), account) else {
-        return Ok(Some(RowKind::Unknown));
+        return Ok(Err(RowKind::Unknown));
     };
-    list[place].1.hear(entry)?;
-    Ok(None)
+    Ok(Ok(list[place].1.hear(entry)?))
 }
 
-/// Tells an entry to the check of its account in a map.
+/// Gives an entry to the check of its account in a map.
 fn enter_map(
     map: &mut BTreeMap<u64, HistoryCheck>,
     account: u64,
     entry: Entry,
-) -> Result<Option<RowKind>, AllocError>
+) -> Result<Heard, AllocError>
     requires { (books : Books) × AreChecks books map.old.entries }
-    ensures { IfOk result (λ refused. (books : Books) → AreChecks books map.old.entries
-        → ListComes books refused (entered account (entry_data entry) books (told_of account books))
-        map.new.entries) }
+    ensures comes { IfOk result (λ heard. (books : Books) → AreChecks books map.old.entries
+        → ListComes books (result_err heard) (entered account (entry_data entry) books
+        (told_of account books)) map.new.entries) }
+    ensures heard { IfOk result (λ heard. (books : Books) → AreChecks books map.old.entries
+        → IsHeard (told_of account books) (entry_data entry) heard) }
 {
     let Some(check) = map.get_mut(&account) else {
-        return Ok(Some(RowKind::Unknown));
+        return Ok(Err(RowKind::Unknown));
     };
-    check.hear(entry)?;
-    Ok(None)
+    Ok(Ok(check.hear(entry)?))
 }
 
 /// Adds the check of an account that opens to a map, where it has none.

@@ -1,21 +1,24 @@
 //! The audit of a table of books.
 
-ghost use Rattle.std.specs.Prelude.{◌≡◌, ◌++◌, IfOk, IfSome, OnOk, string_bytes};
+ghost use Rattle.std.specs.Prelude.{◌≡◌, ◌++◌, IfOk, IfSome, Ok, OnOk, string_bytes};
 ghost use Rattle.std.specs.Result.{result_map_both};
-ghost use Rattle.book_texts.specs.Audits.{GivesAudit, verdict_line, word_of};
-ghost use Rattle.book_texts.specs.Books.{books_of, Books, row_at};
+ghost use Rattle.account_core.specs.Events.{entry_data};
+ghost use Rattle.book_texts.specs.Audits.{GivesAudit, audited, verdict_lines, word_of};
+ghost use Rattle.book_texts.specs.BookRows.{Enters, HasColumns, columns_in, said_in};
+ghost use Rattle.book_texts.specs.Books.{Books, books_of, entered, row_at, told_of};
+ghost use Rattle.book_texts.specs.Checks.{AreNoted, Comes, GivesChecks, HaveChecks, audited_by, verdicts_of};
 ghost use Rattle.book_texts.specs.Sizes.{most_rows};
-ghost use Rattle.book_texts.specs.Checks.{TellsChecks, audited_by, Comes, GivesChecks, HaveChecks};
-ghost use Rattle.book_texts.specs.BookRows.{HasColumns};
-ghost use Rattle.table_core.specs.Rows.{rows_of};
 ghost use Rattle.csv.specs.Records.{fields_of};
+ghost use Rattle.table_core.specs.Rows.{rows_of};
 
-use crate::BookSize;
 use crate::account_checks::AccountChecks;
 use crate::book_row::{BookRow, read_row};
-use account_core::HistoryCheck;
+use crate::wrong_row::{WrongRow, write_wrong};
+use crate::{AuditAsk, BookSize};
+use account_core::{Entry, HistoryCheck};
 use csv::ByteRecord;
 use entry_rows::Version;
+use rising_map::RisingMap;
 use std::alloc::{AllocError, Global};
 use std::io::Read;
 use table_core::{RowKind, Table, TableFault};
@@ -30,7 +33,8 @@ pub struct Audit {
 }
 
 /// Whether the history of each account of a table of books, version 1 to 4, is legal from its
-/// opening. No row is kept, but a check of each account, with what it knows of each of its calls.
+/// opening. No row is kept, but a check of each account, with what it knows of each of its calls,
+/// and the first wrong row of an account whose history isn't legal.
 ///
 /// Rows are judged in order as they are read, a row in this order: `Csv` where it has another
 /// number of fields than the header; `TooManyRows` past as many as a table of this size may have;
@@ -41,37 +45,48 @@ pub struct Audit {
 pub fn audit_books<I: Read + Drop>(
     alloc: Global,
     reader: I,
-    size: BookSize,
+    ask: AuditAsk,
 ) -> Result<Audit, TableFault>
     ensures { IfSome (I.remaining reader) (λ text.
-        GivesAudit (result_map_both audited_by (λ fault. fault) result)
-        (books_of (most_rows size) (rows_of text))) }
+        GivesAudit (most_rows ask.size)
+        ask.rows (rows_of text) (result_map_both audited_by (λ fault. fault) result)) }
 {
-    let checks = check_books(alloc, reader, size)?;
-    Ok(tell(alloc, checks.as_slice())?)
+    let checked = check_books(alloc, reader, ask.size)?;
+    Ok(write_audit(alloc, &checked, ask.rows)?)
 }
 
-/// What these checks say.
-fn tell(alloc: Global, checks: &[(u64, HistoryCheck)]) -> Result<Audit, AllocError>
-    ensures { IfOk result (TellsChecks checks.now) }
+/// What an audit says of these checks, its wrong rows shown or not.
+fn write_audit(alloc: Global, checked: &Checked, shown: bool) -> Result<Audit, AllocError>
+    ensures { IfOk result (λ audit. audited_by audit
+        ≡ audited shown (verdicts_of checked.now.checks.items checked.now.wrongs)) }
 {
     let mut lines = String::new(alloc);
     let mut passes = true;
-    for (account, check) in checks {
-        let legal = check.is_legal();
-        passes = passes && legal;
-        write_verdict(&mut lines, *account, legal)?;
+    for (account, _) in &checked.checks {
+        let wrong = checked.wrongs.get(*account).copied();
+        passes = passes && wrong.is_none();
+        write_verdict(&mut lines, *account, wrong, shown)?;
     }
     Ok(Audit { lines, passes })
 }
 
-/// Adds the line of an account.
-fn write_verdict(lines: &mut String, account: u64, legal: bool) -> Result<(), AllocError>
+/// Adds the line of an account, and behind it that of its wrong row, where it has one and rows are
+/// shown.
+fn write_verdict(
+    lines: &mut String,
+    account: u64,
+    wrong: Option<WrongRow>,
+    shown: bool,
+) -> Result<(), AllocError>
     ensures { OnOk result (string_bytes lines.new
-        ≡ string_bytes lines.old ++ verdict_line (account, legal)) }
+        ≡ string_bytes lines.old ++ verdict_lines shown (account, wrong)) }
 {
-    let word = word(legal);
-    writeln!(lines, "account {account} {word}")
+    let word = word(wrong.is_none());
+    writeln!(lines, "account {account} {word}")?;
+    match wrong {
+        Some(wrong) if shown => write_wrong(lines, account, &wrong),
+        _ => Ok(()),
+    }
 }
 
 fn word(legal: bool) -> &'static str
@@ -80,14 +95,23 @@ fn word(legal: bool) -> &'static str
     if legal { "yes" } else { "no" }
 }
 
-/// A check of each account's history, by rising number. The entries aren't kept.
+/// What was checked of a table of books.
+#[derive(Drop)]
+struct Checked {
+    /// The check of each account's history, by rising number.
+    checks: Vec<(u64, HistoryCheck)>,
+    /// The first wrong row of each account that has one.
+    wrongs: RisingMap<WrongRow>,
+}
+
+/// Checks the history of each account. The entries aren't kept.
 fn check_books<I: Read + Drop>(
     alloc: Global,
     reader: I,
     size: BookSize,
-) -> Result<Vec<(u64, HistoryCheck)>, TableFault>
-    ensures { IfSome (I.remaining reader)
-        (λ text. GivesChecks result (books_of (most_rows size) (rows_of text))) }
+) -> Result<Checked, TableFault>
+    ensures { IfSome (I.remaining reader) (λ text. GivesChecks (most_rows size) (rows_of text)
+        result (books_of (most_rows size) (rows_of text))) }
 {
     let headers: &[&[&str]] = &[
         &[
@@ -109,27 +133,45 @@ fn check_books<I: Read + Drop>(
     ];
     let mut table = Table::open(alloc, reader, headers, size.most_rows())?;
     let mut checks = AccountChecks::new(alloc);
+    let mut wrongs = RisingMap::new(alloc);
     while table.next_row()? {
         let version = Version::at(table.header());
-        if let Some(kind) = take_row(alloc, &mut checks, table.row(), version)? {
+        let number = table.number();
+        if let Some(kind) = take_row(
+            alloc,
+            &mut checks,
+            &mut wrongs,
+            table.row(),
+            version,
+            number,
+        )? {
             return Err(table.fault(kind));
         }
     }
-    Ok(checks.into_list(alloc)?)
+    Ok(Checked {
+        checks: checks.into_list(alloc)?,
+        wrongs,
+    })
 }
 
-/// Tells a row to the checks. The answer is why the row is refused, if it is.
+/// Gives a row to the checks, and keeps it where it is the first wrong one of its account. The
+/// answer is why the row is refused, if it is.
 #[tactic(auto, unfolding(crate::specs::Books::row_at))]
 fn take_row(
     alloc: Global,
     checks: &mut AccountChecks,
+    wrongs: &mut RisingMap<WrongRow>,
     row: &ByteRecord,
     version: Version,
+    number: u32,
 ) -> Result<Option<RowKind>, AllocError>
     requires fields { HasColumns version (fields_of row.now) }
     requires have { (books : Books) × HaveChecks books checks.old }
-    ensures { IfOk result (λ refused. (books : Books) → HaveChecks books checks.old
+    ensures comes { IfOk result (λ refused. (books : Books) → HaveChecks books checks.old
         → Comes books refused (row_at version books (fields_of row.now)) checks.new) }
+    ensures noted { IfOk result (λ refused. (books : Books) → HaveChecks books checks.old
+        → AreNoted number books (said_in (columns_in version (fields_of row.now)))
+        wrongs.old wrongs.new) }
 {
     match read_row(row, version) {
         Ok(
@@ -139,7 +181,37 @@ fn take_row(
                 until,
             },
         ) => checks.open(alloc, account, opening, until),
-        Ok(BookRow::Entry { account, entry }) => checks.enter(account, entry),
+        Ok(BookRow::Entry { account, entry }) => enter(checks, wrongs, account, entry, number),
         Err(kind) => Ok(Some(kind)),
+    }
+}
+
+/// Gives an entry to the check of its account, and keeps its row where it is the first wrong one.
+fn enter(
+    checks: &mut AccountChecks,
+    wrongs: &mut RisingMap<WrongRow>,
+    account: u32,
+    entry: Entry,
+    number: u32,
+) -> Result<Option<RowKind>, AllocError>
+    requires { (books : Books) × HaveChecks books checks.old }
+    ensures comes { IfOk result (λ refused. (books : Books) → HaveChecks books checks.old
+        → Comes books refused (entered account (entry_data entry) books (told_of account books))
+        checks.new) }
+    ensures noted { IfOk result (λ refused. (books : Books) → HaveChecks books checks.old
+        → AreNoted number books (Ok (Enters account (entry_data entry))) wrongs.old wrongs.new) }
+{
+    match checks.enter(account, entry)? {
+        Err(kind) => Ok(Some(kind)),
+        Ok(None) => Ok(None),
+        Ok(Some(right)) => {
+            let wrong = WrongRow {
+                row: number,
+                entry,
+                right,
+            };
+            wrongs.insert(u64::from(account), wrong)?;
+            Ok(None)
+        }
     }
 }

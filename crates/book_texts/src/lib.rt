@@ -9,9 +9,10 @@ mod laws;
 mod lines;
 mod size;
 mod table;
+mod wrong_row;
 
 pub use audit::{Audit, audit_books};
 pub use laws::{books_have_one_text, printed_books_are_read};
 pub use lines::run_lines;
-pub use size::{BookSize, MAX_LONG_ROWS, MAX_ROWS};
+pub use size::{AuditAsk, BookSize, MAX_LONG_ROWS, MAX_ROWS};
 pub use table::book_table;

@@ -1,10 +1,19 @@
-//! How long a table of books may be.
+//! How a table of books is audited, and how long it may be.
 
 /// The most rows of a short table of books, its header not counted.
 pub const MAX_ROWS: u32 = 1_000_000;
 
 /// The most rows of a long one, its header not counted: as many as a `table_core::Table` takes.
 pub const MAX_LONG_ROWS: u32 = 4_294_967_293;
+
+/// How a table of books is audited.
+#[derive(Clone, Copy, Debug, PartialEq, Eq)]
+pub struct AuditAsk {
+    /// How long the table may be.
+    pub size: BookSize,
+    /// Whether the first wrong row of each account is told.
+    pub rows: bool,
+}
 
 /// How long a table of books may be that is audited.
 #[derive(Clone, Copy, Debug, PartialEq, Eq)]

@@ -7,7 +7,7 @@ use Rattle.clap.specs.declared.error.kind.ErrorKind.TheVariants as kind
 use Rattle.run_options.specs.Logs.{log_wish_of}
 use Rattle.run_options.specs.Options.{ask_of, live_ask_of}
 use Rattle.tariff_core.specs.RatesOf.{rates_of}
-use Rattle.command_words.specs.AuditWords.{size_in}
+use Rattle.command_words.specs.AuditWords.{audit_in}
 use Rattle.command_words.specs.CommandLine.{command_in, errors_in}
 use Rattle.command_words.specs.Options.{plan_in, replay_in}
 use Rattle.command_words.specs.RunWords.{run_in}
@@ -29,7 +29,7 @@ wish_in (Some command) =
     if bytes_eq command.0 (codes "price") then ok_or (option_map (λ plan. Prices plan) (plan_in command.1)) fault.Arguments
     else if bytes_eq command.0 (codes "replay") then ok_or (replay_in command.1) fault.Arguments
     else if bytes_eq command.0 (codes "run") then run_in command.1
-    else if bytes_eq command.0 (codes "audit") then Ok (Audits (size_in command.1))
+    else if bytes_eq command.0 (codes "audit") then Ok (Audits (audit_in command.1))
     else if bytes_eq command.0 (codes "quote") then ok_or (option_map (λ quote. Quotes quote) (quote_in command.1)) fault.Arguments
     else if bytes_eq command.0 (codes "rate") then ok_or (option_map (λ rate. RatesRecords rate) (rate_in command.1)) fault.Arguments
     else if bytes_eq command.0 (codes "serve") then serve_in command.1
@@ -40,7 +40,7 @@ abbrev pub IsRequestOf : Result Wish WordsFault → Result Request WordsFault �
 IsRequestOf wish (Ok (request.Price plan)) = wish ≡ Ok (Prices (rates_of plan))
 IsRequestOf wish (Ok (request.Replay account)) = wish ≡ Ok (Replays account.opening account.limit)
 IsRequestOf wish (Ok (request.Run options)) = wish ≡ Ok (Runs (ask_of options))
-IsRequestOf wish (Ok (request.Audit size)) = wish ≡ Ok (Audits size)
+IsRequestOf wish (Ok (request.Audit ask)) = wish ≡ Ok (Audits ask)
 IsRequestOf wish (Ok (request.Quote ask)) = wish ≡ Ok (Quotes (wish_of ask))
 IsRequestOf wish (Ok (request.Rate ask)) = wish ≡ Ok (RatesRecords (rate_wish_of ask))
 IsRequestOf wish (Ok (request.Serve options log)) = wish ≡ Ok (Serves (live_ask_of options) (option_map log_wish_of log))
@@ -81,7 +81,7 @@ IsRead words (Ok (request.Version text)) = AsksVersion words
 IsRead words (Ok (request.Price plan)) = AsksFor words (Prices (rates_of plan))
 IsRead words (Ok (request.Replay account)) = AsksFor words (Replays account.opening account.limit)
 IsRead words (Ok (request.Run options)) = AsksFor words (Runs (ask_of options))
-IsRead words (Ok (request.Audit size)) = AsksFor words (Audits size)
+IsRead words (Ok (request.Audit ask)) = AsksFor words (Audits ask)
 IsRead words (Ok (request.Quote ask)) = AsksFor words (Quotes (wish_of ask))
 IsRead words (Ok (request.Rate ask)) = AsksFor words (RatesRecords (rate_wish_of ask))
 IsRead words (Ok (request.Serve options log)) = AsksFor words (Serves (live_ask_of options) (option_map log_wish_of log))

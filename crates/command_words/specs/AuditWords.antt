@@ -1,5 +1,6 @@
 -- What the options of `audit` say.
 use Rattle.std.specs.Prelude.{Bool, true, false, List, codes}
+use Rattle.book_texts.specs.declared.size.AuditAsk.{AuditAsk}
 use Rattle.book_texts.specs.declared.size.BookSize.{BookSize}
 use Rattle.book_texts.specs.declared.size.BookSize.TheVariants as size
 use Rattle.clap.specs.Words.{Row}
@@ -10,6 +11,6 @@ abbrev pub size_of : Bool → BookSize
 size_of true = size.Long
 size_of false = size.Short
 
--- how long a table the options ask for
-abbrev pub size_in : List Row → BookSize
-size_in options = size_of (has_flag options (codes "long"))
+-- how long a table the options ask for, and whether its wrong rows are shown
+abbrev pub audit_in : List Row → AuditAsk
+audit_in options = record { size = size_of (has_flag options (codes "long")); rows = has_flag options (codes "rows") }

@@ -1,6 +1,6 @@
 -- What a command is asked for, as plain data.
 use Rattle.std.specs.Prelude.{ℕ, Option}
-use Rattle.book_texts.specs.declared.size.BookSize.{BookSize}
+use Rattle.book_texts.specs.declared.size.AuditAsk.{AuditAsk}
 use Rattle.run_options.specs.Logs.{LogWish}
 use Rattle.run_options.specs.declared.live.LiveAsk.{LiveAsk}
 use Rattle.run_options.specs.declared.options.RunAsk.{RunAsk}
@@ -13,7 +13,7 @@ pub data Wish : Type 0 where
   Prices : (plan : Rates) → Wish
   Replays : (opening limit : ℕ) → Wish
   Runs : (ask : RunAsk) → Wish
-  Audits : (size : BookSize) → Wish
+  Audits : (ask : AuditAsk) → Wish
   Quotes : (quote : QuoteWish) → Wish
   RatesRecords : (rate : RateWish) → Wish
   Serves : (ask : LiveAsk) (log : Option LogWish) → Wish

@@ -4,7 +4,7 @@ ghost use Rattle.std.specs.Prelude.{map};
 ghost use Rattle.clap.specs.Words.{kind_of, subcommand_rows_of};
 ghost use Rattle.command_words.specs.Arguments.{IsRead, IsRefusal, IsRequestOf, wish_in};
 
-use crate::audit_words::book_size;
+use crate::audit_words::audit_ask;
 use crate::command_line::program_command;
 use crate::fault::WordsFault;
 use crate::options::{price_plan, replay_opening};
@@ -45,7 +45,7 @@ fn asked<'a>(matches: &ArgMatches<'a>) -> Result<Request<'a>, WordsFault>
             None => Err(WordsFault::Arguments),
         },
         Some(("run", options)) => run_request(options),
-        Some(("audit", options)) => Ok(Request::Audit(book_size(options))),
+        Some(("audit", options)) => Ok(Request::Audit(audit_ask(options))),
         Some(("quote", options)) => match quote_ask(options) {
             Some(ask) => Ok(Request::Quote(ask)),
             None => Err(WordsFault::Arguments),

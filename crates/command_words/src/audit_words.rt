@@ -2,19 +2,23 @@
 
 ghost use Rattle.std.specs.Prelude.{◌≡◌};
 ghost use Rattle.clap.specs.Words.{found_of, rows_of};
-ghost use Rattle.command_words.specs.AuditWords.{size_in};
+ghost use Rattle.command_words.specs.AuditWords.{audit_in};
 
 use crate::options::has_flag;
-use book_texts::BookSize;
+use book_texts::{AuditAsk, BookSize};
 use clap::ArgMatches;
 
-/// How long a table of books the options ask for.
-pub(crate) fn book_size(options: &ArgMatches<'_>) -> BookSize
-    ensures { result ≡ size_in (rows_of (found_of options.now)) }
+/// How the options ask for a table of books to be audited.
+pub(crate) fn audit_ask(options: &ArgMatches<'_>) -> AuditAsk
+    ensures { result ≡ audit_in (rows_of (found_of options.now)) }
 {
-    if has_flag(options, "long") {
+    let size = if has_flag(options, "long") {
         BookSize::Long
     } else {
         BookSize::Short
+    };
+    AuditAsk {
+        size,
+        rows: has_flag(options, "rows"),
     }
 }

@@ -108,7 +108,9 @@ fn audit_command<'a>(alloc: Global) -> Result<Command<'a>, AllocError>
     let usage = "prepaid audit [OPTIONS] < FILE";
     let command = input_command(alloc, "audit", about, usage, help::AUDIT);
     let long = "Takes a book of any size, and reads it row by row";
-    add(command, flag(alloc, "long", long))
+    let command = add(command, flag(alloc, "long", long))?;
+    let rows = "Prints the first wrong row of each account, and what is right there";
+    add(command, flag(alloc, "rows", rows))
 }
 
 #[tactic(auto, unfolding(crate::specs::CommandLine::quote_app))]

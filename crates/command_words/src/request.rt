@@ -4,7 +4,7 @@ ghost use Rattle.std.specs.Prelude.{◌≤◌, unwrap_or};
 ghost use Rattle.tariff_core.specs.declared.plan.TheConstants.{MAX_MONEY};
 ghost use Rattle.tariff_core.specs.declared.times.TheConstants.{DAY, LAST_MOMENT};
 
-use book_texts::BookSize;
+use book_texts::AuditAsk;
 use cap_values::Number;
 use moment_texts::Clock;
 use rating::RateAsk;
@@ -25,7 +25,7 @@ pub enum Request<'a> {
     /// A run of a script.
     Run(RunOptions),
     /// The audit of a table of books of this size at most.
-    Audit(BookSize),
+    Audit(AuditAsk),
     /// What a call to a number costs.
     Quote(QuoteAsk),
     /// What each record of a table should have cost.

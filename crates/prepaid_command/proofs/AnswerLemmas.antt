@@ -4,6 +4,7 @@ use Rattle.std.specs.Prelude.{◌⊎◌, ⊤, IfErr, IfSome, MatchResult, if◌t
 use Rattle.std.specs.Result.{result_map_both}
 use Rattle.book_texts.specs.Books.{Books, books_of}
 use Rattle.book_texts.specs.Sizes.{most_rows}
+use Rattle.book_texts.specs.declared.size.AuditAsk.{AuditAsk}
 use Rattle.book_texts.specs.declared.size.BookSize.{BookSize}
 use Rattle.book_texts.specs.declared.size.BookSize.TheVariants as size
 use Rattle.command_words.specs.Arguments.{AsksFor, AsksHelp, AsksVersion, IsRead}
@@ -86,22 +87,23 @@ books_of_part : {X : Type 0} (read : Result X RowFault) → IfErr (meaning_in pa
 books_of_part (Ok x) = tt
 books_of_part (Err why) = tt
 
-audit_by : (meaning : Result Books Fault) (answer : Result Telling Fault) → IfErr meaning IsOfInput
-    → MatchResult meaning (λ books. IsToldAudit books answer) (λ why. answer ≡ Err why) → IfErr answer IsOfInput
-audit_by (Ok books) answer of_meaning told = rw told.told tt
-audit_by (Err why) answer of_meaning is = rw is of_meaning
+audit_by : (ask : AuditAsk) (text : List ℕ) (meaning : Result Books Fault) (answer : Result Telling Fault) → IfErr meaning IsOfInput
+    → MatchResult meaning (λ books. IsToldAudit ask text books answer) (λ why. answer ≡ Err why) → IfErr answer IsOfInput
+audit_by ask text (Ok books) answer of_meaning told = rw told.told tt
+audit_by ask text (Err why) answer of_meaning is = rw is of_meaning
 
-audit_in : (size : BookSize) (text : Result (List ℕ) Fault) (answer : Result Telling Fault) → IfErr text IsOfInput
-    → MatchResult text (λ table. IsAuditOfTable size table answer) (λ why. answer ≡ Err why) → IfErr answer IsOfInput
-audit_in size (Ok table) answer of_text is = audit_by (meaning_in part.Book (books_of (most_rows size) (rows_of table))) answer (books_of_part (books_of (most_rows size) (rows_of table))) is
-audit_in size (Err why) answer of_text is = rw is of_text
+audit_in : (ask : AuditAsk) (text : Result (List ℕ) Fault) (answer : Result Telling Fault) → IfErr text IsOfInput
+    → MatchResult text (λ table. IsAuditOfTable ask table answer) (λ why. answer ≡ Err why) → IfErr answer IsOfInput
+audit_in ask (Ok table) answer of_text is =
+    let meaning = books_of (most_rows ask.size) (rows_of table) in audit_by ask table (meaning_in part.Book meaning) answer (books_of_part meaning) is
+audit_in ask (Err why) answer of_text is = rw is of_text
 
 sized_as_of : (size : BookSize) (input : List ℕ) → IfErr (sized_as size input) IsOfInput
 sized_as_of size.Short input = sized_of input
 sized_as_of size.Long input = tt
 
-audit_of : (size : BookSize) (input : List ℕ) (answer : Result Telling Fault) → IsAnswerTo (Audits size) input answer → IfErr answer IsOfInput
-audit_of size input answer is = audit_in size (sized_as size input) answer (sized_as_of size input) is
+audit_of : (ask : AuditAsk) (input : List ℕ) (answer : Result Telling Fault) → IsAnswerTo (Audits ask) input answer → IfErr answer IsOfInput
+audit_of ask input answer is = audit_in ask (sized_as ask.size input) answer (sized_as_of ask.size input) is
 
 -- ---- what is asked for
 
@@ -171,11 +173,11 @@ module _ (words : List (List ℕ)) (status : ℕ) (old new : Written) where
       record { answer = answer; answered = answers words (Quotes wish) input (quote_of wish input) answer asked is; told = told }
 
   -- an audit
-  pub audited : (known : Option (List ℕ)) (size : BookSize) (answer : Result Telling Fault) → AsksFor words (Audits size)
-      → IfSome known (λ input. GivesOne (IsAnswerTo (Audits size) input) answer) → IsTold answer status old new → Answers words known status old new
-  audited None size answer asked is told = record { answer = answer; answered = tt; told = told }
-  audited (Some input) size answer asked is told =
-      record { answer = answer; answered = answers words (Audits size) input (audit_of size input) answer asked is; told = told }
+  pub audited : (known : Option (List ℕ)) (ask : AuditAsk) (answer : Result Telling Fault) → AsksFor words (Audits ask)
+      → IfSome known (λ input. GivesOne (IsAnswerTo (Audits ask) input) answer) → IsTold answer status old new → Answers words known status old new
+  audited None ask answer asked is told = record { answer = answer; answered = tt; told = told }
+  audited (Some input) ask answer asked is told =
+      record { answer = answer; answered = answers words (Audits ask) input (audit_of ask input) answer asked is; told = told }
 
   -- the help or the version
   pub helped : (known : Option (List ℕ)) (telling : Telling) (text : List ℕ) → AsksHelp words ⊎ AsksVersion words → telling ≡ plain text → IsTold (Ok telling) status old new

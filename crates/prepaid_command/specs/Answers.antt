@@ -8,7 +8,7 @@ use Rattle.answer_command.specs.declared.error.ServeError.{ServeError}
 use Rattle.book_texts.specs.Audits.{Audited, IsAuditOf}
 use Rattle.book_texts.specs.Books.{Books, books_of}
 use Rattle.book_texts.specs.Sizes.{most_rows}
-use Rattle.book_texts.specs.declared.size.BookSize.{BookSize}
+use Rattle.book_texts.specs.declared.size.AuditAsk.{AuditAsk}
 use Rattle.command_words.specs.Arguments.{AsksFor, AsksHelp, AsksInVain, AsksNothing, AsksVersion}
 use Rattle.command_words.specs.QuoteWishes.{QuoteWish}
 use Rattle.command_words.specs.Wishes.{Wish, Audits, Prices, Quotes, RatesRecords, Replays, Runs, Serves}
@@ -66,20 +66,20 @@ IsRunOfInput ask input answer = MatchResult (sized input) (λ text. IsToldRun as
 abbrev pub telling_of_audit : Audited → Telling
 telling_of_audit audit = record { text = audit.lines; passes = audit.passes; refused = [] }
 
--- an audit of these books is told
-pub record IsToldAudit (books : Books) (answer : Result Telling Fault) : Type 0 where
+-- an audit of the books of a table is told
+pub record IsToldAudit (ask : AuditAsk) (text : List ℕ) (books : Books) (answer : Result Telling Fault) : Type 0 where
   pub audit : Audited
-  pub is_audit : IsAuditOf books audit
+  pub is_audit : IsAuditOf (most_rows ask.size) ask.rows (rows_of text) books audit
   pub told : answer ≡ Ok (telling_of_audit audit)
 
--- what `audit` makes of a table of books of this size at most
-abbrev pub IsAuditOfTable : BookSize → List ℕ → Result Telling Fault → Type 0
-IsAuditOfTable size text answer =
-    MatchResult (meaning_in part.Book (books_of (most_rows size) (rows_of text))) (λ books. IsToldAudit books answer) (λ why. answer ≡ Err why)
+-- what `audit` makes of a table of books, as it is asked
+abbrev pub IsAuditOfTable : AuditAsk → List ℕ → Result Telling Fault → Type 0
+IsAuditOfTable ask text answer =
+    MatchResult (meaning_in part.Book (books_of (most_rows ask.size) (rows_of text))) (λ books. IsToldAudit ask text books answer) (λ why. answer ≡ Err why)
 
 -- and of an input
-abbrev pub IsAuditOfInput : BookSize → List ℕ → Result Telling Fault → Type 0
-IsAuditOfInput size input answer = MatchResult (sized_as size input) (λ text. IsAuditOfTable size text answer) (λ why. answer ≡ Err why)
+abbrev pub IsAuditOfInput : AuditAsk → List ℕ → Result Telling Fault → Type 0
+IsAuditOfInput ask input answer = MatchResult (sized_as ask.size input) (λ text. IsAuditOfTable ask text answer) (λ why. answer ≡ Err why)
 
 -- a quote of this tariff is told
 pub record IsToldQuote (bands : List Band) (wish : QuoteWish) (answer : Result Telling Fault) : Type 0 where
@@ -97,7 +97,7 @@ abbrev pub IsAnswerTo : Wish → List ℕ → Result Telling Fault → Type 0
 IsAnswerTo (Prices plan) input answer = price_of_input plan input ≡ answer
 IsAnswerTo (Replays opening limit) input answer = replay_of_input opening limit input ≡ answer
 IsAnswerTo (Runs ask) input answer = IsRunOfInput ask input answer
-IsAnswerTo (Audits size) input answer = IsAuditOfInput size input answer
+IsAnswerTo (Audits ask) input answer = IsAuditOfInput ask input answer
 IsAnswerTo (Quotes wish) input answer = IsQuoteOfInput wish input answer
 IsAnswerTo (RatesRecords wish) input answer = ⊥
 IsAnswerTo (Serves ask log) input answer = ⊥

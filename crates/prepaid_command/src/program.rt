@@ -21,7 +21,7 @@ use crate::quoting::print_quote;
 use crate::rating_rows::rate_input;
 use crate::replaying::replay;
 use crate::serving::serve_messages;
-use book_texts::{BookSize, audit_books};
+use book_texts::{AuditAsk, BookSize, audit_books};
 use command_words::{Opening, QuoteAsk, Request, read_words};
 use rating::write_text;
 use run_command::{Ran, Refusals, run};
@@ -79,7 +79,7 @@ where
             tell(output, faults, replay_operations(alloc, account, input))
         }
         Ok(Request::Run(options)) => tell(output, faults, run_script(rt, alloc, &options, input)),
-        Ok(Request::Audit(size)) => tell(output, faults, audit_input(alloc, size, input)),
+        Ok(Request::Audit(ask)) => tell(output, faults, audit_input(alloc, ask, input)),
         Ok(Request::Quote(ask)) => tell(output, faults, quote_input(alloc, &ask, input)),
         Ok(Request::Rate(ask)) => rate_input(alloc, &ask, input, output, faults),
         Ok(Request::Serve(options, log)) => {
@@ -151,22 +151,22 @@ fn run_script<R: Wait + Threads + Sync, I: Read + Drop>(
 }
 
 /// The lines of `audit` for the books in the input. A long table is read row by row and never kept.
-fn audit_input<I: Read + Drop>(alloc: Global, size: BookSize, input: I) -> Result<Answer, Fault>
-    ensures { IfSome (I.remaining input) (λ text. GivesOne (IsAuditOfInput size text)
+fn audit_input<I: Read + Drop>(alloc: Global, ask: AuditAsk, input: I) -> Result<Answer, Fault>
+    ensures { IfSome (I.remaining input) (λ text. GivesOne (IsAuditOfInput ask text)
         (result_map_both telling_of (λ fault. fault) result)) }
 {
-    match size {
-        BookSize::Short => audit_table(alloc, size, read_input(alloc, input)?.as_slice()),
-        BookSize::Long => audit_table(alloc, size, input),
+    match ask.size {
+        BookSize::Short => audit_table(alloc, ask, read_input(alloc, input)?.as_slice()),
+        BookSize::Long => audit_table(alloc, ask, input),
     }
 }
 
 /// The lines of `audit` for a table of books.
-fn audit_table<I: Read + Drop>(alloc: Global, size: BookSize, table: I) -> Result<Answer, Fault>
-    ensures { IfSome (I.remaining table) (λ text. GivesOne (IsAuditOfTable size text)
+fn audit_table<I: Read + Drop>(alloc: Global, ask: AuditAsk, table: I) -> Result<Answer, Fault>
+    ensures { IfSome (I.remaining table) (λ text. GivesOne (IsAuditOfTable ask text)
         (result_map_both telling_of (λ fault. fault) result)) }
 {
-    match audit_books(alloc, table, size) {
+    match audit_books(alloc, table, ask) {
         Ok(audit) => Ok(Answer {
             text: audit.lines,
             passes: audit.passes,

@@ -73,6 +73,47 @@ const BOOKS: [(&str, u8, &str); 5] = [
     ),
 ];
 
+/// Books, and the lines of their audit with the first wrong row of each account.
+const WRONG: [(&str, &str); 8] = [
+    (
+        "1,,opening,,1500,,,,,,,,\n1,1,reserve,1,50,1000,400,600,50,granted,600,more,450\n",
+        "account 1 yes\n",
+    ),
+    (
+        "1,,opening,,1500,,,,,,,,\n1,1,reserve,1,50,1000,400,600,50,granted,600,last,450\n",
+        "account 1 no\naccount 1 row 3: reserve: granted 600 last available 450, is granted 600 more available 450\n",
+    ),
+    (
+        "1,,opening,,1500,,,,,,,,\n1,0,return,3,,,,,,returned,0,,1500\n",
+        "account 1 no\naccount 1 row 3: return: returned paid 0 available 1500, is refused NotOpen\n",
+    ),
+    (
+        "1,,opening,,1500,,,,,,,,\n1,0,credit,,0,,,,,credited,,,1500\n",
+        "account 1 no\naccount 1 row 3: credit: credited available 1500, is refused OutOfRange\n",
+    ),
+    (
+        "1,,opening,,1500,,,,,,,,\n1,1,reserve,1,50,1000,400,600,50,granted,600,more,450\n\
+         1,0,settle,1,2,n,300,,,forfeit,1050,,450\n1,0,return,1,,,,,,returned,550,,950\n",
+        "account 1 no\naccount 1 row 4: settle: forfeit paid 1050 available 450, is settled paid 550 available 450\n",
+    ),
+    (
+        "9,,opening,,5,,,,,,,,\n2,,opening,,1,,,,,,,,\n7,,opening,,3,,,,,,,,\n\
+         7,0,credit,,1,,,,,credited,,,4\n9,0,credit,,1,,,,,over,,,5\n2,0,credit,,1,,,,,credited,,,3\n\
+         9,0,credit,,1,,,,,credited,,,9\n",
+        "account 2 no\naccount 2 row 7: credit: credited available 3, is credited available 2\naccount 7 yes\n\
+         account 9 no\naccount 9 row 6: credit: over available 5, is credited available 6\n",
+    ),
+    (
+        "1,,opening,,1500,,,,,,,,\n1,0,reserve,1,50,1000,,600,50,denied,,,1500\n",
+        "account 1 no\naccount 1 row 3: reserve: denied available 1500, is granted 600 more available 450\n",
+    ),
+    (
+        "1,,opening,,1500,,,,,,,,\n1,1,reserve,1,50,1000,400,600,50,granted,600,more,450\n\
+         1,0,return,1,,,,,,returned,0,,1500\n1,0,reserve,1,50,1000,400,600,50,granted,600,more,450\n",
+        "account 1 no\naccount 1 row 5: reserve: granted 600 more available 450, is refused CallUsed\n",
+    ),
+];
+
 /// Rows that are refused behind the opening of account 1, the kind of fault of the last.
 const REFUSED: [(&str, &str); 21] = [
     ("1,0,credit,,1,,,,,credited,,\n", "row 3: Csv"),
@@ -139,6 +180,18 @@ fn judges_histories(rt: HostRuntime) -> Result<(), Fail> {
     }
     for (rows, status, text) in &BOOKS {
         expect_audit(&rt, "", rows, (*status, text))?;
+    }
+    Ok(())
+}
+
+#[test]
+fn shows_wrong_rows(rt: HostRuntime) -> Result<(), Fail> {
+    for (rows, lines) in &WRONG {
+        let table = table_of(rt.alloc(), "", rows)?;
+        let status = if lines.contains(" no\n") { 3 } else { 0 };
+        for words in ["audit --rows", "audit --rows --long"] {
+            expect(&rt, words, table.as_str(), (status, lines, ""))?;
+        }
     }
     Ok(())
 }

@@ -36,4 +36,4 @@ module _ (Stood : Closed → ℕ → Knowing) (serves : RunEntriesAreServed Stoo
   pub pass : BooksAreRead → PrintedBooksPass → RunsPassTheAudit Stood
   pass read passes most setup workers given books is room =
       let prints : ArePrintable most books = printable most setup workers given books is room in
-      record { read = λ steps. read most steps books prints; verdicts = λ steps audit gives. passes most steps books audit prints is.run.legal gives }
+      record { read = λ steps. read most steps books prints; verdicts = λ steps shown audit gives. passes most steps shown books audit prints is.run.legal gives }

@@ -1,5 +1,5 @@
 -- What holds of the table of the books of every run.
-use Rattle.std.specs.Prelude.{◌≡◌, ◌≤◌, ◌+◌, ◌*◌, ℕ, Bool, true, List, length, map, Ok}
+use Rattle.std.specs.Prelude.{◌≡◌, ◌≤◌, ◌+◌, ◌*◌, ℕ, Bool, List, None, length, map, Ok}
 use Rattle.book_texts.specs.Audits.{Audited, GivesAudit, audited}
 use Rattle.book_texts.specs.BookTexts.{book_text, version_of}
 use Rattle.book_texts.specs.Books.{books_of}
@@ -15,11 +15,11 @@ use Rattle.table_core.specs.Rows.{rows_of}
 abbrev pub text_of : Bool → List Closed → List ℕ
 text_of steps books = book_text (version_of steps books) books
 
--- the table of books, of which this many rows are taken, is read back to the opening and the history of each, and whatever audit there is of it says yes for each account, in order
+-- the table of books, of which this many rows are taken, is read back to the opening and the history of each, and whatever audit there is of it, its wrong rows shown or not, says yes for each account, in order, and shows no row
 pub record PassTheAudit (most : ℕ) (books : List Closed) : Type 0 where
   pub read : (steps : Bool) → books_of most (rows_of (text_of steps books)) ≡ Ok (map told_by books)
-  pub verdicts : (steps : Bool) (audit : Audited) → GivesAudit (Ok audit) (books_of most (rows_of (text_of steps books)))
-      → audit ≡ audited (map (λ book. (book.account, true)) books)
+  pub verdicts : (steps shown : Bool) (audit : Audited) → GivesAudit most shown (rows_of (text_of steps books)) (Ok audit)
+      → audit ≡ audited shown (map (λ book. (book.account, None)) books)
 
 -- the books of a run can be printed into a table that has room for their rows
 abbrev pub RunsArePrintable : (Closed → ℕ → Knowing) → Type 0

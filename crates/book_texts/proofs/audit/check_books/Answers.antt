@@ -1,60 +1,66 @@
 use Rattle.std.proofs.Common.{[], refl}
 use Rattle.table_core.specs.Rows.{rows_of}
-use Rattle.table_core.proofs.Known.{map_known}
 use Rattle.table_core.proofs.TableLemmas.{ended, header_stays, not_opened, opened, refused, refuses, row_columns, stopped, taken}
 use Rattle.book_texts.specs.Books.{books_form, books_of}
 use Rattle.book_texts.specs.Sizes.{most_rows}
-use Rattle.book_texts.proofs.CheckLemmas.{fault_told, has_columns, row_refused, row_taken}
+use Rattle.book_texts.proofs.CheckLemmas.{checks_given, fault_told, has_columns, right_at_first, right_so_far, row_refused, row_taken}
 use Rattle.book_texts.proofs.audit.check_books.Goals as goal
 
 pub returns-in_err-table : goal.returns-in_err-table
 returns-in_err-table g c =
-    fault_told (g.I.Read.remaining c.args.reader) c.from_residual.result c.in_err-table.field-0.0 _ (λ text. books_of (most_rows c.args.size) (rows_of text)) c.from_residual.ensures.1
+    fault_told (most_rows c.args.size) (g.I.Read.remaining c.args.reader) c.from_residual.result c.in_err-table.field-0.0 _ (λ text. books_of (most_rows c.args.size) (rows_of text)) c.from_residual.ensures.1
     (not_opened (books_form (most_rows c.args.size)) g.I.Read.remaining _ c.in_err-table.field-0.0 c.in_err-table.ensures.opens)
     (λ text. refuses (books_form (most_rows c.args.size)) (λ row why. refl) (λ all. all) (λ why. refl) c.in_err-table.field-0.0 (books_of (most_rows c.args.size) (rows_of text)))
 
-pub loop-checks-init : goal.loop-checks-init
-loop-checks-init g c =
-    ([], opened (books_form (most_rows c.args.size)) g.I.Read.remaining _ c.in_ok-table.table (rw c.most_rows.ensures at c.in_ok-table.ensures.first) c.in_ok-table.ensures.opens, c.new-checks.ensures)
+pub loop-wrongs-init : goal.loop-wrongs-init
+loop-wrongs-init g c =
+    let first = rw c.most_rows.ensures at c.in_ok-table.ensures.first in (
+      [],
+      opened (books_form (most_rows c.args.size)) g.I.Read.remaining _ c.in_ok-table.table first c.in_ok-table.ensures.opens,
+      c.new-checks.ensures,
+      rw c.new-wrongs.ensures (right_at_first (most_rows c.args.size) g.I.Read.remaining c.in_ok-table.table _ first.number c.in_ok-table.ensures.opens),
+    )
 
 pub returns-in_err-next_row : goal.returns-in_err-next_row
 returns-in_err-next_row g c =
-    let (books, read, are) = c.loop-checks.invariant in
-    fault_told (g.I.Read.remaining c.args.reader) c.from_residual-in_err-next_row.result c.in_err-next_row.field-0.0 _ (λ text. books_of (most_rows c.args.size) (rows_of text)) c.from_residual-in_err-next_row.ensures.1
-    (stopped (books_form (most_rows c.args.size)) g.I.Read.remaining _ c.loop-checks.table c.next_row.new.self books read c.in_err-next_row.field-0.0 c.in_err-next_row.ensures.steps)
+    let (books, read, are, right) = c.loop-wrongs.invariant in
+    fault_told (most_rows c.args.size) (g.I.Read.remaining c.args.reader) c.from_residual-in_err-next_row.result c.in_err-next_row.field-0.0 _ (λ text. books_of (most_rows c.args.size) (rows_of text)) c.from_residual-in_err-next_row.ensures.1
+    (stopped (books_form (most_rows c.args.size)) g.I.Read.remaining _ c.loop-wrongs.table c.next_row.new.self books read c.in_err-next_row.field-0.0 c.in_err-next_row.ensures.steps)
     (λ text. refuses (books_form (most_rows c.args.size)) (λ row why. refl) (λ all. all) (λ why. refl) c.in_err-next_row.field-0.0 (books_of (most_rows c.args.size) (rows_of text)))
 
 pub take_row-requires-clause-fields : goal.take_row-requires-clause-fields
 take_row-requires-clause-fields g c =
-    let (books, read, are) = c.loop-checks.invariant in
+    let (books, read, are, right) = c.loop-wrongs.invariant in
     let next = rw c.if-branch.true at c.in_ok-next_row.ensures.moves in
     rw (c.at-version.ensures, c.header.ensures, c.row.ensures)
-    (has_columns _ _ (header_stays (books_form (most_rows c.args.size)) g.I.Read.remaining _ c.loop-checks.table c.next_row.new.self books read next)
-    (row_columns (books_form (most_rows c.args.size)) g.I.Read.remaining _ c.loop-checks.table c.next_row.new.self books read next))
+    (has_columns _ _ (header_stays (books_form (most_rows c.args.size)) g.I.Read.remaining _ c.loop-wrongs.table c.next_row.new.self books read next)
+    (row_columns (books_form (most_rows c.args.size)) g.I.Read.remaining _ c.loop-wrongs.table c.next_row.new.self books read next))
 
 pub returns-in-Some : goal.returns-in-Some
 returns-in-Some g c =
-    let (books, read, are) = c.loop-checks.invariant in
+    let (books, read, are, right) = c.loop-wrongs.invariant in
     let next = rw c.if-branch.true at c.in_ok-next_row.ensures.moves in
-    let came = rw (c.row.ensures, c.at-version.ensures, c.header.ensures, next.same.header, c.in-Some.is) at (c.in_ok-kind.ensures books are) in
-    rw c.fault.ensures (refused (books_form (most_rows c.args.size)) g.I.Read.remaining _ c.loop-checks.table c.next_row.new.self books read c.in-Some.kind
+    let came = rw (c.row.ensures, c.at-version.ensures, c.header.ensures, next.same.header, c.in-Some.is) at (c.in_ok-kind.ensures.comes books are) in
+    rw c.fault.ensures (refused (books_form (most_rows c.args.size)) g.I.Read.remaining _ c.loop-wrongs.table c.next_row.new.self books read c.in-Some.kind
     next (rw c.if-branch.true at c.in_ok-next_row.ensures.steps) (row_refused books _ _ c.in-Some.kind came))
 
-pub loop-checks-preserved : goal.loop-checks-preserved
-loop-checks-preserved g c =
-    let (books, read, are) = c.loop-checks.invariant in
+pub loop-wrongs-preserved : goal.loop-wrongs-preserved
+loop-wrongs-preserved g c =
+    let (books, read, are, right) = c.loop-wrongs.invariant in
     let next = rw c.if-branch.true at c.in_ok-next_row.ensures.moves in
-    let came = rw (c.row.ensures, c.at-version.ensures, c.header.ensures, next.same.header, c.in_default.is) at (c.in_ok-kind.ensures books are) in
+    let steps = rw c.if-branch.true at c.in_ok-next_row.ensures.steps in
+    let came = rw (c.row.ensures, c.at-version.ensures, c.header.ensures, next.same.header, c.in_default.is) at (c.in_ok-kind.ensures.comes books are) in
+    let noted = rw (c.row.ensures, c.at-version.ensures, c.header.ensures, next.same.header, c.number-number.ensures) at (c.in_ok-kind.ensures.noted books are) in
     let (all, is, all_are) = row_taken books _ _ came in (
       all,
-      taken (books_form (most_rows c.args.size)) g.I.Read.remaining _ c.loop-checks.table c.next_row.new.self books read all
-          next (rw c.if-branch.true at c.in_ok-next_row.ensures.steps) is,
+      taken (books_form (most_rows c.args.size)) g.I.Read.remaining _ c.loop-wrongs.table c.next_row.new.self books read all next steps is,
       all_are,
+      right_so_far (most_rows c.args.size) g.I.Read.remaining _ c.loop-wrongs.table c.next_row.new.self books all _ _ read.limit next steps is noted right,
     )
 
 pub returns : goal.returns
 returns g c =
-    let (books, read, are) = c.loop-checks.invariant in
-    map_known (g.I.Read.remaining c.args.reader) _ _
-    (ended (books_form (most_rows c.args.size)) g.I.Read.remaining _ c.loop-checks.table c.next_row.new.self books read (rw c.if-branch.false at c.in_ok-next_row.ensures.steps))
-    (λ text is. rw (is, c.in_ok-into_list.ensures) are.0)
+    let (books, read, are, right) = c.loop-wrongs.invariant in
+    let steps = rw c.if-branch.false at c.in_ok-next_row.ensures.steps in
+    let whole = ended (books_form (most_rows c.args.size)) g.I.Read.remaining _ c.loop-wrongs.table c.next_row.new.self books read steps in
+    checks_given (most_rows c.args.size) g.I.Read.remaining _ c.loop-wrongs.table c.next_row.new.self books books _ c.loop-wrongs.wrongs _ whole steps c.in_ok-into_list.ensures are.0 right refl

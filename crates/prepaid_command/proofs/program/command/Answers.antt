@@ -40,7 +40,7 @@ returns-in-Ok-Run-clause-answers g c = inl (search rules)
 
 pub returns-in-Ok-Audit-clause-answers : goal.returns-in-Ok-Audit-clause-answers
 returns-in-Ok-Audit-clause-answers g c =
-    inl (audited _ _ _ _ (g.I.Read.remaining c.args.input) c.in-Ok-Audit.size (result_map_both telling_of (λ fault. fault) c.audit_input.result)
+    inl (audited _ _ _ _ (g.I.Read.remaining c.args.input) c.in-Ok-Audit.ask (result_map_both telling_of (λ fault. fault) c.audit_input.result)
     (rw c.in-Ok-Audit.field-0-is at c.in-Ok-Audit.ensures) c.audit_input.ensures c.tell-in-Ok-Audit.ensures.told)
 
 pub returns-in-Ok-Rate-clause-answers : goal.returns-in-Ok-Rate-clause-answers
