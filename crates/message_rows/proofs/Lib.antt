@@ -1,2 +1,3 @@
+mod PlainLines
 mod PostColumns
 mod PostLines

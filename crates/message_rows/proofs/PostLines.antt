@@ -1,28 +1,27 @@
 -- The row that a trace prints of a post is one plain row of nine fields.
-use Rattle.std.proofs.Common.{◌≡◌, ℕ, ◌<◌, ◌≤◌, true, false, Option, Some, None, List, [], ◌∷◌, ◌++◌, Ok, length, refl, ap, append-nil, append_assoc, arith}
+use Rattle.std.proofs.Common.{◌≡◌, ℕ, ◌<◌, ◌≤◌, true, false, Option, Some, None, List, [], ◌∷◌, ◌++◌, refl, append-nil, append_assoc, arith}
 use Rattle.std.specs.Prelude.{codes, slice_index, IfSome}
 use Rattle.std.specs.Char.{is_ascii_digit}
 use Rattle.std.specs.Fmt.{decimal}
-use Rattle.std.specs.List.{All, join_with_byte, list_all}
+use Rattle.std.specs.List.{join_with_byte, list_all}
 use Rattle.std.proofs.lemmas.Bool.{and_parts}
 use Rattle.std.proofs.lemmas.Bool.Decides.{nat_tests}
 use Rattle.std.proofs.lemmas.List.Elements.{All-cons, All-from_recursion, All-nil}
 use Rattle.csv.specs.Reading.{strip_bom}
 use Rattle.csv.specs.Writing.{comma, default_writer, needs_byte}
 use Rattle.cap_values.specs.NumberDigits.{digits_of}
-use Rattle.cap_values.specs.Numbers.{is_number}
 use Rattle.cap_values.specs.declared.event.Event.{Event}
 use Rattle.cap_values.specs.declared.event.Event.TheVariants as event
 use Rattle.cap_values.specs.declared.leg.Leg.{Leg}
 use Rattle.cap_values.specs.declared.leg.Leg.TheVariants as leg
-use Rattle.cap_values.specs.declared.message.SsfMsg.{SsfMsg}
 use Rattle.cap_values.specs.declared.message.SsfMsg.TheVariants as message
 use Rattle.cap_values.specs.declared.mode.Mode.{Mode}
 use Rattle.cap_values.specs.declared.mode.Mode.TheVariants as mode
 use Rattle.cap_values.specs.declared.number.Number.{Number}
 use Rattle.entry_rows.specs.Columns.{number_or_empty}
 use Rattle.entry_rows.specs.Fits.{IsInterval}
-use Rattle.message_rows.specs.Laws.{FitsBody, FitsPost, PostsAreRead, message_of_post}
+use Rattle.message_rows.specs.Laws.{FitsBody, FitsPost, PostsAreRead}
+use Rattle.message_rows.proofs.PlainLines.{low_is_no_mark}
 use Rattle.message_rows.proofs.PostColumns.{post_fields, post_read, row_fields}
 use Rattle.moment_texts.specs.Laws.{MomentsArePlain, MomentsAreRead}
 use Rattle.moment_texts.specs.Printing.{moment_or_empty, moment_text}
@@ -46,15 +45,12 @@ post_line clock number post = rw (row_line clock number post, append-nil (line_o
 
 -- ---- no byte order mark
 
-digit_is_no_mark : (c : ℕ) (rest : List ℕ) → is_ascii_digit c ≡ true → strip_bom (c ∷ rest) ≡ c ∷ rest
-unfolding strip_bom
-digit_is_no_mark c [] digit = refl
-digit_is_no_mark c (d ∷ []) digit = refl
-digit_is_no_mark c (d ∷ e ∷ rest) digit = grind (arith, nat_tests)
+digit_is_low : (c : ℕ) → is_ascii_digit c ≡ true → c < 128
+digit_is_low c digit = grind (arith, nat_tests)
 
 first_is_no_mark : (text rest : List ℕ) → is_ascii_digit (slice_index text 0) ≡ true → strip_bom (text ++ rest) ≡ text ++ rest
 first_is_no_mark [] rest digit = absurd (cc)
-first_is_no_mark (c ∷ text) rest digit = digit_is_no_mark c (text ++ rest) digit
+first_is_no_mark (c ∷ text) rest digit = low_is_no_mark c (text ++ rest) (digit_is_low c digit)
 
 line_starts : (first next : List ℕ) (fields : Fields) → lines_of ((first ∷ next ∷ fields) ∷ []) ≡ first ++ comma ∷ (join_with_byte comma (next ∷ fields) ++ codes "\n")
 line_starts first next fields = simp (append_assoc, append-nil)

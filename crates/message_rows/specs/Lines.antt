@@ -1,5 +1,5 @@
 -- The message of a line: a line is one row, or none where it is empty.
-use Rattle.std.specs.Prelude.{◌==◌, ℕ, Option, Some, None, List, [], ◌∷◌, Result, Ok, Err, if◌then◌else◌, length}
+use Rattle.std.specs.Prelude.{◌==◌, ◌&&◌, ℕ, Bool, not, Option, Some, None, List, [], ◌∷◌, Result, Ok, Err, if◌then◌else◌, length, nat_le}
 use Rattle.message_rows.specs.Messages.{MessageView, message_in}
 use Rattle.table_core.specs.Judging.{after}
 use Rattle.table_core.specs.Rows.{Fields, rows_of}
@@ -19,3 +19,7 @@ message_of (fields ∷ other ∷ others) = Some (Err kind.Csv)
 -- the message of a line, if there is a row in it
 abbrev pub line_message : List ℕ → Option (Result MessageView RowKind)
 line_message line = message_of (rows_of line)
+
+-- whether a byte is a comma, or stands for itself in a field: it is printable ASCII, and no quote
+abbrev pub is_plain : ℕ → Bool
+is_plain byte = nat_le 32 byte && nat_le byte 126 && not (byte == 34)

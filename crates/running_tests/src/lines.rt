@@ -8,7 +8,7 @@ use table_core::RowKind;
 use tariff_core::TimeInfo;
 
 /// Lines that say nothing, for what their row lacks.
-const BAD: [(&[u8], RowKind); 26] = [
+const BAD: [(&[u8], RowKind); 29] = [
     (b"0,0,1,switch,Ended,,,\n", RowKind::Csv),
     (b"0,0,1,switch,Ended,,,,,\n", RowKind::Csv),
     (b"0,0,1,switch,\"Ended,,,,\n", RowKind::Csv),
@@ -16,7 +16,13 @@ const BAD: [(&[u8], RowKind); 26] = [
         b"0,0,1,switch,Ended,,,,\r0,1,1,switch,Ended,,,,\n",
         RowKind::Csv,
     ),
+    (
+        b"0,0,1,switch,Ended,,,,\n0,1,1,switch,Ended,,,,\n",
+        RowKind::Csv,
+    ),
     (b"%%\n", RowKind::Csv),
+    (b"0,0,1,switch,Ended\x7f,,,,\n", RowKind::What),
+    (b"0,0,1,switch,Ended\xef,,,,\n", RowKind::What),
     (b"0,0,1,service,Continue,,,,\n", RowKind::What),
     (b"0,0,1,operator,Ended,,,,\n", RowKind::What),
     (b"0,0,,switch,Recharge,7,1,,\n", RowKind::What),
@@ -108,7 +114,7 @@ fn reads_a_line(rt: HostRuntime) -> Result<(), Fail> {
         amount: 1_000_000_000_000_000,
         until: Some(1_000_000_000_000),
     };
-    let good: [(&[u8], u64, Option<u64>, Body); 10] = [
+    let good: [(&[u8], u64, Option<u64>, Body); 12] = [
         (
             b"0,0,1,switch,InitialDP,491700001,4930,,\n",
             0,
@@ -156,6 +162,18 @@ fn reads_a_line(rt: HostRuntime) -> Result<(), Fail> {
             1,
             Some(u64::MAX),
             recharge,
+        ),
+        (
+            b"0,\"5\",1,\"switch\",Ended,,\"\",,\n",
+            0,
+            Some(5),
+            of_call(1, SsfMsg::Ended),
+        ),
+        (
+            b"\xef\xbb\xbf0,6,1,switch,Ended,,,,\n",
+            0,
+            Some(6),
+            of_call(1, SsfMsg::Ended),
         ),
         (
             b"8307-10-01 19:33:20,3,1,switch,Ended,,,,\n",

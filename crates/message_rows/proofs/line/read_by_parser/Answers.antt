@@ -1,6 +1,6 @@
-use Rattle.std.proofs.Common.{◌≡◌, Some, refl, ap, sym}
+use Rattle.std.proofs.Common.{Some, refl, ap}
 use Rattle.table_core.specs.Rows.{rows_of}
-use Rattle.message_rows.proofs.line.read_line.Goals as goal
+use Rattle.message_rows.proofs.line.read_by_parser.Goals as goal
 
 pub returns-then-not-branch-clause-says : goal.returns-then-not-branch-clause-says
 returns-then-not-branch-clause-says c =
