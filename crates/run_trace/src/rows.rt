@@ -2,7 +2,7 @@
 
 ghost use Rattle.std.specs.Prelude.{◌≡◌, ◌++◌, Some, map, OnOk, string_bytes};
 ghost use Rattle.run_trace.specs.Said.{message_said, operation_said, post_said, refused_said, report_said, stray_said, event_word, leg_number, mode_word, release_word, state_word};
-ghost use Rattle.run_trace.specs.Tables.{answer_rows, call_of, head_text, row, said_text, sender_of, service_rows};
+ghost use Rattle.run_trace.specs.Tables.{answer_rows, call_of, row, said_text, sender_of, service_rows};
 
 use account_core::AccountFault;
 use cap_values::{Event, Leg, Mode, ScfOp, SsfMsg};
@@ -10,31 +10,7 @@ use entry_rows::Field;
 use moment_texts::{Clock, MomentField};
 use run_values::{Answer, Body};
 use std::alloc::AllocError;
-use std::fmt;
 use tariff_core::TimeInfo;
-
-/// What the rows of a post and of its answer begin with: the moment, as the clock prints it, the
-/// number and the call.
-#[derive(Clone, Copy)]
-pub(crate) struct Head {
-    pub clock: Clock,
-    pub at: u64,
-    pub number: u64,
-    pub call: Option<u64>,
-}
-
-impl fmt::Display for Head {
-    ghost use Rattle.std.specs.Prelude.{Some};
-    ghost use Rattle.run_trace.specs.Tables.{head_text};
-
-    ghost output = { λ head. Some (head_text head.clock head.at head.number head.call) };
-
-    fn fmt<W: fmt::Write>(&self, f: &mut fmt::Formatter<W>) -> fmt::Result {
-        let at = MomentField(self.clock, Some(self.at));
-        let (number, call) = (self.number, Field(self.call));
-        write!(f, "{at},{number},{call}")
-    }
-}
 
 /// The call of a post, if it has one.
 pub(crate) fn call_of(body: &Body) -> Option<u64>
@@ -46,11 +22,15 @@ pub(crate) fn call_of(body: &Body) -> Option<u64>
     }
 }
 
-/// Adds the row of a post.
-pub(crate) fn write_post(text: &mut String, head: Head, body: &Body) -> Result<(), AllocError>
+/// Adds the row of a post, behind the head of its rows.
+pub(crate) fn write_post(
+    text: &mut String,
+    clock: Clock,
+    head: &str,
+    body: &Body,
+) -> Result<(), AllocError>
     ensures { OnOk result (string_bytes text.new ≡ string_bytes text.old
-        ++ row (head_text head.clock head.at head.number head.call) (sender_of body.now)
-        (post_said head.clock body.now)) }
+        ++ row head.now (sender_of body.now) (post_said clock body.now)) }
 {
     match *body {
         Body::Ssf { msg, .. } => {
@@ -62,7 +42,7 @@ pub(crate) fn write_post(text: &mut String, head: Head, body: &Body) -> Result<(
             amount,
             until,
         } => {
-            let until = MomentField(head.clock, until);
+            let until = MomentField(clock, until);
             writeln!(text, "{head},operator,Recharge,{account},{amount},{until},")
         }
     }
@@ -103,11 +83,11 @@ fn write_report(text: &mut String, active: bool, info: TimeInfo) -> Result<(), A
     }
 }
 
-/// Adds the rows of an answer: its operations, in order, then whether the post was stray, and the
+/// Adds the rows of an answer, each behind the same head: its operations, in order, then whether the post was stray, and the
 /// fault that an ask of an account got.
-pub(crate) fn write_answer(text: &mut String, head: Head, answer: &Answer) -> Result<(), AllocError>
+pub(crate) fn write_answer(text: &mut String, head: &str, answer: &Answer) -> Result<(), AllocError>
     ensures { OnOk result (string_bytes text.new ≡ string_bytes text.old
-        ++ answer_rows (head_text head.clock head.at head.number head.call) (Some answer.now)) }
+        ++ answer_rows head.now (Some answer.now)) }
 {
     write_operations(text, head, answer.ops.as_slice())?;
     write_stray(text, head, answer.stray)?;
@@ -115,9 +95,9 @@ pub(crate) fn write_answer(text: &mut String, head: Head, answer: &Answer) -> Re
 }
 
 /// Adds the rows of operations, in order.
-fn write_operations(text: &mut String, head: Head, ops: &[ScfOp]) -> Result<(), AllocError>
+fn write_operations(text: &mut String, head: &str, ops: &[ScfOp]) -> Result<(), AllocError>
     ensures { OnOk result (string_bytes text.new ≡ string_bytes text.old
-        ++ service_rows (head_text head.clock head.at head.number head.call) (map operation_said ops.now)) }
+        ++ service_rows head.now (map operation_said ops.now)) }
 {
     for op in ops {
         write!(text, "{head},service,")?;
@@ -127,9 +107,9 @@ fn write_operations(text: &mut String, head: Head, ops: &[ScfOp]) -> Result<(), 
 }
 
 /// Adds the row of a post that had no place.
-fn write_stray(text: &mut String, head: Head, stray: bool) -> Result<(), AllocError>
+fn write_stray(text: &mut String, head: &str, stray: bool) -> Result<(), AllocError>
     ensures { OnOk result (string_bytes text.new ≡ string_bytes text.old
-        ++ service_rows (head_text head.clock head.at head.number head.call) (stray_said stray)) }
+        ++ service_rows head.now (stray_said stray)) }
 {
     if stray {
         writeln!(text, "{head},service,stray,,,,")
@@ -141,11 +121,11 @@ fn write_stray(text: &mut String, head: Head, stray: bool) -> Result<(), AllocEr
 /// Adds the row of the fault that an ask of an account got, if one did.
 fn write_refused(
     text: &mut String,
-    head: Head,
+    head: &str,
     refused: Option<AccountFault>,
 ) -> Result<(), AllocError>
     ensures { OnOk result (string_bytes text.new ≡ string_bytes text.old
-        ++ service_rows (head_text head.clock head.at head.number head.call) (refused_said refused)) }
+        ++ service_rows head.now (refused_said refused)) }
 {
     match refused {
         Some(fault) => writeln!(text, "{head},service,refused,{fault},,,"),

@@ -3,10 +3,15 @@
 ghost use Rattle.std.specs.Prelude.{◌≡◌, ◌<◌, ◌^◌, ◌++◌, IfOk, OnOk, option_copied, string_bytes};
 ghost use Rattle.run_trace.specs.Tables.{post_rows, trace_text};
 
-use crate::rows::{Head, call_of, write_answer, write_post};
-use moment_texts::Clock;
+use crate::rows::{call_of, write_answer, write_post};
+use entry_rows::Field;
+use moment_texts::{Clock, MomentField};
 use run_values::{Answer, Body};
 use std::alloc::{AllocError, Global};
+
+/// How many bytes there is room for in the head of a row at once: a date and two numbers of 20
+/// digits.
+const HEAD: usize = 64;
 
 /// The table of what was said in a run: a header, and for each item that its workers were given, in
 /// order, a row of the message or the recharge, and then a row for each thing that the service said
@@ -44,15 +49,12 @@ pub fn write_rows(
         ++ post_rows clock number post.now (option_copied answer.entry)) }
 {
     let (at, body) = *post;
-    let head = Head {
-        clock,
-        at,
-        number: number as u64,
-        call: call_of(&body),
-    };
-    write_post(text, head, &body)?;
+    let (at, call) = (MomentField(clock, Some(at)), Field(call_of(&body)));
+    let mut head = String::with_capacity(*text.allocator(), HEAD)?;
+    write!(head, "{at},{number},{call}")?;
+    write_post(text, clock, head.as_str(), &body)?;
     match answer {
-        Some(answer) => write_answer(text, head, answer),
+        Some(answer) => write_answer(text, head.as_str(), answer),
         None => Ok(()),
     }
 }

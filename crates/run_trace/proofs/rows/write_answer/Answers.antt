@@ -1,14 +1,12 @@
 use Rattle.std.proofs.lemmas.Result.{on_ok_weaker}
 use Rattle.std.proofs.Common.{string_bytes}
 use Rattle.run_trace.proofs.RowLemmas.{answer_joined}
-use Rattle.run_trace.specs.Tables.{head_text}
 use Rattle.run_trace.proofs.rows.write_answer.Goals as goal
 
 pub returns : goal.returns
 returns c =
-    let head = head_text c.args.head.clock c.args.head.at c.args.head.number c.args.head.call in
     let operations = rw c.as_slice.ensures.value at c.in_ok-write_operations.ensures in
     on_ok_weaker c.write_refused.result
-    (answer_joined head c.args.answer.now (string_bytes c.args.text.now) (string_bytes c.write_operations.new.text) (string_bytes c.write_stray.new.text) (string_bytes c.write_refused.new.text) operations
+    (answer_joined c.args.head.now c.args.answer.now (string_bytes c.args.text.now) (string_bytes c.write_operations.new.text) (string_bytes c.write_stray.new.text) (string_bytes c.write_refused.new.text) operations
     c.in_ok-write_stray.ensures)
     c.write_refused.ensures
