@@ -4,5 +4,6 @@ pub mod KindLemmas
 pub mod Known
 pub mod LineLemmas
 pub mod QuoteLemmas
+pub mod RateLemmas
 pub mod ReplayLemmas
 pub mod ReportLemmas

@@ -22,7 +22,7 @@ use Rattle.moment_texts.specs.declared.clock.Clock.{Clock}
 use Rattle.rated_records.proofs.Fields.{fields_plain, record_size}
 use Rattle.rated_records.specs.Laws.{IsRatedBy, RecordsHaveNoDifference, said_by}
 use Rattle.rated_records.specs.Tables.{IsInputOf, IsPrintable, IsRatedTable, IsRowOf, TablesHaveNoDifference, header_fields, names_by_start, record_fields}
-use Rattle.rating.specs.Calls.{CallSaid, call_in, said_in, size_of}
+use Rattle.rating.specs.Calls.{CallSaid, call_in, said_in, size_of, with_commas}
 use Rattle.rating.specs.Columns.{columns_in, place_from}
 use Rattle.rating.specs.Rated.{IsPriced, Faulty}
 use Rattle.rating.specs.Texts.{IsRatedRow, IsRatedText, RateInput, RatedRow, headed, input_of, text_of}
@@ -122,7 +122,7 @@ module _ (Stood : Closed → ℕ → Knowing) (read : DecimalsAreRead) (plain : 
       (All-cons IsPlainRow header_fields (map (record_fields clock) calls) header_plain (rows_plain calls printable records)) (unmarked (map (record_fields clock) calls)))
 
   reads : (rows : List Fields) → ReadsTable run.setup.tariff clock rows (IsPrinted run) (headed names_by_start run.setup.tariff (header_fields ∷ rows))
-  unfolding columns_in place_from said_in call_in
+  unfolding columns_in place_from said_in call_in with_commas
   reads rows = record {
     bands_are = refl;
     header_is = refl;

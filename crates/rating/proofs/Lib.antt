@@ -1,5 +1,10 @@
 pub mod ColumnLemmas
 pub mod CutLemmas
 pub mod FrontLemmas
+pub mod FrontRows
 pub mod LineLemmas
+pub mod PassLemmas
 pub mod RateLemmas
+pub mod RecordCuts
+pub mod StartCuts
+pub mod StepLemmas

@@ -1,7 +1,7 @@
 -- The text of a row, field by field.
-use Rattle.std.proofs.Common.{◌≡◌, ℕ, suc, ◌+◌, ◌-◌, ◌<◌, ◌≤◌, Bool, Some, true, false, List, [], ◌∷◌, ◌++◌, length, get_or, drop, refl, sym, ap, ◌∙◌, append_assoc, append-nil, drop-cons, arith}
+use Rattle.std.proofs.Common.{◌≡◌, ℕ, suc, ◌+◌, ◌<◌, ◌≤◌, Bool, true, false, List, [], ◌∷◌, ◌++◌, length, get_or, drop, refl, sym, ap, ◌∙◌, append_assoc, append-nil, drop-cons, arith}
 use Rattle.std.proofs.lemmas.List.{drop_all}
-use Rattle.std.specs.Prelude.{if◌then◌else◌, ◌==◌, nat_lt, codes, Result, Ok, Err, OnOk, is_ok}
+use Rattle.std.specs.Prelude.{if◌then◌else◌, ◌==◌, codes, Result, Ok, Err, OnOk, is_ok}
 use Rattle.std.proofs.lemmas.Bool.Decides.{nat_tests}
 use Rattle.csv.specs.Writing.{comma, default_writer, escaped, field_text, fields_text, is_blank, quoted, row_body, row_text}
 use Rattle.table_core.proofs.PrintedLemmas.{decimals_plain}
@@ -9,7 +9,7 @@ use Rattle.table_core.specs.Printed.{IsPlain}
 use Rattle.table_core.specs.Rows.{Fields}
 use Rattle.std.specs.Fmt.{decimal}
 use Rattle.rating.specs.Calls.{with_commas}
-use Rattle.rating.specs.Lines.{cell, columns_of, columns_text, difference, header_line, name_of, names, row_line}
+use Rattle.rating.specs.Lines.{cell, columns_of, columns_text, difference, header_line, name_of, names, row_line, shown}
 use Rattle.rating.specs.Rated.{Rating, Faulty, Priced}
 
 by_quote : (is : Bool) (mark byte : ℕ) (rest : List ℕ) → (if is then mark ∷ byte ∷ rest else byte ∷ rest) ≡ (if is then mark ∷ byte ∷ [] else byte ∷ []) ++ rest
@@ -138,17 +138,20 @@ several_columns (Priced prefix charge paid) = record { first = prefix; second = 
 several_columns (Faulty why) = record { first = []; second = []; more = _; is = refl }
 
 -- the line of a row, in the two pieces in which it is written
-pub row_written : (now : List ℕ) (fields : Fields) (rating : Rating) → (now ++ with_commas fields) ++ columns_text rating ≡ now ++ row_line fields rating
+pub row_written : (now : List ℕ) (fields : Fields) (rating : Rating) → (now ++ with_commas (shown fields)) ++ columns_text rating ≡ now ++ row_line fields rating
 row_written now fields rating =
-    append_assoc now (with_commas fields) (columns_text rating)
-    ∙ ap (λ l. now ++ l) (ap (λ l. with_commas fields ++ l) (columns_row rating) ∙ commas_before fields (columns_of rating) (several_columns rating))
+    append_assoc now (with_commas (shown fields)) (columns_text rating)
+    ∙ ap (λ l. now ++ l) (ap (λ l. with_commas (shown fields) ++ l) (columns_row rating) ∙ commas_before (shown fields) (columns_of rating) (several_columns rating))
 
 -- the line of a header
-pub header_written : (now : List ℕ) (header : Fields) → (now ++ with_commas header) ++ codes "prefix,before,after,price,difference,fault\n" ≡ now ++ header_line header
+header_written : (header : Fields) → with_commas header ++ codes "prefix,before,after,price,difference,fault\n" ≡ header_line header
 unfolding fields_text is_blank
-header_written now header =
-    append_assoc now (with_commas header) (codes "prefix,before,after,price,difference,fault\n")
-    ∙ ap (λ l. now ++ l) (commas_before header names (record { first = codes "prefix"; second = codes "before"; more = _; is = refl }))
+header_written header = commas_before header names (record { first = codes "prefix"; second = codes "before"; more = _; is = refl })
+
+pub appended_names : {X E : Type 0} (answer : Result X E) (new old : List ℕ) → new ≡ (if is_ok answer then old ++ codes "prefix,before,after,price,difference,fault\n" else old)
+    → OnOk answer ((header : Fields) → old ≡ with_commas header → new ≡ header_line header)
+appended_names (Ok done) new old is = λ header fields. is ∙ ap (λ l. l ++ codes "prefix,before,after,price,difference,fault\n") fields ∙ header_written header
+appended_names (Err why) new old is = tt
 
 -- ---- decimals
 

@@ -1,25 +1,30 @@
 -- Rows are rated one after the other.
 use Rattle.std.proofs.Common.{◌≡◌, ℕ, ◌+◌, ◌<◌, ◌≤◌, Bool, true, false, suc, List, [], ◌∷◌, ◌++◌, length, map, take, Option, Some, None, Result, Ok, Err, refl, sym, ap, subst, ◌∙◌, inl, inr, append_assoc, append-nil, arith}
-use Rattle.std.specs.Prelude.{All, fold, ◌&&◌, OnOk, if◌then◌else◌, ◌⊎◌, IsErrAnd}
+use Rattle.std.specs.Prelude.{fold, ◌&&◌, OnOk, if◌then◌else◌, ◌⊎◌, IsErrAnd, MatchResult, nat_lt}
 use Rattle.std.specs.Io.KnownBytes.{Appends, Keeps}
 use Rattle.std.specs.List.{flat_map}
-use Rattle.std.proofs.lemmas.List.{map-append, take_all}
+use Rattle.std.proofs.Math.Seq.{take-append_seam}
+use Rattle.std.proofs.lemmas.List.{map-append}
 use Rattle.std.proofs.lemmas.List.Concat.{flat_map-append}
 use Rattle.std.proofs.lemmas.List.Elements.{All-nil, All-push}
 use Rattle.std.proofs.lemmas.List.Sums.{fold_push}
 use Rattle.csv.specs.Records.{fields_of}
-use Rattle.table_core.specs.Rows.{Fields, HasLeft, Takes}
+use Rattle.table_core.specs.Rows.{Fields, HasLeft, Takes, rows_of}
 use Rattle.table_core.specs.declared.table.Rows.{Rows}
 use Rattle.rating.specs.Ends.{AddsRow, EndsBy, IsInPart, IsPrinted, MayAlwaysCome, Sends, StopsBy}
-use Rattle.rating.specs.Fronts.{AppendsFront, Writes}
-use Rattle.rating.specs.Lines.{columns_text, header_line, line_of}
-use Rattle.rating.specs.Rated.{IsRated, Rating, Faulty, Priced, is_right}
-use Rattle.rating.specs.Calls.{with_commas}
+use Rattle.rating.specs.Fronts.{AppendsFront}
+use Rattle.rating.specs.Lines.{columns_text, header_line, line_of, shown}
+use Rattle.rating.specs.Rated.{IsPriced, IsRated, Rating, Faulty, is_right}
+use Rattle.rating.specs.Calls.{said_in, size_of, with_commas}
+use Rattle.rating.proofs.FrontRows.{WholeOrOver, less_is, not_less, whole_or_over}
 use Rattle.rating.proofs.LineLemmas.{row_written}
+use Rattle.rating.proofs.StartCuts.{table_cut}
+use Rattle.rating.specs.Cuts.{cut_start}
 use Rattle.tariff_core.specs.Bands.{Band}
+use Rattle.rating.specs.declared.call.TheConstants.{MAX_ROW, MAX_SHOWN}
 use Rattle.rating.specs.declared.columns.Columns.{Columns}
 use Rattle.rating.specs.Tallies.{counted, no_rows}
-use Rattle.rating.specs.Texts.{AreRated, IsRatedRow, RateInput, RatedRow, count_of, headed, text_of}
+use Rattle.rating.specs.Texts.{AreRated, IsRatedRow, RateInput, RatedRow, below, count_of, headed, text_of}
 use Rattle.rating.specs.Asks.{NamesWish}
 use Rattle.rating.specs.Columns.{columns_in}
 use Rattle.rating.specs.Faults.{of_rows}
@@ -36,7 +41,7 @@ pub record IsUnderWay {R : Type 0} (remaining : R → Option (List ℕ)) (differ
   pub read : List Fields
   pub left : List Fields
   pub rows_are : input.rows ≡ read ++ left
-  pub has : HasLeft remaining rows left
+  pub has : HasLeft remaining rows (map shown left)
   pub rated : List RatedRow
   pub are_rated : AreRated input read rated
   pub sent : List ℕ
@@ -72,9 +77,34 @@ front_all : (sent text : List ℕ) → sent ≡ take (length sent) (sent ++ text
 front_all [] text = refl
 front_all (c ∷ sent) text = ap (λ l. c ∷ l) (front_all sent text)
 
+-- ---- of each row what is printed is read
+
+none_left : (left : List Fields) → map shown left ≡ [] → left ≡ []
+none_left [] none = refl
+none_left (whole ∷ below) none = absurd (cc)
+
+pub first_left : (left : List Fields) (first : Fields) (rest : List Fields) → map shown left ≡ first ∷ rest
+    → (whole : Fields) × (below : List Fields) × (left ≡ whole ∷ below) × (first ≡ shown whole) × (rest ≡ map shown below)
+first_left [] first rest is = absurd (cc)
+first_left (whole ∷ below) first rest is = (whole, below, refl, cc, cc)
+
+over_row : (size : ℕ) → MAX_SHOWN < size → nat_lt MAX_ROW size ≡ true
+over_row size over = less_is MAX_ROW size (omega (arith, over))
+
+said_by : (width : ℕ) (columns : Columns) (some fields : Fields) → WholeOrOver some fields MAX_SHOWN → said_in width columns some ≡ said_in width columns fields
+unfolding said_in
+said_by width columns some fields (inl same) = ap (λ l. said_in width columns l) same
+said_by width columns some fields (inr over) = rw (over_row (size_of some) over.0, over_row (size_of fields) over.1) refl
+
+-- a row comes to what is printed of it comes to: one that was cut has too many bytes
+rated_whole : (bands : List Band) (width : ℕ) (columns : Columns) (whole : Fields) (rating : Rating) → IsRated bands width columns (shown whole) rating → IsRated bands width columns whole rating
+rated_whole bands width columns whole rating rated =
+    subst (λ said. MatchResult said (λ said. IsPriced bands said.called said.answered said.paid rating) (λ why. rating ≡ Faulty why))
+    (said_by width columns (shown whole) whole (whole_or_over whole MAX_SHOWN)) rated
+
 module _ {R : Type 0} (remaining : R → Option (List ℕ)) (differing : Bool) (input : RateInput) where
   -- before the first row
-  pub at_first : (rows : Rows R) (known : Option (List ℕ)) (text : List ℕ) → HasLeft remaining rows input.rows → text ≡ header_line input.header
+  pub at_first : (rows : Rows R) (known : Option (List ℕ)) (text : List ℕ) → HasLeft remaining rows (map shown input.rows) → text ≡ header_line input.header
       → IsUnderWay remaining differing input rows known known text no_rows
   at_first rows known text has is = record {
     read = [];
@@ -119,9 +149,9 @@ module _ {R : Type 0} (remaining : R → Option (List ℕ)) (differing : Bool) (
 
   -- all of the text was written, where none is left
   pub all_written : (rows : Rows R) (old now new : Option (List ℕ)) (text : List ℕ) (tally : Tally) (way : IsUnderWay remaining differing input rows old now text tally)
-      → way.left ≡ [] → Appends now new text → IsPrinted differing (Ok input) tally old new
+      → map shown way.left ≡ [] → Appends now new text → IsPrinted differing (Ok input) tally old new
   all_written rows old now new text tally way none wrote =
-      let all : input.rows ≡ way.read = way.rows_are ∙ ap (λ l. way.read ++ l) none ∙ append-nil way.read in
+      let all : input.rows ≡ way.read = way.rows_are ∙ ap (λ l. way.read ++ l) (none_left way.left none) ∙ append-nil way.read in
       record {
         printed = way.sent ++ text;
         is_text = record {
@@ -137,20 +167,22 @@ module _ {R : Type 0} (remaining : R → Option (List ℕ)) (differing : Bool) (
 
   -- one row more
   pub row_more : (rows more : Rows R) (old now : Option (List ℕ)) (text new_text : List ℕ) (tally new_tally : Tally) (way : IsUnderWay remaining differing input rows old now text tally)
-      → Takes remaining more way.left true
-      → AddsRow input.bands (length input.header) input.columns differing (fields_of more.row) text new_text tally new_tally
+      → Takes remaining more (map shown way.left) true
+      → ((whole : Fields) → fields_of more.row ≡ shown whole → AddsRow input.bands (length input.header) input.columns differing whole text new_text tally new_tally)
       → IsUnderWay remaining differing input more old now new_text new_tally
-  row_more rows more old now text new_text tally new_tally way takes adds =
+  row_more rows more old now text new_text tally new_tally way takes added =
       let (rest, first, has) = takes in
-      let row : RatedRow = record { fields = fields_of more.row; rating = adds.rating } in
+      let (whole, below, left_is, row_is, rest_is) = first_left way.left (fields_of more.row) rest first in
+      let adds = added whole row_is in
+      let row : RatedRow = record { fields = whole; rating = adds.rating } in
       record {
-        read = way.read ++ fields_of more.row ∷ [];
-        left = rest;
-        rows_are = way.rows_are ∙ ap (λ l. way.read ++ l) first ∙ sym (append_assoc way.read (fields_of more.row ∷ []) rest);
-        has = has;
+        read = way.read ++ whole ∷ [];
+        left = below;
+        rows_are = way.rows_are ∙ ap (λ l. way.read ++ l) left_is ∙ sym (append_assoc way.read (whole ∷ []) below);
+        has = rw rest_is at has;
         rated = way.rated ++ row ∷ [];
         are_rated = record {
-          rows_are = ap (λ l. l ++ fields_of more.row ∷ []) way.are_rated.rows_are ∙ sym (map-append (λ r. r.fields) way.rated (row ∷ []));
+          rows_are = ap (λ l. l ++ whole ∷ []) way.are_rated.rows_are ∙ sym (map-append (λ r. r.fields) way.rated (row ∷ []));
           each = All-push (IsRatedRow input) way.rated row way.are_rated.each adds.is_rated;
         };
         sent = way.sent;
@@ -182,14 +214,15 @@ module _ {R : Type 0} (remaining : R → Option (List ℕ)) (differing : Bool) (
 -- a row was added
 pub added : {X E : Type 0} (answer : Result X E) (bands : List Band) (width : ℕ) (columns : Columns) (differing : Bool) (fields : Fields) (old new : List ℕ) (old_tally new_tally : Tally) (rating : Rating)
     → IsRated bands width columns fields rating → (differing && is_right rating) ≡ false → OnOk answer (new ≡ (old ++ with_commas fields) ++ columns_text rating)
-    → new_tally ≡ counted old_tally rating → OnOk answer (AddsRow bands width columns differing fields old new old_tally new_tally)
-added (Ok done) bands width columns differing fields old new old_tally new_tally rating rated shown is counts = record {
+    → new_tally ≡ counted old_tally rating
+    → OnOk answer ((whole : Fields) → fields ≡ shown whole → AddsRow bands width columns differing whole old new old_tally new_tally)
+added (Ok done) bands width columns differing fields old new old_tally new_tally rating rated printed is counts = λ whole fields_are. record {
   rating = rating;
-  is_rated = rated;
-  text = is ∙ row_written old fields rating ∙ rw shown refl;
+  is_rated = rated_whole bands width columns whole rating (rw fields_are at rated);
+  text = is ∙ ap (λ l. (old ++ with_commas l) ++ columns_text rating) fields_are ∙ row_written old whole rating ∙ rw printed refl;
   tally = counts;
 }
-added (Err why) bands width columns differing fields old new old_tally new_tally rating rated shown is counts = tt
+added (Err why) bands width columns differing fields old new old_tally new_tally rating rated printed is counts = tt
 
 -- sent as far as it is
 pub sends_all : (old new : Option (List ℕ)) (text : List ℕ) → Appends old new text → Sends old new text []
@@ -228,21 +261,92 @@ rows_may (table.Row refused) = tt
 rows_may table.Device = tt
 rows_may table.OutOfMemory = tt
 
--- one row more is counted, whatever it comes to
-row_counts : (old : Tally) (rating : Rating) → (counted old rating).rows ≡ old.rows + 1
-row_counts old (Priced prefix charge None) = refl
-row_counts old (Priced prefix charge (Some paid)) = refl
-row_counts old (Faulty why) = refl
-
-pub counts_up : {bands : List Band} {width : ℕ} {columns : Columns} {differing : Bool} {fields : Fields} {old_text new_text : List ℕ} {old new : Tally}
-    → AddsRow bands width columns differing fields old_text new_text old new → (turn : ℕ) → old.rows ≤ turn → new.rows ≤ turn + 1
-counts_up {old = old} adds turn within = rw adds.tally (omega (arith, within, row_counts old adds.rating))
-
 -- ---- what is to be rated
 
-pub headed_is : (names : NamesWish) (bands : List Band) (rows rest : List Fields) (first : Fields) (columns : Columns) → rows ≡ first ∷ rest → columns_in first names ≡ Some columns
-    → headed names bands rows ≡ Ok (record { bands = bands; header = first; columns = columns; rows = rest })
-headed_is names bands rows rest first columns is found = rw (is, found) refl
+over_header : (size : ℕ) → size ≤ MAX_SHOWN → nat_lt MAX_SHOWN size ≡ false
+over_header size within = not_less MAX_SHOWN size within
+
+header_whole : (whole : Fields) → size_of (shown whole) ≤ MAX_SHOWN → WholeOrOver (shown whole) whole MAX_SHOWN → shown whole ≡ whole
+header_whole whole within (inl same) = same
+header_whole whole within (inr over) = absurd (omega (arith, within, over.0))
+
+first_headed : (names : NamesWish) (bands : List Band) (first : Fields) (below : List Fields) (columns : Columns) → size_of first ≤ MAX_SHOWN → columns_in first names ≡ Some columns
+    → headed names bands (first ∷ below) ≡ Ok (record { bands = bands; header = first; columns = columns; rows = below })
+first_headed names bands first below columns within found = rw (over_header (size_of first) within, found) refl
+
+-- a header that has few bytes was not cut, and is followed by the rows below it
+headed_is : (names : NamesWish) (bands : List Band) (rows rest : List Fields) (first : Fields) (columns : Columns) → map shown rows ≡ first ∷ rest → size_of first ≤ MAX_SHOWN
+    → columns_in first names ≡ Some columns
+    → (below : List Fields) × (headed names bands rows ≡ Ok (record { bands = bands; header = first; columns = columns; rows = below })) × (rest ≡ map shown below)
+headed_is names bands rows rest first columns is within found =
+    let (whole, below, rows_are, first_is, rest_is) = first_left rows first rest is in
+    let same : first ≡ whole = first_is ∙ header_whole whole (rw first_is at within) (whole_or_over whole MAX_SHOWN) in
+    let all : rows ≡ first ∷ below = rows_are ∙ ap (λ l. l ∷ below) (sym same) in
+    (below, ap (λ l. headed names bands l) all ∙ first_headed names bands first below columns within found, rest_is)
+
+-- the first row of a table whose long rows are cut, and those below it
+pub opened : {R : Type 0} (remaining : R → Option (List ℕ)) (names : NamesWish) (bands : List Band) (text : List ℕ) (rows : Rows R) (columns : Columns)
+    → Takes remaining rows (rows_of (cut_start MAX_SHOWN text)) true → size_of (fields_of rows.row) ≤ MAX_SHOWN → columns_in (fields_of rows.row) names ≡ Some columns
+    → (below : List Fields)
+    × (headed names bands (rows_of text) ≡ Ok (record { bands = bands; header = fields_of rows.row; columns = columns; rows = below })) × HasLeft remaining rows (map shown below)
+opened remaining names bands text rows columns takes within found =
+    let (rest, first, left) = takes in
+    let (below, is, rest_is) = headed_is names bands (rows_of text) rest (fields_of rows.row) columns (sym (table_cut 131069 text) ∙ first) within found in
+    (below, is, rw rest_is at left)
+
+-- the bytes of a header, as it was printed
+
+pub within_printed : (text : List ℕ) (fields : Fields) → text ≡ with_commas fields → length text ≤ MAX_SHOWN → size_of fields ≤ MAX_SHOWN
+within_printed text fields is within = rw is at within
+
+pub over_printed : (text : List ℕ) (fields : Fields) → text ≡ with_commas fields → MAX_SHOWN < length text → MAX_SHOWN < size_of fields
+over_printed text fields is over = rw is at over
+
+-- a table without a header that counts
+
+header_by : (over : Bool) (bands : List Band) (header : Fields) (rows : List Fields) → (if over then Err fault.Header else below bands header rows None) ≡ Err fault.Header
+header_by true bands header rows = refl
+header_by false bands header rows = refl
+
+pub no_header : (names : NamesWish) (bands : List Band) (text : List ℕ) → rows_of (cut_start MAX_SHOWN text) ≡ [] → headed names bands (rows_of text) ≡ Err fault.Header
+no_header names bands text none = ap (λ l. headed names bands l) (none_left (rows_of text) (sym (table_cut 131069 text) ∙ none))
+
+nameless : (names : NamesWish) (bands : List Band) (whole : Fields) (more : List Fields) → columns_in (shown whole) names ≡ None → WholeOrOver (shown whole) whole MAX_SHOWN
+    → headed names bands (whole ∷ more) ≡ Err fault.Header
+nameless names bands whole more none (inl same) = rw (rw same at none) (header_by (nat_lt MAX_SHOWN (size_of whole)) bands whole more)
+nameless names bands whole more none (inr over) = rw (less_is MAX_SHOWN (size_of whole) over.1) refl
+
+pub no_columns : {R : Type 0} (remaining : R → Option (List ℕ)) (names : NamesWish) (bands : List Band) (text : List ℕ) (rows : Rows R)
+    → Takes remaining rows (rows_of (cut_start MAX_SHOWN text)) true → columns_in (fields_of rows.row) names ≡ None → headed names bands (rows_of text) ≡ Err fault.Header
+no_columns remaining names bands text rows takes none =
+    let (rest, first, left) = takes in
+    let (whole, more, rows_are, first_is, rest_is) = first_left (rows_of text) (fields_of rows.row) rest (sym (table_cut 131069 text) ∙ first) in
+    ap (λ l. headed names bands l) rows_are ∙ nameless names bands whole more (rw first_is at none) (whole_or_over whole MAX_SHOWN)
+
+over_by : (whole : Fields) → MAX_SHOWN < size_of (shown whole) → WholeOrOver (shown whole) whole MAX_SHOWN → MAX_SHOWN < size_of whole
+over_by whole over (inl same) = rw same at over
+over_by whole over (inr both) = both.1
+
+pub long_header : {R : Type 0} (remaining : R → Option (List ℕ)) (names : NamesWish) (bands : List Band) (text : List ℕ) (rows : Rows R)
+    → Takes remaining rows (rows_of (cut_start MAX_SHOWN text)) true → MAX_SHOWN < size_of (fields_of rows.row) → headed names bands (rows_of text) ≡ Err fault.Header
+long_header remaining names bands text rows takes over =
+    let (rest, first, left) = takes in
+    let (whole, more, rows_are, first_is, rest_is) = first_left (rows_of text) (fields_of rows.row) rest (sym (table_cut 131069 text) ∙ first) in
+    ap (λ l. headed names bands l) rows_are ∙ rw (less_is MAX_SHOWN (size_of whole) (over_by whole (rw first_is at over) (whole_or_over whole MAX_SHOWN))) refl
+
+pub take_front : (front back : List ℕ) (count : ℕ) → count ≡ length front → take count (front ++ back) ≡ front
+take_front front back count is = rw is (take-append_seam front back)
+
+-- the line of a row isn't printed
+pub hidden : (bands : List Band) (width : ℕ) (columns : Columns) (differing : Bool) (fields : Fields) (old new : List ℕ) (old_tally new_tally : Tally) (rating : Rating)
+    → IsRated bands width columns fields rating → (differing && is_right rating) ≡ true → new ≡ old → new_tally ≡ counted old_tally rating
+    → (whole : Fields) → fields ≡ shown whole → AddsRow bands width columns differing whole old new old_tally new_tally
+hidden bands width columns differing fields old new old_tally new_tally rating rated hides same counts = λ whole fields_are. record {
+  rating = rating;
+  is_rated = rated_whole bands width columns whole rating (rw fields_are at rated);
+  text = same ∙ sym (append-nil old) ∙ rw hides refl;
+  tally = counts;
+}
 
 pub ends_same : (differing : Bool) (meaning other : Result RateInput RateFault) (old new : Option (List ℕ)) (answer : Result Tally RateFault) → meaning ≡ other
     → EndsBy differing other old new answer → EndsBy differing meaning old new answer

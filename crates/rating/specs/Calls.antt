@@ -1,5 +1,5 @@
 -- What the record of a call says, or why it says nothing.
-use Rattle.std.specs.Prelude.{◌≡◌, ◌+◌, ◌-◌, ◌==◌, ◌≤◌, ◌++◌, ◌∷◌, [], ℕ, List, not, length, Option, Some, None, Result, Ok, Err, ok_or, if◌then◌else◌, nat_le, nat_lt, IfSome}
+use Rattle.std.specs.Prelude.{◌+◌, ◌-◌, ◌==◌, ◌≤◌, ◌++◌, ◌∷◌, [], ℕ, List, not, length, Option, Some, None, Result, Ok, Err, ok_or, if◌then◌else◌, nat_lt}
 use Rattle.std.specs.List.{flat_map}
 use Rattle.cap_values.specs.Numbers.{is_number}
 use Rattle.csv.specs.Writing.{comma, default_writer, field_text}

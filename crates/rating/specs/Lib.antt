@@ -1,8 +1,8 @@
 pub mod Asks
-pub mod Bounds
 pub mod Calls
 pub mod Charges
 pub mod Columns
+pub mod Cuts
 pub mod Ends
 pub mod Faults
 pub mod Fronts

@@ -1,9 +1,10 @@
 -- The rows that `rate` prints.
-use Rattle.std.specs.Prelude.{◌-◌, ◌&&◌, ℕ, Bool, List, [], ◌∷◌, ◌++◌, Option, Some, None, codes, if◌then◌else◌, nat_lt}
+use Rattle.std.specs.Prelude.{◌+◌, ◌-◌, ◌&&◌, ℕ, Bool, List, [], ◌∷◌, ◌++◌, Option, Some, None, codes, if◌then◌else◌, length, nat_lt, take}
 use Rattle.std.specs.Fmt.{decimal}
 use Rattle.csv.specs.Writing.{default_writer, field_text, row_text}
 use Rattle.table_core.specs.Rows.{Fields}
 use Rattle.rating.specs.Rated.{Rating, Faulty, Priced, is_right}
+use Rattle.rating.specs.declared.call.TheConstants.{MAX_SHOWN}
 use Rattle.rating.specs.declared.charge.Charge.{Charge}
 use Rattle.rating.specs.declared.kind.RateKind.{RateKind}
 use Rattle.rating.specs.declared.kind.RateKind.TheVariants as kind
@@ -48,9 +49,18 @@ columns_text (Faulty why) = codes ",,,,," ++ (cell (name_of why) ++ codes "\n")
 abbrev pub header_line : Fields → List ℕ
 header_line header = row_text default_writer (header ++ names)
 
+-- the first bytes of a row, each end of a field counted as one
+unfoldable pub front : ℕ → Fields → Fields
+front room [] = []
+front room (field ∷ fields) = if nat_lt (length field) room then field ∷ front (room - (length field + 1)) fields else take room field ∷ []
+
+-- what is printed of a row
+abbrev pub shown : Fields → Fields
+shown fields = front MAX_SHOWN fields
+
 -- a row again, with its six columns
 abbrev pub row_line : Fields → Rating → List ℕ
-row_line fields rating = row_text default_writer (fields ++ columns_of rating)
+row_line fields rating = row_text default_writer (shown fields ++ columns_of rating)
 
 -- the same where it is printed: where only rows are that differ or have a fault, a right one isn't
 abbrev pub line_of : Bool → Fields → Rating → List ℕ

@@ -1,12 +1,12 @@
 -- What a row comes to by a tariff.
-use Rattle.std.specs.Prelude.{◌≡◌, ◌≢◌, ◌⊎◌, ◌-◌, ◌==◌, ◌&&◌, ℕ, Bool, true, false, not, List, [], Option, Some, None, MatchResult}
+use Rattle.std.specs.Prelude.{◌≡◌, ◌⊎◌, ◌-◌, ◌==◌, ◌&&◌, ℕ, Bool, true, false, not, List, [], Option, Some, None, MatchResult}
 use Rattle.table_core.specs.Rows.{Fields}
 use Rattle.tariff_core.specs.Bands.{Band}
 use Rattle.tariff_core.specs.Price.{price_of}
 use Rattle.tariff_core.specs.RatesOf.{rates_of}
 use Rattle.tariff_core.specs.Routes.{HasNoRoute, IsQuote}
 use Rattle.tariff_core.specs.declared.route.Route.{Route}
-use Rattle.rating.specs.Calls.{CallSaid, said_in}
+use Rattle.rating.specs.Calls.{said_in}
 use Rattle.rating.specs.Charges.{before_switch}
 use Rattle.rating.specs.declared.call.Answered.{Answered}
 use Rattle.rating.specs.declared.call.Talk.{Talk}

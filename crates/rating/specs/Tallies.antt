@@ -1,6 +1,6 @@
 -- What is counted of the rows.
-use Rattle.std.specs.Prelude.{◌+◌, ◌-◌, ◌*◌, ◌≤◌, ◌==◌, ◌^◌, ℕ, Bool, List, Some, None, fold, if◌then◌else◌}
-use Rattle.rating.specs.Rated.{Rating, Faulty, Priced, differs}
+use Rattle.std.specs.Prelude.{◌+◌, ◌-◌, ◌*◌, ◌≤◌, ◌==◌, ◌^◌, Bool, List, Some, None, fold, if◌then◌else◌}
+use Rattle.rating.specs.Rated.{Rating, Faulty, Priced}
 use Rattle.rating.specs.declared.tally.Tally.{Tally}
 
 -- before the first row

@@ -1,5 +1,5 @@
 -- The text that `rate` prints of an input.
-use Rattle.std.specs.Prelude.{◌≡◌, ℕ, Bool, List, [], ◌∷◌, ◌++◌, All, length, map, Option, Some, None, Result, Ok, Err}
+use Rattle.std.specs.Prelude.{◌≡◌, ℕ, Bool, List, [], ◌∷◌, ◌++◌, All, length, map, Option, Some, None, Result, Ok, Err, if◌then◌else◌, nat_lt}
 use Rattle.std.specs.List.{flat_map}
 use Rattle.run_texts.specs.FirstParts.{first_part}
 use Rattle.run_texts.specs.Inputs.{tariff_in}
@@ -7,11 +7,13 @@ use Rattle.table_core.specs.Judging.{after}
 use Rattle.table_core.specs.Rows.{Fields, rows_of}
 use Rattle.tariff_core.specs.Bands.{Band}
 use Rattle.rating.specs.Asks.{NamesWish}
+use Rattle.rating.specs.Calls.{size_of}
 use Rattle.rating.specs.Columns.{columns_in}
 use Rattle.rating.specs.Faults.{told}
 use Rattle.rating.specs.Lines.{header_line, line_of}
 use Rattle.rating.specs.Rated.{IsRated, Rating}
 use Rattle.rating.specs.Tallies.{tally_of}
+use Rattle.rating.specs.declared.call.TheConstants.{MAX_SHOWN}
 use Rattle.rating.specs.declared.columns.Columns.{Columns}
 use Rattle.rating.specs.declared.fault.RateFault.{RateFault}
 use Rattle.rating.specs.declared.fault.RateFault.TheVariants as fault
@@ -29,10 +31,10 @@ abbrev pub below : List Band → Fields → List Fields → Option Columns → R
 below bands header rows None = Err fault.Header
 below bands header rows (Some columns) = Ok (record { bands = bands; header = header; columns = columns; rows = rows })
 
--- the rows of a table, the first of which is its header
+-- the rows of a table, the first of which is its header, unless it has too many bytes
 abbrev pub headed : NamesWish → List Band → List Fields → Result RateInput RateFault
 headed names bands [] = Err fault.Header
-headed names bands (header ∷ rows) = below bands header rows (columns_in header names)
+headed names bands (header ∷ rows) = if nat_lt MAX_SHOWN (size_of header) then Err fault.Header else below bands header rows (columns_in header names)
 
 -- an input: its first part, which is its tariff, and its header, judged in this order
 abbrev pub input_of : NamesWish → List ℕ → Result RateInput RateFault

@@ -18,6 +18,10 @@ use tariff_core::{DAY, LAST_MOMENT, MAX_MONEY};
 /// The most bytes of a row, as `csv` writes it, the end of its line counted as one.
 pub const MAX_ROW: usize = 65_536;
 
+/// The most bytes that are printed of a row, each of its fields with one more for what ends it. A
+/// header may have no more of them as `csv` writes it.
+pub const MAX_SHOWN: usize = 131_072;
+
 /// What is recorded of a call's time, in units of 100 ms.
 #[derive(Clone, Copy)]
 pub(crate) enum Talk {

@@ -15,7 +15,8 @@ pub enum RateFault {
     /// The tariff in front of a divider has a fault, or is too long; there is no divider; a reader
     /// failed, or memory ran out.
     Input(InputFault),
-    /// The header hasn't a column that it must have, or has one twice; or there is no header.
+    /// The header hasn't a column that it must have, or has one twice, or is longer than
+    /// `MAX_SHOWN` as `csv` writes it; or there is no header.
     Header,
     /// The output failed.
     Output,

@@ -2,14 +2,15 @@
 #![tactic(auto)]
 
 mod ask;
-mod bounded;
 mod call;
 mod charge;
 mod columns;
+mod cut_rows;
 mod fault;
 mod kind;
 mod laws;
 mod line;
+mod place;
 mod rated;
 mod rating;
 mod tally;

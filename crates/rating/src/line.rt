@@ -5,6 +5,7 @@ ghost use Rattle.std.specs.Fmt.{decimal};
 ghost use Rattle.std.specs.List.{list_any};
 ghost use Rattle.csv.specs.Records.{fields_of};
 ghost use Rattle.csv.specs.Writing.{default_writer, escaped, field_text, needs_byte, quoted};
+ghost use Rattle.table_core.specs.Rows.{Fields};
 ghost use Rattle.rating.specs.Calls.{with_commas};
 ghost use Rattle.rating.specs.Lines.{cell, charge_text, columns_text, difference, header_line};
 ghost use Rattle.rating.specs.SaidOf.{rating_of};
@@ -16,12 +17,11 @@ use itoa::Buffer;
 use std::alloc::AllocError;
 use table_core::field;
 
-/// Adds the header again, with the names of the six columns.
-pub(crate) fn push_header(text: &mut Vec<u8>, header: &ByteRecord) -> Result<(), AllocError>
-    ensures { OnOk result (text.new.items
-        ≡ text.old.items ++ header_line (fields_of header.now)) }
+/// Adds the names of the six columns behind the fields of a header, and the end of its line.
+pub(crate) fn push_names(text: &mut Vec<u8>) -> Result<(), AllocError>
+    ensures { OnOk result ((header : Fields) → text.old.items ≡ with_commas header
+        → text.new.items ≡ header_line header) }
 {
-    push_fields(text, header)?;
     text.extend_from_slice(b"prefix,before,after,price,difference,fault\n")
 }
 

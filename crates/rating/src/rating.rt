@@ -1,28 +1,28 @@
 //! Records that are rated as they come.
 
-ghost use Rattle.std.specs.Prelude.{◌≡◌, ◌<◌, ◌-◌, ◌^◌, ◌&&◌, length, IfErr, IfOk, IfSome, OnOk, Ok, List};
+ghost use Rattle.std.specs.Prelude.{◌≡◌, ◌<◌, ◌+◌, ◌-◌, ◌^◌, ◌&&◌, length, map, IfErr, IfOk, IfSome, OnOk, Ok, List};
 ghost use Rattle.std.specs.Io.KnownBytes.{Appends};
 ghost use Rattle.csv.specs.Records.{fields_of};
 ghost use Rattle.table_core.specs.Rows.{Fields, HasLeft, rows_of};
 ghost use Rattle.rating.specs.Columns.{HasColumns};
-ghost use Rattle.rating.specs.Ends.{AddsRow, EndsBy, IsCutOff, IsSilent, MayAlwaysCome, MayStop, Sends};
-ghost use Rattle.rating.specs.Lines.{header_line};
+ghost use Rattle.rating.specs.Ends.{AddsRow, EndsBy, IsCutOff, IsSilent, MayStop, Sends};
+ghost use Rattle.rating.specs.Lines.{header_line, shown};
 ghost use Rattle.rating.specs.Rated.{is_right};
 ghost use Rattle.rating.specs.SaidOf.{names_of, rating_of};
 ghost use Rattle.rating.specs.Tallies.{IsBounded};
 ghost use Rattle.rating.specs.Texts.{headed, input_of};
 
-use crate::bounded::{Bounded, MAX_GIVEN};
+use crate::call::MAX_SHOWN;
 use crate::columns::Columns;
-use crate::line::{push_fields, push_header, push_rated};
+use crate::cut_rows::CutRows;
+use crate::line::{push_fields, push_names, push_rated};
 use crate::rated::{Rated, rate_row};
 use crate::{RateAsk, RateFault, Tally, write_text};
 use csv::ByteRecord;
 use run_texts::{InputFault, read_part, read_tariff};
 use std::alloc::{AllocError, Global};
-use std::cell::Cell;
 use std::io::{BufReader, Read, Write};
-use table_core::{Rows, TableFault};
+use table_core::Rows;
 use tariff_core::Tariff;
 
 /// How many bytes are gathered before they are written.
@@ -32,10 +32,10 @@ const ENOUGH: usize = 65_536;
 /// prints the header and each row again as they come, with the columns `prefix`, `before`, `after`,
 /// `price`, `difference` and `fault` behind them. No row is kept. The answer is what was counted.
 ///
-/// `Input` is a fault of the tariff or its divider, and then `Header` that of the first row; nothing
-/// is printed then. Where the input fails in the middle of the rows, memory runs out, or
-/// the output fails, a front of the text has been printed. Memory runs out too where a row has not
-/// ended within `MAX_GIVEN` bytes, such as one with a quote that never ends.
+/// `Input` is a fault of the tariff or its divider, and then `Header` that of the first row;
+/// nothing is printed then. Where the input fails in the middle of the rows, memory runs out, or
+/// the output fails, a front of the text has been printed. A row may have any length: of one that
+/// is too long its first `MAX_SHOWN` bytes are printed.
 pub fn rate<I: Read + Drop, O: Write>(
     alloc: Global,
     ask: &RateAsk<'_>,
@@ -72,8 +72,7 @@ fn rate_records<I: Read + Drop, O: Write>(
         (IsSilent (O.contents output.old) (O.contents output.new)) }
     ensures bounded { IfOk result IsBounded }
 {
-    let room = Cell::new(MAX_GIVEN);
-    let mut rows = Rows::new(alloc, Bounded::new(records, &room));
+    let mut rows = Rows::new(alloc, CutRows::new(records));
     if !rows.next_row()? {
         return Err(RateFault::Header);
     }
@@ -81,14 +80,18 @@ fn rate_records<I: Read + Drop, O: Write>(
         return Err(RateFault::Header);
     };
     let mut text = Vec::new(alloc);
-    push_header(&mut text, rows.row())?;
+    push_fields(&mut text, rows.row())?;
+    if text.len() > MAX_SHOWN {
+        return Err(RateFault::Header);
+    }
+    push_names(&mut text)?;
     let rater = Rater {
         tariff,
         columns,
         width: rows.row().len(),
         differing: ask.differing,
     };
-    rate_rows(&rater, rows, &room, text, output)
+    rate_rows(&rater, rows, text, output)
 }
 
 /// What a row is rated by.
@@ -101,7 +104,7 @@ struct Rater<'a> {
 }
 
 impl Rater<'_> {
-    /// Adds the line of a row to a text, and counts it.
+    /// Adds the line of a row to a text, and counts it. The record is what is printed of the row.
     fn add_row(
         &self,
         row: &ByteRecord,
@@ -111,9 +114,10 @@ impl Rater<'_> {
         requires columns { HasColumns self.now.width self.now.columns }
         requires bounded { IsBounded tally.old }
         requires room { tally.old.rows < 2 ^ 64 - 1 }
-        ensures adds { OnOk result (AddsRow self.now.tariff.now self.now.width self.now.columns
-            self.now.differing (fields_of row.now) text.old.items text.new.items
-            tally.old tally.new) }
+        ensures adds { OnOk result ((whole : Fields) → fields_of row.now ≡ shown whole
+            → AddsRow self.now.tariff.now self.now.width self.now.columns self.now.differing
+            whole text.old.items text.new.items tally.old tally.new) }
+        ensures one { OnOk result (tally.new.rows ≡ tally.old.rows + 1) }
         ensures bounded { IsBounded tally.new }
     {
         let start = text.len();
@@ -136,18 +140,17 @@ impl Rater<'_> {
     }
 }
 
-/// Rates rows as they come. The room is made anew before each row; the text is what was printed of
-/// the header.
+/// Rates rows as they come, of each of which the reader gives what is printed. The text is what was
+/// printed of the header.
 fn rate_rows<I: Read + Drop, O: Write>(
     rater: &Rater<'_>,
     rows: Rows<I>,
-    room: &Cell<usize>,
     text: Vec<u8>,
     output: &mut O,
 ) -> Result<Tally, RateFault>
     requires { HasColumns rater.now.width rater.now.columns }
     ensures ends { (header : Fields) → (left : List Fields)
-        → HasLeft I.remaining rows left → text.items ≡ header_line header
+        → HasLeft I.remaining rows (map shown left) → text.items ≡ header_line header
         → length header ≡ rater.now.width
         → EndsBy rater.now.differing (Ok (record {
           bands = rater.now.tariff.now;
@@ -162,12 +165,11 @@ fn rate_rows<I: Read + Drop, O: Write>(
     let (mut rows, mut text) = (rows, text);
     let mut tally = Tally::new();
     for _turn in 0..u64::MAX {
-        room.set(MAX_GIVEN);
         let found = match rows.next_row() {
             Ok(found) => found,
             Err(fault) => {
                 write_rest(output, text.as_slice())?;
-                return Err(fault_of(fault, room.get()));
+                return Err(RateFault::from(fault));
             }
         };
         if !found {
@@ -178,16 +180,6 @@ fn rate_rows<I: Read + Drop, O: Write>(
         send(output, &mut text)?;
     }
     Err(RateFault::Input(InputFault::OutOfMemory))
-}
-
-/// The fault of rows that can't be read: where no room was left, a row is too long to be kept.
-fn fault_of(fault: TableFault, room: usize) -> RateFault
-    ensures { MayAlwaysCome result }
-{
-    match room {
-        0 => RateFault::Input(InputFault::OutOfMemory),
-        _ => RateFault::from(fault),
-    }
 }
 
 /// Writes a text where it has `ENOUGH` bytes, and leaves the rest of it.

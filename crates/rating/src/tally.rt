@@ -1,6 +1,6 @@
 //! What is counted of the rows.
 
-ghost use Rattle.std.specs.Prelude.{◌≡◌, ◌<◌, ◌-◌, ◌^◌};
+ghost use Rattle.std.specs.Prelude.{◌≡◌, ◌<◌, ◌+◌, ◌-◌, ◌^◌};
 ghost use Rattle.rating.specs.SaidOf.{rating_of};
 ghost use Rattle.rating.specs.Tallies.{IsBounded, counted, no_rows, passes};
 
@@ -55,6 +55,7 @@ impl Tally {
         requires bounded { IsBounded self.old }
         requires room { self.old.rows < 2 ^ 64 - 1 }
         ensures exact { self.new ≡ counted self.old (rating_of rated.now) }
+        ensures one { self.new.rows ≡ self.old.rows + 1 }
         ensures bounded { IsBounded self.new }
     {
         self.rows += 1;

@@ -1,8 +1,8 @@
-use Rattle.std.proofs.Common.{◌∙◌, inr, refl, sym, arith, rules}
-use Rattle.std.proofs.Common.{true}
-use Rattle.csv.specs.Records.{fields_of}
+use Rattle.std.proofs.Common.{inr, arith}
+use Rattle.std.proofs.Common.{true, map}
+use Rattle.rating.specs.Lines.{shown}
 use Rattle.rating.proofs.FrontLemmas.{some_written}
-use Rattle.rating.proofs.RateLemmas.{all_written, at_first, counts_up, failed, failed_ends, in_part, row_more, sent_more, stopped_ends, stops}
+use Rattle.rating.proofs.RateLemmas.{all_written, at_first, failed, failed_ends, in_part, row_more, rows_may, sent_more, stopped_ends, stops}
 use Rattle.rating.proofs.rating.rate_rows.Goals as goal
 
 pub loop-turn-init : goal.loop-turn-init
@@ -14,7 +14,7 @@ loop-turn-init g c = (
 
 pub returns-in-Err-clause-ends : goal.returns-in-Err-clause-ends
 returns-in-Err-clause-ends g c = λ header left has text width.
-    stops c.args.rater.now.differing _ (g.O.Write.contents c.args.output.now) _ c.fault_of.result c.fault_of.ensures
+    stops c.args.rater.now.differing _ (g.O.Write.contents c.args.output.now) _ c.from.result (rw c.from.ensures (rows_may _))
     (inr (failed g.I.Read.remaining c.args.rater.now.differing _ c.loop-turn.rows _ _ _ c.loop-turn.text.items c.loop-turn.tally (c.loop-turn.invariant.2 header left has text width)
     (some_written _ _ c.loop-turn.text.items true (rw c.as_slice.ensures.value at c.in_ok-write_rest-in-Err.ensures.wrote))))
 
@@ -36,7 +36,7 @@ pub returns-then-not-found-clause-ends : goal.returns-then-not-found-clause-ends
 returns-then-not-found-clause-ends g c = λ header left has text width.
     let way = c.loop-turn.invariant.2 header left has text width in
     all_written g.I.Read.remaining c.args.rater.now.differing _ c.loop-turn.rows _ _ _ c.loop-turn.text.items c.loop-turn.tally way
-    (rw c.if-not-found.true at (c.in-Ok.ensures.takes way.left way.has)) (rw c.as_slice-then-not-found.ensures.value at c.in_ok-write_rest.ensures.wrote)
+    (rw c.if-not-found.true at (c.in-Ok.ensures.takes (map shown way.left) way.has)) (rw c.as_slice-then-not-found.ensures.value at c.in_ok-write_rest.ensures.wrote)
 
 pub returns-in_err-add_row-clause-ends : goal.returns-in_err-add_row-clause-ends
 returns-in_err-add_row-clause-ends g c = λ header left has text width.
@@ -47,7 +47,7 @@ pub returns-in_err-send-clause-ends : goal.returns-in_err-send-clause-ends
 returns-in_err-send-clause-ends g c = λ header left has text width.
     let way = c.loop-turn.invariant.2 header left has text width in
     let more = row_more g.I.Read.remaining c.args.rater.now.differing _ c.loop-turn.rows c.next_row.new.self _ _ c.loop-turn.text.items c.add_row.new.text.items c.loop-turn.tally c.add_row.new.tally way
-    (rw c.if-not-found.false at (c.in-Ok.ensures.takes way.left way.has)) (rw (← width, c.row.ensures) at c.in_ok-add_row.ensures.adds) in
+    (rw c.if-not-found.false at (c.in-Ok.ensures.takes (map shown way.left) way.has)) (rw (← width, c.row.ensures) at c.in_ok-add_row.ensures.adds) in
     failed_ends c.args.rater.now.differing _ (g.O.Write.contents c.args.output.now) _ c.from_residual-in_err-send.result _ c.from_residual-in_err-send.ensures.1
     c.in_err-send.ensures.fault.why_is
     (failed g.I.Read.remaining c.args.rater.now.differing _ c.next_row.new.self _ _ _ c.add_row.new.text.items c.add_row.new.tally more c.in_err-send.ensures.fault.front)
@@ -55,11 +55,11 @@ returns-in_err-send-clause-ends g c = λ header left has text width.
 pub loop-turn-preserved : goal.loop-turn-preserved
 loop-turn-preserved g c = (
   c.add_row.ensures.bounded,
-  counts_up c.in_ok-add_row.ensures.adds c.loop-turn._turn c.loop-turn.invariant.1,
+  omega (arith, c.in_ok-add_row.ensures.one, c.loop-turn.invariant.1),
   λ header left has text width.
       let way = c.loop-turn.invariant.2 header left has text width in
       let more = row_more g.I.Read.remaining c.args.rater.now.differing _ c.loop-turn.rows c.next_row.new.self _ _ c.loop-turn.text.items c.add_row.new.text.items c.loop-turn.tally c.add_row.new.tally way
-      (rw c.if-not-found.false at (c.in-Ok.ensures.takes way.left way.has)) (rw (← width, c.row.ensures) at c.in_ok-add_row.ensures.adds) in
+      (rw c.if-not-found.false at (c.in-Ok.ensures.takes (map shown way.left) way.has)) (rw (← width, c.row.ensures) at c.in_ok-add_row.ensures.adds) in
       sent_more g.I.Read.remaining c.args.rater.now.differing _ c.next_row.new.self _ _ _ c.add_row.new.text.items c.send.new.text.items c.add_row.new.tally more c.in_ok-send.ensures.sends,
 )
 

@@ -1,4 +1,4 @@
-use Rattle.std.proofs.Common.{length, refl, arith}
+use Rattle.std.proofs.Common.{refl}
 use Rattle.rating.proofs.FrontLemmas.{some_written, still_written}
 use Rattle.std.proofs.Common.{true}
 use Rattle.rating.proofs.rating.write_rest.Goals as goal
