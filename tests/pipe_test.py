@@ -1,8 +1,8 @@
 #!/usr/bin/env python3
-"""Tries `prepaid serve` at the other end of a pipe: tests/pipe_test.py [--program FILE]
+"""Tries `prepaid serve` and `prepaid rate` at the other end of a pipe: tests/pipe_test.py [--program FILE]
 
 Each message is sent only once the answers to those before it have come, so a service that held anything back would stop
-here. A line of 100 MB is answered in bounded memory. Where the reader of its output is gone the service ends without a
+here. A line of 100 MB is answered in bounded memory, and so are records with a row of 100 MB. Where the reader of its output is gone the service ends without a
 line. socat's line of docs/RECIPES.md is tried on loopback, where socat is installed.
 """
 import argparse
@@ -13,13 +13,14 @@ import shutil
 import socket
 import subprocess
 import sys
+import threading
 import time
 
 ROOT = os.path.dirname(os.path.dirname(os.path.abspath(__file__)))
 # What may pass before an answer counts as held back.
 SECONDS = 20
 HEADER = "moment,number,call,from,what,x1,x2,x3,x4\n"
-# The most memory of a service in KiB, whatever a line is: it takes some 3 MiB.
+# The most memory of a service in KiB, whatever a line is: it takes some 3 MiB. That of a rating, whatever a row is.
 MOST_MEMORY = 16 * 1024
 
 
@@ -36,9 +37,9 @@ def live():
     return head, list(zip(rows.splitlines(keepends=True), answers))
 
 
-def start(program, *words):
+def start(program, *words, command="serve"):
     pipes = {it: subprocess.PIPE for it in ("stdin", "stdout", "stderr")}
-    return subprocess.Popen([program, "serve", *words], **pipes)
+    return subprocess.Popen([program, command, *words], **pipes)
 
 
 def come(file, size):
@@ -88,8 +89,8 @@ def bounds_memory(program):
         it = start(program)
         try:
             send(it.stdin, text)
-            for _ in range(100):
-                it.stdin.write(b"x" * 1_000_000)
+            for _ in range(1000):
+                it.stdin.write(b"x" * 100_000)
             send(it.stdin, "\n" + talk[0][0])
             it.stdin.close()
         except BrokenPipeError:
@@ -101,6 +102,49 @@ def bounds_memory(program):
             wrong.append(f"{(it.returncode, *said)} in place of {wanted}")
         if used.ru_maxrss > MOST_MEMORY:
             wrong.append(f"{used.ru_maxrss} KiB of memory")
+    return "; ".join(wrong) or None
+
+
+def most_memory(pid):
+    """The most memory that a process has taken so far, in KiB."""
+    with open(f"/proc/{pid}/status", encoding="ascii") as it:
+        return int(re.search(r"VmHWM:\s*(\d+) kB", it.read())[1])
+
+
+def rates_long_rows(program):
+    """A row of 100 MB is one fault, of which the first 131072 bytes are printed, and memory stays bounded."""
+    head = b"prefix,from,fee,rate\n49,00:00,50,1000\n%%\n"
+    names, more = b"called,answer,time,note", b",prefix,before,after,price,difference,fault\n"
+    row, rated, fault = b"4930,0,600,ok\n", b"4930,0,600,ok,49,600,0,1050,,\n", b",,,,,,TooLong\n"
+    # What the long row begins with, a piece of it of 1 MB, and its end; and what is printed of it.
+    long_rows = {
+        "a long field": (b"4930,0,600,", b"x" * 1_000_000, b"\n" + row, b"4930,0,600," + b"x" * 131_061 + fault + rated),
+        "commas": (b"", b"," * 1_000_000, b"\r\n" + row, b"," * 131_072 + fault + rated),
+        "quotes": (b'"', b'""' * 500_000, b'"\n' + row, b'"' + b'""' * 131_072 + b'"' + fault + rated),
+        "an open quote": (b'"', row * 70_000, b"", b'"' + (row * 9363)[:131_072] + b'"' + fault),
+        "empty lines": (b"", b"\n" * 1_000_000, row, rated),
+    }
+    wrong = []
+    for name, (first, piece, last, printed) in long_rows.items():
+        it = start(program, command="rate")
+        parts = []
+        reader = threading.Thread(target=lambda: parts.append(it.stdout.read()))
+        reader.start()
+        it.stdin.write(head + names + b"\n" + row + first)
+        for _ in range(100):
+            it.stdin.write(piece)
+        # More than a pipe holds, so that all of the long row was read before memory is looked at.
+        it.stdin.write(last + b"\n" * 200_000)
+        it.stdin.flush()
+        memory = most_memory(it.pid)
+        it.stdin.close()
+        reader.join()
+        text, faults = parts[0], it.stderr.read()
+        it.wait()
+        if (it.returncode, faults) != (0 if name == "empty lines" else 3, b"") or text != names + more + rated + printed:
+            wrong.append(f"{name}: status {it.returncode}, {len(text)} bytes, {faults}")
+        if memory > MOST_MEMORY:
+            wrong.append(f"{name}: {memory} KiB of memory")
     return "; ".join(wrong) or None
 
 
@@ -153,7 +197,7 @@ def main():
     asked = argparse.ArgumentParser(description=__doc__, formatter_class=argparse.RawDescriptionHelpFormatter)
     asked.add_argument("--program", default="bin/prepaid")
     program = os.path.abspath(asked.parse_args().program)
-    tries = [answers_in_turn, bounds_memory, ends_with_its_reader]
+    tries = [answers_in_turn, bounds_memory, rates_long_rows, ends_with_its_reader]
     if shutil.which("socat"):
         tries.append(serves_a_port)
     else:

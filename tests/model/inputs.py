@@ -119,7 +119,18 @@ def ratings(it):
     for _ in range(it.randrange(12)):
         row = record(it, text, starts, kind)
         lines.append(line([row[name] for name in header]))
+    if it.random() < 0.2:
+        lines.insert(it.randrange(len(lines) + 1), long_row(it))
     return words, text + b"%%\n" + b"".join(lines)
+
+
+def long_row(it):
+    """A row of about the most bytes that are looked at or printed, or of far more; at times in quotes, which may stay open."""
+    first, end = it.choice([b"4930,0,600,", b"", b"1,"]), it.choice([b"\n", b"\r\n", b"\r", b""])
+    piece = it.choice([b"x", b"x", b",", b'""', b'"', b"a\n", b'a"b,', b'4930,0,600,"x"\n'])
+    left = it.choice([65_536, 131_072, 131_072, 400_000]) + it.randrange(-30, 30)
+    opened, closed = it.choice([(b"", b""), (b'"', b'"'), (b'"', b'"'), (b'"', b""), (b"x", b"")])
+    return first + opened + piece * (left // it.choice([1, len(piece)])) + closed + end
 
 
 def record(it, text, starts, kind):

@@ -1,10 +1,12 @@
 """What each record of a real system should have cost: its row again, with six columns more."""
+import itertools
 import re
 
 from .account import DAY, MAX_MONEY, price
 from .tables import LAST_MOMENT, Fault, decimal, digits, first_part, moment, read_tariff, records, route
 
 MAX_ROW = 65_536
+MAX_SHOWN = 131_072
 ADDED = [b"prefix", b"before", b"after", b"price", b"difference", b"fault"]
 NO_HEADER = Fault("prepaid: records row 1: Header")
 
@@ -19,6 +21,17 @@ def quoted(field):
 
 def line(fields):
     return b",".join(map(quoted, fields)) + b"\n"
+
+
+def size(fields):
+    """The bytes of a row as it is printed."""
+    return len(line(fields))
+
+
+def shown(fields):
+    """What is printed of a row: its first bytes, where each field has one behind it."""
+    starts = itertools.accumulate((len(it) + 1 for it in fields), initial=0)
+    return [field[: MAX_SHOWN - start] for field, start in zip(fields, starts) if start <= MAX_SHOWN]
 
 
 def sought(header, name):
@@ -69,7 +82,7 @@ def optional(field, most, read=decimal):
 
 def said(fields, width, places):
     """The number called, the answer, the times (the whole, or before and after the switch), and what was charged."""
-    if sum(len(quoted(it)) + 1 for it in fields) > MAX_ROW:
+    if size(fields) > MAX_ROW:
         raise Wrong("TooLong")
     if len(fields) != width:
         raise Wrong("Csv")
@@ -108,7 +121,7 @@ def rate(given, text):
     first, second = first_part(text)
     tariff = read_tariff(first)
     header, *rows = records(second) or [None]
-    if header is None:
+    if header is None or size(header) > MAX_SHOWN:
         raise NO_HEADER
     places = columns(header, given)
     lines, differing, faults = [line([*header, *ADDED])], 0, 0
@@ -123,5 +136,5 @@ def rate(given, text):
             more, is_right = ["", "", "", "", "", wrong], False
             faults += 1
         if not is_right or "--differing" not in given:
-            lines.append(line([*fields, *(str(it).encode() for it in more)]))
+            lines.append(line([*shown(fields), *(str(it).encode() for it in more)]))
     return 3 if differing or faults else 0, b"".join(lines).decode("latin-1")
