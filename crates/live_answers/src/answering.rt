@@ -41,7 +41,6 @@ pub struct Answered {
 /// with those of the answers as `run_trace::trace_table` has them, are written to the output in
 /// order, by one write, and flushed. Only then the run waits for a further line. So lines that come
 /// together share a flush of the log and one of the output, and a line alone waits for no other.
-/// The lines of a replay are taken one by one.
 ///
 /// A run that was cut off goes on where the lines of its log stand in front of the input: `replay`
 /// says how many they are, and how many of them are heard in silence. LINE doesn't count them.

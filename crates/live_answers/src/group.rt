@@ -7,7 +7,6 @@ ghost use Rattle.live_answers.specs.Rows.{put_down};
 ghost use Rattle.live_answers.specs.Said.{IsInRange, said_of};
 ghost use Rattle.live_answers.specs.Standing.{said_after};
 
-use crate::Replay;
 use crate::fault::Stop;
 use crate::judging::{Said, judge};
 use crate::line::take_line;
@@ -73,12 +72,10 @@ impl Group {
 }
 
 /// Takes the next line, waiting for it, and behind it all whole lines that the input has at hand,
-/// but no more than `MAX_GROUP`. The lines of a replay are taken one by one, so that their rows
-/// don't fill the memory.
+/// but no more than `MAX_GROUP`.
 pub(crate) fn take_group<I: BufRead>(
     alloc: Global,
     input: &mut I,
-    replay: Replay,
     group: &mut Group,
 ) -> Result<Left, AllocError>
     requires said { group.old.said.items ≡ [] }
@@ -100,7 +97,7 @@ pub(crate) fn take_group<I: BufRead>(
             Err(Stop::Failed(_)) => return Ok(Left::Unread),
             Err(Stop::OutOfMemory) => return Err(AllocError),
         }
-        if !more || group.next < replay.messages {
+        if !more {
             return Ok(Left::Lines);
         }
     }

@@ -48,7 +48,7 @@ impl<I: BufRead, O: Write, L: Write> LiveDriver<'_, '_, I, O, L> {
         }
         let last = last_moment(self.given.as_slice());
         let mut group = Group::new(self.alloc, self.given.len(), last);
-        let left = take_group(self.alloc, &mut self.input, self.replay, &mut group)?;
+        let left = take_group(self.alloc, &mut self.input, &mut group)?;
         self.given.reserve(group.said.len())?;
         put_down(self.log, group.logged.as_slice())?;
         give(&mut self.given, group.said.as_slice())?;
