@@ -4,7 +4,7 @@
 The toolchain builds a program only once all of it is proved, which takes far longer than to compile it. `rt try` compiles
 one without proofs, but slowly running, with checks of its own, and keeps none. So this runs `rt try` on a copy of the
 sources over a folder that stands for the toolchain, in which the compiler is told to optimise and to leave those checks
-out, and the linker to keep what it links. The copy says in `--version` that it is unproved, and nowhere else.
+out, and the linker to keep what it links without them. The copy says in `--version` that it is unproved, and nowhere else.
 """
 import os
 import re
@@ -24,13 +24,22 @@ for word do
 done
 exec {real} "$@"
 """
-# What stands for the linker: it links, and keeps what was linked.
+# What stands for the linker: it links as it is told, and then once more what is kept, without the checks of addresses, whose
+# allocator is slow and takes ten times the memory.
 LINKER = """#!/bin/sh
 {real} "$@" || exit
-while [ $# -gt 1 ]; do
-    if [ "$1" = -o ]; then cp "$2" {kept}; fi
+checks=
+for word do
     shift
+    case $word in --whole-archive) checks=1 ;; esac
+    if [ -z "$checks" ]; then
+        if [ "$last" = -o ]; then word={kept}; fi
+        set -- "$@" "$word"
+    fi
+    case $word in --no-whole-archive) checks= ;; esac
+    last=$word
 done
+exec {real} "$@"
 """
 
 
