@@ -74,7 +74,10 @@ def command(words, text, book=None, write=None):
 def options_in(name, words):
     given, left = {}, list(words)
     while left:
-        word = left.pop(0)
+        word, is_joined, value = left.pop(0).partition("=")
+        left = [value, *left] if is_joined else left
+        if is_joined and word in FLAGS:
+            raise ARGUMENTS
         if word not in TAKEN[name] or word in given or word not in FLAGS and not left:
             raise ARGUMENTS
         given[word] = True if word in FLAGS else left.pop(0)

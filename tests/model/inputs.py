@@ -34,6 +34,8 @@ def make(seed):
     words, text = {"price": prices, "replay": operations, "run": runs, "audit": books, "quote": quotes, "rate": ratings, "serve": messages}[kind](it)
     if it.random() < 0.12:
         words = other_words(it, words)
+    elif it.random() < 0.15:
+        words = joined(it, words)
     if it.random() < 0.35:
         text = broken(it, text)
     elif it.random() < 0.2:
@@ -451,6 +453,15 @@ def altered(it, field):
         if field in words and it.random() < 0.8:
             return it.choice(words)
     return it.choice(FIELDS)
+
+
+def joined(it, words):
+    """An option and its value in one word, now and then one that takes no value."""
+    places = [at for at, word in enumerate(words) if word.startswith("--") and (it.random() < 0.05 or word not in FLAGS and at + 1 < len(words))]
+    if not places:
+        return words
+    at = it.choice(places)
+    return [*words[:at], "=".join(words[at : at + 2]), *words[at + 2 :]]
 
 
 def other_words(it, words):
