@@ -24,8 +24,8 @@ for word do
 done
 exec {real} "$@"
 """
-# What stands for the linker: it links as it is told, and then once more what is kept, without the checks of addresses, whose
-# allocator is slow and takes ten times the memory.
+# What is called in place of the linker: it links as asked, and then once more what is kept,
+# without the checks of addresses, whose allocator is slow and takes ten times the memory.
 LINKER = """#!/bin/sh
 {real} "$@" || exit
 checks=

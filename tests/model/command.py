@@ -172,7 +172,7 @@ def do_replay(given, text):
 
 
 def told(reply):
-    """What an account tells an operation, in words: its reply, or the fault that refuses it."""
+    """The answer of an account, in words: its reply, or the fault that refuses the operation."""
     if isinstance(reply, str):
         return f"refused {reply}"
     kind, *rest, available = reply
@@ -189,12 +189,17 @@ def do_audit(given, text):
     lines, status = [], 0
     for number, (opening, until, entries) in sorted(book.items()):
         account = Account(opening, until, NO_LIMIT)
-        answered = ((row, op[0], reply, account.apply(seat, op)) for row, seat, op, reply in entries)
+        answered = (
+            (row, op[0], reply, account.apply(seat, op))
+            for row, seat, op, reply in entries
+        )
         wrong = next((it for it in answered if it[2] != it[3]), None)
         lines.append(f"account {number} {'no' if wrong else 'yes'}\n")
         if wrong:
             status, (row, op, reply, right) = 3, wrong
-            lines += [f"account {number} row {row}: {op}: {told(reply)}, is {told(right)}\n"] if "--rows" in given else []
+            if "--rows" in given:
+                found = f"account {number} row {row}: {op}: {told(reply)}"
+                lines.append(f"{found}, is {told(right)}\n")
     return status, "".join(lines)
 
 
