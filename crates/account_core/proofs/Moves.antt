@@ -74,7 +74,7 @@ once_cases h event c true here is =
 once_cases h event c false apart is =
     rw (known_apart h event c (eq_apart c (its_call event) apart)) (apart_same (begins_call event h) (times_in c (calls h)) ∙ is)
 
--- a call stands in the list of calls once, if it was granted anything
+-- a call is in the list of calls once, if it was granted anything
 pub calls_once : (h : List EntryData) (c : ℕ) → times_in c (calls h) ≡ (if is_some (known c h).plan then 1 else 0)
 unfolding is_begun
 calls_once [] c = refl

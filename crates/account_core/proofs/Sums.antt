@@ -4,7 +4,7 @@ use Rattle.std.specs.Prelude.{◌==◌, if◌then◌else◌, sum_by}
 use Rattle.std.proofs.lemmas.Bool.{eqb-true}
 use Rattle.std.proofs.lemmas.List.Sums.{sum_by-cons}
 
--- how often a number stands in a list
+-- how often a number occurs in a list
 abbrev pub times_in : ℕ → List ℕ → ℕ
 times_in c [] = 0
 times_in c (d ∷ ds) = if c == d then 1 + times_in c ds else times_in c ds
@@ -25,7 +25,7 @@ module _ (f g : ℕ → ℕ) (c : ℕ) (apart : (d : ℕ) → (c == d) ≡ false
   sum_absent (d ∷ ds) none =
       rw (sum_by-cons f d ds, sum_by-cons g d ds) (absent_cons (c == d) (times_in c ds) (f d) (g d) (sum_by f ds) (sum_by g ds) (apart d) (sum_absent ds) none)
 
-  -- and differ by that number's values where it stands once
+  -- and differ by that number's values where it occurs once
   pub sum_once : (ds : List ℕ) → times_in c ds ≡ 1 → sum_by g ds + f c ≡ sum_by f ds + g c
   sum_once [] once = absurd (omega (arith, once))
   sum_once (d ∷ ds) once =
@@ -37,7 +37,7 @@ at_most_cons : (here : Bool) (n f F f0 : ℕ) → (here ≡ true → f ≡ f0) �
 at_most_cons true n f F f0 same rest once = omega (arith, same refl)
 at_most_cons false n f F f0 same rest once = omega (arith, rest once)
 
--- a number's value is at most the sum where it stands once
+-- a number's value is at most the sum where it occurs once
 pub at_most_sum : (f : ℕ → ℕ) (c : ℕ) (ds : List ℕ) → times_in c ds ≡ 1 → f c ≤ sum_by f ds
 at_most_sum f c [] once = absurd (omega (arith, once))
 at_most_sum f c (d ∷ ds) once =

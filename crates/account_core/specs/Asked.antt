@@ -5,7 +5,7 @@ use Rattle.tariff_core.specs.declared.times.TimeInfo.{TimeInfo}
 use Rattle.tariff_core.specs.declared.plan.TheConstants.{MAX_MONEY}
 use Rattle.tariff_core.specs.declared.times.TheConstants.{DAY}
 
--- an operation: money is added, which may give the account another last moment; held for more time of a call, which is asked for at a moment; settled as a report tells;
+-- an operation: money is added, which may give the account another last moment; held for more time of a call, which is asked for at a moment; settled as a report says;
 -- and given back. Moments are in units of 100 ms
 pub data Asked : Type 0 where
   Credits : (amount : ℕ) (until : Option ℕ) → Asked

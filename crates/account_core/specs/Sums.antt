@@ -34,7 +34,7 @@ pub record AreSums (h : List EntryData) (sums : List CallSum) : Type 0 where
   pub rising : IsStrictlySortedBy nat_cmp (map (λ sum. sum.call) sums)
   pub each : (call : ℕ) → sum_in call sums ≡ sum_of call (known call h)
 
--- the sums that states tell
+-- the sums that states say
 abbrev pub sums_told : List (ℕ × CallState) → List CallSum
 sums_told [] = []
 sums_told (entry ∷ entries) = option_to_list (sum_of entry.0 (known_of entry.1)) ++ sums_told entries

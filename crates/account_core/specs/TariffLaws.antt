@@ -1,4 +1,4 @@
--- The laws of the tariff that an account stands on.
+-- The laws of the tariff that an account rests on.
 use Rattle.tariff_core.specs.Laws.{AffordedAreCovered, AffordedAreWithin, CeilingIsNotPassed, ComingIsTransitive, ComingTimesStand, ReadTimesAre, TimesMayStay}
 
 -- the laws of prices that an account rests on

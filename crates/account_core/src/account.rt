@@ -188,7 +188,7 @@ impl Account {
     }
 
     /// The calls that were granted anything, by rising number, with what each has paid so far and
-    /// how it stands.
+    /// what has become of it.
     pub fn sums(&self, alloc: Global) -> Result<Vec<CallSum>, AllocError>
         ensures { IfOk result (λ sums. AreSums (reverse self.now.history) sums.items) }
     {

@@ -10,7 +10,7 @@ ghost use Rattle.account_core.specs.Places.{IsClosing};
 use crate::laws::answers_are_kindly;
 use crate::{Account, AccountFault, Op, Reply};
 
-/// Takes the operations of calls, for an account that stands behind it.
+/// Takes the operations of calls, for an account that is behind it.
 ///
 /// A port may state what it keeps of a call, and then moves it as an account's history would. That
 /// is all that an account knows of it: beside its plan, its times, the total granted and whether it

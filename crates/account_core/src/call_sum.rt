@@ -1,6 +1,6 @@
 //! What a call of an account comes to.
 
-/// How a call stands.
+/// What has become of a call.
 #[derive(Clone, Copy, Debug, PartialEq, Eq)]
 pub enum Fate {
     /// It is open, and holds money.
@@ -12,14 +12,14 @@ pub enum Fate {
     Forfeit,
 }
 
-/// A call that was granted something: what it has paid so far, in units of money, and how it
-/// stands.
+/// A call that was granted something: what it has paid so far, in units of money, and what
+/// has become of it.
 #[derive(Clone, Copy, Debug, PartialEq, Eq)]
 pub struct CallSum {
     /// The call.
     pub call: u64,
     /// What it has paid so far.
     pub paid: u64,
-    /// How it stands.
+    /// What has become of it.
     pub fate: Fate,
 }

@@ -24,7 +24,7 @@ pub(crate) struct HeldCall {
     pub granted: u32,
     /// Whether it has a forfeit.
     pub forfeited: bool,
-    /// The most that it can come to pay for the time granted. It stands last, where the others
+    /// The most that it can come to pay for the time granted. It is last, where the others
     /// leave it no gap.
     pub top: u64,
 }

@@ -78,7 +78,7 @@ impl HistoryCheck {
     }
 
     /// Takes one entry more, from any seat. Where it is the first whose reply isn't what an account
-    /// tells, the answer is what one tells: `Ok` with its reply, or `Err` with the fault that
+    /// answers, this gives what one answers: `Ok` with its reply, or `Err` with the fault that
     /// refuses the operation.
     ///
     /// The only error is out of memory: some is taken for the first entry and for a call that is

@@ -48,7 +48,7 @@ pub fn answers_are_kindly()
     tariff_laws();
 }
 
-/// Every entry of a legal history asks for what is in range, and its reply tells money of at most
+/// Every entry of a legal history asks for what is in range, and its reply says money of at most
 /// `MAX_MONEY`, and grants a day at most.
 pub fn entries_are_in_range()
     ensures { EntriesAreInRange }

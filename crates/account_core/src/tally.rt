@@ -18,7 +18,7 @@ use crate::{AccountFault, Entry, Reply, laws};
 use std::alloc::{AllocError, Global};
 use tariff_core::MAX_MONEY;
 
-/// What an account tells an operation: its reply, or why it refuses it.
+/// What an account answers an operation: its reply, or why it refuses it.
 pub(crate) type Told = Result<Reply, AccountFault>;
 
 /// What a legal history comes to: the state of each call, the opening with the accepted credits,
@@ -47,7 +47,7 @@ impl Tally {
     }
 
     /// Adds an entry to those so far where it is legal after them, and else gives what an account
-    /// tells in its place. Memory is taken where the entry's call is new, which is 0 at a Credit.
+    /// answers in its place. Memory is taken where the entry's call is new, which is 0 at a Credit.
     #[inline(always)]
     pub fn hear(&mut self, entry: Entry) -> Result<Option<Told>, AllocError>
         requires { (opening : ℕ) × (until : Option ℕ) × (h : List EntryData)
@@ -97,7 +97,7 @@ impl Tally {
 
 /// Keeps what is known of a call after an entry of it, where the entry is legal after a history
 /// with these funds, of which so much is available, and this last moment; else gives what an
-/// account tells in its place.
+/// account answers in its place.
 #[inline(always)]
 fn renew_state(
     calls: &mut CallStates,
@@ -133,8 +133,8 @@ fn renew_state(
 }
 
 /// What is known of a call after an entry of it, where the entry is legal after a history with
-/// these funds, of which so much is available, and this last moment; else what an account tells in
-/// its place.
+/// these funds, of which so much is available, and this last moment; else what an account answers
+/// in its place.
 #[inline(always)]
 fn after_legal(
     entry: Entry,

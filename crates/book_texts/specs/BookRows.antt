@@ -87,6 +87,6 @@ entry_in columns =
     when_blank (is_asked_blank op_word columns.operation && is_reply_blank reply_word columns.answer)
     (Enters account (record { seat = seat; asked = asked; reply = reply }))))))))
 
--- what a row says, wherever it stands
+-- what a row says, wherever it is
 abbrev pub said_in : Columns → Result Said RowKind
 said_in columns = if is_opening columns then opening_in columns else entry_in columns

@@ -62,7 +62,7 @@ Comes before None (Err why) checks = ⊥
 Comes before (Some kind) (Ok books) checks = ⊥
 Comes before (Some kind) (Err why) checks = (kind ≡ why) × HaveChecks before checks
 
--- an entry of an account was heard: it is what the account tells, where the history before it is legal; or that history is legal, and this is what the account tells in its place
+-- an entry of an account was heard: it is what the account answers, where the history before it is legal; or that history is legal, and this is what the account answers in its place
 abbrev pub HearsBy : Told → EntryData → Option (Result Reply AccountFault) → Type 0
 HearsBy told event None = IsLegal told.opening told.until told.history → IsAnswered told.opening told.until (reverse told.history) event
 HearsBy told event (Some right) = IsLegal told.opening told.until told.history × IsWrong told.opening told.until (reverse told.history) event right

@@ -9,7 +9,7 @@ use Rattle.table_core.specs.Rows.{Fields}
 use Rattle.book_texts.specs.Books.{Books, Told, books_of, told_of, with_entry}
 use Rattle.book_texts.specs.declared.wrong_row.WrongRow.{WrongRow}
 
--- a row of a table enters an operation of an account, of which the rows above it make a legal history. Its reply isn't what an account tells after that; what one tells is right
+-- a row of a table enters an operation of an account, of which the rows above it make a legal history. Its reply isn't what an account answers after that; what one answers is right
 pub record IsWrongRow (most : ℕ) (rows : List Fields) (account : ℕ) (wrong : WrongRow) : Type 0 where
   pub above : List Fields
   pub row : Fields

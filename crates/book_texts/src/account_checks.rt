@@ -16,7 +16,7 @@ use std::mem;
 use table_core::RowKind;
 use tariff_core::MAX_MONEY;
 
-/// What an account tells in place of an entry, where that is the first of its history which is
+/// What an account answers in place of an entry, where that is the first of its history which is
 /// wrong; or why the entry is refused.
 pub(crate) type Heard = Result<Option<Result<Reply, AccountFault>>, RowKind>;
 

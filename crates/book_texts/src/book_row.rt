@@ -17,7 +17,7 @@ use entry_rows::{
 use table_core::{RowKind, is_blank, is_word, number};
 use tariff_core::MAX_MONEY;
 
-/// Where the columns stand, and where those of the operation begin.
+/// Where the columns are, and where those of the operation begin.
 const ACCOUNT: usize = 0;
 
 const SEAT: usize = 1;
@@ -47,7 +47,7 @@ pub(crate) enum BookRow {
     },
 }
 
-/// What a row of a table of this version says, wherever it stands.
+/// What a row of a table of this version says, wherever it is.
 pub(crate) fn read_row(row: &ByteRecord, version: Version) -> Result<BookRow, RowKind>
     requires { HasColumns version (fields_of row.now) }
     ensures says { result_map_both said_of (λ kind. kind) result

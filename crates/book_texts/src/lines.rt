@@ -65,7 +65,7 @@ fn write_call(text: &mut String, line: &CallLine) -> Result<(), AllocError>
     writeln!(text, "call {call} account {account} paid {paid} {word}")
 }
 
-/// The word for how a call stands.
+/// The word for what has become of a call.
 fn word(fate: Fate) -> &'static str
     ensures { result.now ≡ word_of fate }
 {
@@ -81,7 +81,7 @@ fn word(fate: Fate) -> &'static str
 struct CallLine {
     /// The number of the account.
     account: u32,
-    /// What the call has paid to it, and how it stands there.
+    /// What the call has paid to it, and what has become of it there.
     sum: CallSum,
 }
 

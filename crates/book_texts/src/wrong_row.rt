@@ -7,14 +7,14 @@ use account_core::{AccountFault, Entry, Reply};
 use entry_rows::{op_word, write_reply, write_told};
 use std::alloc::AllocError;
 
-/// The first row of an account whose reply isn't what an account tells.
+/// The first row of an account whose reply isn't what an account answers.
 #[derive(Clone, Copy, Debug)]
 pub(crate) struct WrongRow {
     /// Its number, the header being row 1.
     pub row: u32,
     /// What it says.
     pub entry: Entry,
-    /// What an account tells the operation: its reply, or the fault that refuses it.
+    /// What an account answers the operation: its reply, or the fault that refuses it.
     pub right: Result<Reply, AccountFault>,
 }
 

@@ -1,4 +1,4 @@
--- What the posts of a run tell of a call: its start, its moments, and what was reported of it.
+-- What the posts of a run say of a call: its start, its moments, and what was reported of it.
 use Rattle.std.specs.Prelude.{◌==◌, ℕ, Bool, Option, Some, None, List, [], ◌∷◌, if◌then◌else◌, is_some}
 use Rattle.std.specs.Option.{option_map, option_or}
 use Rattle.cap_values.specs.Codes.{event_code}
@@ -12,12 +12,12 @@ use Rattle.run_values.specs.declared.post.Body.TheVariants as body
 use Rattle.call_records.specs.declared.reports.CallReports.{CallReports}
 use Rattle.call_records.specs.declared.starts.Start.{Start}
 
--- what a post tells, if it is a message of this call
+-- what a post says, if it is a message of this call
 abbrev pub told_by : {X : Type 0} → ℕ → (SsfMsg → Option X) → Body → Option X
 told_by call tell (body.Ssf other msg) = if other == call then tell msg else None
 told_by call tell (body.Recharge account amount until) = None
 
--- what the first message of a call tells that tells anything, at its moment
+-- what the first message of a call says that says anything, at its moment
 abbrev pub first_told : {X : Type 0} → ℕ → (ℕ → SsfMsg → Option X) → List (ℕ × Body) → Option X
 first_told call tell [] = None
 first_told call tell (post ∷ posts) = option_or (told_by call (tell post.0) post.1) (first_told call tell posts)

@@ -38,7 +38,7 @@ pub(crate) fn starts_in(
     Ok(starts)
 }
 
-/// Keeps the start that a post tells, where it is the first of its call.
+/// Keeps the start that a post says, where it is the first of its call.
 fn hear(starts: &mut BTreeMap<u64, Start>, at: u64, body: Body) -> Result<(), AllocError>
     ensures { OnOk result ((given : List (ℕ × Body)) → HaveStarts starts.old given
         → HaveStarts starts.new (given ++ (at, body) ∷ [])) }
@@ -49,7 +49,7 @@ fn hear(starts: &mut BTreeMap<u64, Start>, at: u64, body: Body) -> Result<(), Al
     }
 }
 
-/// The start that a message tells, if it is one.
+/// The start that a message says, if it is one.
 fn start_by(at: u64, message: SsfMsg) -> Option<Start>
     ensures { result ≡ start_by at message }
 {

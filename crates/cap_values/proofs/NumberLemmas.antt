@@ -20,7 +20,7 @@ pub zeros-behind : (text written : List ℕ) → length text ≤ 15 → written 
 zeros-behind text written short same =
     drop-append-drop (length text) (replicate 15 0) written (length text) (omega arith) (ap length same) ∙ drop-replicate (length text) 15 0
 
--- a number that was written stands in front
+-- a number that was written is in front
 pub number-front : (text written rest : List ℕ) → written ≡ text → is_number text ≡ true → is_number (take (length text) (written ++ rest)) ≡ true
 number-front text written rest same number =
     ap (λ (w : List ℕ). is_number (take (length text) (w ++ rest))) same ∙ ap is_number (take-append_seam text rest) ∙ number

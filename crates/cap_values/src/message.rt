@@ -1,4 +1,4 @@
-//! What the gsmSSF tells the service.
+//! What the gsmSSF says to the service.
 
 use crate::{Event, Leg, Mode, Number};
 use tariff_core::TimeInfo;

@@ -13,7 +13,7 @@ use table_core::are_digits;
 pub const MAX_DIGITS: usize = 15;
 
 /// The number of a party (GSM 09.78, CallingPartyNumber, CalledPartyBCDNumber): 1 to `MAX_DIGITS`
-/// ASCII digits. Numbers stand in the order of their digits, compared from the first one on.
+/// ASCII digits. Numbers are in the order of their digits, compared from the first one on.
 #[derive(Clone, Copy, Debug)]
 pub struct Number {
     digits: [u8; MAX_DIGITS],

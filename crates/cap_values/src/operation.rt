@@ -1,4 +1,4 @@
-//! What the service tells the gsmSSF.
+//! What the service says to the gsmSSF.
 
 use crate::{Arms, Cause, Charge};
 

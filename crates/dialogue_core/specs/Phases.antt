@@ -1,4 +1,4 @@
--- Where a dialogue stands and what it says, as plain data.
+-- Where a dialogue is and what it says, as plain data.
 use Rattle.std.specs.Prelude.{ℕ, Bool, Option, List}
 use Rattle.account_core.specs.Asked.{Asked}
 use Rattle.cap_values.specs.Orders.{Order}

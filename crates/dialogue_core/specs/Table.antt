@@ -20,7 +20,7 @@ use Rattle.tariff_core.specs.RatesOf.{rates_of}
 use Rattle.tariff_core.specs.declared.route.Route.{Route}
 use Rattle.tariff_core.specs.declared.times.TheConstants.{DAY}
 
--- what is said, and where the dialogue stands then; or why the input is refused
+-- what is said, and where the dialogue is then; or why the input is refused
 abbrev pub Step : Type 0
 Step = Result (Says × Phase) DialogueFault
 

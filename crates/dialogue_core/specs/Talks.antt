@@ -16,7 +16,7 @@ abbrev pub or_done : Phase → Step → Says × Phase
 or_done phase (Ok next) = next
 or_done phase (Err fault) = (Finished, phase)
 
--- what the dialogue says to what its ask got, and where it stands then: by the table of the service
+-- what the dialogue says to what its ask got, and where it is then: by the table of the service
 abbrev pub after_got : Phase → Got → Says × Phase
 after_got phase (Ok reply) = or_done phase (on_reply phase reply)
 after_got phase (Err fault) = or_done phase (on_refusal phase)
@@ -38,7 +38,7 @@ abbrev pub asks_left : Says → Phase → ℕ
 asks_left (Asks asked) phase = suc (asks_after phase)
 asks_left said phase = 0
 
--- what the dialogue says, and where it stands, once its asks got these, the newest first
+-- what the dialogue says, and where it is, once its asks got these, the newest first
 abbrev pub talked : Says × Phase → List Got → Says × Phase
 talked first [] = first
 talked first (got ∷ earlier) = after_got (talked first earlier).1 got
@@ -66,7 +66,7 @@ abbrev pub AreGot : {X : Type 0} → Asking X → Says × Phase → X → List G
 AreGot Does first from [] to = to ≡ from
 AreGot {X} Does first from (got ∷ earlier) to = (between : X) × AreGot Does first from earlier between × Gets Does between (talked first earlier).0 got to
 
--- a talk from what is said first until no ask is left: what its asks got, where the dialogue stands then, and what it sends
+-- a talk from what is said first until no ask is left: what its asks got, where the dialogue is then, and what it sends
 pub record IsTalkedOut {X : Type 0} (Does : Asking X) (first : Says × Phase) (from to : X) (phase : Phase) (orders : List Order) : Type 0 where
   pub gots : List Got
   pub are_got : AreGot Does first from gots to

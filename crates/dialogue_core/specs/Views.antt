@@ -39,7 +39,7 @@ phase_at (state.Returning after) = phase.Returning (sequel_of after)
 phase_at state.Ending = phase.Ending
 phase_at state.Closed = phase.Closed
 
--- where a dialogue stands
+-- where a dialogue is
 abbrev pub phase_of : Dialogue → Phase
 phase_of dialogue = phase_at dialogue.state
 

@@ -5,7 +5,7 @@ ghost use Rattle.std.specs.Option.{ForSome};
 
 use tariff_core::Plan;
 
-/// Where a dialogue stands. An ask is pending in FirstAsk, Settling, MoreAsk and Returning.
+/// Where a dialogue is. An ask is pending in FirstAsk, Settling, MoreAsk and Returning.
 #[derive(Clone, Copy, Debug, PartialEq, Eq)]
 pub(crate) enum State {
     /// The first time was asked for.

@@ -1,4 +1,4 @@
--- What stands in one column: a word, nothing, or a number in its range.
+-- What is in one column: a word, nothing, or a number in its range.
 use Rattle.std.specs.Prelude.{◌==◌, ℕ, Bool, Option, Some, None, List, length, Result, Ok, Err, ok_or, if◌then◌else◌}
 use Rattle.table_core.specs.Decimals.{decimal_of}
 use Rattle.table_core.specs.Fields.{present}

@@ -32,7 +32,7 @@ pub record Answer : Type 0 where
   pub y2 : List ℕ
   pub y3 : List ℕ
 
--- a row has the columns of an operation whose word stands at a place
+-- a row has the columns of an operation whose word is at a place
 abbrev pub HasOperation : Version → List (List ℕ) → ℕ → Type 0
 HasOperation of_table fields at =
     (at + 6 < length fields) × (of_table ≢ version.One → at + 7 < length fields)
@@ -66,7 +66,7 @@ x9_at version.Two fields at = []
 x9_at version.Three fields at = []
 x9_at version.Four fields at = field_in fields (at + 10)
 
--- the columns of an operation, and of an answer, in the fields of a row, where their word stands at a place
+-- the columns of an operation, and of an answer, in the fields of a row, where their word is at a place
 abbrev pub operation_at : Version → List (List ℕ) → ℕ → Operation
 operation_at version fields at = record {
   version = version;
@@ -109,7 +109,7 @@ abbrev pub number_or_empty : Option ℕ → List ℕ
 number_or_empty None = []
 number_or_empty (Some number) = decimal number
 
--- the opening credit stands where an operation would, with its last moment, if it has one
+-- the opening credit is where an operation would, with its last moment, if it has one
 abbrev pub opening_of : Version → ℕ → Option ℕ → Operation
 opening_of version opening until = record (no_operation version) { op = codes "opening"; x1 = decimal opening; x2 = number_or_empty until }
 

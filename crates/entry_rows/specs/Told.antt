@@ -1,4 +1,4 @@
--- What an account is asked and what it tells, in words.
+-- What an account is asked and what it answers, in words.
 use Rattle.std.specs.Prelude.{ℕ, Bool, true, false, List, ◌++◌, Result, Ok, Err, codes}
 use Rattle.std.specs.Fmt.{decimal}
 use Rattle.account_core.specs.Asked.{Asked, Credits, Reserves, Returns, Settles}

@@ -1,7 +1,7 @@
 //! The fields of an entry in the row of a table: what is asked of an account, and what it replies.
 //!
 //! They are written here for books, and read here for books and for the operations of `replay`, so
-//! that both forms stand side by side. What an account tells is written in words here, too.
+//! that both forms stand side by side. What an account answers is written in words here, too.
 #![tactic(auto)]
 
 mod columns;

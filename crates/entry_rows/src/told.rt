@@ -1,4 +1,4 @@
-//! What an account is asked and what it tells, in words.
+//! What an account is asked and what it answers, in words.
 
 ghost use Rattle.std.specs.Prelude.{◌≡◌, ◌++◌, OnOk, string_bytes};
 ghost use Rattle.account_core.specs.Events.{asked_of};
@@ -7,8 +7,8 @@ ghost use Rattle.entry_rows.specs.Told.{granted_text, reply_text, told_text, wor
 use account_core::{AccountFault, Op, Reply};
 use std::alloc::AllocError;
 
-/// Adds what an account tells an operation: its reply, such as `settled paid 550 available 450`, or
-/// `refused` and the name of the fault.
+/// Adds what an account answers an operation: its reply, such as `settled paid 550 available 450`,
+/// or `refused` and the name of the fault.
 pub fn write_told(text: &mut String, told: Result<Reply, AccountFault>) -> Result<(), AllocError>
     ensures { OnOk result (string_bytes text.new ≡ string_bytes text.old ++ told_text told) }
 {

@@ -25,7 +25,7 @@ pub struct Answered {
 }
 
 /// Serves the messages of an input, each on a line of its own, by one worker, until the input ends.
-/// The lines stand behind a header, which is line 1.
+/// The lines are behind a header, which is line 1.
 ///
 /// A line is a row of a trace that a switch or an operator says, as `message_rows::read_line` reads
 /// it, ended by LF, or by the end of the input. It is accepted where its moment is not below that
@@ -42,7 +42,7 @@ pub struct Answered {
 /// order, by one write, and flushed. Only then the run waits for a further line. So lines that come
 /// together share a flush of the log and one of the output, and a line alone waits for no other.
 ///
-/// A run that was cut off goes on where the lines of its log stand in front of the input: `replay`
+/// A run that was cut off goes on where the lines of its log are in front of the input: `replay`
 /// says how many they are, and how many of them are heard in silence. LINE doesn't count them.
 ///
 /// Where the input, the output or the log fails, the run ends with its books, and `fault` says

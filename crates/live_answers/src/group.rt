@@ -15,7 +15,7 @@ use std::alloc::{AllocError, Global};
 use std::io::BufRead;
 
 /// The most lines that are taken at once.
-pub const MAX_GROUP: usize = 256;
+pub const MAX_GROUP: usize = 2048;
 
 /// Lines that are taken at once.
 #[derive(Drop)]

@@ -8,7 +8,7 @@ ghost use Rattle.live_answers.specs.declared.line.TheConstants.{MAX_LINE};
 /// The limits of a line, and of the lines that are taken at once, in plain numbers.
 pub fn limits_in_numbers()
     ensures most_bytes { MAX_LINE ≡ 4096 }
-    ensures most_lines { MAX_GROUP ≡ 256 }
+    ensures most_lines { MAX_GROUP ≡ 2048 }
 {}
 
 /// Nothing that was logged is lost, and nothing is made: an input of the lines of a log, with more

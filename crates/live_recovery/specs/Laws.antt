@@ -16,7 +16,7 @@ use Rattle.workers_core.specs.Handled.{AnswerView, answer_view}
 abbrev pub NoneIsRefused : List Answer → Type 0
 NoneIsRefused answers = All (λ answer. answer.refused ≡ None) answers
 
--- what the answers tell
+-- what the answers say
 abbrev pub views_of : List Answer → List AnswerView
 views_of answers = map answer_view answers
 

@@ -10,8 +10,8 @@ use std::sync::Wait;
 use std::test::Fail;
 use std::thread::Threads;
 
-/// How many lines of the talk come at once: the second time none of them is logged, the third time it
-/// is one alone, and so it is the last time, which has no LF.
+/// How many lines of the talk come at once: the second time none of them is logged, the third time
+/// it is one alone, and so it is the last time, which has no LF.
 const SIZES: [usize; 5] = [5, 3, 1, 4, 1];
 
 /// How many messages are accepted, and lines printed, once all is answered that came before.
@@ -35,8 +35,8 @@ fn lines_of(alloc: Global, first: usize, count: usize) -> Result<Vec<u8>, Fail> 
     Ok(text)
 }
 
-/// Gives lines that come at once only when the rows of those before were flushed, else fails; it also
-/// fails after so many looks.
+/// Gives lines that come at once only when the rows of those before were flushed, else fails; it
+/// also fails after so many looks.
 #[derive(Drop)]
 struct Bursts<'a> {
     /// What comes at once, and how much is printed of all before.

@@ -143,7 +143,7 @@ impl BufRead for Switch<'_> {
     }
 }
 
-/// Keeps what is written, tells how much of it was flushed, and fails after so many calls.
+/// Keeps what is written, says how much of it was flushed, and fails after so many calls.
 #[derive(Drop)]
 pub(crate) struct Kept<'a> {
     pub text: Vec<u8>,

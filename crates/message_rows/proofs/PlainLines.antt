@@ -1,4 +1,4 @@
--- A line of plain bytes is one row: what stands between its commas.
+-- A line of plain bytes is one row: what is between its commas.
 use Rattle.std.proofs.Common.{◌≡◌, ℕ, ◌<◌, Bool, true, false, Option, None, List, [], ◌∷◌, ◌++◌, length, map, refl, sym, append-nil, arith}
 use Rattle.std.specs.Prelude.{◌==◌, codes}
 use Rattle.std.specs.Iterator.{Yields}
@@ -20,7 +20,7 @@ use Rattle.table_core.specs.Rows.{Fields, rows_of}
 abbrev pub is_comma : ℕ → Bool
 is_comma byte = byte == 44
 
--- what stands between the commas of a text
+-- what is between the commas of a text
 abbrev pub parts_of : List ℕ → Fields
 parts_of text = slice_split is_comma text
 

@@ -5,7 +5,7 @@ ghost use Rattle.moment_texts.specs.Laws.{MomentsArePlain, MomentsAreRead};
 use table_core::printed_decimals_are_read;
 
 /// A moment that is printed is read as that moment, whichever clock has printed it. In a table no
-/// quotes stand round it.
+/// quotes are round it.
 pub fn printed_moments_are_read()
     ensures read { MomentsAreRead }
     ensures plain { MomentsArePlain }

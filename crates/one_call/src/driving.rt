@@ -30,7 +30,7 @@ use tariff_core::{DAY, LAST_MOMENT, Route};
 ///
 /// `Backwards` where an event lies below the start or below the event before it, else `Delay` where
 /// the delay isn't 1 to the gsmSSF's `tccd`: then nothing is done. `OutOfMemory` where the queue of
-/// deliveries can't grow: what the port was asked by then stands.
+/// deliveries can't grow: what the port was asked by then is kept.
 ///
 /// Both configurations have the same `tccd`. The start and the events lie at 0 to `LAST_MOMENT`,
 /// and a switch of the route 1 to DAY units after the start.

@@ -16,7 +16,7 @@ pub enum DriveFault {
     /// The delay is 0, or above the time that the gsmSSF waits for a further period.
     #[error("a delay out of its range")]
     Delay = 2,
-    /// The queue of deliveries couldn't grow. What the port was asked by then stands.
+    /// The queue of deliveries couldn't grow. What the port was asked by then is kept.
     #[error("memory ran out")]
     OutOfMemory = 3,
 }

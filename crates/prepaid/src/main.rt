@@ -8,8 +8,14 @@ use std::io::BufReader;
 use std::process::ExitCode;
 use std::{env, io};
 
+/// How many bytes of the input are read ahead: all that a pipe holds.
+const READ_AHEAD: usize = 65_536;
+
 fn main(rt: HostRuntime) -> ExitCode {
-    let status = match (words(&rt), BufReader::new(rt.alloc(), rt.reader())) {
+    let status = match (
+        words(&rt),
+        BufReader::with_capacity(rt.alloc(), READ_AHEAD, rt.reader()),
+    ) {
         (Ok(words), Ok(input)) => command(
             &rt,
             words.as_slice(),

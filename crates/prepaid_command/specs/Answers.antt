@@ -146,7 +146,7 @@ abbrev pub IsTold : Result Telling Fault → ℕ → Written → Written → Typ
 IsTold (Ok telling) status old new = IsPrinted telling status old new ⊎ IsCutOff telling status old new
 IsTold (Err why) status old new = IsReported why status old new
 
--- the status and what was written tell one answer, which is that to the words and the input, where this is known
+-- the status and what was written are of one answer, which is that to the words and the input, where this is known
 pub record Answers (words : List (List ℕ)) (input : Option (List ℕ)) (status : ℕ) (old new : Written) : Type 0 where
   pub answer : Result Telling Fault
   pub answered : IfSome input (λ text. IsAnswer words text answer)
@@ -201,7 +201,7 @@ abbrev pub IsServeEnd : Result (Unit {0}) ServeError → ℕ → Option (List �
 IsServeEnd (Ok done) status old new = (status ≡ 0) × Keeps old new
 IsServeEnd (Err why) status old new = IsSaid (of_serve why) status old new
 
--- the output and the status tell one end of the service, which is that over this input, where this is known
+-- the output and the status are of one end of the service, which is that over this input, where this is known
 pub record IsServed (ask : LiveAsk) (log : Option LogWish) (input : Option (List ℕ)) (status : ℕ) (old new : Written) : Type 0 where
   pub result : Result (Unit {0}) ServeError
   pub serves : IfSome input (λ text. ServesBy ask log (live_input_of text) old.output new.output result)

@@ -39,7 +39,7 @@ name_of_part part.Book = codes "book"
 name_of_part part.Records = codes "records"
 name_of_part part.Messages = codes "messages"
 
--- the line that tells a fault, without its end
+-- the line that says a fault, without its end
 abbrev pub line_of : Fault → List ℕ
 line_of fault.Arguments = codes "prepaid: arguments"
 line_of fault.Config = codes "prepaid: input: Config"

@@ -22,6 +22,6 @@ telling_of_run ran = record { text = ran.text; passes = true; refused = refused_
 abbrev pub status_of_telling : Telling → ℕ
 status_of_telling telling = if telling.passes then 0 else 3
 
--- what an answer of the code tells
+-- what an answer of the code says
 abbrev pub telling_of : Answer → Telling
 telling_of answer = record { text = string_bytes answer.text; passes = answer.passes; refused = refused_line answer.refusals }

@@ -234,7 +234,7 @@ impl Read for Lines<'_> {
     }
 }
 
-/// Words, and what is said of a book whose last entry, which is wrong, stands behind 17,000,000
+/// Words, and what is said of a book whose last entry, which is wrong, is behind 17,000,000
 /// empty lines.
 const LONG: [(&str, u8, &str, &str); 2] = [
     ("audit --long", 3, "account 1 no\n", ""),

@@ -13,7 +13,7 @@ use std::thread::Threads;
 /// What `price` takes in most tests.
 pub(crate) const PRICE: &str = "price --fee 50 --before 1000";
 
-/// The words of a line, which single spaces part: an empty word stands between two spaces, and an
+/// The words of a line, which single spaces part: an empty word is between two spaces, and an
 /// empty line has none.
 fn words_of(alloc: Global, line: &str) -> Result<Vec<&str>, AllocError> {
     let mut words = Vec::new(alloc);

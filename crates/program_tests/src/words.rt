@@ -10,7 +10,7 @@ const CONFIG: &str = "prepaid: input: Config\n";
 
 const WORKERS: &str = "prepaid: run: Workers\n";
 
-/// Words that are no request. Between two spaces stands an empty word.
+/// Words that are no request. Between two spaces is an empty word.
 const REFUSED: [&str; 24] = [
     "",
     "prices",
@@ -38,7 +38,7 @@ const REFUSED: [&str; 24] = [
     "audit more",
 ];
 
-/// Words after `run`, the status, and the fault. An empty word stands after a space at the end.
+/// Words after `run`, the status, and the fault. An empty word is after a space at the end.
 const OPTIONS: [(&str, u8, &str); 39] = [
     ("run --workers 0", 2, WORKERS),
     ("run --workers 1", 0, ""),

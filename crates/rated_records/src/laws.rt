@@ -26,7 +26,7 @@ pub fn records_have_no_difference<S: Shared>()
     records_are_in_range::<S>();
 }
 
-/// The table of a run's calls is such an input as it stands: of the run's tariff with the table
+/// The table of a run's calls is such an input as it is: of the run's tariff with the table
 /// behind it `rate --answer start` prints each record in its row, and what the law of records says
 /// of each that has no forfeit. Where no call has one, and each has a prefix, it prints no row with
 /// `--differing`, and all rows pass.

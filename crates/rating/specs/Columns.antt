@@ -1,4 +1,4 @@
--- Where the columns of a table stand, by their names in its header.
+-- Where the columns of a table are, by their names in its header.
 use Rattle.std.specs.Prelude.{◌+◌, ◌<◌, ℕ, List, [], ◌∷◌, codes, drop, if◌then◌else◌, Option, Some, None, is_some, option_and_then, option_map, IfSome}
 use Rattle.std.specs.Str.{bytes_eq}
 use Rattle.table_core.specs.Rows.{Fields}
@@ -12,7 +12,7 @@ unfoldable pub place_from : Fields → List ℕ → ℕ → Option ℕ
 place_from [] name place = None
 place_from (field ∷ fields) name place = if bytes_eq field name then Some place else place_from fields name (place + 1)
 
--- a name that is found at a place may not stand behind it once more
+-- a name that is found at a place may not be behind it once more
 abbrev pub found_once : Fields → List ℕ → Option ℕ → Option (Option ℕ)
 found_once header name None = Some None
 found_once header name (Some place) = if is_some (place_from (drop (place + 1) header) name (place + 1)) then None else Some (Some place)
@@ -56,7 +56,7 @@ columns_in header names =
     option_map (λ paid. record { called = called; answer = answer; times = times; paid = paid })
     (paid_in header names.paid)) (times_in header names.times)) (needed header names.answer)) (needed header names.called)
 
--- the columns of times stand in rows of so many fields
+-- the columns of times are in rows of so many fields
 abbrev pub HasTimes : ℕ → TimeColumns → Type 0
 HasTimes width (times.Time place) = place < width
 HasTimes width (times.End place) = place < width

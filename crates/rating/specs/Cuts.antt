@@ -1,4 +1,4 @@
--- A table whose long rows are cut, as it is passed on to `csv`: by `csv`'s own machine, which tells rows and quotes.
+-- A table whose long rows are cut, as it is passed on to `csv`: by `csv`'s own machine, which knows rows and quotes.
 use Rattle.std.specs.Prelude.{◌≡◌, ◌==◌, ◌++◌, ◌∷◌, ◌≤◌, ◌⊎◌, ℕ, zero, suc, List, [], Option, Some, None, if◌then◌else◌}
 use Rattle.csv.specs.Machine.{step}
 use Rattle.csv.specs.Reading.{default_config}
@@ -104,7 +104,7 @@ abbrev pub bytes_of : Option ℕ → List ℕ
 bytes_of None = []
 bytes_of (Some c) = c ∷ []
 
--- the reader that is read, and where it stands
+-- the reader that is read, and where it is
 abbrev pub reader_of : {R : Type 0} → CutRows R → R
 reader_of rows = rows.reader
 

@@ -63,7 +63,7 @@ MayStop (fault.Input input.Device) = ⊤
 MayStop (fault.Input input.OutOfMemory) = ⊤
 MayStop why = ⊥
 
--- a row was rated: its line stands behind the text, and it is counted
+-- a row was rated: its line is behind the text, and it is counted
 pub record AddsRow (bands : List Band) (width : ℕ) (columns : Columns) (differing : Bool) (fields : Fields) (old_text new_text : List ℕ) (old_tally new_tally : Tally) : Type 0 where
   pub rating : Rating
   pub is_rated : IsRated bands width columns fields rating

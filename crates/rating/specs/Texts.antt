@@ -19,7 +19,7 @@ use Rattle.rating.specs.declared.fault.RateFault.{RateFault}
 use Rattle.rating.specs.declared.fault.RateFault.TheVariants as fault
 use Rattle.rating.specs.declared.tally.Tally.{Tally}
 
--- what is to be rated: a tariff, a header and where its columns stand, and the rows below it
+-- what is to be rated: a tariff, a header and where its columns are, and the rows below it
 pub record RateInput : Type 0 where
   pub bands : List Band
   pub header : Fields

@@ -10,7 +10,7 @@ use crate::ask::{Names, Times};
 use csv::ByteRecord;
 use table_core::is_word;
 
-/// Where the columns of a call's times stand, from 0.
+/// Where the columns of a call's times are, from 0.
 #[derive(Clone, Copy)]
 pub(crate) enum TimeColumns {
     /// How long it lasted.
@@ -21,7 +21,7 @@ pub(crate) enum TimeColumns {
     Split(usize, usize),
 }
 
-/// Where the columns stand, from 0.
+/// Where the columns are, from 0.
 #[derive(Clone, Copy)]
 pub(crate) struct Columns {
     pub(crate) called: usize,

@@ -1,4 +1,4 @@
-//! Where a table stands that is passed on byte by byte, its long rows cut.
+//! How far a table is read that is passed on byte by byte, its long rows cut.
 
 ghost use Rattle.std.specs.Prelude.{◌≡◌, ◌≤◌, ◌++◌, ◌∷◌, List, Some, ℕ, drop, length, take};
 ghost use Rattle.csv.specs.Machine.{step};
@@ -9,7 +9,7 @@ ghost use Rattle.rating.specs.Cuts.{CanPass, IsMove, bytes_of, closing, cut_from
 use crate::call::MAX_SHOWN;
 use memchr::{memchr, memrchr};
 
-/// Where a table stands within a row.
+/// Where a table is within a row.
 #[derive(Clone, Copy, PartialEq, Eq)]
 pub(crate) enum Within {
     /// At the start of a field, where a quote opens it.
@@ -60,7 +60,7 @@ impl Within {
     }
 }
 
-/// Where a table stands.
+/// Where a table is.
 #[derive(Clone, Copy)]
 pub(crate) enum Place {
     /// At its start, where a byte order mark may come.

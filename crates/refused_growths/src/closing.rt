@@ -34,7 +34,7 @@ pub(crate) fn closes<P: Port>(port: &mut P) -> Course {
     })
 }
 
-/// Credits 1 and again 1, and tells how often there was memory for it.
+/// Credits 1 and again 1, and says how often there was memory for it.
 fn credit<P: Port>(port: &mut P) -> Result<u64, Outcome>
     ensures { IfOk result (λ credits. credits ≤ CREDITS) }
 {

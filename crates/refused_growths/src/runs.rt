@@ -72,7 +72,7 @@ pub(crate) fn serves<R: Wait + Threads + Sync>(rt: &R, alloc: Global) -> Course 
     }
 }
 
-/// Plays the script, and keeps the first refusal that an answer tells.
+/// Plays the script, and keeps the first refusal that an answer says.
 #[derive(Drop)]
 struct Hearing {
     player: ScriptPlayer,
@@ -102,7 +102,7 @@ impl Driver for Hearing {
     }
 }
 
-/// The first refusal that answers tell.
+/// The first refusal that answers say.
 fn refused_in(answers: &[Answer]) -> Option<AccountFault> {
     for answer in answers {
         if answer.refused.is_some() {

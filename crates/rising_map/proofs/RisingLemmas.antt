@@ -97,7 +97,7 @@ module _ {V : Type 0} where
       let (within, is) = subst P (take_rest list first) (bound, by_key) in
       searched number (drop first list) answer (rising_drop list first inside rising) within is
 
-  -- what stands in the rest stands in the list
+  -- what is in the rest is in the list
   pub stands_after : (number : ℕ) (list : List (ℕ × V)) (first place : ℕ) → first ≤ length list → StandsAt (drop first list) number place → StandsAt list number (first + place)
   stands_after number list first place inside (within, at) =
       (omega (arith, within, length-drop first list, inside), λ d. ap (λ (x : ℕ × V). x.0) (sym (get_or-drop first list place d)) ∙ at d)
@@ -106,7 +106,7 @@ module _ {V : Type 0} where
   item_at : (list : List (ℕ × V)) (place : ℕ) (item d : ℕ × V) → place < length list → item ≡ get_or list place item → (get_or list place d).0 ≡ item.0
   item_at list place item d within is = ap (λ (x : ℕ × V). x.0) (get_or_default list place d item within ∙ sym is)
 
-  -- a number that is below the last one by so much stands at most as many places before it
+  -- a number that is below the last one by so much is at most as many places before it
   pub absent_from : (number : ℕ) (list : List (ℕ × V)) (last : ℕ) (item : ℕ × V) (first : ℕ) → AreRising list → last < length list → item ≡ get_or list last item
       → number ≤ item.0 → first ≡ last - (item.0 - number) → All (IsOther number) (drop first list) → All (IsOther number) list
   absent_from number list last item first rising inside is below first_is others place d within same = elim (cases_lt place first) [
@@ -122,7 +122,7 @@ module _ {V : Type 0} where
         others (place - first) d (omega (arith, within, after, length-drop first list)) here
   ]
 
-  -- a number above the last one stands nowhere
+  -- a number above the last one is nowhere
   pub absent_above : (number : ℕ) (list : List (ℕ × V)) (last : ℕ) (item : ℕ × V) → AreRising list → last < length list → last ≡ length list - 1 → item ≡ get_or list last item
       → item.0 < number → All (IsOther number) list
   absent_above number list last item rising inside last_is is above place d within same =
@@ -162,7 +162,7 @@ module _ {V : Type 0} where
 
   -- ---- what is set
 
-  -- an entry of a number that stands in the list changes what is there
+  -- an entry of a number that is in the list changes what is there
   pub inserted_there : (number : ℕ) (list : List (ℕ × V)) (place : ℕ) (item : ℕ × V) (value : V) → AreRising list → StandsAt list number place
       → item ≡ get_or list place item → insert_entry nat_cmp list number value ≡ set list place (item.0, value)
   inserted_there number [] place item value rising (within, at) is = absurd (omega (arith, within))
@@ -250,7 +250,7 @@ module _ {V : Type 0} (number : ℕ) (value : V) (other : ℕ) where
   looked_up [] = rw (at_is number other) refl
   looked_up (first ∷ list) = inserted_by (nat_cmp number first.0) first list refl (looked_up list)
 
-  -- the same, where the number that is looked up stands first
+  -- the same, where the number that is looked up is first
   pub looked_up_at : (list : List (ℕ × V))
       → lookup (is_at (nat_cmp other)) (insert_entry nat_cmp list number value) ≡ (if other == number then Some value else lookup (is_at (nat_cmp other)) list)
   looked_up_at list = rw (turned other number) (looked_up list)

@@ -174,8 +174,8 @@ pub fn is_above<V>(list: &[(u64, V)], number: u64) -> bool
     }
 }
 
-/// Where a number stands in a list, if it does. Numbers rise, so one that is so far below the last
-/// one stands at most as many places before it. It is looked for there first, where it stands if no
+/// Where a number is in a list, if it does. Numbers rise, so one that is so far below the last
+/// one is at most as many places before it. It is looked for there first, where it is if no
 /// number is left out, and then in the places after that.
 #[inline(always)]
 pub fn place_of<V>(list: &[(u64, V)], number: u64) -> Option<usize>
@@ -195,7 +195,7 @@ pub fn place_of<V>(list: &[(u64, V)], number: u64) -> Option<usize>
     place_from(list, first, number)
 }
 
-/// Where a number stands in a list from a place on, if it does.
+/// Where a number is in a list from a place on, if it does.
 fn place_from<V>(list: &[(u64, V)], first: usize, number: u64) -> Option<usize>
     requires rising { AreRising list.now }
     requires within { first ≤ length list.now }

@@ -70,7 +70,7 @@ module _ (setup : Setup) (workers : ℕ) (books : List Closed) (may_be : are_wor
   pub accounts_rise : IsStrictlySortedBy nat_cmp (map (λ (book : Closed). book.account) books)
   accounts_rise = let P : List ℕ → Type 0 = λ l. IsStrictlySortedBy nat_cmp l in subst P (sym accounts_are) accounts.ordered
 
-  -- ---- each book stands at the place of its account
+  -- ---- each book is at the place of its account
 
   pub as_many : length books ≡ length setup.accounts
   as_many =

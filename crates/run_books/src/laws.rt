@@ -10,7 +10,7 @@ use shared_account::Shared;
 /// The table that `book_table` prints of the books of a run is read back to their openings and
 /// histories, and an audit of it says yes for each account.
 ///
-/// All that it takes stands in clauses: `IsRun` in that of `runs_core::serve`, `HasAccounts` in
+/// All that it takes is in clauses: `IsRun` in that of `runs_core::serve`, `HasAccounts` in
 /// those of `RunSetup::accounts`, and `IsTyped` in that of `book_table`. Two things are left. The
 /// driver gave reports with times in their ranges, as `TimeInfo::no_switch` and `TimeInfo::switch`
 /// make them, and recharges with last moments of 0 to `HORIZON`, or none (`AreTimely`). And the

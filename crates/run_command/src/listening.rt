@@ -12,7 +12,7 @@ use runs_core::Driver;
 use script_player::ScriptPlayer;
 use std::alloc::{AllocError, Global};
 
-/// Plays a script, counts the refusals that the answers tell of, and keeps the answers where a
+/// Plays a script, counts the refusals that the answers speak of, and keeps the answers where a
 /// trace is to be printed of them.
 #[derive(Drop)]
 pub(crate) struct Listener {

@@ -42,7 +42,7 @@ pub struct Ran {
 
 /// The text of a run of the input's script: a line for each account and for each of its calls, the
 /// table of their books, the table of the calls, or the trace of what was said; and the refusals
-/// that the answers of its workers tell of.
+/// that the answers of its workers speak of.
 ///
 /// The input is judged first, its parts in order, and its first fault is told. `Workers` where
 /// there can't be so many workers; any other fault of a run comes as `runs_core::serve` has it.

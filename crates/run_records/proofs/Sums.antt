@@ -11,12 +11,12 @@ use Rattle.std.proofs.lemmas.List.Sums.{sum_by-cons}
 use Rattle.account_core.proofs.Sums.{sum_absent, sum_once, times_in}
 use Rattle.shared_account.specs.Closed.{Closed}
 
--- ---- over two lists in which each number with a value stands as often, and at most once
+-- ---- over two lists in which each number with a value occurs as often, and at most once
 
 without : ℕ → (ℕ → ℕ) → ℕ → ℕ
 without c f d = if c == d then 0 else f d
 
--- nothing that has a value stands in a list
+-- nothing that has a value is in a list
 sum_none : (f : ℕ → ℕ) (ds : List ℕ) → ((d : ℕ) → f d ≢ 0 → times_in d ds ≡ 0) → sum_by f ds ≡ 0
 sum_none f [] none = refl
 sum_none f (d ∷ ds) none = sum_by-cons f d ds ∙ by (sum_none f ds (λ e some. rest e (e == d) (none e some))) (f d == 0) refl
@@ -108,7 +108,7 @@ above_none c d (e ∷ cs) same above =
     let apart_so : (d == e) ≡ false = below d e (subst (λ n. nat_cmp n e ≡ Less) same above.0) in
     rw (apart_so) (above_none c d cs same above.1)
 
--- a number stands in it once, if at all
+-- a number is in it once, if at all
 pub rising_once : (cs : List ℕ) → IsStrictlySortedBy nat_cmp cs → (d : ℕ) → times_in d cs ≡ (if list_any (λ c. d == c) cs then 1 else 0)
 unfolding IsStrictlySortedBy
 rising_once [] rising d = refl

@@ -85,7 +85,7 @@ module _ (Stood : Closed → ℕ → Knowing) (reserves : ReservesAreInTheBooks 
       let (plan, planned) = there (known call (reverse book.history)).plan (paid_granted call book some) in
       (plan, granted_has (IsBegun run place) call plan (reverse book.history) (reversed P book.history (book_begun Stood reserves run is place d within)) planned)
 
-  -- the account of a record stands at the place of each book in which its call has paid
+  -- the account of a record is at the place of each book in which its call has paid
   placed : (call : CallRecord) → IsRecord run call → (place : ℕ) (d : Closed) → place < length run.books → paid_in call.call (slice_index_or run.books place d) ≢ 0
       → option_and_then (λ account. place_of account run.setup) call.account ≡ Some place
   placed call record_is place d within some =

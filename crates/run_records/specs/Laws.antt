@@ -1,4 +1,4 @@
--- What the records of a run's calls tell of what was paid.
+-- What the records of a run's calls say of what was paid.
 use Rattle.std.specs.Prelude.{◌≡◌, ◌≢◌, ◌⊎◌, ◌+◌, ◌≤◌, ℕ, true, List, reverse, sum_by, unwrap_or}
 use Rattle.account_core.specs.Available.{calls}
 use Rattle.account_core.specs.Known.{known, paid_if_granted}

@@ -9,7 +9,7 @@ use tariff_core::{afforded_is_greatest, ceiling_is_greatest, lawful_times_follow
 
 /// A call to a number without a route has paid nothing.
 ///
-/// What it takes stands in clauses: `IsRun` in that of `runs_core::serve`, `HasAccounts` in those
+/// What it takes is in clauses: `IsRun` in that of `runs_core::serve`, `HasAccounts` in those
 /// of `RunSetup::accounts`, `IsRecord` in that of `call_records::records`. One thing is left to the
 /// driver: where it starts a call more than once, each InitialDP of the call names the same parties
 /// (`HaveTheirParties`). A script starts no call twice.
@@ -46,7 +46,7 @@ pub fn records_are_in_range<S: Shared>()
     tariff_laws();
 }
 
-/// The laws of the tariff that the accounts stand on.
+/// The laws of the tariff that the accounts rest on.
 fn tariff_laws()
     ensures { TariffLaws }
 {

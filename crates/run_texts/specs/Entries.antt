@@ -8,7 +8,7 @@ use Rattle.table_core.specs.declared.fault.RowKind.TheVariants as kind
 use Rattle.run_values.specs.declared.setup_fault.SetupFault.{SetupFault}
 use Rattle.run_values.specs.declared.setup_fault.SetupFault.TheVariants as fault
 
--- how a fault of a directory is told at a row; an opening credit out of range is no number that may stand there
+-- the fault of a row for a fault of a directory; an opening credit out of range is no number that may be there
 abbrev pub told_of : SetupFault → EntryFault
 told_of fault.Repeated = entry.Row kind.Repeated
 told_of fault.Unknown = entry.Row kind.Unknown

@@ -21,7 +21,7 @@ abbrev pub after_line : List ℕ → List (List ℕ) → List (List ℕ)
 after_line line [] = line ∷ []
 after_line line (part ∷ parts) = (line ++ part) ∷ parts
 
--- what stands between the dividers of some lines, which is one part more than there are dividers
+-- what is between the dividers of some lines, which is one part more than there are dividers
 unfoldable pub parts_of : List (List ℕ) → List (List ℕ)
 parts_of [] = [] ∷ []
 parts_of (line ∷ lines) = if is_divider line then [] ∷ parts_of lines else after_line line (parts_of lines)

@@ -104,7 +104,7 @@ judged_by accounts earlier event (Starts call calling called) = if is_started ca
 judged_by accounts earlier event (Meets call met) = if is_started call earlier then Ok event else Err kind.Unknown
 judged_by accounts earlier event (Recharges account amount until) = if has_account account accounts then Ok event else Err kind.Unknown
 
--- a row may stand after the earlier ones; no moment lies below the one before
+-- a row may come after the earlier ones; no moment lies below the one before
 abbrev pub judged : List (ℕ × OpeningCredit) → List ScriptEvent → ScriptEvent → Result ScriptEvent RowKind
 judged accounts earlier event = if nat_lt event.at (last_moment earlier) then Err kind.Order else judged_by accounts earlier event event.what
 

@@ -122,7 +122,7 @@ pub fn divide(input: &[u8]) -> Option<Parts<'_>>
     }
 }
 
-/// What stands before the first divider of a text, and what stands after it.
+/// What is before the first divider of a text, and what is after it.
 fn split(text: &[u8]) -> Option<(&[u8], &[u8])>
     ensures divided { IfSome result
         (λ parts. parts_of (lines_of text.now) ≡ parts.0.now ∷ parts_of (lines_of parts.1.now)) }

@@ -10,7 +10,7 @@ use tariff_core::{TariffFault, TariffKind};
 /// Why the input of a run says nothing: its first fault, the parts judged in order.
 #[derive(Clone, Copy, Debug)]
 pub enum InputFault {
-    /// It doesn't have three parts, or a divider that stands behind a part isn't there.
+    /// It doesn't have three parts, or a divider that is behind a part isn't there.
     Parts,
     /// A part that is read as it comes has more than `MAX_PART` bytes, its divider counted.
     TooLong,

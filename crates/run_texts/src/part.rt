@@ -13,7 +13,7 @@ use std::io::{Error, ErrorKind, Read};
 /// The most bytes of a part that is read as it comes, its divider counted.
 pub const MAX_PART: usize = 16_777_216;
 
-/// Reads what stands before the next line `%%` of an input, which then has left what stands behind
+/// Reads what is before the next line `%%` of an input, which then has left what is behind
 /// it. That line stands alone and is ended by LF, CR LF or the end of the input.
 ///
 /// `Parts` where there is no such line; but `TooLong` where the part has more than `MAX_PART`

@@ -171,7 +171,7 @@ pub enum Happening {
     },
 }
 
-/// What a row says, wherever it stands: of five fields, or of six under the second header.
+/// What a row says, wherever it is: of five fields, or of six under the second header.
 fn read_row(row: &ByteRecord) -> Result<ScriptRow, RowKind>
     requires { 5 ≤ length (fields_of row.now) }
     ensures says { result_map_both script_event (λ kind. kind) result

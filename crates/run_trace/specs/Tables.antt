@@ -50,7 +50,7 @@ abbrev pub post_rows : Clock → ℕ → ℕ × Body → Option Answer → List 
 post_rows clock number post answer =
     row (head_of clock number post) (sender_of post.1) (post_said clock post.1) ++ answer_rows (head_of clock number post) answer
 
--- the rows of posts whose numbers go on from this one, where the answer to each stands at the place of its number
+-- the rows of posts whose numbers go on from this one, where the answer to each is at the place of its number
 abbrev pub rows_from : Clock → List Answer → ℕ → List (ℕ × Body) → List ℕ
 rows_from clock answers number [] = []
 rows_from clock answers number (post ∷ posts) = post_rows clock number post (slice_get answers number) ++ rows_from clock answers (number + 1) posts

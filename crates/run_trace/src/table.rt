@@ -18,7 +18,7 @@ const HEAD: usize = 64;
 /// to it: the operations of its answer, in order, `stray` where it had no place, and `refused` with
 /// the name of the fault where an ask of an account got one. Moments are as the clock prints them.
 ///
-/// The answer to an item stands at its place. An item without one has its own row alone.
+/// The answer to an item is at its place. An item without one has its own row alone.
 pub fn trace_table(
     alloc: Global,
     clock: Clock,
@@ -36,7 +36,7 @@ pub fn trace_table(
 }
 
 /// Adds to a text the row of an item of this number in a run, and then those of its answer, if it
-/// has one, as `trace_table` has them. Where memory runs out, some of the rows may stand in the
+/// has one, as `trace_table` has them. Where memory runs out, some of the rows may be in the
 /// text.
 pub fn write_rows(
     text: &mut String,

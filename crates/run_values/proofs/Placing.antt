@@ -68,7 +68,7 @@ never_fall accounts sorted a b d le within =
     let numbers = non_decreasing_from_sorted (keys_of accounts) sorted a b d.0 le (rw (length-map accounts (λ (entry : ℕ × OpeningCredit). entry.0)) within) in
     rw (get_or-map (λ (entry : ℕ × OpeningCredit). entry.0) accounts a d, get_or-map (λ (entry : ℕ × OpeningCredit). entry.0) accounts b d) at numbers
 
--- an account stands first where its number is found, since the numbers rise
+-- an account is first where its number is found, since the numbers rise
 pub first_at : (accounts : List (ℕ × OpeningCredit)) (account place : ℕ) → IsStrictlySortedBy nat_cmp (keys_of accounts) → place < length accounts → HoldsAt (λ entry. entry.0 ≡ account) accounts place
     → position (λ (other : ℕ × OpeningCredit). other.0 == account) accounts ≡ Some place
 first_at accounts account place sorted within found =

@@ -1,4 +1,4 @@
-//! The tests of the public calls of runs, from the workers to the texts of their books: they stand
+//! The tests of the public calls of runs, from the workers to the texts of their books: they are
 //! apart so that no crate under them is proved a second time for its tests.
 #![tactic(auto)]
 

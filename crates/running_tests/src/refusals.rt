@@ -39,7 +39,7 @@ fn answers_of(alloc: Global, heard: &[Heard]) -> Result<Vec<Answer>, AllocError>
 }
 
 /// Serves posts by two workers over accounts 7 and 8 of 1500 each, with a subscriber of account 7,
-/// and compares the refusals that the answers tell.
+/// and compares the refusals that the answers say.
 fn expect_refusals<R: Abort + Threads + Wait + Sync>(
     rt: &R,
     alloc: Global,

@@ -9,7 +9,7 @@ abbrev pub laid : {X : Type 0} → List (List X) → List (List X) → List (Lis
 laid piles [] = piles
 laid piles (items ∷ later) = laid (dealt piles items) later
 
--- what stands at a height of each pile
+-- what is at a height of each pile
 abbrev pub column : {X : Type 0} → X → ℕ → List (List X) → List X
 column d height piles = map (λ pile. slice_index_or pile height d) piles
 

@@ -129,7 +129,7 @@ handled_more workers given added handled shares before are = record {
       ∙ sym (share-append workers given added worker);
 }
 
--- what was given before is what stands first, and then what was added
+-- what was given before is what is first, and then what was added
 pub added_after : (given before added : List (ℕ × Body)) → given ≡ before ++ added → drop (length before) given ≡ added
 added_after given before added grown = ap (drop (length before)) grown ∙ drop-append_seam before added
 

@@ -1,4 +1,4 @@
--- The first of what is left is done, and stands last in what is done.
+-- The first of what is left is done, and is last in what is done.
 use Rattle.std.proofs.Common.{◌≡◌, ◌<◌, List, [], ◌∷◌, ◌++◌, length, arith, map, refl, ap, sym, ◌∙◌}
 use Rattle.runs_core.specs.Closing.{AreOf}
 use Rattle.std.proofs.lemmas.List.{append-nil, append_assoc, map-append}

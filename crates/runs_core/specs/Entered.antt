@@ -22,7 +22,7 @@ pub record IsBookAt (setup : Setup) (books : List Closed) (account place : ℕ) 
   pub within : place < length books
   pub book_is : slice_index_or books place book ≡ book
 
--- a worker's entries in the books are what handling its posts, one after another, comes to, and those of the posts were refused of which the answers tell it
+-- a worker's entries in the books are what handling its posts, one after another, comes to, and those of the posts were refused of which the answers say it
 abbrev pub RunListsAreWorked : (Closed → ℕ → Knowing) → Type 0
 RunListsAreWorked Stood =
     (setup : Setup) (workers : ℕ) (given : List (ℕ × Body)) (answers : List Answer) (books : List Closed) (worker : ℕ) → (is : IsAnsweredBy Stood setup workers given answers books worker)

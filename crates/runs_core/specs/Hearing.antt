@@ -18,7 +18,7 @@ use Rattle.shared_account.specs.Seats.{Reads}
 abbrev pub AnswersEach : ℕ → List (ℕ × Body) → List Answer → Type 0
 AnswersEach first given answers = map (λ answer. answer.number) answers ≡ map (λ item. item.number) (numbered first given)
 
--- the answers to the items that go to a worker, in order, where each answer stands at the place of its item
+-- the answers to the items that go to a worker, in order, where each answer is at the place of its item
 abbrev pub answers_to : ℕ → ℕ → List (ℕ × Body) → List Answer → List Answer
 answers_to workers worker [] answers = []
 answers_to workers worker (item ∷ given) [] = []
@@ -55,7 +55,7 @@ pub record IsAnsweredBy (Stood : Closed → ℕ → Knowing) (setup : Setup) (wo
   pub share : map item_of posts ≡ share workers given worker
   pub answered : IsAnswered (refuses_in Stood books worker) setup worker posts (map answer_view (answers_to workers worker given answers)) (lists_of worker books)
 
--- the refusal of each post that a worker handled, or none, as the answers tell it
+-- the refusal of each post that a worker handled, or none, as the answers say
 pub record HaveRefused (workers : ℕ) (given : List (ℕ × Body)) (answers : List Answer) (lists : List (List (Option AccountFault))) : Type 0 where
   pub count : length lists ≡ workers
   pub each : (worker : ℕ) → worker < workers → slice_index_or lists worker [] ≡ refusals_in (map answer_view (answers_to workers worker given answers))

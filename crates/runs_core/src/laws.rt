@@ -21,7 +21,7 @@ pub fn books_are_right()
 }
 
 /// A worker's entries in the books of a run are what handling its posts, one after another, comes
-/// to, and those of the posts were refused of which the answers tell it.
+/// to, and those of the posts were refused of which the answers say it.
 ///
 /// The premise of this law and of those below is what `serve` says of each worker of a run
 /// (`answered` of `IsRun`).

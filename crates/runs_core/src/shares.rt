@@ -28,7 +28,7 @@ pub fn handled(
 }
 
 /// For each post that a worker handles of what was given, in the order of `handled`, the last fault
-/// that an ask of an account for it got, as the answer to its item tells it; none where every ask
+/// that an ask of an account for it got, as the answer to its item says; none where every ask
 /// for it was entered, or there was none. It takes memory, and its fault is that there is none.
 pub fn refusals(
     alloc: Global,

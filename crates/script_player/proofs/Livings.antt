@@ -48,7 +48,7 @@ grown : (call : ℕ) (given : List (ℕ × Body)) (before after : List Happening
     → items_of call (given ++ posts_of call sent) ≡ posts_of call (sent_in after)
 grown call given before after sent same sends = items_of-own call given sent ∙ rw (same, sends) (sym (posts_of-append call (sent_in before) sent))
 
--- a trace whose timers have run, for which a gsmSSF stands once it was given an input
+-- a trace whose timers have run, which a gsmSSF stands for once it was given an input
 abbrev Timed : View → View → ℕ → Input → List Happening → List Out → Type 0
 Timed before after now input trace sent = (timed : List Happening) × (RunsUntil before.config now trace timed
     × (Stands after (taken before.config now input timed) × (sent_in (taken before.config now input timed) ≡ sent_in trace ++ sent)))

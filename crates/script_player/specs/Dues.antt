@@ -28,7 +28,7 @@ abbrev pub IsFirstDue : List (ℕ × View) → Option ℕ → Type 0
 IsFirstDue ssfs None = (call at : ℕ) → HasTimer ssfs call at → ⊥
 IsFirstDue ssfs (Some at) = ((call : ℕ) × HasTimer ssfs call at) × ((call other : ℕ) → HasTimer ssfs call other → at ≤ other)
 
--- whether a call stands among these
+-- whether a call is among these
 abbrev pub is_among : List ℕ → ℕ → Bool
 is_among calls call = list_any (is_at (nat_cmp call)) calls
 

@@ -1,4 +1,4 @@
--- What each step of a turn tells whoever makes it.
+-- What each step of a turn says to whoever makes it.
 use Rattle.std.specs.Prelude.{◌≡◌, ◌≢◌, ◌⊎◌, ◌%◌, ◌^◌, ℕ, Option, Some, List, [], ◌∷◌, ◌++◌}
 use Rattle.atomic_table.specs.Table.{Me, Step, rest}
 use Rattle.account_core.specs.Answers.{IsLegal}

@@ -9,13 +9,13 @@ pub record SeatView : Type 0 where
   pub number : ℕ
   pub mine : List EntryData
 
--- what a form of a shared account tells of its seats: the key of a seat's account, the seat's number there, and its own entries, oldest first
+-- what a form of a shared account says of its seats: the key of a seat's account, the seat's number there, and its own entries, oldest first
 pub record Reads (K T : Type 0) : Type 0 where
   pub key : T → K
   pub number : T → ℕ
   pub mine : T → List EntryData
 
--- what an account under its lock tells of its seats
+-- what an account under its lock says of its seats
 abbrev pub seat_reads : Reads ℕ SeatView
 seat_reads = record { key = λ seat. seat.account; number = λ seat. seat.number; mine = λ seat. seat.mine }
 

@@ -19,13 +19,13 @@ use std::collections::LinkedList;
 use std::marker::{Brand, Model, PhantomData};
 use tariff_core::MAX_MONEY;
 
-/// The word that tells the ticket that is drawn next.
+/// The word that holds the ticket that is drawn next.
 pub(crate) const TICKET: usize = 0;
 
-/// The word that tells the ticket that is served.
+/// The word that holds the ticket that is served.
 pub(crate) const SERVING: usize = 1;
 
-/// The word that tells how many entries there are.
+/// The word that holds how many entries there are.
 pub(crate) const COUNT: usize = 2;
 
 /// The slot of the account.

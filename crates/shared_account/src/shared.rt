@@ -13,7 +13,7 @@ use tariff_core::MAX_MONEY;
 /// When it is closed with a book, the history is legal, that is each reply was the one right answer
 /// in its place, and it has each seat's own entries, in order, and nothing else.
 ///
-/// It can't promise, before it is closed, where in the history an entry stands, nor, where others
+/// It can't promise, before it is closed, where in the history an entry is, nor, where others
 /// are asking too, that `NotOpen`, `CallUsed` or `HistoryFull` was right; and nothing of who comes
 /// first, nor that a call returns.
 ///
@@ -22,8 +22,8 @@ use tariff_core::MAX_MONEY;
 /// an account, which refuses just that operation with just that fault. Nothing but a call shows
 /// that, so whoever is generic over the form can't tell of a refusal that no account gave.
 ///
-/// What a form tells of a seat is `reads`: the key of its account, its number and its own entries.
-/// A seat is of the account whose key it has: the account's number, or whatever else a form tells
+/// What a form says of a seat is `reads`: the key of its account, its number and its own entries.
+/// A seat is of the account whose key it has: the account's number, or whatever else a form says
 /// its seats by.
 pub trait Shared: Sync + Drop {
     ghost use Rattle.std.specs.Prelude.{◌≡◌, ◌≤◌, ◌↔◌, ◌⊎◌, ◌++◌, ◌∷◌, ℕ, List, [], true, false, map, reverse, All, OnErr, IfOk, IfErr};

@@ -21,7 +21,7 @@ abbrev pub sent_at : ℕ → List Item → List Out
 sent_at now [] = []
 sent_at now (item ∷ items) = record { at = now; item = item } ∷ sent_at now items
 
--- all that was sent, in order; the newest happening stands first
+-- all that was sent, in order; the newest happening is first
 abbrev pub sent_in : List Happening → List Out
 sent_in [] = []
 sent_in (e ∷ trace) = sent_in trace ++ sent_at e.at e.sent

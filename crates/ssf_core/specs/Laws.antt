@@ -63,7 +63,7 @@ abbrev pub ReportsFit : List Happening → Type 0
 ReportsFit [] = ⊤
 ReportsFit (e ∷ trace) = ReportsFit trace × AllFit trace e.at e.sent
 
--- each charging report is the exact split of what was talked, and the k-th stands after the k-th accepted period and before the next
+-- each charging report is the exact split of what was talked, and the k-th comes after the k-th accepted period and before the next
 abbrev pub EachReportFits : Type 0
 EachReportFits = (config : SsfConfig) (trace : List Happening) → IsTrace config trace → ReportsFit trace
 

@@ -1,4 +1,4 @@
--- What a list of happenings tells, the newest first.
+-- What a list of happenings says, the newest first.
 use Rattle.std.specs.Prelude.{◌+◌, ◌*◌, ℕ, Bool, Option, Some, None, List, [], ◌∷◌, unwrap_or}
 use Rattle.cap_values.specs.Arms.{arm_at}
 use Rattle.cap_values.specs.declared.arming.Point.{Point}

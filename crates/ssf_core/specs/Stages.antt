@@ -1,4 +1,4 @@
--- The stages of the code: where a call stands, with its data.
+-- The stages of the code: where a call is, with its data.
 use Rattle.std.specs.Prelude.{◌≡◌, ◌+◌, ◌*◌, ◌≤◌, ◌<◌, ℕ, Option, Some, None, if◌then◌else◌, nat_le, nat_lt}
 use Rattle.cap_values.specs.declared.mode.Mode.TheVariants.{Transparent}
 use Rattle.ssf_core.specs.declared.stage.Active.{Active}

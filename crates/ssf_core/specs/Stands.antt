@@ -74,7 +74,7 @@ ActiveMatches tccd active trace =
     ActiveHas active (mode_at trace) (pending trace) (granted trace) (option_map (λ end. end + tccd) (period_end trace)) (answered trace) (switched trace)
     (awaited_switch (switched trace) (switch_due trace))
 
--- the data of a stage are those that the trace tells
+-- the data of a stage are those that the trace says
 abbrev pub StageMatches : SsfConfig → Stage → List Happening → Type 0
 StageMatches config stage.Unused trace = SetupMatches blank trace
 StageMatches config stage.Requested trace = SetupMatches blank trace

@@ -11,7 +11,7 @@ use Rattle.ssf_core.specs.declared.ssf.Input.{Input}
 use Rattle.ssf_core.specs.declared.stage.Stage.{Stage}
 use Rattle.ssf_core.specs.declared.timers.Timer.{Timer}
 
--- something happens with this effect: the stage has its phase, and what the longer trace says, whatever was sent, and its items stand behind those sent before
+-- something happens with this effect: the stage has its phase, and what the longer trace says, whatever was sent, and its items are behind those sent before
 pub record Follows (config : SsfConfig) (trace : List Happening) (now : ℕ) (what : What) (effect : Effect) (stage : Stage) (before after : List Out) : Type 0 where
   pub phase : effect.next ≡ phase_of stage
   pub data' : (items : List Item) → StageMatches config stage (record { at = now; what = what; sent = items } ∷ trace)

@@ -82,7 +82,7 @@ abbrev pub ComesBefore : ℕ → What → ℕ → Timer → Type 0
 ComesBefore now (Took input) d timer = now < d
 ComesBefore now (Expired first) d timer = (now < d) ⊎ ((now ≡ d) × (rank first ≤ rank timer))
 
--- what is sent is the table's; an expiry stands at its due moment
+-- what is sent is the table's; an expiry comes at its due moment
 abbrev pub HasEffect : SsfConfig → List Happening → ℕ → What → List Item → Type 0
 HasEffect config trace now (Took input) sent =
     (effect : Effect) × (on_input trace (phase_after config trace) now input ≡ Ok effect) × (sent ≡ effect.sent)

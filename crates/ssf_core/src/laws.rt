@@ -4,7 +4,7 @@ ghost use Rattle.ssf_core.specs.Laws.{EachReportFits, InitialDpIsFirst, ReportsA
 
 /// Each charging report is the exact split, at the tariff switch, of what was talked since the
 /// answer, while a period was pending and within the sum of the periods; where the call goes on it
-/// is just that sum. The k-th report stands after the k-th accepted period and before the next.
+/// is just that sum. The k-th report comes after the k-th accepted period and before the next.
 pub fn each_report_fits()
     ensures { EachReportFits }
 {}

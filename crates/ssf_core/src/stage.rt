@@ -1,4 +1,4 @@
-//! Where a call stands: each state with the data that it needs, and no other.
+//! Where a call is: each state with the data that it needs, and no other.
 
 ghost use Rattle.std.specs.Prelude.{◌≡◌, ◌≤◌};
 ghost use Rattle.ssf_core.specs.Phases.{state_in};

@@ -32,6 +32,6 @@ DecimalsAreRead = (most number : ℕ) → most < 2 ^ 64 → number ≤ most → 
 abbrev pub DecimalsArePlain : Type 0
 DecimalsArePlain = (number : ℕ) → number < 2 ^ 64 → IsPlain (decimal number)
 
--- the text of plain rows, where no byte order mark stands at its start, is read as these rows
+-- the text of plain rows, where no byte order mark is at its start, is read as these rows
 abbrev pub TablesAreRead : Type 0
 TablesAreRead = (rows : List Fields) → All IsPlainRow rows → strip_bom (lines_of rows) ≡ lines_of rows → rows_of (lines_of rows) ≡ rows

@@ -48,7 +48,7 @@ room_of table = table.limit + 1 - table.number
 abbrev pub HasRows : {R : Type 0} → (R → Option (List ℕ)) → Table R → List Fields → Type 0
 HasRows remaining table left = (table.fault ≡ None) × HasLeft remaining table.rows left
 
--- a table stands below the header that it has
+-- a table is below the header that it has
 pub record IsAtFirst {R : Type 0} (headers : List Fields) (most : ℕ) (table : Table R) : Type 0 where
   pub limit : table.limit ≡ most
   pub number : table.number ≡ 1

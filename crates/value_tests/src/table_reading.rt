@@ -29,7 +29,7 @@ const TABLES: [(&[u8], Result<Last, (u32, RowKind)>); 16] = [
     (b"a,b\n1,2\n1,3\n1,4\n1,x\n", Err((5, RowKind::TooManyRows))),
 ];
 
-/// The last field of a table's last row. A table that is refused tells its fault again when it is
+/// The last field of a table's last row. A table that is refused gives its fault again when it is
 /// read on.
 fn read<R: Read + Drop>(alloc: Global, reader: R) -> Result<Last, TableFault> {
     let mut table = Table::open(alloc, reader, &[&["a", "b"], &["a", "b", "c"]], 3)?;

@@ -240,7 +240,7 @@ pub recharged_so : (setup : Setup) (numbers : List ℕ) (at : ℕ) (v : Verdict)
     → IsRecharged numbers place amount until old new t
 recharged_so setup numbers at v old new t place amount until done is = let P : Verdict → Type 0 = λ w. IsDone setup numbers at w old new t in subst P is done
 
--- ---- where the dialogues stand
+-- ---- where the dialogues are
 
 pub same_number : (s t : ℕ) → (s == t) ≡ true → s ≡ t
 same_number s t is = grind (arith, nat_tests, is)
@@ -248,7 +248,7 @@ same_number s t is = grind (arith, nat_tests, is)
 pub is_itself : (n : ℕ) → (n == n) ≡ true
 is_itself n = grind (arith, nat_tests)
 
--- what holds of each dialogue holds of each that stands as before
+-- what holds of each dialogue holds of each that is as before
 pub stay_each : (P : ℕ → DialogueAt → Type 0) (old new : ℕ → Option DialogueAt) → Stay old new → ((call : ℕ) → IfSome (old call) (P call)) → (call : ℕ) → IfSome (new call) (P call)
 stay_each P old new same each call = let Q : Option DialogueAt → Type 0 = λ found. IfSome found (P call) in subst Q (sym (same call)) (each call)
 
@@ -260,7 +260,7 @@ now_or P call other true standing found after is now its before =
     subst Q (sym now) (subst R (sym (same_number other call is)) its)
 now_or P call other false standing found after is now its before = let Q : Option DialogueAt → Type 0 = λ f. IfSome f (P other) in subst Q (sym now) before
 
--- and of each but one, which stands so now
+-- and of each but one, which is so now
 pub now_each : (P : ℕ → DialogueAt → Type 0) (call : ℕ) (standing : DialogueAt) (old new : ℕ → Option DialogueAt) → StandsNow call standing old new → P call standing
     → ((other : ℕ) → IfSome (old other) (P other)) → (other : ℕ) → IfSome (new other) (P other)
 now_each P call standing old new now its each other = now_or P call other (other == call) standing (old other) (new other) refl (now other) its (each other)

@@ -20,7 +20,7 @@ renewed {T} Fact views pass w mine others j u here =
     ⊎_elim (λ (same : (j ≡ pass) × (w ≡ u)). subst (λ (at : ℕ × Log T). Fact at.0 at.1) (λ i. (sym same.0 i, same.1 i)) mine)
     (λ (other : (j ≢ pass) × (get_elem? views j ≡ some u)). others j u other.0 other.1) (at_set views pass j w u here)
 
--- a view that is new at the end stands there
+-- a view that is new at the end is there
 last_place : {T : Type 0} (views : List (Log T)) (v u : Log T) (j : ℕ) → get_elem? views j ≢ some u → get_elem? (views ++ v ∷ []) j ≡ some u → j ≡ length views
 last_place [] v u zero absent here = refl
 last_place [] v u (suc j) absent here = absurd (some-ne-none u (sym here))

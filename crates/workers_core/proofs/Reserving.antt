@@ -205,7 +205,7 @@ terms_more setup place posts post (Reserves call plan wanted least at) is = (
 terms_more setup place posts post (Settles call number info) is = tt
 terms_more setup place posts post (Returns call) is = tt
 
--- the terms of a dialogue of a call, whose account stands at a place
+-- the terms of a dialogue of a call, whose account is at a place
 abbrev Its : Setup → ℕ → List Post → ℕ → Fact
 Its setup place posts call other plan wanted least = (other ≡ call) × HasBegun setup place posts other plan wanted least
 

@@ -81,7 +81,7 @@ talk_adds_none numbers call its at place first old new t within is none =
     adds_none call place old new
     (rw is.lists (read_as_before (λ (e : EntryData). returned_in e.asked) old.lists at place (entries_of (slice_index_or numbers at 0) first is.gots) within none))
 
--- where the dialogue of a call stands after a talk, of that call or of another
+-- where the dialogue of a call is after a talk, of that call or of another
 talks_now : (call its at : ℕ) (b : Bool) (numbers : List ℕ) (first : Says × Phase) (old new : Holding) (t : AnswerView) → (call == its) ≡ b → (is : IsTalked numbers its at first old new t)
     → new.talks call ≡ (if b then Some (record { phase = is.phase; place = at }) else old.talks call)
 talks_now call its at b numbers first old new t same is = is.talks call ∙ ap (λ (c : Bool). if c then Some (record { phase = is.phase; place = at }) else old.talks call) same

@@ -56,7 +56,7 @@ HasRoom case.Rejected talks = Unit {0}
 HasRoom (case.Recharge place amount until) talks = Unit {0}
 HasRoom (case.Talk call talk turn) talks = IsSome (lookup (is_at (nat_cmp call)) talks)
 
--- where dialogues stand with that of a case among them
+-- where dialogues are with that of a case among them
 abbrev pub with_room : Case → (ℕ → Option DialogueAt) → ℕ → Option DialogueAt
 with_room case.Stray talks other = talks other
 with_room case.Rejected talks other = talks other

@@ -35,7 +35,7 @@ pub record IsWorked (setup : Setup) (number : ℕ) (posts : List Post) (refusals
   pub talks : ℕ → Option DialogueAt
   pub chain : AreHandled setup (seat_numbers number setup) posts refusals (at_first setup) (record { lists = lists; talks = talks })
 
--- ---- with all that the answers tell
+-- ---- with all that the answers say
 
 -- posts, in order, lead from what a worker holds to what it holds then, with these answers, one for each, and each ask that was refused was refused rightly
 abbrev pub AreAnswered : (ℕ → Showing) → Setup → List ℕ → List Post → List AnswerView → Holding → Holding → Type 0
@@ -45,7 +45,7 @@ AreAnswered Shows setup numbers (post ∷ posts) [] old new = ⊥
 AreAnswered Shows setup numbers (post ∷ posts) (told ∷ answers) old new =
     (between : Holding) × IsRightlyHandled Shows setup numbers post old between told × AreAnswered Shows setup numbers posts answers between new
 
--- which posts were refused, as their answers tell
+-- which posts were refused, as their answers say
 abbrev pub refusals_in : List AnswerView → List (Option AccountFault)
 refusals_in answers = map (λ told. told.refused) answers
 

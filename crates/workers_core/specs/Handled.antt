@@ -21,14 +21,14 @@ pub record Holding : Type 0 where
   pub lists : List (List EntryData)
   pub talks : ℕ → Option DialogueAt
 
--- what an answer tells
+-- what an answer says
 pub record AnswerView : Type 0 where
   pub number : ℕ
   pub orders : List Order
   pub stray : Bool
   pub refused : Option AccountFault
 
--- what an answer of the code tells
+-- what an answer of the code says
 abbrev pub answer_view : Answer → AnswerView
 answer_view answer = record { number = answer.number; orders = orders_of answer.ops.items; stray = answer.stray; refused = answer.refused }
 
@@ -36,11 +36,11 @@ answer_view answer = record { number = answer.number; orders = orders_of answer.
 abbrev pub grown : List (List EntryData) → ℕ → List EntryData → List (List EntryData)
 grown lists place entries = slice_set lists place (slice_index_or lists place [] ++ entries)
 
--- each dialogue stands as before
+-- each dialogue is as before
 abbrev pub Stay : (ℕ → Option DialogueAt) → (ℕ → Option DialogueAt) → Type 0
 Stay old new = (call : ℕ) → new call ≡ old call
 
--- the dialogue of a call stands so, and each other one as before
+-- the dialogue of a call is so, and each other one as before
 abbrev pub StandsNow : ℕ → DialogueAt → (ℕ → Option DialogueAt) → (ℕ → Option DialogueAt) → Type 0
 StandsNow call standing old new = (other : ℕ) → new other ≡ (if other == call then Some standing else old other)
 

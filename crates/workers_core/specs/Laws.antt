@@ -144,7 +144,7 @@ pub record IsRunning (h : Holding) (call place : ℕ) : Type 0 where
   pub terms : Conditions
   pub is : h.talks call ≡ Some (record { phase = Running terms; place = place })
 
--- of the reports that are settled in a list, a post has these: they stand behind those that the list had before, all of them of the posts before it, and those behind them
+-- of the reports that are settled in a list, a post has these: they are behind those that the list had before, all of them of the posts before it, and those behind them
 -- are of the posts after it, in the order of the posts
 pub record AreSettledFor (before after : List Post) (its : List Report) (old mine : List EntryData) : Type 0 where
   pub later : List Report
@@ -168,7 +168,7 @@ ends_call (EventReport event leg mode) = true
 ends_call (ChargingReport active info) = false
 ends_call Ended = true
 
--- of the calls that are returned in a list, a post has these: they stand behind those that the list had before, and no other Return there is of the call
+-- of the calls that are returned in a list, a post has these: they are behind those that the list had before, and no other Return there is of the call
 pub record AreReturnedFor (call : ℕ) (its : List ℕ) (old mine : List EntryData) : Type 0 where
   pub later : List ℕ
   pub is : returns_of mine ≡ returns_of old ++ (its ++ later)

@@ -48,7 +48,7 @@ AreRight Shows seat first before [] = Unit {0}
 AreRight Shows seat first before (got ∷ earlier) =
     IsRight Shows (before ++ entries_of seat first earlier) (talked first earlier).0 got × AreRight Shows seat first before earlier
 
--- a talk from what is said first until no ask is left: where the dialogue stands then, what it sends, what the seat has entered, why
+-- a talk from what is said first until no ask is left: where the dialogue is then, what it sends, what the seat has entered, why
 -- the account refused an ask last, if it did, and that each refusal was right
 pub record IsTalk (Shows : Showing) (seat : ℕ) (first : Says × Phase) (before after : List EntryData) (phase : Phase) (orders : List Order) (refused : Option AccountFault) : Type 0 where
   pub gots : List Got

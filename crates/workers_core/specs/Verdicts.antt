@@ -13,7 +13,7 @@ use Rattle.run_values.specs.declared.post.Body.{Body}
 use Rattle.run_values.specs.declared.post.Body.TheVariants.{Ssf, Recharge}
 use Rattle.run_values.specs.declared.post.Post.{Post}
 
--- a dialogue of a worker: where it stands, and the place of its account in the ascending order
+-- a dialogue of a worker: where it is, and the place of its account in the ascending order
 pub record DialogueAt : Type 0 where
   pub phase : Phase
   pub place : ℕ
@@ -23,7 +23,7 @@ abbrev pub home_of : Number → Setup → Option ℕ
 home_of calling setup = option_and_then (λ account. place_of account setup) (account_of calling setup.subscribers)
 
 -- it has no place here; the caller is unknown; the account at a place is recharged; a dialogue begins, of a call with an account's place to a
--- called number; or a dialogue goes on, with what it says and where it stands
+-- called number; or a dialogue goes on, with what it says and where it is
 pub data Verdict : Type 0 where
   Strays : Verdict
   Rejects : Verdict
@@ -53,7 +53,7 @@ fresh setup call (EventReport event leg mode) = Strays
 fresh setup call (ChargingReport active info) = Strays
 fresh setup call Ended = Strays
 
--- a message of a call with a dialogue, which takes it or refuses it. An InitialDp is refused wherever it stands
+-- a message of a call with a dialogue, which takes it or refuses it. An InitialDp is refused wherever it is
 abbrev pub goes_on : ℕ → ℕ → Step → Verdict
 goes_on call place (Ok next) = GoesOn call place next.0 next.1
 goes_on call place (Err fault) = Strays

@@ -16,11 +16,11 @@ use Rattle.run_values.specs.declared.post.Post.{Post}
 use Rattle.workers_core.specs.declared.worker.Talk.{Talk}
 use Rattle.workers_core.specs.declared.worker.Worker.{Worker}
 
--- where a talk stands
+-- where a talk is
 abbrev pub standing_of : Talk → DialogueAt
 standing_of talk = record { phase = phase_of talk.dialogue; place = talk.place }
 
--- where the dialogues of a map stand
+-- where the dialogues of a map are
 abbrev pub standings_in : List (ℕ × Talk) → ℕ → Option DialogueAt
 standings_in talks call = option_map standing_of (lookup (is_at (nat_cmp call)) talks)
 
@@ -44,7 +44,7 @@ accounts_of worker = worker.accounts.now
 abbrev pub seats_of : {S T : Type 0} → Worker S T → List T
 seats_of worker = worker.seats.items
 
--- where the dialogue of each call stands
+-- where the dialogue of each call is
 abbrev pub talks_of : {S T : Type 0} → Worker S T → ℕ → Option DialogueAt
 talks_of worker = standings_in worker.talks
 

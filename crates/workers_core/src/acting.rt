@@ -26,7 +26,7 @@ use run_values::{Answer, Body};
 use shared_account::{Gate, Shared};
 use std::sync::Wait;
 
-/// Makes room for the dialogue of a case, where it has one: it is kept as it stands before its
+/// Makes room for the dialogue of a case, where it has one: it is kept as it is before its
 /// talk.
 pub(crate) fn make_room(talks: &mut RisingMap<Talk>, case: &Case) -> Result<(), WorkerFault>
     ensures room { OnOk result (HasRoom case.now talks.new) }
@@ -192,7 +192,7 @@ fn recharge<S: Shared, R: Wait, G: Gate>(
     })
 }
 
-/// Keeps a dialogue as it stands, in the place that it has.
+/// Keeps a dialogue as it is, in the place that it has.
 fn keep(talks: &mut RisingMap<Talk>, call: u64, talk: Talk)
     requires { IsSome (lookup (is_at (nat_cmp call)) talks.old) }
     ensures { (other : ℕ) → lookup (is_at (nat_cmp other)) talks.new

@@ -36,7 +36,7 @@ pub fn mailbox<T: Drop>(alloc: Global, capacity: u32) -> Result<(Outbox<T>, Inbo
     ))
 }
 
-/// What the two ends of a mailbox tell of each other when both are back in one place: what was
+/// What the two ends of a mailbox say of each other when both are back in one place: what was
 /// taken is what was sent first, in order, and all of it where the last mail was taken.
 pub fn compare<T: Drop>(outbox: Outbox<T>, inbox: Inbox<T>)
     requires { ArePaired outbox inbox }
@@ -64,7 +64,7 @@ pub enum Mail<T> {
 }
 
 /// What an end knows: whether it sends, whether it takes, and all that it has sent and taken. It
-/// stands in contracts alone; no value of it is made.
+/// is in contracts alone; no value of it is made.
 pub struct Log<T> {
     pub sends: bool,
     pub takes: bool,

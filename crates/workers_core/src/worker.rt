@@ -74,7 +74,7 @@ impl<'s, S: Shared> Worker<'s, S> {
     /// dialogue: it sends no operation and asks no account. An InitialDp from a number that is no
     /// subscriber's is answered by ReleaseCall(21), and no account is asked. Else the dialogue of
     /// the call talks with its account until it sends operations or is done, or the account is
-    /// recharged. The answer tells the last refusal of an ask for the post. Each ask that was
+    /// recharged. The answer has the last refusal of an ask for the post. Each ask that was
     /// refused, told or not, was refused by an account that the seat there knows, as it was at the
     /// entries that the seat had then: so never with `GateClosed`.
     ///

@@ -6,7 +6,7 @@ use Rattle.std.specs.Fmt.{decimal}
 use Rattle.std.specs.Prelude.{OnOk, is_ok, if◌then◌else◌}
 use Rattle.table_core.proofs.fields.write_digit.Goals as goal
 
--- what was pushed stands at the end
+-- what was pushed is at the end
 pushed : {X E : Type 0} (answer : Result X E) (new old text : List ℕ) → new ≡ (if is_ok answer then old ++ text else old) → OnOk answer (new ≡ old ++ text)
 pushed (Ok done) new old text is = is
 pushed (Err why) new old text is = tt

@@ -2,7 +2,7 @@ use Rattle.std.proofs.Common.{◌≡◌, ◌≤◌, ◌++◌, ℕ, List, drop, t
 use Rattle.rating.specs.Cuts.{passed}
 use Rattle.rating.proofs.place.Place.pass.Given as goal
 
--- what is left so far stands at the front, and what is to come is as it was
+-- what is left so far is at the front, and what is to come is as it was
 abbrev pub invariant-loop-at : goal.invariant-loop-at
 invariant-loop-at l =
     (l.kept ≤ l.at) × (l.start ≤ l.at)
