@@ -9,7 +9,7 @@ use Rattle.std.proofs.lemmas.List.Folds.{list_all_at}
 use Rattle.tariff_core.specs.Bands.{Band, band_at, counts_on, has_band, has_midnights, weekday}
 use Rattle.tariff_core.specs.Digits.{digits_of}
 use Rattle.tariff_core.specs.Routes.{BeginsWith, HasNoRoute, IsPrefixFor}
-use Rattle.tariff_core.specs.Tariff.{is_complete, key_of}
+use Rattle.tariff_core.specs.Tariff.{AreNoLonger, is_complete, key_of}
 use Rattle.tariff_core.specs.declared.digits.Digits.{Digits}
 use Rattle.tariff_core.specs.declared.row.Row.{Row}
 use Rattle.tariff_core.specs.declared.times.TheConstants.{DAY}
@@ -63,11 +63,12 @@ begins_fits called prefix (rest, is) = omega (arith, ap length is ∙ length-app
 
 -- each row's prefix that fits is at most this long
 abbrev pub NoneLonger : List Band → List ℕ → ℕ → Type 0
-NoneLonger bands called most = All (λ band. BeginsWith called band.prefix → length band.prefix ≤ 15 → length band.prefix ≤ most) bands
+NoneLonger bands called most = All (λ band. BeginsWith called band.prefix → length band.prefix ≤ most) bands
 
-pub none_longer_first : (bands : List Band) (called : List ℕ) (most : ℕ) → most ≡ min (length called) 15 → NoneLonger bands called most
-none_longer_first bands called most is k d below begins short =
-    let fits = begins_fits called _ begins in omega (arith, fits, short)
+pub none_longer_first : (bands : List Band) (called : List ℕ) (longest most : ℕ) → AreNoLonger longest bands → most ≡ min (length called) longest → NoneLonger bands called most
+none_longer_first bands called longest most no_longer is k d below begins =
+    let fits = begins_fits called _ begins in
+    let short = no_longer k d below in omega (arith, fits, short)
 
 true_by : (b : Bool) → (b ≡ false → ⊥) → b ≡ true
 true_by true h = refl
@@ -87,15 +88,15 @@ complete_prefix bands prefix complete has =
     subst (λ p. has_midnights p bands ≡ true) is.own all
 
 pub is_longest : (bands : List Band) (called prefix : List ℕ) (most : ℕ) → prefix ≡ take most called → most ≤ length called → has_band prefix 1 0 bands ≡ true
-    → All (λ band. length band.prefix ≤ 15) bands → NoneLonger bands called most → IsPrefixFor bands called prefix
-is_longest bands called prefix most is within has short none =
+    → NoneLonger bands called most → IsPrefixFor bands called prefix
+is_longest bands called prefix most is within has none =
     let (band, found) = has_listed bands prefix 1 0 has in
     let (place, below, at) = found.listed in
     let count : length prefix ≡ min most (length called) = ap length is ∙ length-take most called in
     record {
       listed = (place, band, below, at, found.own);
       begins = (drop most called, rw is (sym (take-append-drop most called)));
-      longest = λ k d inside begins. let le = none k d inside begins (short k d inside) in omega arith;
+      longest = λ k d inside begins. let le = none k d inside begins in omega arith;
     }
 
 -- no row's prefix is one that isn't in the table
@@ -109,8 +110,8 @@ absent bands called prefix most is complete none band listed begins long =
 
 pub none_longer_next : (bands : List Band) (called prefix : List ℕ) (most : ℕ) → prefix ≡ take most called → is_complete bands ≡ true
     → has_band prefix 1 0 bands ≡ false → NoneLonger bands called most → NoneLonger bands called (most - 1)
-none_longer_next bands called prefix most is complete none longer k d below begins short =
-    let le = longer k d below begins short in
+none_longer_next bands called prefix most is complete none longer k d below begins =
+    let le = longer k d below begins in
     let other = absent bands called prefix most is complete none (get_or bands k d) (Contains-get_or bands k d below) begins in
     elim (cases_lt (length (get_or bands k d).prefix) most) [
       | inl less ↦ omega arith
@@ -118,7 +119,7 @@ none_longer_next bands called prefix most is complete none longer k d below begi
     ]
 
 pub no_route : (bands : List Band) (called prefix : List ℕ) (most : ℕ) → prefix ≡ take most called → is_complete bands ≡ true
-    → has_band prefix 1 0 bands ≡ false → All (λ band. length band.prefix ≤ 15) bands → NoneLonger bands called most → most ≡ 0 → HasNoRoute bands called
-no_route bands called prefix most is complete none short longer last k d below begins =
-    let le = longer k d below begins (short k d below) in
+    → has_band prefix 1 0 bands ≡ false → NoneLonger bands called most → most ≡ 0 → HasNoRoute bands called
+no_route bands called prefix most is complete none longer last k d below begins =
+    let le = longer k d below begins in
     absent bands called prefix most is complete none (get_or bands k d) (Contains-get_or bands k d below) begins (omega arith)

@@ -1,5 +1,5 @@
 -- The rows of a prefix that a range of the index has.
-use Rattle.std.proofs.Common.{◌≡◌, ℕ, zero, suc, ◌<◌, ◌≤◌, Bool, true, false, List, [], ◌∷◌, ◌++◌, get_or, Option, Some, None, refl, sym, ap, ◌∙◌, arith}
+use Rattle.std.proofs.Common.{◌≡◌, ℕ, zero, suc, ◌<◌, ◌≤◌, Bool, true, false, List, [], ◌∷◌, ◌++◌, get_or, Option, Some, None, refl, sym, ap, ◌∙◌, arith, length}
 use Rattle.std.specs.Prelude.{◌==◌, ◌&&◌, if◌then◌else◌, is_some, map, option_map, All, Contains, IfNone, IsSome}
 use Rattle.std.specs.BTreeMap.{BTreeMap, get}
 use Rattle.std.specs.BTreeMap.Range.{IsInRange, IsRangeOf}
@@ -88,8 +88,11 @@ Contains-map : (rows : List Row) (row : Row) → Contains rows row → Contains 
 Contains-map rows row (k, below, is) = (k, rw (length-map rows band_of) below, get_or-map band_of rows k row ∙ ap band_of is)
 
 -- what holds of each row of the code holds of each row that they say
+pub each_row_at : (rows : List Row) (P : Band → Type 0) → ((k : ℕ) (d : Row) → k < length rows → P (band_of (get_or rows k d))) → All P (map band_of rows)
+each_row_at rows P holds = All-map P band_of rows holds
+
 pub each_row : (rows : List Row) (P : Band → Type 0) → ((row : Row) → Contains rows row → P (band_of row)) → All P (map band_of rows)
-each_row rows P holds = All-map P band_of rows (λ k d below. holds (get_or rows k d) (Contains-get_or rows k d below))
+each_row rows P holds = each_row_at rows P (λ k d below. holds (get_or rows k d) (Contains-get_or rows k d below))
 
 some_seen : {X Y : Type 0} (view : X → Y) (found : Option X) → is_some (option_map view found) ≡ true → IsSome found
 some_seen view None is = cc

@@ -1,5 +1,5 @@
 -- What a tariff keeps.
-use Rattle.std.specs.Prelude.{◌≡◌, ◌≤◌, ◌++◌, ◌∷◌, [], ℕ, Bool, List, if◌then◌else◌, length, map, Some, option_map, Result, Ok, Err}
+use Rattle.std.specs.Prelude.{◌≡◌, ◌≤◌, ◌++◌, ◌∷◌, [], ℕ, Bool, true, All, List, if◌then◌else◌, length, map, Some, option_map, Result, Ok, Err}
 use Rattle.std.specs.BTreeMap.{BTreeMap, get}
 use Rattle.std.specs.List.{list_all}
 use Rattle.tariff_core.specs.Bands.{Band, band_at, has_midnights, is_at}
@@ -51,3 +51,13 @@ pub record Keeps (by_days : Bool) (old : List Row) (before : BTreeMap Place Row)
 -- each prefix has a row from midnight on, on each weekday
 abbrev pub is_complete : List Band → Bool
 is_complete bands = list_all (λ band. has_midnights band.prefix bands) bands
+
+-- no prefix has more digits than these
+abbrev pub AreNoLonger : ℕ → List Band → Type 0
+AreNoLonger digits bands = All (λ band. length band.prefix ≤ digits) bands
+
+-- the rows of a tariff: each prefix has one from midnight on, on each weekday, and no prefix has more digits than the longest
+pub record IsTariff (bands : List Band) (longest : ℕ) : Type 0 where
+  pub complete : is_complete bands ≡ true
+  pub short : longest ≤ 15
+  pub no_longer : AreNoLonger longest bands

@@ -6,7 +6,7 @@ ghost use Rattle.tariff_core.specs.Rates.{are_steps};
 ghost use Rattle.tariff_core.specs.Bands.{counts_on, has_band, has_midnights, have_steps, weekday};
 ghost use Rattle.tariff_core.specs.Digits.{digits_of};
 ghost use Rattle.tariff_core.specs.Routes.{IsBandAt, IsSoonest};
-ghost use Rattle.tariff_core.specs.Tariff.{Finds, Indexes, IsIndexed, Tells, Keeps, band_of, key_of};
+ghost use Rattle.tariff_core.specs.Tariff.{AreNoLonger, Finds, Indexes, IsIndexed, Tells, Keeps, band_of, key_of};
 ghost use Rattle.tariff_core.specs.TariffTable.{Gives, HasColumns, bands_of, new_band_in, repeats, without_midnight};
 ghost use Rattle.csv.specs.Records.{fields_of};
 ghost use Rattle.table_core.specs.Rows.{rows_of};
@@ -114,6 +114,18 @@ impl Bands {
         None
     }
 
+    /// How many digits the longest prefix has.
+    pub fn longest(&self) -> usize
+        ensures short { result ≤ 15 }
+        ensures no_longer { AreNoLonger result self.now }
+    {
+        let mut longest = 0;
+        for row in self.rows.iter() {
+            longest = longest.max(row.prefix.digits().len());
+        }
+        longest
+    }
+
     /// Whether any row bills in steps.
     pub fn have_steps(&self) -> bool
         ensures { result ≡ have_steps self.now }
@@ -141,9 +153,8 @@ impl Bands {
 
     /// Whether there is a row for a prefix that counts on a weekday, with this start.
     pub fn has(&self, prefix: Digits, day: u8, start: u32) -> bool
-        requires weekday { (1 ≤ day) × (day ≤ 7) }
-        ensures value { result ≡ has_band (digits_of prefix) day start self.now }
-        ensures short { All (λ band. length band.prefix ≤ 15) self.now }
+        requires { (1 ≤ day) × (day ≤ 7) }
+        ensures { result ≡ has_band (digits_of prefix) day start self.now }
     {
         let day = key_of(self.by_days, day);
         self.index.contains_key(&Place { prefix, day, start })

@@ -9,7 +9,7 @@ ghost use Rattle.tariff_core.specs.Tariff.{band_of};
 ghost use Rattle.tariff_core.specs.TariffTable.{Gives, tariff_of};
 
 use crate::bands::Bands;
-use crate::digits::{Digits, PREFIX_DIGITS};
+use crate::digits::Digits;
 use crate::route::{Quote, Route};
 use crate::row::Row;
 use crate::tariff_fault::{TariffFault, TariffKind};
@@ -29,19 +29,21 @@ const MONDAY: u8 = 1;
 #[derive(Drop)]
 pub struct Tariff {
     bands: Bands,
+    /// No prefix has more digits.
+    longest: usize,
 }
 
 impl Model for Tariff {
-    ghost use Rattle.std.specs.Prelude.{◌≡◌, true, List};
+    ghost use Rattle.std.specs.Prelude.{List};
     ghost use Rattle.tariff_core.specs.Bands.{Band};
 
     ghost Value = { List Band };
 
-    ghost use Rattle.tariff_core.specs.Tariff.{is_complete};
+    ghost use Rattle.tariff_core.specs.Tariff.{IsTariff};
 
     ghost view = { λ t. t.bands };
 
-    ghost invariant = { λ t. is_complete t.bands ≡ true };
+    ghost invariant = { λ t. IsTariff t.bands t.longest };
 }
 
 impl Tariff {
@@ -63,7 +65,10 @@ impl Tariff {
     {
         let bands = Bands::read(alloc, reader)?;
         match bands.without_midnight() {
-            None => Ok(Tariff { bands }),
+            None => {
+                let longest = bands.longest();
+                Ok(Tariff { bands, longest })
+            }
             Some(row) => Err(TariffFault {
                 row,
                 kind: TariffKind::NoMidnightBand,
@@ -126,7 +131,7 @@ impl Tariff {
             (λ digits. has_midnights digits.now self.now ≡ true) }
         ensures short { IfSome result (λ digits. length digits.now ≤ 15) }
     {
-        for length in (0..=called.len().min(PREFIX_DIGITS)).rev() {
+        for length in (0..=called.len().min(self.longest)).rev() {
             let digits = &called[..length];
             if self.bands.has(Digits::new(digits), MONDAY, 0) {
                 return Some(digits);

@@ -1,4 +1,4 @@
-use Rattle.std.proofs.Common.{◌≡◌, ◌≤◌, arith}
+use Rattle.std.proofs.Common.{arith}
 use Rattle.tariff_core.specs.RatesOf.{rates_of}
 use Rattle.tariff_core.proofs.Prices.{price_at_grows}
 use Rattle.tariff_core.proofs.pricing.debit.Goals as goal

@@ -7,7 +7,11 @@ use Rattle.tariff_core.proofs.TableLemmas.{passed_on, refused_whole}
 use Rattle.tariff_core.proofs.tariff.Tariff.read.Goals as goal
 
 pub invariant_of-result : goal.invariant_of-result
-invariant_of-result g c = complete_from c.in_ok-bands.bands 2 c.in_ok-bands.bands (sym c.in-None.ensures)
+invariant_of-result g c = record {
+  complete = complete_from c.in_ok-bands.bands 2 c.in_ok-bands.bands (sym c.in-None.ensures);
+  short = c.longest-longest.ensures.short;
+  no_longer = c.longest-longest.ensures.no_longer;
+}
 
 pub returns-in_err-bands : goal.returns-in_err-bands
 returns-in_err-bands g c = if_known _ _ (λ text known.
