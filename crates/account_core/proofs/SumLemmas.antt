@@ -114,3 +114,8 @@ listed_sums h calls tells entries are ordered sums is =
       each = λ q. found_all q entries ordered ∙ found_told q (lookup (is_at (nat_cmp q)) entries) (known q h)
           (ap (λ es. known_of (unwrap_or (lookup (is_at (nat_cmp q)) es) Fresh)) (sym are) ∙ tells q);
     })
+
+-- a history without entries has no sums
+pub no_sums : (sums : List CallSum) → sums ≡ [] → AreSums [] sums
+unfolding IsStrictlySortedBy
+no_sums sums none = subst (AreSums []) (sym none) (record { rising = tt; each = λ q. refl })

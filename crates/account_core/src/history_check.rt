@@ -5,12 +5,12 @@ ghost use Rattle.std.specs.Bool.{Decides};
 ghost use Rattle.account_core.specs.Answers.{IsAnswered, IsLegal, IsLegalPast};
 ghost use Rattle.account_core.specs.Events.{entry_data, EntryData, asked_of};
 ghost use Rattle.account_core.specs.Asked.{call_of};
-ghost use Rattle.account_core.specs.Checked.{HasBegun, IsCheckOf};
+ghost use Rattle.account_core.specs.Checked.{HasBegun, IsCheckOf, SumsUp};
 ghost use Rattle.account_core.specs.Known.{known, nothing_known};
 ghost use Rattle.account_core.specs.Wrong.{IsWrong};
 
 use crate::tally::{Tally, Told};
-use crate::{Account, AccountFault, Entry, Reply};
+use crate::{Account, AccountFault, AccountSum, CallSum, Entry, Reply};
 use std::alloc::{AllocError, Global};
 use tariff_core::MAX_MONEY;
 
@@ -42,6 +42,9 @@ impl Account {
 /// what they come to while they are legal.
 #[derive(Drop)]
 pub struct HistoryCheck {
+    opening: u64,
+    /// How many entries there were; `u64::MAX` where they are more.
+    entries: u64,
     heard: Heard,
 }
 
@@ -49,12 +52,8 @@ pub struct HistoryCheck {
 /// that a tally lies in memory of its own, from the first entry on.
 #[derive(Drop)]
 enum Heard {
-    /// No entry yet, of an account with this opening and last moment.
-    Nothing {
-        alloc: Global,
-        opening: u64,
-        until: Option<u64>,
-    },
+    /// No entry yet, of an account with this last moment.
+    Nothing { alloc: Global, until: Option<u64> },
     /// A legal history.
     Legal(Box<Tally>),
     /// A history that isn't legal, and never will be.
@@ -69,11 +68,9 @@ impl HistoryCheck {
         ensures { IsCheckOf opening until [] result }
     {
         HistoryCheck {
-            heard: Heard::Nothing {
-                alloc,
-                opening,
-                until,
-            },
+            opening,
+            entries: 0,
+            heard: Heard::Nothing { alloc, until },
         }
     }
 
@@ -117,6 +114,39 @@ impl HistoryCheck {
         !matches!(self.heard, Heard::Illegal)
     }
 
+    /// What the account has come to, where the entries so far are a legal history. The only error is
+    /// out of memory.
+    pub fn sum(&self, alloc: Global) -> Result<Option<AccountSum>, AllocError>
+        ensures { IfOk result (λ sum. (opening : ℕ) (until : Option ℕ) (h : List EntryData)
+            → IsCheckOf opening until h self.now → SumsUp opening until h sum) }
+    {
+        match &self.heard {
+            Heard::Nothing { .. } => Ok(Some(self.come_to(self.opening, Vec::new(alloc)))),
+            Heard::Legal(tally) => {
+                let calls = tally.calls.sums(alloc)?;
+                Ok(Some(self.come_to(tally.available, calls)))
+            }
+            Heard::Illegal => Ok(None),
+        }
+    }
+
+    /// An account of this opening and so many entries, with this credit left and these calls.
+    fn come_to(&self, available: u64, calls: Vec<CallSum>) -> AccountSum
+        ensures { result ≡ record {
+          opening = self.now.opening;
+          available = available;
+          entries = self.now.entries;
+          calls = calls;
+        } }
+    {
+        AccountSum {
+            opening: self.opening,
+            available,
+            entries: self.entries,
+            calls,
+        }
+    }
+
     /// Takes one entry more, where there is a tally, or no need of one.
     #[inline(always)]
     fn judge(&mut self, entry: Entry) -> Result<Option<Told>, AllocError>
@@ -141,9 +171,11 @@ impl HistoryCheck {
             ≡ nothing_known) }
     {
         let Heard::Legal(tally) = &mut self.heard else {
+            self.entries = self.entries.saturating_add(1);
             return Ok(None);
         };
         let wrong = tally.hear(entry)?;
+        self.entries = self.entries.saturating_add(1);
         if wrong.is_some() {
             self.heard = Heard::Illegal;
         }
@@ -160,13 +192,9 @@ impl HistoryCheck {
         ensures empty { OnErr result ((opening : ℕ) (until : Option ℕ) (h : List EntryData) →
             IsCheckOf opening until h self.old → h ≡ []) }
     {
-        if let Heard::Nothing {
-            alloc,
-            opening,
-            until,
-        } = self.heard
-        {
-            self.heard = Heard::Legal(Box::new(alloc, Tally::new(alloc, opening, until))?);
+        if let Heard::Nothing { alloc, until } = self.heard {
+            let tally = Tally::new(alloc, self.opening, until);
+            self.heard = Heard::Legal(Box::new(alloc, tally)?);
         }
         Ok(())
     }

@@ -4,6 +4,7 @@
 
 mod account;
 mod account_port;
+mod account_sum;
 mod admitted;
 mod call_stage;
 mod call_state;
@@ -20,6 +21,7 @@ mod tally;
 
 pub use account::{Account, Teller};
 pub use account_port::{AccountPort, Port};
+pub use account_sum::AccountSum;
 pub use admitted::Admitted;
 pub use call_stage::CallStage;
 pub use call_sum::{CallSum, Fate};
