@@ -188,3 +188,18 @@ class Account:
 
 
 setattr(Account, "return", Account.return_)
+
+
+def account_line(number, account):
+    left, count = account.available(), len(account.entries)
+    return f"account {number} opening {account.opening} available {left} entries {count}\n"
+
+
+def call_lines(accounts):
+    """A line for each call that an account granted anything, by the calls' numbers and then the accounts'."""
+    known = [(call, number, it) for number, account in accounts.items() for call, it in account.calls.items()]
+    lines = []
+    for call, number, it in sorted(known, key=lambda row: row[:2]):
+        word = "forfeit" if it.has_forfeit else "holding" if it.is_open else "returned"
+        lines.append(f"call {call} account {number} paid {it.paid()} {word}\n")
+    return "".join(lines)

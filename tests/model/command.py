@@ -2,7 +2,7 @@
 import io
 import re
 
-from .account import DAY, MAX_MONEY, Account, Plan, Times, afford, price
+from .account import DAY, MAX_MONEY, Account, Plan, Times, account_line, afford, call_lines, price
 from .rate import rate
 from .run import Options, Run
 from .serve import serve
@@ -38,7 +38,7 @@ ARGUMENTS = Fault("prepaid: arguments")
 TAKEN = {
     "price": {"--fee", "--before", "--after", "--free", "--first", "--step"},
     "replay": {"--opening", "--limit"},
-    "audit": {"--long", "--rows"},
+    "audit": {"--long", "--rows", "--lines"},
     "rate": {"--called", "--answer", "--time", "--end", "--paid", "--before", "--after", "--differing"},
     "quote": {"--called", "--at", "--for", "--credit", "--clock"},
     "run": {"--workers", "--wanted", "--least", "--tssf", "--tccd", "--delay", "--default", "--clock", *TABLES},
@@ -186,7 +186,7 @@ def told(reply):
 def do_audit(given, text):
     """Whether each account's entries are those of an account: their operations are taken, and answered so."""
     book = read_book(text, MOST_LONG_ROWS) if "--long" in given else read_book(whole(text), MOST_ROWS)
-    lines, status = [], 0
+    lines, legal, status = [], {}, 0
     for number, (opening, until, entries) in sorted(book.items()):
         account = Account(opening, until, NO_LIMIT)
         answered = (
@@ -194,13 +194,15 @@ def do_audit(given, text):
             for row, seat, op, reply in entries
         )
         wrong = next((it for it in answered if it[2] != it[3]), None)
-        lines.append(f"account {number} {'no' if wrong else 'yes'}\n")
-        if wrong:
-            status, (row, op, reply, right) = 3, wrong
-            if "--rows" in given:
-                found = f"account {number} row {row}: {op}: {told(reply)}"
-                lines.append(f"{found}, is {told(right)}\n")
-    return status, "".join(lines)
+        if not wrong:
+            legal[number] = account
+            lines.append(account_line(number, account) if "--lines" in given else f"account {number} yes\n")
+            continue
+        lines.append(f"account {number} no\n")
+        status, (row, op, reply, right) = 3, wrong
+        if "--rows" in given:
+            lines.append(f"account {number} row {row}: {op}: {told(reply)}, is {told(right)}\n")
+    return status, "".join(lines) + (call_lines(legal) if "--lines" in given else "")
 
 
 def do_serve(given, source, write):

@@ -442,7 +442,8 @@ def books(it):
         order = [row[0] for row in rows[1:]]
         it.shuffle(order)
         rows[1:] = [left[account].pop(0) for account in order]
-    return ["audit", *it.choices([[], ["--long"]], [3, 1])[0], *it.choice([[], ["--rows"]])], table(rows)
+    words = ["audit", *it.choices([[], ["--long"]], [3, 1])[0]]
+    return [*words, *it.choice([[], ["--rows"]]), *it.choice([[], ["--lines"]])], table(rows)
 
 
 def altered(it, field):

@@ -3,7 +3,7 @@ import collections
 import dataclasses
 
 from . import calls, trace
-from .account import Account
+from .account import Account, account_line, call_lines
 from .service import is_stray, talk
 from .switch import Refused, Switch
 from .tables import BOOK, Fault, has_steps, route
@@ -195,12 +195,7 @@ class Run:
         return f"prepaid: refused: {', '.join(kinds)}\n" if kinds else ""
 
     def lines(self):
-        rows = [f"account {number} opening {it.opening} available {it.available()} entries {len(it.entries)}" for number, it in self.accounts.items()]
-        known = [(call, number, it) for number, account in self.accounts.items() for call, it in account.calls.items()]
-        for call, number, it in sorted(known, key=lambda row: row[:2]):
-            word = "forfeit" if it.has_forfeit else "holding" if it.is_open else "returned"
-            rows.append(f"call {call} account {number} paid {it.paid()} {word}")
-        return "".join(f"{it}\n" for it in rows)
+        return "".join(account_line(number, it) for number, it in self.accounts.items()) + call_lines(self.accounts)
 
     def calls(self):
         return calls.table(self.told, self.tariff, self.subscribers, self.accounts, self.clock)

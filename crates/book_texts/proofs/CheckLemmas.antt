@@ -25,7 +25,7 @@ use Rattle.table_core.specs.declared.fault.TableFault.{TableFault}
 use Rattle.table_core.specs.declared.table.Table.{Table}
 use Rattle.table_core.proofs.Known.{map_known}
 use Rattle.entry_rows.specs.Versions.{version_at}
-use Rattle.book_texts.specs.Audits.{AreVerdicts, GivesAuditOf, audited}
+use Rattle.book_texts.specs.Audits.{AreVerdicts, GivesAuditOf, IsSaidOf}
 use Rattle.book_texts.specs.BookRows.{Enters, HasColumns, Opens, Said, columns_in, said_in}
 use Rattle.book_texts.specs.Books.{Books, Told, books_form, books_headers, books_of, entered, judged, opened, row_at, told_of, with_entry, with_opening}
 use Rattle.book_texts.specs.Checks.{AreChecks, AreNoted, AreRight, Comes, GivesChecks, HaveChecks, HearsBy, IsOrdered, IsRight, ListComes, Notes, audited_by, entries_of, verdicts_of, wrong_of}
@@ -241,13 +241,17 @@ verdicts_right most rows all (book ∷ books) (check ∷ checks) wrongs found ar
     let R : Option Told → Type 0 = λ told. IsRight most rows book.0 told (wrong_of book.0 wrongs) in
     ((are.0.0, rw are.0.0 (subst R found.0 (right book.0))), verdicts_right most rows all books checks wrongs found.1 are.1 right)
 
+-- what is said of a table's checks, where the verdicts on its books are those of the checks
+abbrev pub SaysOf : ℕ → Bool → Bool → List Fields → Checked → Audit → Type 0
+SaysOf most lines shown rows checked audit =
+    (books : Books) → AreChecks books checked.checks.items → AreVerdicts most rows books (verdicts_of checked.checks.items checked.wrongs)
+    → IsSaidOf lines shown books (verdicts_of checked.checks.items checked.wrongs) (audited_by audit)
+
 -- from the checks of a table's books to an audit of them
-pub audit_said : (most : ℕ) (shown : Bool) (rows : List Fields) (checked : Checked) (audit : Audit) (meaning : Result Books RowFault) → books_of most rows ≡ meaning
-    → audited_by audit ≡ audited shown (verdicts_of checked.checks.items checked.wrongs) → GivesChecks most rows (Ok checked) meaning
-    → GivesAuditOf most shown rows (Ok (audited_by audit)) meaning
-audit_said most shown rows checked audit (Ok books) is said of = record {
-  verdicts = verdicts_of checked.checks.items checked.wrongs;
-  are = verdicts_right most rows books books checked.checks.items checked.wrongs (all_found 0 books (books_ascend most rows books is)) of.checks of.wrongs;
-  said = said;
-}
-audit_said most shown rows checked audit (Err why) is said never = absurd never
+pub audit_said : (most : ℕ) (lines shown : Bool) (rows : List Fields) (checked : Checked) (audit : Audit) (meaning : Result Books RowFault) → books_of most rows ≡ meaning
+    → SaysOf most lines shown rows checked audit → GivesChecks most rows (Ok checked) meaning
+    → GivesAuditOf most lines shown rows (Ok (audited_by audit)) meaning
+audit_said most lines shown rows checked audit (Ok books) is said of =
+    let are = verdicts_right most rows books books checked.checks.items checked.wrongs (all_found 0 books (books_ascend most rows books is)) of.checks of.wrongs in
+    record { verdicts = verdicts_of checked.checks.items checked.wrongs; are = are; said = said books of.checks are }
+audit_said most lines shown rows checked audit (Err why) is said never = absurd never

@@ -3,6 +3,7 @@ pub mod CheckLemmas
 pub mod OneText
 pub mod PrintedRows
 pub mod ReadBooks
+pub mod SumLines
 pub mod TextLemmas
 pub mod AboveLemmas
 pub mod ToldLemmas

@@ -2,18 +2,19 @@
 use Rattle.std.proofs.Common.{◌≡◌, ℕ, ◌+◌, ◌<◌, ◌≤◌, ◌^◌, Bool, true, false, List, [], ◌∷◌, ◌++◌, length, map, Option, Some, None, Result, Ok, refl, ap, ◌∙◌, append_assoc, append-nil, add-zero, arith}
 use Rattle.std.specs.BTreeMap.{insert_entry, is_at}
 use Rattle.std.specs.Fmt.{decimal}
-use Rattle.std.specs.List.{All, AllByRecursion, flat_map, list_any}
+use Rattle.std.specs.List.{All, AllByRecursion, cons_option, filter_map, flat_map, list_all, list_any}
 use Rattle.std.specs.List.Sorted.{IsStrictlySortedBy}
 use Rattle.std.specs.Map.{lookup, set_value}
 use Rattle.std.specs.Ordering.{nat_cmp}
 use Rattle.std.specs.Str.{bytes_eq}
-use Rattle.std.specs.Prelude.{◌||◌, codes, if◌then◌else◌, IfSome}
+use Rattle.std.specs.Prelude.{◌||◌, codes, if◌then◌else◌, is_none, IfSome}
 use Rattle.std.specs.declared.cmp.Ordering.TheVariants as order
 use Rattle.std.proofs.lemmas.Bool.Decides.{nat_tests}
 use Rattle.std.proofs.lemmas.Fmt.{decimal_nonempty}
 use Rattle.std.proofs.lemmas.List.Elements.{All-head, All-tail}
 use Rattle.account_core.specs.Answers.{IsLegal}
 use Rattle.account_core.specs.Asked.{Asked, Credits, Reserves, Returns, Settles}
+use Rattle.account_core.specs.Checked.{counted}
 use Rattle.account_core.specs.Events.{EntryData}
 use Rattle.entry_rows.specs.Column.{is_empty, moment_of, money_of, number_of, optional_moment_of, seat_of}
 use Rattle.entry_rows.specs.Columns.{Answer, Operation, answer_of, no_answer, number_or_empty, opening_of, operation_at, operation_of}
@@ -30,12 +31,13 @@ use Rattle.table_core.proofs.TableLemmas.{no_fault}
 use Rattle.table_core.specs.declared.fault.RowFault.{RowFault}
 use Rattle.tariff_core.specs.Rates.{are_steps}
 use Rattle.tariff_core.specs.declared.times.TimeInfo.TheVariants as info
-use Rattle.book_texts.specs.Audits.{AreVerdicts, IsAuditOf, Verdict, audited}
+use Rattle.book_texts.specs.Audits.{AreVerdicts, IsAuditOf, IsSummedUp, Verdict, all_sum_lines, audited, passed}
 use Rattle.book_texts.specs.BookRows.{Enters, Opens, account_of, columns_in, entry_in, opening_in, said_in}
 use Rattle.book_texts.specs.BookTexts.{asks_steps, book_text, history_has_steps, version_of}
 use Rattle.book_texts.specs.Books.{Books, Told, books_form, row_at}
-use Rattle.book_texts.specs.Laws.{BooksAreRead, PrintedBooksPass}
+use Rattle.book_texts.specs.Laws.{BooksAreRead, PrintedBooksHaveTheirLines, PrintedBooksPass}
 use Rattle.book_texts.specs.Printable.{ArePrintable, FitsBook, row_count, told_by}
+use Rattle.book_texts.specs.RunTexts.{account_line, call_line, line_in}
 use Rattle.book_texts.proofs.PrintedRows.{book_fields, entry_fields, opening_fields, row_fields, table_fields, table_plain, text_lines, unmarked}
 
 -- ---- the last account of a list that rises
@@ -358,5 +360,40 @@ module _ (reads : DecimalsAreRead) (operations : OperationsAreRead) (replies : R
     pub books_pass : PrintedBooksPass
     books_pass most steps shown books audit are legal gives =
         let rows = rows_of (book_text (version_of steps books) books) in
-        let is_audit : IsAuditOf most shown rows (map told_by books) audit = rw (books_read most steps books are) at gives in
+        let is_audit : IsAuditOf most false shown rows (map told_by books) audit = rw (books_read most steps books are) at gives in
         is_audit.said ∙ ap (audited shown) (each_passes most rows books is_audit.verdicts legal is_audit.are)
+
+    -- ---- their lines
+
+    -- the verdicts on books that are all legal
+    abbrev yes_of : List Closed → List Verdict
+    yes_of books = map (λ book. (book.account, None)) books
+
+    all_yes : (books : List Closed) → list_all (λ verdict. is_none verdict.1) (yes_of books) ≡ true
+    all_yes [] = refl
+    all_yes (book ∷ books) = all_yes books
+
+    each_line : (most : ℕ) (shown : Bool) (books : List Closed) → most ≤ 18446744073709551615 → row_count books ≤ most
+        → all_sum_lines shown (map told_by books) (yes_of books) ≡ flat_map account_line books
+    each_line most shown [] small few = refl
+    each_line most shown (book ∷ books) small few =
+        let count : counted (length book.history) ≡ length book.history = omega (arith, small, few) in
+        rw (count, each_line most shown books small (omega (arith, few))) refl
+
+    each_call : (call : ℕ) (books : List Closed) → filter_map (line_in call) (passed (map told_by books) (yes_of books)) ≡ filter_map (line_in call) books
+    each_call call [] = refl
+    each_call call (book ∷ books) = ap (cons_option (line_in call book)) (each_call call books)
+
+    pub books_have_lines : PrintedBooksHaveTheirLines
+    books_have_lines most steps shown books audit small are legal gives =
+        let rows = rows_of (book_text (version_of steps books) books) in
+        let is_audit : IsAuditOf most true shown rows (map told_by books) audit = rw (books_read most steps books are) at gives in
+        let yes = each_passes most rows books is_audit.verdicts legal is_audit.are in
+        let sums : IsSummedUp shown (map told_by books) (yes_of books) audit = rw yes at is_audit.said in (
+          sums.passes ∙ all_yes books,
+          record {
+            lines = sums.calls;
+            are = record { rising = sums.are.rising; each = λ call. sums.are.each call ∙ each_call call books };
+            is = sums.lines ∙ ap (λ text. text ++ flat_map call_line sums.calls) (each_line most shown books small are.room);
+          },
+        )

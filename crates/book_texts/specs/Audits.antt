@@ -1,14 +1,19 @@
 -- What the audit of a table of books says.
-use Rattle.std.specs.Prelude.{◌≡◌, ℕ, Bool, true, false, List, [], ◌++◌, Option, Some, None, Result, Ok, Err, codes, is_none, if◌then◌else◌}
+use Rattle.std.specs.Prelude.{◌≡◌, ℕ, Bool, true, false, List, [], ◌∷◌, ◌++◌, Option, Some, None, Result, Ok, Err, codes, is_none, if◌then◌else◌, length, reverse}
 use Rattle.std.specs.Fmt.{decimal}
 use Rattle.std.specs.List.{AllZip, flat_map, list_all}
 use Rattle.account_core.specs.Answers.{IsLegal}
+use Rattle.account_core.specs.Available.{available}
+use Rattle.account_core.specs.Checked.{counted}
+use Rattle.shared_account.specs.Closed.{Closed}
 use Rattle.table_core.specs.Faults.{Refuses}
 use Rattle.table_core.specs.Rows.{Fields}
 use Rattle.table_core.specs.declared.fault.RowFault.{RowFault}
 use Rattle.table_core.specs.declared.fault.TableFault.{TableFault}
 use Rattle.book_texts.specs.Books.{Books, Told, books_of}
+use Rattle.book_texts.specs.RunTexts.{AreCallLines, account_text, call_line}
 use Rattle.book_texts.specs.Wrongs.{IsWrongRow, wrong_line}
+use Rattle.book_texts.specs.declared.lines.CallLine.{CallLine}
 use Rattle.book_texts.specs.declared.wrong_row.WrongRow.{WrongRow}
 
 -- an account, and its first wrong row, if it has one
@@ -55,18 +60,54 @@ pub record Audited : Type 0 where
 abbrev pub audited : Bool → List Verdict → Audited
 audited shown verdicts = record { lines = flat_map (verdict_lines shown) verdicts; passes = list_all (λ verdict. is_none verdict.1) verdicts }
 
--- an audit of the books of a table says the verdicts on them
-pub record IsAuditOf (most : ℕ) (shown : Bool) (rows : List Fields) (books : Books) (audit : Audited) : Type 0 where
+-- the book of what is told of an account
+abbrev pub book_by : ℕ × Told → Closed
+book_by (account, told) = record { account = account; opening = told.opening; until = told.until; limit = length told.history; history = told.history }
+
+-- the books of the accounts whose verdict is yes
+abbrev pub passed : Books → List Verdict → List Closed
+passed [] verdicts = []
+passed (book ∷ books) [] = []
+passed (book ∷ books) (verdict ∷ verdicts) = if is_none verdict.1 then book_by book ∷ passed books verdicts else passed books verdicts
+
+-- the line of an account that came to this, its entries counted in 64 bits
+abbrev pub counted_line : Closed → List ℕ
+counted_line book = account_text book.account book.opening (available book.opening (reverse book.history)) (counted (length book.history))
+
+-- what is said of an account: what it came to, where its verdict is yes; else its verdict
+abbrev pub sum_lines : Bool → ℕ × Told → Verdict → List ℕ
+sum_lines shown book verdict = if is_none verdict.1 then counted_line (book_by book) else verdict_lines shown verdict
+
+-- the same of each account
+abbrev pub all_sum_lines : Bool → Books → List Verdict → List ℕ
+all_sum_lines shown [] verdicts = []
+all_sum_lines shown (book ∷ books) [] = []
+all_sum_lines shown (book ∷ books) (verdict ∷ verdicts) = sum_lines shown book verdict ++ all_sum_lines shown books verdicts
+
+-- what is said of books where their lines are asked for: that of each account, and then the lines of the calls of those whose verdict is yes
+pub record IsSummedUp (shown : Bool) (books : Books) (verdicts : List Verdict) (audit : Audited) : Type 0 where
+  pub calls : List CallLine
+  pub are : AreCallLines (passed books verdicts) calls
+  pub lines : audit.lines ≡ all_sum_lines shown books verdicts ++ flat_map call_line calls
+  pub passes : audit.passes ≡ list_all (λ verdict. is_none verdict.1) verdicts
+
+-- what is said of books with these verdicts, their lines or the verdicts
+abbrev pub IsSaidOf : Bool → Bool → Books → List Verdict → Audited → Type 0
+IsSaidOf false shown books verdicts audit = audit ≡ audited shown verdicts
+IsSaidOf true shown books verdicts audit = IsSummedUp shown books verdicts audit
+
+-- an audit of the books of a table says their lines, or the verdicts on them
+pub record IsAuditOf (most : ℕ) (lines shown : Bool) (rows : List Fields) (books : Books) (audit : Audited) : Type 0 where
   pub verdicts : List Verdict
   pub are : AreVerdicts most rows books verdicts
-  pub said : audit ≡ audited shown verdicts
+  pub said : IsSaidOf lines shown books verdicts audit
 
 -- an answer is an audit of the books, or the fault that they have
-abbrev pub GivesAuditOf : ℕ → Bool → List Fields → Result Audited TableFault → Result Books RowFault → Type 0
-GivesAuditOf most shown rows (Ok audit) (Ok books) = IsAuditOf most shown rows books audit
-GivesAuditOf most shown rows (Ok audit) (Err why) = ⊥
-GivesAuditOf most shown rows (Err fault) meaning = Refuses fault meaning
+abbrev pub GivesAuditOf : ℕ → Bool → Bool → List Fields → Result Audited TableFault → Result Books RowFault → Type 0
+GivesAuditOf most lines shown rows (Ok audit) (Ok books) = IsAuditOf most lines shown rows books audit
+GivesAuditOf most lines shown rows (Ok audit) (Err why) = ⊥
+GivesAuditOf most lines shown rows (Err fault) meaning = Refuses fault meaning
 
--- an answer is an audit of a table of at most so many rows, its wrong rows shown or not, or the table's fault
-abbrev pub GivesAudit : ℕ → Bool → List Fields → Result Audited TableFault → Type 0
-GivesAudit most shown rows answer = GivesAuditOf most shown rows answer (books_of most rows)
+-- an answer is an audit of a table of at most so many rows, with the lines of its books or not, its wrong rows shown or not; or the table's fault
+abbrev pub GivesAudit : ℕ → Bool → Bool → List Fields → Result Audited TableFault → Type 0
+GivesAudit most lines shown rows answer = GivesAuditOf most lines shown rows answer (books_of most rows)

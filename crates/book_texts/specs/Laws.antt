@@ -1,5 +1,5 @@
 -- What is true of the texts of books, in words of their own.
-use Rattle.std.specs.Prelude.{◌≡◌, ℕ, Bool, List, None, map, Ok}
+use Rattle.std.specs.Prelude.{◌≡◌, ◌≤◌, ℕ, Bool, true, false, List, None, map, Ok}
 use Rattle.std.specs.List.{All}
 use Rattle.account_core.specs.Answers.{IsLegal}
 use Rattle.shared_account.specs.Closed.{Closed}
@@ -23,4 +23,11 @@ BooksAreRead =
 abbrev pub PrintedBooksPass : Type 0
 PrintedBooksPass =
     (most : ℕ) (steps shown : Bool) (books : List Closed) (audit : Audited) → ArePrintable most books → All (λ book. IsLegal book.opening book.until book.history) books
-    → GivesAudit most shown (rows_of (book_text (version_of steps books) books)) (Ok audit) → audit ≡ audited shown (map (λ book. (book.account, None)) books)
+    → GivesAudit most false shown (rows_of (book_text (version_of steps books) books)) (Ok audit) → audit ≡ audited shown (map (λ book. (book.account, None)) books)
+
+-- and where lines are asked for, it says the lines of the books
+abbrev pub PrintedBooksHaveTheirLines : Type 0
+PrintedBooksHaveTheirLines =
+    (most : ℕ) (steps shown : Bool) (books : List Closed) (audit : Audited) → most ≤ 18446744073709551615 → ArePrintable most books
+    → All (λ book. IsLegal book.opening book.until book.history) books
+    → GivesAudit most true shown (rows_of (book_text (version_of steps books) books)) (Ok audit) → (audit.passes ≡ true) × IsRunText books audit.lines

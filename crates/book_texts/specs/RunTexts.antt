@@ -47,6 +47,11 @@ line_in call book = option_map (line_of book.account) (sum_of call (known call (
 abbrev pub lines_of : ℕ → List CallLine → List CallLine
 lines_of call lines = filter (λ line. line.sum.call == call) lines
 
+-- the lines of calls in their order: they rise by call, and those of a call are in the order that they had
+pub record AreOrdered (listed lines : List CallLine) : Type 0 where
+  pub rising : IsNonDecreasingBy (λ line. line.sum.call) lines
+  pub each : (call : ℕ) → lines_of call lines ≡ lines_of call listed
+
 -- the lines of all calls: they rise by call, and those of a call are one of each account that granted it anything, in the order of the books
 pub record AreCallLines (books : List Closed) (lines : List CallLine) : Type 0 where
   pub rising : IsNonDecreasingBy (λ line. line.sum.call) lines

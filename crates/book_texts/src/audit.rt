@@ -1,21 +1,23 @@
 //! The audit of a table of books.
 
-ghost use Rattle.std.specs.Prelude.{◌≡◌, ◌++◌, IfOk, IfSome, Ok, OnOk, string_bytes};
+ghost use Rattle.std.specs.Prelude.{◌≡◌, ◌++◌, ℕ, List, IfOk, IfSome, Ok, OnOk, map, string_bytes};
 ghost use Rattle.std.specs.Result.{result_map_both};
 ghost use Rattle.account_core.specs.Events.{entry_data};
-ghost use Rattle.book_texts.specs.Audits.{GivesAudit, audited, verdict_lines, word_of};
+ghost use Rattle.book_texts.specs.Audits.{AreVerdicts, GivesAudit, IsSummedUp, audited, verdict_lines, word_of};
 ghost use Rattle.book_texts.specs.BookRows.{Enters, HasColumns, columns_in, said_in};
 ghost use Rattle.book_texts.specs.Books.{Books, books_of, entered, row_at, told_of};
-ghost use Rattle.book_texts.specs.Checks.{AreNoted, Comes, GivesChecks, HaveChecks, audited_by, verdicts_of};
+ghost use Rattle.book_texts.specs.Checks.{AreChecks, AreNoted, Comes, GivesChecks, HaveChecks, audited_by, verdicts_of};
+ghost use Rattle.book_texts.specs.RunTexts.{account_text, line_of};
 ghost use Rattle.book_texts.specs.Sizes.{most_rows};
 ghost use Rattle.csv.specs.Records.{fields_of};
-ghost use Rattle.table_core.specs.Rows.{rows_of};
+ghost use Rattle.table_core.specs.Rows.{Fields, rows_of};
 
 use crate::account_checks::AccountChecks;
 use crate::book_row::{BookRow, read_row};
+use crate::lines::{CallLine, add_calls, write_account, write_in_order};
 use crate::wrong_row::{WrongRow, write_wrong};
 use crate::{AuditAsk, BookSize};
-use account_core::{Entry, HistoryCheck};
+use account_core::{AccountSum, Entry, HistoryCheck};
 use csv::ByteRecord;
 use entry_rows::Version;
 use rising_map::RisingMap;
@@ -26,7 +28,8 @@ use table_core::{RowKind, Table, TableFault};
 /// What the audit of a table of books says.
 #[derive(Drop)]
 pub struct Audit {
-    /// A line `account A yes` or `account A no` for each account, by rising number.
+    /// A line `account A yes` or `account A no` for each account, by rising number; or the lines of
+    /// the books.
     pub lines: String,
     /// Whether each of them is a yes.
     pub passes: bool,
@@ -34,7 +37,9 @@ pub struct Audit {
 
 /// Whether the history of each account of a table of books, version 1 to 4, is legal from its
 /// opening. No row is kept, but a check of each account, with what it knows of each of its calls,
-/// and the first wrong row of an account whose history isn't legal.
+/// and the first wrong row of an account whose history isn't legal. Where lines are asked for, they
+/// are those that `run_lines` gives of such books, but `account A no` for an account whose history
+/// isn't legal, and no line for its calls.
 ///
 /// Rows are judged in order as they are read, a row in this order: `Csv` where it has another
 /// number of fields than the header; `TooManyRows` past as many as a table of this size may have;
@@ -49,10 +54,54 @@ pub fn audit_books<I: Read + Drop>(
 ) -> Result<Audit, TableFault>
     ensures { IfSome (I.remaining reader) (λ text.
         GivesAudit (most_rows ask.size)
-        ask.rows (rows_of text) (result_map_both audited_by (λ fault. fault) result)) }
+        ask.lines ask.rows (rows_of text)
+        (result_map_both audited_by (λ fault. fault) result)) }
 {
     let checked = check_books(alloc, reader, ask.size)?;
+    if ask.lines {
+        return Ok(write_sums(alloc, &checked, ask.rows)?);
+    }
     Ok(write_audit(alloc, &checked, ask.rows)?)
+}
+
+/// What an audit says of these checks where the lines of their books are asked for.
+fn write_sums(alloc: Global, checked: &Checked, shown: bool) -> Result<Audit, AllocError>
+    ensures { IfOk result (λ audit. (most : ℕ) (rows : List Fields) (books : Books)
+        → AreChecks books checked.now.checks.items
+        → AreVerdicts most rows books
+        (verdicts_of checked.now.checks.items checked.now.wrongs)
+        → IsSummedUp shown books
+        (verdicts_of checked.now.checks.items checked.now.wrongs) (audited_by audit)) }
+{
+    let mut lines = String::new(alloc);
+    let mut calls = Vec::new(alloc);
+    let mut passes = true;
+    for (account, check) in &checked.checks {
+        let wrong = checked.wrongs.get(*account).copied();
+        passes &= wrong.is_none();
+        match check.sum(alloc)? {
+            Some(sum) => write_sum(&mut lines, &mut calls, *account, &sum)?,
+            None => write_verdict(&mut lines, *account, wrong, shown)?,
+        }
+    }
+    write_in_order(&mut lines, calls)?;
+    Ok(Audit { lines, passes })
+}
+
+/// Adds the line of an account that came to this, and puts its calls behind those of others.
+fn write_sum(
+    lines: &mut String,
+    calls: &mut Vec<CallLine>,
+    account: u64,
+    sum: &AccountSum,
+) -> Result<(), AllocError>
+    ensures line { OnOk result (string_bytes lines.new ≡ string_bytes lines.old
+        ++ account_text account sum.now.opening sum.now.available sum.now.entries) }
+    ensures calls { OnOk result (calls.new.items
+        ≡ calls.old.items ++ map (line_of account) sum.now.calls.items) }
+{
+    write_account(lines, account, sum.opening, sum.available, sum.entries)?;
+    add_calls(calls, account, sum.calls.as_slice())
 }
 
 /// What an audit says of these checks, its wrong rows shown or not.

@@ -1,8 +1,9 @@
 //! The lines that a run prints of its books.
 
-ghost use Rattle.std.specs.Prelude.{◌≡◌, ◌++◌, OnOk, IfOk, string_bytes, map};
+ghost use Rattle.std.specs.Prelude.{◌≡◌, ◌++◌, OnOk, IfOk, List, string_bytes, map};
 ghost use Rattle.std.specs.List.{flat_map};
-ghost use Rattle.book_texts.specs.RunTexts.{IsRunText, account_text, call_line, word_of, line_of};
+ghost use Rattle.book_texts.specs.RunTexts.{AreOrdered, IsRunText, account_text, call_line, word_of, line_of};
+ghost use Rattle.book_texts.specs.declared.lines.CallLine.{CallLine};
 
 use account_core::{CallSum, Fate};
 use shared_account::{Book, Summary};
@@ -17,32 +18,45 @@ pub fn run_lines(alloc: Global, books: &[Book]) -> Result<String, AllocError>
     let mut text = String::new(alloc);
     let mut lines = Vec::new(alloc);
     for book in books {
-        let summary = book.summary(alloc)?;
-        write_account(&mut text, &summary)?;
-        add_calls(&mut lines, summary.account, summary.calls.as_slice())?;
+        let Summary {
+            account,
+            opening,
+            available,
+            entries,
+            calls,
+        } = book.summary(alloc)?;
+        let (account, entries) = (u64::from(account), entries as u64);
+        write_account(&mut text, account, opening, available, entries)?;
+        add_calls(&mut lines, account, calls.as_slice())?;
     }
-    lines.sort_by_key(|line| line.sum.call)?;
-    write_calls(&mut text, lines.as_slice())?;
+    write_in_order(&mut text, lines)?;
     Ok(text)
 }
 
-/// Adds the line of an account.
-fn write_account(text: &mut String, summary: &Summary) -> Result<(), AllocError>
+/// Adds the line of an account: its number, its opening, what it has left, and how many entries.
+pub(crate) fn write_account(
+    text: &mut String,
+    account: u64,
+    opening: u64,
+    available: u64,
+    entries: u64,
+) -> Result<(), AllocError>
     ensures { OnOk result (string_bytes text.new ≡ string_bytes text.old
-        ++ account_text summary.now.account summary.now.opening summary.now.available
-        summary.now.entries) }
+        ++ account_text account opening available entries) }
 {
-    let Summary {
-        account,
-        opening,
-        available,
-        entries,
-        ..
-    } = summary;
     writeln!(
         text,
         "account {account} opening {opening} available {available} entries {entries}"
     )
+}
+
+/// Adds a line for each call, by rising number, those of one call in the order that they have.
+pub(crate) fn write_in_order(text: &mut String, mut lines: Vec<CallLine>) -> Result<(), AllocError>
+    ensures { OnOk result ((ordered : List CallLine) × AreOrdered lines.items ordered
+        × (string_bytes text.new ≡ string_bytes text.old ++ flat_map call_line ordered)) }
+{
+    lines.sort_by_key(|line| line.sum.call)?;
+    write_calls(text, lines.as_slice())
 }
 
 /// Adds a line for each call.
@@ -78,15 +92,19 @@ fn word(fate: Fate) -> &'static str
 
 /// What a call came to, and the account that granted it something.
 #[derive(Clone, Copy)]
-struct CallLine {
+pub(crate) struct CallLine {
     /// The number of the account.
-    account: u32,
+    account: u64,
     /// What the call has paid to it, and what has become of it there.
     sum: CallSum,
 }
 
 /// Puts the calls of an account behind those of others.
-fn add_calls(lines: &mut Vec<CallLine>, account: u32, sums: &[CallSum]) -> Result<(), AllocError>
+pub(crate) fn add_calls(
+    lines: &mut Vec<CallLine>,
+    account: u64,
+    sums: &[CallSum],
+) -> Result<(), AllocError>
     ensures { OnOk result (lines.new.items ≡ lines.old.items ++ map (line_of account) sums.now) }
 {
     for sum in sums {

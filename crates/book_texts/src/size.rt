@@ -13,6 +13,8 @@ pub struct AuditAsk {
     pub size: BookSize,
     /// Whether the first wrong row of each account is told.
     pub rows: bool,
+    /// Whether the lines are told that a run prints of such books.
+    pub lines: bool,
 }
 
 /// How long a table of books may be that is audited.

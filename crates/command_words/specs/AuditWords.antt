@@ -11,6 +11,6 @@ abbrev pub size_of : Bool → BookSize
 size_of true = size.Long
 size_of false = size.Short
 
--- how long a table the options ask for, and whether its wrong rows are shown
+-- how long a table the options ask for, whether its wrong rows are shown, and whether its lines are
 abbrev pub audit_in : List Row → AuditAsk
-audit_in options = record { size = size_of (has_flag options (codes "long")); rows = has_flag options (codes "rows") }
+audit_in options = record { size = size_of (has_flag options (codes "long")); rows = has_flag options (codes "rows"); lines = has_flag options (codes "lines") }

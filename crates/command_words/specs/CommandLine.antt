@@ -53,9 +53,9 @@ output_rules = flag_rule (codes "book") ∷ flag_rule (codes "calls") ∷ flag_r
 unfoldable pub run_app : App
 run_app = with_rules (with_rules (with_rules (with_rules (new_app (codes "run")) service_rules) switch_rules) other_rules) output_rules
 
--- `audit [--long] [--rows]`
+-- `audit [--long] [--rows] [--lines]`
 unfoldable pub audit_app : App
-audit_app = with_rules (new_app (codes "audit")) (flag_rule (codes "long") ∷ flag_rule (codes "rows") ∷ [])
+audit_app = with_rules (new_app (codes "audit")) (flag_rule (codes "long") ∷ flag_rule (codes "rows") ∷ flag_rule (codes "lines") ∷ [])
 
 -- what is asked of a number at a moment
 abbrev pub question_rules : List Rule

@@ -20,5 +20,6 @@ pub(crate) fn audit_ask(options: &ArgMatches<'_>) -> AuditAsk
     AuditAsk {
         size,
         rows: has_flag(options, "rows"),
+        lines: has_flag(options, "lines"),
     }
 }

@@ -104,13 +104,15 @@ fn audit_command<'a>(alloc: Global) -> Result<Command<'a>, AllocError>
     ensures app { IfOk result (λ command. app_of command ≡ audit_app) }
     ensures local { IfOk result (λ command. (fields_of command).has_globals ≡ false) }
 {
-    let about = "Tells of each account of a book whether its history is right";
+    let about = "Says of each account of a book whether its history is right";
     let usage = "prepaid audit [OPTIONS] < FILE";
     let command = input_command(alloc, "audit", about, usage, help::AUDIT);
     let long = "Takes a book of any size, and reads it row by row";
     let command = add(command, flag(alloc, "long", long))?;
     let rows = "Prints the first wrong row of each account, and what is right there";
-    add(command, flag(alloc, "rows", rows))
+    let command = add(command, flag(alloc, "rows", rows))?;
+    let lines = "Prints the lines that run prints of such a book";
+    add(command, flag(alloc, "lines", lines))
 }
 
 #[tactic(auto, unfolding(crate::specs::CommandLine::quote_app))]

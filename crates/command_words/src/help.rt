@@ -149,7 +149,8 @@ Kinds:
 pub(crate) const AUDIT: &str = "\
 A book of more than 16777216 bytes or 1000000 rows is audited with --long. Each book that
 run --book prints passes that. With --rows a line about the first wrong row of an account is
-behind its no: its reply, and what is right there. The header is row 1.
+behind its no: its reply, and what is right there. The header is row 1. With --lines the line of
+an account that run prints is in the place of its yes, and the lines of its calls are behind all.
 Input, a book as run --book prints it, for example:
 
   account,seat,op,call,x1,x2,x3,x4,x5,x6,x7,reply,y1,y2,y3

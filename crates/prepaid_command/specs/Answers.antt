@@ -62,14 +62,14 @@ pub record IsToldRun (ask : RunAsk) (text : List ℕ) (answer : Result Telling F
 abbrev pub IsRunOfInput : RunAsk → List ℕ → Result Telling Fault → Type 0
 IsRunOfInput ask input answer = MatchResult (sized input) (λ text. IsToldRun ask text answer) (λ why. answer ≡ Err why)
 
--- the lines of an audit, which passes where each account's history is legal
+-- the text of an audit, which passes where each account's history is legal
 abbrev pub telling_of_audit : Audited → Telling
 telling_of_audit audit = record { text = audit.lines; passes = audit.passes; refused = [] }
 
 -- an audit of the books of a table is told
 pub record IsToldAudit (ask : AuditAsk) (text : List ℕ) (books : Books) (answer : Result Telling Fault) : Type 0 where
   pub audit : Audited
-  pub is_audit : IsAuditOf (most_rows ask.size) ask.rows (rows_of text) books audit
+  pub is_audit : IsAuditOf (most_rows ask.size) ask.lines ask.rows (rows_of text) books audit
   pub told : answer ≡ Ok (telling_of_audit audit)
 
 -- what `audit` makes of a table of books, as it is asked

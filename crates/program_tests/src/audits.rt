@@ -114,6 +114,32 @@ const WRONG: [(&str, &str); 8] = [
     ),
 ];
 
+/// Rows of a table, and what an audit of it prints with `--lines`.
+const LINED: [(&str, &str); 4] = [
+    ("", ""),
+    (
+        "1,,opening,,1500,,,,,,,,\n1,1,reserve,1,50,1000,400,600,50,granted,600,more,450\n\
+         1,0,settle,1,2,n,300,,,settled,550,,450\n1,0,return,1,,,,,,returned,550,,950\n",
+        "account 1 opening 1500 available 950 entries 3\ncall 1 account 1 paid 550 returned\n",
+    ),
+    (
+        "5,,opening,,1000,,,,,,,,\n3,,opening,,1000,,,,,,,,\n\
+         5,0,reserve,9,0,600,,100,50,granted,100,more,900\n\
+         3,0,reserve,9,0,600,,100,50,granted,100,more,900\n\
+         5,0,reserve,4,0,600,,100,50,granted,100,more,800\n",
+        "account 3 opening 1000 available 900 entries 1\n\
+         account 5 opening 1000 available 800 entries 2\n\
+         call 4 account 5 paid 0 holding\n\
+         call 9 account 3 paid 0 holding\ncall 9 account 5 paid 0 holding\n",
+    ),
+    (
+        "9,,opening,,500,,,,,,,,\n2,,opening,,1,,,,,,,,\n7,,opening,,3,,,,,,,,\n\
+         7,0,credit,,1,,,,,credited,,,4\n9,0,reserve,1,0,600,,100,50,granted,100,more,400\n\
+         2,0,credit,,1,,,,,credited,,,3\n9,0,return,1,,,,,,returned,1,,499\n",
+        "account 2 no\naccount 7 opening 3 available 4 entries 1\naccount 9 no\n",
+    ),
+];
+
 /// Rows that are refused behind the opening of account 1, the kind of fault of the last.
 const REFUSED: [(&str, &str); 21] = [
     ("1,0,credit,,1,,,,,credited,,\n", "row 3: Csv"),
@@ -194,6 +220,21 @@ fn shows_wrong_rows(rt: HostRuntime) -> Result<(), Fail> {
         }
     }
     Ok(())
+}
+
+#[test]
+fn prints_lines_of_books(rt: HostRuntime) -> Result<(), Fail> {
+    for (rows, lines) in &LINED {
+        let table = table_of(rt.alloc(), "", rows)?;
+        let status = if lines.contains(" no\n") { 3 } else { 0 };
+        for words in ["audit --lines", "audit --lines --long"] {
+            expect(&rt, words, table.as_str(), (status, lines, ""))?;
+        }
+    }
+    let (rows, lines) = &WRONG[1];
+    let table = table_of(rt.alloc(), "", rows)?;
+    let words = "audit --rows --lines";
+    expect(&rt, words, table.as_str(), (3, lines, ""))
 }
 
 #[test]

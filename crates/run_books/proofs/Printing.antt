@@ -2,7 +2,7 @@
 use Rattle.std.proofs.Common.{ℕ, List, All}
 use Rattle.std.specs.Prelude.{slice_index_or}
 use Rattle.account_core.specs.Laws.{EntriesAreInRange}
-use Rattle.book_texts.specs.Laws.{BooksAreRead, PrintedBooksPass}
+use Rattle.book_texts.specs.Laws.{BooksAreRead, PrintedBooksHaveTheirLines, PrintedBooksPass}
 use Rattle.book_texts.specs.Printable.{ArePrintable, FitsBook}
 use Rattle.run_books.proofs.Entries.{history_fits}
 use Rattle.run_books.proofs.Openings.{IsOpenedWithin, accounts_rise, book_of, opened_within}
@@ -33,7 +33,11 @@ module _ (Stood : Closed → ℕ → Knowing) (serves : RunEntriesAreServed Stoo
     room = room;
   }
 
-  pub pass : BooksAreRead → PrintedBooksPass → RunsPassTheAudit Stood
-  pass read passes most setup workers given books is room =
+  pub pass : BooksAreRead → PrintedBooksPass → PrintedBooksHaveTheirLines → RunsPassTheAudit Stood
+  pass read passes lines most setup workers given books is room =
       let prints : ArePrintable most books = printable most setup workers given books is room in
-      record { read = λ steps. read most steps books prints; verdicts = λ steps shown audit gives. passes most steps shown books audit prints is.run.legal gives }
+      record {
+        read = λ steps. read most steps books prints;
+        verdicts = λ steps shown audit gives. passes most steps shown books audit prints is.run.legal gives;
+        lines = λ steps shown audit small gives. lines most steps shown books audit small prints is.run.legal gives;
+      }

@@ -1,9 +1,10 @@
 -- What holds of the table of the books of every run.
-use Rattle.std.specs.Prelude.{◌≡◌, ◌≤◌, ◌+◌, ◌*◌, ℕ, Bool, List, None, length, map, Ok}
+use Rattle.std.specs.Prelude.{◌≡◌, ◌≤◌, ◌+◌, ◌*◌, ℕ, Bool, true, false, List, None, length, map, Ok}
 use Rattle.book_texts.specs.Audits.{Audited, GivesAudit, audited}
 use Rattle.book_texts.specs.BookTexts.{book_text, version_of}
 use Rattle.book_texts.specs.Books.{books_of}
 use Rattle.book_texts.specs.Printable.{ArePrintable, row_count, told_by}
+use Rattle.book_texts.specs.RunTexts.{IsRunText}
 use Rattle.run_books.specs.Runs.{IsRecorded}
 use Rattle.run_values.specs.Setups.{Setup}
 use Rattle.run_values.specs.declared.post.Body.{Body}
@@ -15,11 +16,13 @@ use Rattle.table_core.specs.Rows.{rows_of}
 abbrev pub text_of : Bool → List Closed → List ℕ
 text_of steps books = book_text (version_of steps books) books
 
--- the table of books, of which this many rows are taken, is read back to the opening and the history of each, and whatever audit there is of it, its wrong rows shown or not, says yes for each account, in order, and shows no row
+-- the table of books, of which this many rows are taken, is read back to the opening and the history of each. Whatever audit there is of it, its wrong rows shown or not, says yes for each account, in order, and shows no row; or, where lines are asked for, it says the lines of the books
 pub record PassTheAudit (most : ℕ) (books : List Closed) : Type 0 where
   pub read : (steps : Bool) → books_of most (rows_of (text_of steps books)) ≡ Ok (map told_by books)
-  pub verdicts : (steps shown : Bool) (audit : Audited) → GivesAudit most shown (rows_of (text_of steps books)) (Ok audit)
+  pub verdicts : (steps shown : Bool) (audit : Audited) → GivesAudit most false shown (rows_of (text_of steps books)) (Ok audit)
       → audit ≡ audited shown (map (λ book. (book.account, None)) books)
+  pub lines : (steps shown : Bool) (audit : Audited) → most ≤ 18446744073709551615 → GivesAudit most true shown (rows_of (text_of steps books)) (Ok audit)
+      → (audit.passes ≡ true) × IsRunText books audit.lines
 
 -- the books of a run can be printed into a table that has room for their rows
 abbrev pub RunsArePrintable : (Closed → ℕ → Knowing) → Type 0

@@ -8,7 +8,8 @@ use runs_core::{reserves_are_in_the_books, run_entries_are_served};
 use shared_account::Shared;
 
 /// The table that `book_table` prints of the books of a run is read back to their openings and
-/// histories, and an audit of it says yes for each account.
+/// histories. An audit of it says yes for each account, or, where lines are asked for, the lines
+/// that `run_lines` prints of these books.
 ///
 /// All that it takes is in clauses: `IsRun` in that of `runs_core::serve`, `HasAccounts` in
 /// those of `RunSetup::accounts`, and `IsTyped` in that of `book_table`. Two things are left. The

@@ -9,6 +9,6 @@ returns g c =
     let ranges = c.entries_are_in_range.ensures in
     record {
       printable = printable g.S.Shared.stood serves reserves ranges;
-      pass = pass g.S.Shared.stood serves reserves ranges c.printed_books_are_read.ensures.read c.printed_books_are_read.ensures.pass;
+      pass = pass g.S.Shared.stood serves reserves ranges c.printed_books_are_read.ensures.read c.printed_books_are_read.ensures.pass c.printed_books_are_read.ensures.lines;
       few = few_rows g.S.Shared.stood;
     }
