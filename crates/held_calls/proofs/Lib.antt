@@ -1,0 +1,4 @@
+pub mod Closing
+pub mod Entries
+pub mod Holding
+pub mod Tables

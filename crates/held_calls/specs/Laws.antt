@@ -1,0 +1,37 @@
+-- What a worker enters of its calls, whatever its accounts refuse.
+use Rattle.std.specs.Prelude.{◌≡◌, ◌==◌, ◌++◌, ℕ, Bool, true, List, [], ◌∷◌, if◌then◌else◌, slice_index_or}
+use Rattle.cap_values.specs.declared.message.SsfMsg.{SsfMsg}
+use Rattle.cap_values.specs.declared.message.SsfMsg.TheVariants.{ChargingReport}
+use Rattle.run_values.specs.Setups.{Setup}
+use Rattle.run_values.specs.declared.post.Body.TheVariants.{Ssf}
+use Rattle.run_values.specs.declared.post.Post.{Post}
+use Rattle.tariff_core.specs.declared.times.TimeInfo.{TimeInfo}
+use Rattle.workers_core.specs.Chains.{AreAnswered, at_first, seat_numbers}
+use Rattle.workers_core.specs.Handled.{AnswerView, Holding, IsRightlyHandled}
+use Rattle.workers_core.specs.Laws.{IsRunning, ends_call}
+use Rattle.workers_core.specs.Refusals.{NeverRefusesClosing}
+use Rattle.workers_core.specs.Served.{returns_of, settles_of}
+use Rattle.workers_core.specs.Talks.{Showing}
+
+-- a worker has answered posts, and then this one, and each ask that was refused was refused rightly
+pub record IsAnsweredNext (Shows : ℕ → Showing) (setup : Setup) (number : ℕ) (before : List Post) (post : Post) (old new : Holding) : Type 0 where
+  pub answers : List AnswerView
+  pub begins : AreAnswered Shows setup (seat_numbers number setup) before answers (at_first setup) old
+  pub told : AnswerView
+  pub handles : IsRightlyHandled Shows setup (seat_numbers number setup) post old new told
+
+-- a report of a call that goes on with what it was granted is settled at the call's account, with the number of its post, and nothing else is settled for it
+abbrev pub TakenReportsAreSettled : (ℕ → Showing) → Type 0
+TakenReportsAreSettled Shows =
+    (setup : Setup) (number : ℕ) (before : List Post) (post : Post) (old new : Holding) (call place : ℕ) (active : Bool) (info : TimeInfo)
+    → NeverRefusesClosing Shows call → IsAnsweredNext Shows setup number before post old new → IsRunning old call place → post.body ≡ Ssf call (ChargingReport active info)
+    → (at : ℕ)
+    → settles_of (slice_index_or new.lists at []) ≡ settles_of (slice_index_or old.lists at []) ++ (if at == place then (post.number, call, info) ∷ [] else [])
+
+-- a call that goes on, and is ended by a message, is returned at its account, and no other call is returned for the message
+abbrev pub EndedCallsAreReturned : (ℕ → Showing) → Type 0
+EndedCallsAreReturned Shows =
+    (setup : Setup) (number : ℕ) (before : List Post) (post : Post) (old new : Holding) (call place : ℕ) (message : SsfMsg)
+    → NeverRefusesClosing Shows call → IsAnsweredNext Shows setup number before post old new → IsRunning old call place → post.body ≡ Ssf call message
+    → ends_call message ≡ true
+    → (at : ℕ) → returns_of (slice_index_or new.lists at []) ≡ returns_of (slice_index_or old.lists at []) ++ (if at == place then call ∷ [] else [])

@@ -1,0 +1,7 @@
+//! Laws of the calls that a worker holds, whatever its accounts refuse: while a call goes on, each
+//! report of it is settled, and when it is ended, it is returned.
+#![tactic(auto)]
+
+mod laws;
+
+pub use laws::{calls_are_held, ended_calls_are_returned, taken_reports_are_settled};
