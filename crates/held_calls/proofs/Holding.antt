@@ -111,13 +111,13 @@ talk_said numbers call at first old new t within about says is =
     }
 
 -- what a talk of a call needs of it, and leaves of it
-record IsBound (call at : ℕ) (first : Says × Phase) (lists : List (List EntryData)) : Type 0 where
-  about : IsAbout call first.1
-  says : SaysOf call first.0
-  last : ReturnsLast first.0 first.1
-  alone : (place : ℕ) → place ≢ at → entries_at call lists place ≡ []
-  stands : Stands (facts_at call lists at) first
-  unreturned : is_through first.1 ≡ false → returns_of (entries_at call lists at) ≡ []
+pub record IsBound (call at : ℕ) (first : Says × Phase) (lists : List (List EntryData)) : Type 0 where
+  pub about : IsAbout call first.1
+  pub says : SaysOf call first.0
+  pub last : ReturnsLast first.0 first.1
+  pub alone : (place : ℕ) → place ≢ at → entries_at call lists place ≡ []
+  pub stands : Stands (facts_at call lists at) first
+  pub unreturned : is_through first.1 ≡ false → returns_of (entries_at call lists at) ≡ []
 
 own_kept : (numbers : List ℕ) (call at : ℕ) (first : Says × Phase) (old new : Holding) (t : AnswerView) → at < length old.lists → IsBound call at first old.lists
     → IsTalked numbers call at first old new t → IsKept new.lists call (new.talks call)
@@ -147,7 +147,7 @@ talk_kept numbers call its at first old new t false same within bound is kept =
 
 -- ---- what a dialogue needs of its call
 
-begins_bound : (lists : List (List EntryData)) (call at now wanted least : ℕ) (route : Option _) → ((place : ℕ) → entries_at call lists place ≡ [])
+pub begins_bound : (lists : List (List EntryData)) (call at now wanted least : ℕ) (route : Option _) → ((place : ℕ) → entries_at call lists place ≡ [])
     → IsBound call at (on_begin call now wanted least route) lists
 begins_bound lists call at now wanted least route none = record {
   about = begun_about call now wanted least route;
@@ -160,7 +160,7 @@ begins_bound lists call at now wanted least route none = record {
   unreturned = λ not. ap returns_of (none at);
 }
 
-goes_bound : (lists : List (List EntryData)) (call at number now : ℕ) (from : Phase) (message : _) (said : Says) (phase : Phase) → IsAbout call from
+pub goes_bound : (lists : List (List EntryData)) (call at number now : ℕ) (from : Phase) (message : _) (said : Says) (phase : Phase) → IsAbout call from
     → on_message from number now message ≡ Ok (said, phase) → IsKept lists call (Some (record { phase = from; place = at })) → IsBound call at (said, phase) lists
 goes_bound lists call at number now from message said phase about takes kept =
     let to : TakesTo call number message (Ok (said, phase)) = subst (λ (step : Step). TakesTo call number message step) takes (takes_told call number now from message about) in

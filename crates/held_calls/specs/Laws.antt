@@ -1,12 +1,16 @@
 -- What a worker enters of its calls, whatever its accounts refuse.
-use Rattle.std.specs.Prelude.{◌≡◌, ◌==◌, ◌++◌, ℕ, Bool, true, List, [], ◌∷◌, if◌then◌else◌, slice_index_or}
+use Rattle.std.specs.Prelude.{◌≡◌, ◌==◌, ◌++◌, ℕ, Bool, true, Some, List, [], ◌∷◌, if◌then◌else◌, map, slice_index_or}
+use Rattle.account_core.specs.Events.{EntryData}
 use Rattle.cap_values.specs.declared.message.SsfMsg.{SsfMsg}
 use Rattle.cap_values.specs.declared.message.SsfMsg.TheVariants.{ChargingReport}
+use Rattle.held_calls.specs.Going.{ended_at, taken_at}
+use Rattle.held_calls.specs.Held.{entries_at}
 use Rattle.run_values.specs.Setups.{Setup}
 use Rattle.run_values.specs.declared.post.Body.TheVariants.{Ssf}
 use Rattle.run_values.specs.declared.post.Post.{Post}
+use Rattle.runs_core.specs.Shares.{item_of}
 use Rattle.tariff_core.specs.declared.times.TimeInfo.{TimeInfo}
-use Rattle.workers_core.specs.Chains.{AreAnswered, at_first, seat_numbers}
+use Rattle.workers_core.specs.Chains.{AreAnswered, IsAnswered, at_first, seat_numbers}
 use Rattle.workers_core.specs.Handled.{AnswerView, Holding, IsRightlyHandled}
 use Rattle.workers_core.specs.Laws.{IsRunning, ends_call}
 use Rattle.workers_core.specs.Refusals.{NeverRefusesClosing}
@@ -35,3 +39,19 @@ EndedCallsAreReturned Shows =
     → NeverRefusesClosing Shows call → IsAnsweredNext Shows setup number before post old new → IsRunning old call place → post.body ≡ Ssf call message
     → ends_call message ≡ true
     → (at : ℕ) → returns_of (slice_index_or new.lists at []) ≡ returns_of (slice_index_or old.lists at []) ++ (if at == place then call ∷ [] else [])
+
+-- ---- by what a worker was posted and what it answered
+
+-- the Settles of a call by a worker at the account at a place are just the reports of the call that came while it went on there, in order, each with its post's number
+abbrev pub WorkedReportsAreSettled : (ℕ → Showing) → Type 0
+WorkedReportsAreSettled Shows =
+    (setup : Setup) (number : ℕ) (posts : List Post) (answers : List AnswerView) (lists : List (List EntryData)) (call : ℕ) → NeverRefusesClosing Shows call
+    → IsAnswered Shows setup number posts answers lists
+    → (place : ℕ) → settles_of (entries_at call lists place) ≡ taken_at setup call place (map item_of posts) answers
+
+-- a call that went on at the account at a place when a message ended it has one Return there, and none at any other
+abbrev pub WorkedCallsAreReturned : (ℕ → Showing) → Type 0
+WorkedCallsAreReturned Shows =
+    (setup : Setup) (number : ℕ) (posts : List Post) (answers : List AnswerView) (lists : List (List EntryData)) (call there : ℕ) → NeverRefusesClosing Shows call
+    → IsAnswered Shows setup number posts answers lists → ended_at setup call (map item_of posts) answers ≡ Some there
+    → (place : ℕ) → returns_of (entries_at call lists place) ≡ (if place == there then call ∷ [] else [])

@@ -1,2 +1,4 @@
+pub mod Going
 pub mod Held
 pub mod Laws
+pub mod Runs

@@ -1,11 +1,14 @@
 //! Laws of workers and of runs, each the contract of a function that does nothing.
 
 ghost use Rattle.std.specs.Prelude.{List};
+ghost use Rattle.held_calls.specs.Going.{PaidCallsGoOn};
 ghost use Rattle.held_calls.specs.Held.{CallsAreHeld};
-ghost use Rattle.held_calls.specs.Laws.{EndedCallsAreReturned, TakenReportsAreSettled};
+ghost use Rattle.held_calls.specs.Laws.{EndedCallsAreReturned, TakenReportsAreSettled, WorkedCallsAreReturned, WorkedReportsAreSettled};
+ghost use Rattle.held_calls.specs.Runs.{RunCallsAreReturned, RunReportsAreSettled};
 ghost use Rattle.workers_core.specs.Refusals.{RefusesAt};
 
-use shared_account::Shared;
+use runs_core::{run_calls_are_of_one_worker, run_closing_is_never_refused};
+use shared_account::{Shared, TurnAccount, calls_of_one_seat_are_alone};
 
 /// The entries of a worker show each call as its dialogue is, whatever posts it has handled and
 /// whatever was refused: all entries of a call are at the account of its dialogue. From the first
@@ -30,3 +33,46 @@ pub fn taken_reports_are_settled<S: Shared>()
 pub fn ended_calls_are_returned<S: Shared>()
     ensures { (seats : List S.Seat) → EndedCallsAreReturned (RefusesAt S.was seats) }
 {}
+
+/// A call goes on with what it was granted where the operations that answered it say so: its
+/// InitialDp was answered with an ApplyCharging, at the account of the calling number, and so was
+/// each report since, and no message has ended it (`specs/Going.antt`).
+pub fn paid_calls_go_on<S: Shared>()
+    ensures { (seats : List S.Seat) → PaidCallsGoOn (RefusesAt S.was seats) }
+{}
+
+/// The Settles of a call by a worker at an account are just the reports of the call that came while
+/// it went on there, in order, each with the number of its post.
+pub fn worked_reports_are_settled<S: Shared>()
+    ensures { (seats : List S.Seat) → WorkedReportsAreSettled (RefusesAt S.was seats) }
+{}
+
+/// A call that went on when a message ended it has one Return at the account where it went on, and
+/// none at any other.
+pub fn worked_calls_are_returned<S: Shared>()
+    ensures { (seats : List S.Seat) → WorkedCallsAreReturned (RefusesAt S.was seats) }
+{}
+
+/// In a run over accounts by turns the Settles of a call in the book of an account are just the
+/// reports of the call that came while it went on there, in order, each with the number of its
+/// item, whatever else was refused. What the driver has given and heard says which these are
+/// (`specs/Going.antt`).
+///
+/// It takes what `serve` says of a run (`IsRun`), and that there is a worker.
+pub fn run_reports_are_settled()
+    ensures { RunReportsAreSettled }
+{
+    run_closing_is_never_refused();
+    run_calls_are_of_one_worker::<TurnAccount>();
+    calls_of_one_seat_are_alone();
+}
+
+/// In such a run a call that went on when a message ended it has one Return in the book of the
+/// account where it went on, and none in any other, whatever else was refused.
+pub fn run_calls_are_returned()
+    ensures { RunCallsAreReturned }
+{
+    run_closing_is_never_refused();
+    run_calls_are_of_one_worker::<TurnAccount>();
+    calls_of_one_seat_are_alone();
+}

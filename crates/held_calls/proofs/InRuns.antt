@@ -1,0 +1,144 @@
+-- What the books of a run have of a call.
+use Rattle.std.proofs.Common.{◌≡◌, ◌+◌, ◌++◌, ◌∙◌, ℕ, Bool, true, false, Option, Some, None, List, [], ◌∷◌, map, refl, sym, ap, subst, All, arith}
+use Rattle.std.specs.Option.{option_or}
+use Rattle.std.specs.Prelude.{◌==◌, ◌%◌, ◌&&◌, filter, if◌then◌else◌, slice_index_or}
+use Rattle.std.proofs.lemmas.Bool.Decides.{nat_tests}
+use Rattle.std.proofs.lemmas.List.{get_or-map}
+use Rattle.std.proofs.lemmas.Nat.{mod_below}
+use Rattle.account_core.specs.Ledger.{Ledger}
+use Rattle.held_calls.proofs.Going.{other_report}
+use Rattle.held_calls.proofs.Steps.{none_either}
+use Rattle.held_calls.specs.Going.{after_item, after_message, ended_from, ended_in, is_there, pays, taken_from, taken_in}
+use Rattle.held_calls.specs.Held.{entries_at}
+use Rattle.held_calls.specs.Runs.{RunCallsAreReturned, RunReportsAreSettled}
+use Rattle.held_calls.proofs.Going.{worked_returned, worked_settled}
+use Rattle.run_values.specs.Setups.{Setup}
+use Rattle.run_values.specs.declared.post.Answer.{Answer}
+use Rattle.run_values.specs.declared.post.Body.{Body}
+use Rattle.run_values.specs.declared.post.Body.TheVariants.{Ssf, Recharge}
+use Rattle.runs_core.specs.Closing.{lists_of, refuses_in}
+use Rattle.runs_core.specs.Entered.{IsBookAt, RunCallsAreOfOneWorker, RunClosingIsNeverRefused}
+use Rattle.runs_core.specs.Hearing.{answers_to}
+use Rattle.runs_core.specs.Shares.{Item, item_at, item_of, numbered, share_from, worker_of}
+use Rattle.shared_account.proofs.Beginnings.{begins_itself}
+use Rattle.shared_account.specs.Closed.{Closed}
+use Rattle.shared_account.specs.Own.{of_call, own}
+use Rattle.shared_account.specs.Seen.{CallsOfOneSeatAreAlone, IsBySeat, StoodIn}
+use Rattle.workers_core.specs.Handled.{AnswerView, answer_view}
+use Rattle.workers_core.specs.Laws.{ends_call}
+use Rattle.workers_core.specs.Served.{Report, reported_in, returns_of, settles_of}
+
+-- ---- an item of another worker is of no message of the call
+
+record IsApart (setup : Setup) (call number : ℕ) (was : Option ℕ) (body : Body) (told : AnswerView) : Type 0 where
+  after : after_item setup call was body told ≡ was
+  taken : (place : ℕ) → taken_in call place was number body ≡ []
+  ended : ended_in call was body ≡ None
+
+differs_so : (workers call other : ℕ) (b : Bool) → (other == call) ≡ b → (other % workers == call % workers) ≡ false → (other == call) ≡ false
+differs_so workers call other true same apart =
+    let alike : other ≡ call = grind (arith, nat_tests, same) in
+    let alike_too : (other % workers == call % workers) ≡ true = rw alike (grind (arith, nat_tests)) in absurd (cc)
+differs_so workers call other false same apart = same
+
+apart_item : (setup : Setup) (workers call number : ℕ) (was : Option ℕ) (body : Body) (told : AnswerView) → (worker_of workers body == call % workers) ≡ false → IsApart setup call number was body told
+apart_item setup workers call number was (Ssf other message) told apart =
+    let differs = differs_so workers call other (other == call) refl apart in
+    record {
+      after = ap (λ (b : Bool). if b then after_message setup (pays told.orders) was message else was) differs;
+      taken = λ place.
+          none_either (is_there was place) (filter (λ (report : Report). report.1 == call) (reported_in number (Ssf other message))) (other_report number call other message differs);
+      ended = ap (λ (b : Bool). if b && ends_call message then was else None) differs;
+    }
+apart_item setup workers call number was (Recharge account amount until) told apart =
+    record { after = refl; taken = λ place. none_either (is_there was place) [] refl; ended = refl }
+
+-- ---- a worker's share says of its calls what all items do
+
+taken_none : (setup : Setup) (call place : ℕ) (was : Option ℕ) (items : List Item) → taken_from setup call place was items [] ≡ []
+taken_none setup call place was [] = refl
+taken_none setup call place was (item ∷ items) = refl
+
+ended_none : (setup : Setup) (call : ℕ) (was : Option ℕ) (items : List Item) → ended_from setup call was items [] ≡ None
+ended_none setup call was [] = refl
+ended_none setup call was (item ∷ items) = refl
+
+-- with the next item
+taken_next : (setup : Setup) (workers call place : ℕ) (was : Option ℕ) (first : ℕ) (next : ℕ × Body) (given : List (ℕ × Body)) (answer : Answer) (answers : List Answer) (b : Bool)
+    → (worker_of workers next.1 == call % workers) ≡ b
+    → ((now : Option ℕ) → taken_from setup call place now (share_from workers (first + 1) given (call % workers)) (map answer_view (answers_to workers (call % workers) given answers))
+    ≡ taken_from setup call place now (numbered (first + 1) given) (map answer_view answers))
+    → taken_from setup call place was (if b then item_at first next ∷ share_from workers (first + 1) given (call % workers) else share_from workers (first + 1) given (call % workers))
+    (map answer_view (if b then answer ∷ answers_to workers (call % workers) given answers else answers_to workers (call % workers) given answers))
+    ≡ taken_from setup call place was (numbered first (next ∷ given)) (map answer_view (answer ∷ answers))
+taken_next setup workers call place was first next given answer answers true is rest =
+    ap (λ l. taken_in call place was first next.1 ++ l) (rest (after_item setup call was next.1 (answer_view answer)))
+taken_next setup workers call place was first next given answer answers false is rest =
+    let apart = apart_item setup workers call first was next.1 (answer_view answer) is in
+    rest was ∙ ap (λ (now : Option ℕ). taken_from setup call place now (numbered (first + 1) given) (map answer_view answers)) (sym apart.after)
+    ∙ ap (λ l. l ++ taken_from setup call place (after_item setup call was next.1 (answer_view answer)) (numbered (first + 1) given) (map answer_view answers)) (sym (apart.taken place))
+
+shared_taken : (setup : Setup) (workers call place : ℕ) (was : Option ℕ) (first : ℕ) (given : List (ℕ × Body)) (answers : List Answer)
+    → taken_from setup call place was (share_from workers first given (call % workers)) (map answer_view (answers_to workers (call % workers) given answers))
+    ≡ taken_from setup call place was (numbered first given) (map answer_view answers)
+shared_taken setup workers call place was first [] answers = refl
+shared_taken setup workers call place was first (next ∷ given) [] = taken_none setup call place was (share_from workers first (next ∷ given) (call % workers))
+shared_taken setup workers call place was first (next ∷ given) (answer ∷ answers) =
+    taken_next setup workers call place was first next given answer answers (worker_of workers next.1 == call % workers) refl
+    (λ now. shared_taken setup workers call place now (first + 1) given answers)
+
+ended_next : (setup : Setup) (workers call : ℕ) (was : Option ℕ) (first : ℕ) (next : ℕ × Body) (given : List (ℕ × Body)) (answer : Answer) (answers : List Answer) (b : Bool)
+    → (worker_of workers next.1 == call % workers) ≡ b
+    → ((now : Option ℕ) → ended_from setup call now (share_from workers (first + 1) given (call % workers)) (map answer_view (answers_to workers (call % workers) given answers))
+    ≡ ended_from setup call now (numbered (first + 1) given) (map answer_view answers))
+    → ended_from setup call was (if b then item_at first next ∷ share_from workers (first + 1) given (call % workers) else share_from workers (first + 1) given (call % workers))
+    (map answer_view (if b then answer ∷ answers_to workers (call % workers) given answers else answers_to workers (call % workers) given answers))
+    ≡ ended_from setup call was (numbered first (next ∷ given)) (map answer_view (answer ∷ answers))
+ended_next setup workers call was first next given answer answers true is rest =
+    ap (λ later. option_or (ended_in call was next.1) later) (rest (after_item setup call was next.1 (answer_view answer)))
+ended_next setup workers call was first next given answer answers false is rest =
+    let apart = apart_item setup workers call first was next.1 (answer_view answer) is in
+    rest was ∙ ap (λ (now : Option ℕ). ended_from setup call now (numbered (first + 1) given) (map answer_view answers)) (sym apart.after)
+    ∙ ap (λ (found : Option ℕ). option_or found (ended_from setup call (after_item setup call was next.1 (answer_view answer)) (numbered (first + 1) given) (map answer_view answers))) (sym apart.ended)
+
+shared_ended : (setup : Setup) (workers call : ℕ) (was : Option ℕ) (first : ℕ) (given : List (ℕ × Body)) (answers : List Answer)
+    → ended_from setup call was (share_from workers first given (call % workers)) (map answer_view (answers_to workers (call % workers) given answers))
+    ≡ ended_from setup call was (numbered first given) (map answer_view answers)
+shared_ended setup workers call was first [] answers = refl
+shared_ended setup workers call was first (next ∷ given) [] = ended_none setup call was (share_from workers first (next ∷ given) (call % workers))
+shared_ended setup workers call was first (next ∷ given) (answer ∷ answers) =
+    ended_next setup workers call was first next given answer answers (worker_of workers next.1 == call % workers) refl (λ now. shared_ended setup workers call now (first + 1) given answers)
+
+-- ---- in the books
+
+-- the entries of a call in a book are those of its worker there
+whole : (books : List Closed) (workers call account place : ℕ) (setup : Setup) (book : Closed) → CallsOfOneSeatAreAlone → All (λ b. (c : ℕ) → IsBySeat b (c % workers) c) books
+    → IsBookAt setup books account place book → of_call call book.history ≡ entries_at call (lists_of (call % workers) books) place
+whole books workers call account place setup book alone by_one at =
+    let worker : ℕ = call % workers in
+    let by_it : IsBySeat book worker call = subst (λ (b : Closed). IsBySeat b worker call) at.book_is (by_one place book at.within call) in
+    let listed : slice_index_or (lists_of worker books) place [] ≡ own worker book.history =
+    get_or-map (λ (b : Closed). own worker b.history) books place book [] at.within ∙ ap (λ (b : Closed). own worker b.history) at.book_is in
+    let account_is : Ledger = record { opening = book.opening; until = book.until; limit = book.limit; history = book.history } in
+    alone book worker call by_it (own worker book.history) account_is
+    (record { opening = refl; until = refl; limit = refl; begins = begins_itself book.history; own = refl })
+    ∙ ap (of_call call) (sym listed)
+
+pub run_settled : RunClosingIsNeverRefused → RunCallsAreOfOneWorker StoodIn → CallsOfOneSeatAreAlone → RunReportsAreSettled
+run_settled closing one alone setup workers given answers books account place book call some run at =
+    let worker : ℕ = call % workers in
+    let by = run.answered worker (mod_below call workers some) in
+    let told = map answer_view (answers_to workers worker given answers) in
+    let settled = worked_settled (refuses_in StoodIn books worker) setup worker by.posts told (lists_of worker books) call (closing setup workers given answers books call run) by.answered place in
+    ap settles_of (whole books workers call account place setup book alone (one setup workers given answers books run) at)
+    ∙ settled ∙ ap (λ (items : List Item). taken_from setup call place None items told) by.share ∙ shared_taken setup workers call place None 0 given answers
+
+pub run_returned : RunClosingIsNeverRefused → RunCallsAreOfOneWorker StoodIn → CallsOfOneSeatAreAlone → RunCallsAreReturned
+run_returned closing one alone setup workers given answers books account place book call there some run at ended =
+    let worker : ℕ = call % workers in
+    let by = run.answered worker (mod_below call workers some) in
+    let told = map answer_view (answers_to workers worker given answers) in
+    let its : ended_from setup call None (map item_of by.posts) told ≡ Some there =
+    ap (λ (items : List Item). ended_from setup call None items told) by.share ∙ shared_ended setup workers call None 0 given answers ∙ ended in
+    ap returns_of (whole books workers call account place setup book alone (one setup workers given answers books run) at)
+    ∙ worked_returned (refuses_in StoodIn books worker) setup worker by.posts told (lists_of worker books) call there (closing setup workers given answers books call run) by.answered its place

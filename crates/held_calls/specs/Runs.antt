@@ -1,0 +1,30 @@
+-- What the books of a run have of a call, by what its driver has given and heard.
+use Rattle.std.specs.Prelude.{◌≡◌, ◌==◌, ◌<◌, ℕ, Some, List, [], ◌∷◌, if◌then◌else◌, map}
+use Rattle.held_calls.specs.Going.{ended_at, taken_at}
+use Rattle.run_values.specs.Setups.{Setup}
+use Rattle.run_values.specs.declared.post.Answer.{Answer}
+use Rattle.run_values.specs.declared.post.Body.{Body}
+use Rattle.runs_core.specs.Entered.{IsBookAt}
+use Rattle.runs_core.specs.Runs.{IsRun}
+use Rattle.runs_core.specs.Shares.{numbered}
+use Rattle.shared_account.specs.Closed.{Closed}
+use Rattle.shared_account.specs.Own.{of_call}
+use Rattle.shared_account.specs.Seen.{StoodIn}
+use Rattle.workers_core.specs.Handled.{answer_view}
+use Rattle.workers_core.specs.Served.{returns_of, settles_of}
+
+-- in a run over accounts by turns, the Settles of a call in the book of an account are just the reports of the call that came while it went on there, in order, each with the
+-- number of its item
+abbrev pub RunReportsAreSettled : Type 0
+RunReportsAreSettled =
+    (setup : Setup) (workers : ℕ) (given : List (ℕ × Body)) (answers : List Answer) (books : List Closed) (account place : ℕ) (book : Closed) (call : ℕ)
+    → 0 < workers → IsRun StoodIn setup workers given answers books → IsBookAt setup books account place book
+    → settles_of (of_call call book.history) ≡ taken_at setup call place (numbered 0 given) (map answer_view answers)
+
+-- and a call that went on at the account at a place when a message ended it has one Return in the book of that account, and none in any other
+abbrev pub RunCallsAreReturned : Type 0
+RunCallsAreReturned =
+    (setup : Setup) (workers : ℕ) (given : List (ℕ × Body)) (answers : List Answer) (books : List Closed) (account place : ℕ) (book : Closed) (call there : ℕ)
+    → 0 < workers → IsRun StoodIn setup workers given answers books → IsBookAt setup books account place book
+    → ended_at setup call (numbered 0 given) (map answer_view answers) ≡ Some there
+    → returns_of (of_call call book.history) ≡ (if place == there then call ∷ [] else [])
