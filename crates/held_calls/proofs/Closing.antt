@@ -158,23 +158,25 @@ shown_of : (old : Holding) (call place : ℕ) (running : IsRunning old call plac
 shown_of old call place running kept = subst (λ (found : Option DialogueAt). IsKept old.lists call found) running.is kept
 
 -- a report of it
-pub report_taken : (Shows : ℕ → Showing) (setup : Setup) (numbers : List ℕ) (posts : List Post) (post : Post) (old new : Holding) (told : AnswerView) (call place : ℕ) (active : Bool) (info : TimeInfo)
-    → NeverRefusesClosing Shows call → IsSound (keys_of setup.accounts) posts old → AreKept old → IsRightlyHandled Shows setup numbers post old new told
-    → (running : IsRunning old call place) → post.body ≡ Ssf call (msg.ChargingReport active info)
-    → (taken : IsTakenOnce Shows numbers call place (Asks (Settles call post.number info)) (Settling running.terms active post.at) old new told)
-    × (settles_of (entries_of (slice_index_or numbers place 0) (Asks (Settles call post.number info), Settling running.terms active post.at) taken.talk.gots) ≡ (post.number, call, info) ∷ [])
-report_taken Shows setup numbers posts post old new told call place active info never sound kept is running body =
-    let about = its_call setup posts old call place sound running in
-    let to : Phase = Settling running.terms active post.at in
-    let asked : Asked = Settles call post.number info in
-    let taken = taken_once Shows setup numbers posts post old new told call place (msg.ChargingReport active info) (Asks asked) to sound kept is running body
-    (ap (λ (c : ℕ). Ok (Asks (Settles c post.number info), to)) about) in
+pub report_asked : (Shows : ℕ → Showing) (setup : Setup) (numbers : List ℕ) (posts : List Post) (post : Post) (old new : Holding) (told : AnswerView) (call place : ℕ) (active : Bool) (info : TimeInfo)
+    → IsSound (keys_of setup.accounts) posts old → AreKept old → IsRightlyHandled Shows setup numbers post old new told → (running : IsRunning old call place)
+    → post.body ≡ Ssf call (msg.ChargingReport active info)
+    → IsTakenOnce Shows numbers call place (Asks (Settles call post.number info)) (Settling running.terms active post.at) old new told
+report_asked Shows setup numbers posts post old new told call place active info sound kept is running body =
+    taken_once Shows setup numbers posts post old new told call place (msg.ChargingReport active info) (Asks (Settles call post.number info)) (Settling running.terms active post.at) sound kept is running
+    body (ap (λ (c : ℕ). Ok (Asks (Settles c post.number info), Settling running.terms active post.at)) (its_call setup posts old call place sound running))
+
+pub report_settled : (Shows : ℕ → Showing) (numbers : List ℕ) (call place number : ℕ) (active : Bool) (info : TimeInfo) (at : ℕ) (old new : Holding) (told : AnswerView) → NeverRefusesClosing Shows call
+    → (running : IsRunning old call place) → running.terms.call ≡ call
+    → (taken : IsTakenOnce Shows numbers call place (Asks (Settles call number info)) (Settling running.terms active at) old new told)
+    → settles_of (entries_of (slice_index_or numbers place 0) (Asks (Settles call number info), Settling running.terms active at) taken.talk.gots) ≡ (number, call, info) ∷ []
+report_settled Shows numbers call place number active info at old new told never running about taken =
+    let asked : Asked = Settles call number info in
+    let to : Phase = Settling running.terms active at in
     let mine = slice_index_or old.lists place [] in
-    let shown = shown_of old call place running taken.kept in
-    let closing : IsClosing (reverse mine) asked = shown.0.shown in
-    let first = answered_first (Shows place) (slice_index_or numbers place 0) asked to mine taken.talk.gots taken.right
-    (λ why shows. never place mine asked why refl closing shows) in
-    (taken, talk_settles_it (slice_index_or numbers place 0) call post.number info to taken.talk.phase taken.talk.last taken.talk.gots about taken.talk.talk taken.talk.rests first)
+    let closing : IsClosing (reverse mine) asked = (shown_of old call place running taken.kept).0.shown in
+    let first = answered_first (Shows place) (slice_index_or numbers place 0) asked to mine taken.talk.gots taken.right (λ why shows. never place mine asked why refl closing shows) in
+    talk_settles_it (slice_index_or numbers place 0) call number info to taken.talk.phase taken.talk.last taken.talk.gots about taken.talk.talk taken.talk.rests first
 
 -- what follows when a message ends a call
 pub sequel_to : SsfMsg → Sequel
@@ -192,22 +194,24 @@ gives_back t number at (msg.ChargingReport active info) ends = absurd (cc)
 gives_back t number at msg.Ended ends = refl
 
 -- a message that ends it
-pub ending_taken : (Shows : ℕ → Showing) (setup : Setup) (numbers : List ℕ) (posts : List Post) (post : Post) (old new : Holding) (told : AnswerView) (call place : ℕ) (message : SsfMsg)
-    → NeverRefusesClosing Shows call → IsSound (keys_of setup.accounts) posts old → AreKept old → IsRightlyHandled Shows setup numbers post old new told
-    → IsRunning old call place → post.body ≡ Ssf call message → ends_call message ≡ true
-    → (taken : IsTakenOnce Shows numbers call place (Asks (Returns call)) (Returning (sequel_to message)) old new told)
-    × (returns_of (entries_of (slice_index_or numbers place 0) (Asks (Returns call), Returning (sequel_to message)) taken.talk.gots) ≡ call ∷ [])
-ending_taken Shows setup numbers posts post old new told call place message never sound kept is running body ends =
-    let about = its_call setup posts old call place sound running in
+pub ending_asked : (Shows : ℕ → Showing) (setup : Setup) (numbers : List ℕ) (posts : List Post) (post : Post) (old new : Holding) (told : AnswerView) (call place : ℕ) (message : SsfMsg)
+    → IsSound (keys_of setup.accounts) posts old → AreKept old → IsRightlyHandled Shows setup numbers post old new told → IsRunning old call place → post.body ≡ Ssf call message
+    → ends_call message ≡ true → IsTakenOnce Shows numbers call place (Asks (Returns call)) (Returning (sequel_to message)) old new told
+ending_asked Shows setup numbers posts post old new told call place message sound kept is running body ends =
     let to : Phase = Returning (sequel_to message) in
-    let taken = taken_once Shows setup numbers posts post old new told call place message (Asks (Returns call)) to sound kept is running body
-    (gives_back running.terms post.number post.at message ends ∙ ap (λ (c : ℕ). Ok (Asks (Returns c), to)) about) in
+    taken_once Shows setup numbers posts post old new told call place message (Asks (Returns call)) to sound kept is running body
+    (gives_back running.terms post.number post.at message ends ∙ ap (λ (c : ℕ). Ok (Asks (Returns c), to)) (its_call setup posts old call place sound running))
+
+pub ending_returned : (Shows : ℕ → Showing) (numbers : List ℕ) (call place : ℕ) (message : SsfMsg) (old new : Holding) (told : AnswerView) → NeverRefusesClosing Shows call → IsRunning old call place
+    → (taken : IsTakenOnce Shows numbers call place (Asks (Returns call)) (Returning (sequel_to message)) old new told)
+    → returns_of (entries_of (slice_index_or numbers place 0) (Asks (Returns call), Returning (sequel_to message)) taken.talk.gots) ≡ call ∷ []
+ending_returned Shows numbers call place message old new told never running taken =
+    let to : Phase = Returning (sequel_to message) in
     let mine = slice_index_or old.lists place [] in
-    let shown = shown_of old call place running taken.kept in
-    let closing : IsClosing (reverse mine) (Returns call) = shown.0.shown.0 in
+    let closing : IsClosing (reverse mine) (Returns call) = (shown_of old call place running taken.kept).0.shown.0 in
     let first = answered_first (Shows place) (slice_index_or numbers place 0) (Returns call) to mine taken.talk.gots taken.right
     (λ why shows. never place mine (Returns call) why refl closing shows) in
-    (taken, talk_returns_it (slice_index_or numbers place 0) call (sequel_to message) taken.talk.phase taken.talk.last taken.talk.gots taken.talk.asked taken.talk.talk taken.talk.rests first)
+    talk_returns_it (slice_index_or numbers place 0) call (sequel_to message) taken.talk.phase taken.talk.last taken.talk.gots taken.talk.asked taken.talk.talk taken.talk.rests first
 
 -- ---- the laws of a worker
 
@@ -228,14 +232,16 @@ pub taken_settled : (Shows : ℕ → Showing) → TakenReportsAreSettled Shows
 taken_settled Shows setup number before post old new call place active info never is running body at =
     let numbers = seat_numbers number setup in
     let so = in_order Shows setup number before post old new is in
-    let taken = report_taken Shows setup numbers before post old new is.told call place active info never so.sound so.kept is.handles running body in
-    read_talked (λ (e : EntryData). settled_in e.asked) numbers call place at (Asks (Settles call post.number info), Settling running.terms active post.at) old new is.told taken.0.within taken.0.talk
-    ∙ ap (λ l. settles_of (slice_index_or old.lists at []) ++ (if at == place then l else [])) taken.1
+    let taken = report_asked Shows setup numbers before post old new is.told call place active info so.sound so.kept is.handles running body in
+    let settled = report_settled Shows numbers call place post.number active info post.at old new is.told never running (its_call setup before old call place so.sound running) taken in
+    read_talked (λ (e : EntryData). settled_in e.asked) numbers call place at (Asks (Settles call post.number info), Settling running.terms active post.at) old new is.told taken.within taken.talk
+    ∙ ap (λ l. settles_of (slice_index_or old.lists at []) ++ (if at == place then l else [])) settled
 
 pub ended_returned : (Shows : ℕ → Showing) → EndedCallsAreReturned Shows
 ended_returned Shows setup number before post old new call place message never is running body ends at =
     let numbers = seat_numbers number setup in
     let so = in_order Shows setup number before post old new is in
-    let taken = ending_taken Shows setup numbers before post old new is.told call place message never so.sound so.kept is.handles running body ends in
-    read_talked (λ (e : EntryData). returned_in e.asked) numbers call place at (Asks (Returns call), Returning (sequel_to message)) old new is.told taken.0.within taken.0.talk
-    ∙ ap (λ l. returns_of (slice_index_or old.lists at []) ++ (if at == place then l else [])) taken.1
+    let taken = ending_asked Shows setup numbers before post old new is.told call place message so.sound so.kept is.handles running body ends in
+    let returned = ending_returned Shows numbers call place message old new is.told never running taken in
+    read_talked (λ (e : EntryData). returned_in e.asked) numbers call place at (Asks (Returns call), Returning (sequel_to message)) old new is.told taken.within taken.talk
+    ∙ ap (λ l. returns_of (slice_index_or old.lists at []) ++ (if at == place then l else [])) returned

@@ -69,25 +69,25 @@ unmoved_by setup numbers posts post (GoesOn its at said phase) old new t call so
 
 -- ---- any post
 
-record IsStep (setup : Setup) (call number : ℕ) (body : Body) (old new : Holding) (told : AnswerView) : Type 0 where
+record IsStep (Closes : Type 0) (setup : Setup) (call number : ℕ) (body : Body) (old new : Holding) (told : AnswerView) : Type 0 where
   goes : stands_at (new.talks call) ≡ after_item setup call (stands_at (old.talks call)) body told
-  settles : (place : ℕ)
+  settles : Closes → (place : ℕ)
       → settles_of (entries_at call new.lists place) ≡ settles_of (entries_at call old.lists place) ++ taken_in call place (stands_at (old.talks call)) number body
   passed : has_passed (old.talks call) ≡ true → SameEntries call old.lists new.lists × (has_passed (new.talks call) ≡ true)
-  ends : (there : ℕ) → ended_in call (stands_at (old.talks call)) body ≡ Some there
+  ends : Closes → (there : ℕ) → ended_in call (stands_at (old.talks call)) body ≡ Some there
       → (has_passed (new.talks call) ≡ true) × ((place : ℕ) → returns_of (entries_at call new.lists place) ≡ (if place == there then call ∷ [] else []))
 
-unmoved_step : (setup : Setup) (call number : ℕ) (body : Body) (old new : Holding) (told : AnswerView) → IsUnmoved call old new
+unmoved_step : (Closes : Type 0) (setup : Setup) (call number : ℕ) (body : Body) (old new : Holding) (told : AnswerView) → IsUnmoved call old new
     → after_item setup call (stands_at (old.talks call)) body told ≡ stands_at (old.talks call) → filter (λ (report : Report). report.1 == call) (reported_in number body) ≡ []
-    → ended_in call (stands_at (old.talks call)) body ≡ None → IsStep setup call number body old new told
-unmoved_step setup call number body old new told unmoved same none open_still = record {
+    → ended_in call (stands_at (old.talks call)) body ≡ None → IsStep Closes setup call number body old new told
+unmoved_step Closes setup call number body old new told unmoved same none open_still = record {
   goes = ap stands_at unmoved.1 ∙ sym same;
-  settles = λ place.
+  settles = λ closes place.
       ap settles_of (unmoved.0 place) ∙ sym (append-nil (settles_of (entries_at call old.lists place)))
       ∙ ap (λ l. settles_of (entries_at call old.lists place) ++ l)
       (sym (none_either (is_there (stands_at (old.talks call)) place) (filter (λ (report : Report). report.1 == call) (reported_in number body)) none));
   passed = λ was. (unmoved.0, ap has_passed unmoved.1 ∙ was);
-  ends = λ there is. let never : None ≡ Some there = sym open_still ∙ is in absurd (cc);
+  ends = λ closes there is. let never : None ≡ Some there = sym open_still ∙ is in absurd (cc);
 }
 
 pub other_report : (number call other : ℕ) (message : SsfMsg) → (other == call) ≡ false → filter (λ (report : Report). report.1 == call) (report_in number other message) ≡ []
@@ -106,18 +106,18 @@ ended_by : (b : Bool) (was : Option ℕ) (there : ℕ) → (if b then was else N
 ended_by true was there is = (refl, is)
 ended_by false was there is = absurd (cc)
 
-message_step : (setup : Setup) (call number : ℕ) (message : SsfMsg) (old new : Holding) (told : AnswerView) → IsOwnStep setup call number message (old.talks call) old new told
-    → IsStep setup call number (Ssf call message) old new told
-message_step setup call number message old new told own =
+message_step : (Closes : Type 0) (setup : Setup) (call number : ℕ) (message : SsfMsg) (old new : Holding) (told : AnswerView) → IsOwnStep Closes setup call number message (old.talks call) old new told
+    → IsStep Closes setup call number (Ssf call message) old new told
+message_step Closes setup call number message old new told own =
     let was = stands_at (old.talks call) in
     record {
       goes = own.goes ∙ ap (λ (b : Bool). if b then after_message setup (pays told.orders) was message else was) (sym (is_itself call));
-      settles = λ place.
-          own.settles place
+      settles = λ closes place.
+          own.settles closes place
           ∙ ap (λ (l : List Report). settles_of (entries_at call old.lists place) ++ (if is_there was place then l else [])) (sym (own_report number call message));
       passed = own.passed;
-      ends = λ there is.
-          let by = ended_by (ends_call message) was there (ap (λ (b : Bool). if b && ends_call message then was else None) (sym (is_itself call)) ∙ is) in own.ends by.0 there by.1;
+      ends = λ closes there is.
+          let by = ended_by (ends_call message) was there (ap (λ (b : Bool). if b && ends_call message then was else None) (sym (is_itself call)) ∙ is) in own.ends closes by.0 there by.1;
     }
 
 another : (call other : ℕ) (message : SsfMsg) (body : Body) → (other == call) ≡ false → body ≡ Ssf other message → (its : SsfMsg) → body ≡ Ssf call its → ⊥
@@ -127,76 +127,76 @@ another call other message body differs is its same =
     let alike_too : (other == call) ≡ true = grind (arith, nat_tests, alike) in absurd (cc)
 
 step_of : (Shows : ℕ → Showing) (setup : Setup) (numbers : List ℕ) (posts : List Post) (post : Post) (old new : Holding) (told : AnswerView) (call other : ℕ) (message : SsfMsg) (b : Bool)
-    → (other == call) ≡ b → NeverRefusesClosing Shows call → IsSound (keys_of setup.accounts) posts old → AreKept old → IsRightlyHandled Shows setup numbers post old new told
-    → post.body ≡ Ssf other message → IsStep setup call post.number (Ssf other message) old new told
-step_of Shows setup numbers posts post old new told call other message true same never sound kept is body =
+    → (other == call) ≡ b → IsSound (keys_of setup.accounts) posts old → AreKept old → IsRightlyHandled Shows setup numbers post old new told
+    → post.body ≡ Ssf other message → IsStep (NeverRefusesClosing Shows call) setup call post.number (Ssf other message) old new told
+step_of Shows setup numbers posts post old new told call other message true same sound kept is body =
     let here = same_number other call same in
-    subst (λ (c : ℕ). IsStep setup call post.number (Ssf c message) old new told) (sym here)
-    (message_step setup call post.number message old new told
-    (own_step Shows setup numbers posts post old new told call message never sound kept is (body ∙ ap (λ (c : ℕ). Ssf c message) here)))
-step_of Shows setup numbers posts post old new told call other message false differs never sound kept is body =
+    subst (λ (c : ℕ). IsStep (NeverRefusesClosing Shows call) setup call post.number (Ssf c message) old new told) (sym here)
+    (message_step (NeverRefusesClosing Shows call) setup call post.number message old new told
+    (own_step Shows setup numbers posts post old new told call message sound kept is (body ∙ ap (λ (c : ℕ). Ssf c message) here)))
+step_of Shows setup numbers posts post old new told call other message false differs sound kept is body =
     let was = stands_at (old.talks call) in
-    unmoved_step setup call post.number (Ssf other message) old new told
+    unmoved_step (NeverRefusesClosing Shows call) setup call post.number (Ssf other message) old new told
     (unmoved_by setup numbers posts post (verdict_on setup old.talks post.number post.at post.body) old new told call sound (means_on setup old.talks post.number post.at post.body)
     is.handled.done (another call other message post.body differs body))
     (ap (λ (b : Bool). if b then after_message setup (pays told.orders) was message else was) differs) (other_report post.number call other message differs)
     (ap (λ (b : Bool). if b && ends_call message then was else None) differs)
 
 step_by : (Shows : ℕ → Showing) (setup : Setup) (numbers : List ℕ) (posts : List Post) (post : Post) (old new : Holding) (told : AnswerView) (call : ℕ) (body : Body)
-    → NeverRefusesClosing Shows call → IsSound (keys_of setup.accounts) posts old → AreKept old → IsRightlyHandled Shows setup numbers post old new told → post.body ≡ body
-    → IsStep setup call post.number body old new told
-step_by Shows setup numbers posts post old new told call (Ssf other message) never sound kept is body =
-    step_of Shows setup numbers posts post old new told call other message (other == call) refl never sound kept is body
-step_by Shows setup numbers posts post old new told call (Recharge account amount until) never sound kept is body =
-    unmoved_step setup call post.number (Recharge account amount until) old new told
+    → IsSound (keys_of setup.accounts) posts old → AreKept old → IsRightlyHandled Shows setup numbers post old new told → post.body ≡ body
+    → IsStep (NeverRefusesClosing Shows call) setup call post.number body old new told
+step_by Shows setup numbers posts post old new told call (Ssf other message) sound kept is body =
+    step_of Shows setup numbers posts post old new told call other message (other == call) refl sound kept is body
+step_by Shows setup numbers posts post old new told call (Recharge account amount until) sound kept is body =
+    unmoved_step (NeverRefusesClosing Shows call) setup call post.number (Recharge account amount until) old new told
     (unmoved_by setup numbers posts post (verdict_on setup old.talks post.number post.at post.body) old new told call sound (means_on setup old.talks post.number post.at post.body)
     is.handled.done (λ message same. let never_so : Recharge account amount until ≡ Ssf call message = sym body ∙ same in absurd (cc))) refl refl refl
 
 -- ---- all posts
 
-record IsPath (setup : Setup) (call : ℕ) (posts : List Post) (answers : List AnswerView) (old new : Holding) : Type 0 where
+record IsPath (Closes : Type 0) (setup : Setup) (call : ℕ) (posts : List Post) (answers : List AnswerView) (old new : Holding) : Type 0 where
   goes : stands_at (new.talks call) ≡ goes_on_from setup call (stands_at (old.talks call)) (map item_of posts) answers
-  settles : (place : ℕ)
+  settles : Closes → (place : ℕ)
       → settles_of (entries_at call new.lists place) ≡ settles_of (entries_at call old.lists place) ++ taken_from setup call place (stands_at (old.talks call)) (map item_of posts) answers
   passed : has_passed (old.talks call) ≡ true → SameEntries call old.lists new.lists
-  ends : (there : ℕ) → ended_from setup call (stands_at (old.talks call)) (map item_of posts) answers ≡ Some there
+  ends : Closes → (there : ℕ) → ended_from setup call (stands_at (old.talks call)) (map item_of posts) answers ≡ Some there
       → (place : ℕ) → returns_of (entries_at call new.lists place) ≡ (if place == there then call ∷ [] else [])
 
 ended_first : (first later : Option ℕ) (there : ℕ) (P : Type 0) → option_or first later ≡ Some there → (first ≡ Some there → P) → (later ≡ Some there → P) → P
 ended_first None later there P is one more = more is
 ended_first (Some place) later there P is one more = one is
 
-path : (Shows : ℕ → Showing) (setup : Setup) (numbers : List ℕ) (call : ℕ) (done posts : List Post) (answers : List AnswerView) (old new : Holding) → NeverRefusesClosing Shows call
-    → IsSound (keys_of setup.accounts) done old → AreKept old → AreAnswered Shows setup numbers posts answers old new → IsPath setup call posts answers old new
-path Shows setup numbers call done [] [] old new never sound kept are = record {
+path : (Shows : ℕ → Showing) (setup : Setup) (numbers : List ℕ) (call : ℕ) (done posts : List Post) (answers : List AnswerView) (old new : Holding)
+    → IsSound (keys_of setup.accounts) done old → AreKept old → AreAnswered Shows setup numbers posts answers old new → IsPath (NeverRefusesClosing Shows call) setup call posts answers old new
+path Shows setup numbers call done [] [] old new sound kept are = record {
   goes = ap (λ (h : Holding). stands_at (h.talks call)) (sym are);
-  settles = λ place.
+  settles = λ closes place.
       ap (λ (h : Holding). settles_of (entries_at call h.lists place)) (sym are) ∙ sym (append-nil (settles_of (entries_at call old.lists place)));
   passed = λ was place. ap (λ (h : Holding). entries_at call h.lists place) (sym are);
-  ends = λ there is place. absurd (cc);
+  ends = λ closes there is place. absurd (cc);
 }
-path Shows setup numbers call done [] (told ∷ answers) old new never sound kept are = absurd are
-path Shows setup numbers call done (post ∷ posts) [] old new never sound kept are = absurd are
-path Shows setup numbers call done (post ∷ posts) (told ∷ answers) old new never sound kept are =
+path Shows setup numbers call done [] (told ∷ answers) old new sound kept are = absurd are
+path Shows setup numbers call done (post ∷ posts) [] old new sound kept are = absurd are
+path Shows setup numbers call done (post ∷ posts) (told ∷ answers) old new sound kept are =
     let between : Holding = are.0 in
-    let step = step_by Shows setup numbers done post old between told call post.body never sound kept are.1 refl in
-    let rest = path Shows setup numbers call (done ++ post ∷ []) posts answers between new never
+    let step = step_by Shows setup numbers done post old between told call post.body sound kept are.1 refl in
+    let rest = path Shows setup numbers call (done ++ post ∷ []) posts answers between new
     (sound_after setup numbers done post old between told sound are.1.handled.done) (kept_once setup numbers done post old between told sound kept are.1.handled.done) are.2 in
     let items = map item_of posts in
     record {
       goes = rest.goes ∙ ap (λ (was : Option ℕ). goes_on_from setup call was items answers) step.goes;
-      settles = λ place.
-          rest.settles place ∙ ap (λ (was : Option ℕ). settles_of (entries_at call between.lists place) ++ taken_from setup call place was items answers) step.goes
-          ∙ ap (λ l. l ++ taken_from setup call place (after_item setup call (stands_at (old.talks call)) post.body told) items answers) (step.settles place)
+      settles = λ closes place.
+          rest.settles closes place ∙ ap (λ (was : Option ℕ). settles_of (entries_at call between.lists place) ++ taken_from setup call place was items answers) step.goes
+          ∙ ap (λ l. l ++ taken_from setup call place (after_item setup call (stands_at (old.talks call)) post.body told) items answers) (step.settles closes place)
           ∙ append_assoc (settles_of (entries_at call old.lists place)) (taken_in call place (stands_at (old.talks call)) post.number post.body)
           (taken_from setup call place (after_item setup call (stands_at (old.talks call)) post.body told) items answers);
       passed = λ was place. let now = step.passed was in rest.passed now.1 place ∙ now.0 place;
-      ends = λ there is place.
+      ends = λ closes there is place.
           ended_first (ended_in call (stands_at (old.talks call)) post.body)
           (ended_from setup call (after_item setup call (stands_at (old.talks call)) post.body told) items answers) there
           (returns_of (entries_at call new.lists place) ≡ (if place == there then call ∷ [] else [])) is
-          (λ here. let its = step.ends there here in ap returns_of (rest.passed its.0 place) ∙ its.1 place)
-          (λ later. rest.ends there (ap (λ (was : Option ℕ). ended_from setup call was items answers) step.goes ∙ later) place);
+          (λ here. let its = step.ends closes there here in ap returns_of (rest.passed its.0 place) ∙ its.1 place)
+          (λ later. rest.ends closes there (ap (λ (was : Option ℕ). ended_from setup call was items answers) step.goes ∙ later) place);
     }
 
 -- ---- the laws of a worker
@@ -217,14 +217,14 @@ running_by : (h : Holding) (call place : ℕ) (found : Option DialogueAt) → h.
 running_by h call place None stands is = absurd (cc)
 running_by h call place (Some standing) stands is = stands_so h call place standing.phase standing.place stands is
 
-first_path : (Shows : ℕ → Showing) (setup : Setup) (number call : ℕ) (posts : List Post) (answers : List AnswerView) (held : Holding) → NeverRefusesClosing Shows call
-    → AreAnswered Shows setup (seat_numbers number setup) posts answers (at_first setup) held → IsPath setup call posts answers (at_first setup) held
-first_path Shows setup number call posts answers held never are =
-    path Shows setup (seat_numbers number setup) call [] posts answers (at_first setup) held never (first_sound setup) (first_kept setup) are
+first_path : (Shows : ℕ → Showing) (setup : Setup) (number call : ℕ) (posts : List Post) (answers : List AnswerView) (held : Holding)
+    → AreAnswered Shows setup (seat_numbers number setup) posts answers (at_first setup) held → IsPath (NeverRefusesClosing Shows call) setup call posts answers (at_first setup) held
+first_path Shows setup number call posts answers held are =
+    path Shows setup (seat_numbers number setup) call [] posts answers (at_first setup) held (first_sound setup) (first_kept setup) are
 
 pub go_on : (Shows : ℕ → Showing) → PaidCallsGoOn Shows
-go_on Shows setup number posts answers held call place never are is =
-    let so = first_path Shows setup number call posts answers held never are in running_by held call place (held.talks call) refl (so.goes ∙ is)
+go_on Shows setup number posts answers held call place are is =
+    let so = first_path Shows setup number call posts answers held are in running_by held call place (held.talks call) refl (so.goes ∙ is)
 
 nothing_first : (setup : Setup) (call place : ℕ) → settles_of (entries_at call (at_first setup).lists place) ≡ []
 nothing_first setup call place = ap (λ (mine : List EntryData). settles_of (of_call call mine)) (none_at_first setup.accounts place)
@@ -232,10 +232,10 @@ nothing_first setup call place = ap (λ (mine : List EntryData). settles_of (of_
 pub worked_settled : (Shows : ℕ → Showing) → WorkedReportsAreSettled Shows
 worked_settled Shows setup number posts answers lists call never is place =
     let held : Holding = record { lists = lists; talks = is.talks } in
-    let so = first_path Shows setup number call posts answers held never is.chain in
-    so.settles place ∙ ap (λ l. l ++ taken_from setup call place None (map item_of posts) answers) (nothing_first setup call place)
+    let so = first_path Shows setup number call posts answers held is.chain in
+    so.settles never place ∙ ap (λ l. l ++ taken_from setup call place None (map item_of posts) answers) (nothing_first setup call place)
 
 pub worked_returned : (Shows : ℕ → Showing) → WorkedCallsAreReturned Shows
 worked_returned Shows setup number posts answers lists call there never is ended place =
     let held : Holding = record { lists = lists; talks = is.talks } in
-    let so = first_path Shows setup number call posts answers held never is.chain in so.ends there ended place
+    let so = first_path Shows setup number call posts answers held is.chain in so.ends never there ended place

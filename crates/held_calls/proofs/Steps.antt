@@ -165,12 +165,12 @@ settles_none seat call first gots about none =
 
 -- ---- what a message of a call does to it
 
-pub record IsOwnStep (setup : Setup) (call number : ℕ) (message : SsfMsg) (found : Option DialogueAt) (old new : Holding) (told : AnswerView) : Type 0 where
+pub record IsOwnStep (Closes : Type 0) (setup : Setup) (call number : ℕ) (message : SsfMsg) (found : Option DialogueAt) (old new : Holding) (told : AnswerView) : Type 0 where
   pub goes : stands_at (new.talks call) ≡ after_message setup (pays told.orders) (stands_at found) message
-  pub settles : (place : ℕ)
+  pub settles : Closes → (place : ℕ)
       → settles_of (entries_at call new.lists place) ≡ settles_of (entries_at call old.lists place) ++ (if is_there (stands_at found) place then report_in number call message else [])
   pub passed : has_passed found ≡ true → SameEntries call old.lists new.lists × (has_passed (new.talks call) ≡ true)
-  pub ends : ends_call message ≡ true → (there : ℕ) → stands_at found ≡ Some there
+  pub ends : Closes → ends_call message ≡ true → (there : ℕ) → stands_at found ≡ Some there
       → (has_passed (new.talks call) ≡ true) × ((place : ℕ) → returns_of (entries_at call new.lists place) ≡ (if place == there then call ∷ [] else []))
 
 pub none_either : {X : Type 0} (b : Bool) (none : List X) → none ≡ [] → (if b then none else []) ≡ []
@@ -182,17 +182,17 @@ either_same true x = refl
 either_same false x = refl
 
 -- it has no place, so nothing is done
-pub stray_step : (setup : Setup) (call number : ℕ) (message : SsfMsg) (found : Option DialogueAt) (old new : Holding) (told : AnswerView) → IsUnmoved call old new → old.talks call ≡ found
+pub stray_step : (Closes : Type 0) (setup : Setup) (call number : ℕ) (message : SsfMsg) (found : Option DialogueAt) (old new : Holding) (told : AnswerView) → IsUnmoved call old new → old.talks call ≡ found
     → after_message setup (pays told.orders) (stands_at found) message ≡ stands_at found
     → ((place : ℕ) → (if is_there (stands_at found) place then report_in number call message else []) ≡ []) → (ends_call message ≡ true → stands_at found ≡ None)
-    → IsOwnStep setup call number message found old new told
-stray_step setup call number message found old new told unmoved is same none idle = record {
+    → IsOwnStep Closes setup call number message found old new told
+stray_step Closes setup call number message found old new told unmoved is same none idle = record {
   goes = ap stands_at (unmoved.1 ∙ is) ∙ sym same;
-  settles = λ place.
+  settles = λ closes place.
       ap settles_of (unmoved.0 place) ∙ sym (append-nil (settles_of (entries_at call old.lists place)))
       ∙ ap (λ l. settles_of (entries_at call old.lists place) ++ l) (sym (none place));
   passed = λ was. (unmoved.0, ap has_passed (unmoved.1 ∙ is) ∙ was);
-  ends = λ ended there stands. let never : None ≡ Some there = sym (idle ended) ∙ stands in absurd (cc);
+  ends = λ closes ended there stands. let never : None ≡ Some there = sym (idle ended) ∙ stands in absurd (cc);
 }
 
 -- a call that doesn't go on goes on no more after a message that isn't paid for
@@ -203,12 +203,12 @@ after_none setup false (msg.EventReport event leg mode) is = either_same (ends_c
 after_none setup false (msg.ChargingReport active info) is = refl
 after_none setup false msg.Ended is = refl
 
-pub unasked_stray : (setup : Setup) (numbers : List ℕ) (at call number : ℕ) (message : SsfMsg) (found : Option DialogueAt) (old new : Holding) (told : AnswerView) → stands_at found ≡ None
-    → old.talks call ≡ found → IsDone setup numbers at Strays old new told → IsOwnStep setup call number message found old new told
-unasked_stray setup numbers at call number message found old new told idle is done =
+pub unasked_stray : (Closes : Type 0) (setup : Setup) (numbers : List ℕ) (at call number : ℕ) (message : SsfMsg) (found : Option DialogueAt) (old new : Holding) (told : AnswerView) → stands_at found ≡ None
+    → old.talks call ≡ found → IsDone setup numbers at Strays old new told → IsOwnStep Closes setup call number message found old new told
+unasked_stray Closes setup numbers at call number message found old new told idle is done =
     let same : after_message setup (pays told.orders) (stands_at found) message ≡ stands_at found =
     ap (λ (was : Option ℕ). after_message setup (pays told.orders) was message) idle ∙ after_none setup (pays told.orders) message (ap pays done.orders_are) ∙ sym idle in
-    stray_step setup call number message found old new told (same_lists call old new done.lists, done.talks call) is same
+    stray_step Closes setup call number message found old new told (same_lists call old new done.lists, done.talks call) is same
     (λ place. ap (λ (was : Option ℕ). if is_there was place then report_in number call message else []) idle) (λ ended. idle)
 
 -- a dialogue that doesn't go on with its call asks for nothing more
@@ -267,21 +267,21 @@ idle_talk numbers call at first old new told rests is =
 pub not_false : (b : Bool) → b ≡ false → not b ≡ true
 not_false b is = ap not is
 
-pub idle_step : (setup : Setup) (numbers : List ℕ) (at call number : ℕ) (message : SsfMsg) (phase : Phase) (place : ℕ) (step : Step) (old new : Holding) (told : AnswerView) → is_running phase ≡ false
+pub idle_step : (Closes : Type 0) (setup : Setup) (numbers : List ℕ) (at call number : ℕ) (message : SsfMsg) (phase : Phase) (place : ℕ) (step : Step) (old new : Holding) (told : AnswerView) → is_running phase ≡ false
     → StepIsOver step → StepPaysNone step → old.talks call ≡ Some (record { phase = phase; place = place })
-    → IsDone setup numbers at (goes_on call place step) old new told → IsOwnStep setup call number message (Some (record { phase = phase; place = place })) old new told
-idle_step setup numbers at call number message phase place (Err fault) old new told idle over free is done =
-    unasked_stray setup numbers at call number message (Some (record { phase = phase; place = place })) old new told (idle_place phase place idle) is done
-idle_step setup numbers at call number message phase place (Ok next) old new told idle over free is done =
+    → IsDone setup numbers at (goes_on call place step) old new told → IsOwnStep Closes setup call number message (Some (record { phase = phase; place = place })) old new told
+idle_step Closes setup numbers at call number message phase place (Err fault) old new told idle over free is done =
+    unasked_stray Closes setup numbers at call number message (Some (record { phase = phase; place = place })) old new told (idle_place phase place idle) is done
+idle_step Closes setup numbers at call number message phase place (Ok next) old new told idle over free is done =
     let talk = idle_talk numbers call place next old new told over.0 done in
     let none = idle_place phase place idle in
     let later : is_running next.1 ≡ false = through_idle next.1 over.1 in
     record {
       goes = ap stands_at talk.now ∙ idle_place next.1 place later ∙ sym (after_none setup (pays told.orders) message (ap pays talk.orders ∙ free))
           ∙ ap (λ (was : Option ℕ). after_message setup (pays told.orders) was message) (sym none);
-      settles = λ place'.
+      settles = λ closes place'.
           ap settles_of (talk.same place') ∙ sym (append-nil (settles_of (entries_at call old.lists place')))
           ∙ ap (λ (was : Option ℕ). settles_of (entries_at call old.lists place') ++ (if is_there was place' then report_in number call message else [])) (sym none);
       passed = λ was. (talk.same, ap has_passed talk.now ∙ not_false (is_running next.1) later);
-      ends = λ ended there stands. let never : None ≡ Some there = sym none ∙ stands in absurd (cc);
+      ends = λ closes ended there stands. let never : None ≡ Some there = sym none ∙ stands in absurd (cc);
     }

@@ -12,7 +12,6 @@ use Rattle.runs_core.specs.Shares.{Item, item_of}
 use Rattle.workers_core.specs.Chains.{AreAnswered, at_first, seat_numbers}
 use Rattle.workers_core.specs.Handled.{AnswerView, Holding}
 use Rattle.workers_core.specs.Laws.{IsRunning, ends_call}
-use Rattle.workers_core.specs.Refusals.{NeverRefusesClosing}
 use Rattle.workers_core.specs.Served.{Report, reported_in}
 use Rattle.workers_core.specs.Talks.{Showing}
 use Rattle.workers_core.specs.Verdicts.{home_of}
@@ -47,7 +46,7 @@ goes_on_at setup call items answers = goes_on_from setup call None items answers
 -- a call that goes on by what a worker was posted and what it answered goes on with what it was granted, at the account at that place
 abbrev pub PaidCallsGoOn : (ℕ → Showing) → Type 0
 PaidCallsGoOn Shows =
-    (setup : Setup) (number : ℕ) (posts : List Post) (answers : List AnswerView) (held : Holding) (call place : ℕ) → NeverRefusesClosing Shows call
+    (setup : Setup) (number : ℕ) (posts : List Post) (answers : List AnswerView) (held : Holding) (call place : ℕ)
     → AreAnswered Shows setup (seat_numbers number setup) posts answers (at_first setup) held → goes_on_at setup call (map item_of posts) answers ≡ Some place
     → IsRunning held call place
 
