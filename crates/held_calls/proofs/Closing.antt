@@ -98,13 +98,13 @@ rests_after phase.Clears (Err fault) = refl
 rests_after phase.Fails (Err fault) = refl
 rests_after phase.Closes (Err fault) = refl
 
-one_got : (call : ℕ) (after : Sequel) (got : Got) (earlier : List Got) → AllAsk (Asks (Returns call), Returning after) (got ∷ earlier) → earlier ≡ []
-one_got call after got [] asked = refl
-one_got call after got (last ∷ earlier) asked =
-    let none : earlier ≡ [] = one_got call after last earlier asked.1 in
-    let pending : is_ask (talked (Asks (Returns call), Returning after) (last ∷ [])).0 ≡ true =
-    subst (λ (l : List Got). is_ask (talked (Asks (Returns call), Returning after) (last ∷ l)).0 ≡ true) none asked.0 in
-    let rests = rests_after after last in absurd (cc)
+-- where nothing is asked after what is asked first, that alone got anything
+pub one_got : (first : Says × Phase) → ((got : Got) → is_ask (after_got first.1 got).0 ≡ false) → (got : Got) (earlier : List Got) → AllAsk first (got ∷ earlier) → earlier ≡ []
+one_got first rests got [] asked = refl
+one_got first rests got (last ∷ earlier) asked =
+    let none : earlier ≡ [] = one_got first rests last earlier asked.1 in
+    let pending : is_ask (talked first (last ∷ [])).0 ≡ true = subst (λ (l : List Got). is_ask (talked first (last ∷ l)).0 ≡ true) none asked.0 in
+    let over = rests last in absurd (cc)
 
 returned_once : (seat call : ℕ) (after : Sequel) (got : Got) → IsAnsweredFirst (got ∷ []) → returns_of (entries_of seat (Asks (Returns call), Returning after) (got ∷ [])) ≡ call ∷ []
 returned_once seat call after (Ok reply) first = refl
@@ -117,7 +117,7 @@ pub talk_returns_it : (seat call : ℕ) (after : Sequel) (phase : Phase) (last :
 talk_returns_it seat call after phase last [] asked talk rests first =
     let is : Asks (Returns call) ≡ last = ap (λ (p : Says × Phase). p.0) talk in let never : true ≡ false = ap is_ask is ∙ rests in absurd (cc)
 talk_returns_it seat call after phase last (got ∷ earlier) asked talk rests first =
-    let none : earlier ≡ [] = one_got call after got earlier asked in
+    let none : earlier ≡ [] = one_got (Asks (Returns call), Returning after) (rests_after after) got earlier asked in
     subst (λ (l : List Got). returns_of (entries_of seat (Asks (Returns call), Returning after) (got ∷ l)) ≡ call ∷ []) (sym none)
     (returned_once seat call after got (subst (λ (l : List Got). IsAnsweredFirst (got ∷ l)) none first))
 

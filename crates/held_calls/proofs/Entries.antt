@@ -11,6 +11,7 @@ use Rattle.account_core.specs.Known.{CallFacts, deed_of, known, known_after}
 use Rattle.account_core.specs.Ledger.{event_by}
 use Rattle.account_core.specs.declared.entry.Reply.{Reply}
 use Rattle.dialogue_core.specs.Phases.{Phase, Says, Asks, Sends, Finished}
+use Rattle.dialogue_core.specs.Runs.{IsHonest}
 use Rattle.dialogue_core.specs.Talks.{Got, after_got, is_ask, talked}
 use Rattle.held_calls.proofs.Tables.{Stands, facts_after, got_stands}
 use Rattle.held_calls.specs.Held.{entries_at, facts_at}
@@ -21,6 +22,10 @@ use Rattle.workers_core.proofs.Abouts.{SaysOf, says_of_call}
 use Rattle.workers_core.specs.Handled.{grown}
 use Rattle.workers_core.specs.Talks.{AllAsk, entries_of, entry_of}
 use Rattle.workers_core.specs.Workers.{IsAbout}
+
+-- an entry with a reply of the kind that an account gives to what was asked
+abbrev pub IsHonestEntry : EntryData → Type 0
+IsHonestEntry event = IsHonest event.asked event.reply
 
 -- ---- the call of an entry
 

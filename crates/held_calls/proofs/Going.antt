@@ -1,5 +1,5 @@
 -- Post by post: where a call goes on, and what is entered of it.
-use Rattle.std.proofs.Common.{◌≡◌, ◌++◌, ◌∙◌, ℕ, Bool, true, false, Option, Some, None, Ok, List, [], ◌∷◌, length, map, refl, sym, ap, subst, append-nil, append_assoc, arith}
+use Rattle.std.proofs.Common.{All, ◌≡◌, ◌++◌, ◌∙◌, ℕ, Bool, true, false, Option, Some, None, Ok, List, [], ◌∷◌, length, map, refl, sym, ap, subst, append-nil, append_assoc, arith}
 use Rattle.std.specs.Map.{keys_of}
 use Rattle.std.specs.Option.{option_or}
 use Rattle.std.specs.Prelude.{◌==◌, ◌&&◌, filter, if◌then◌else◌, slice_index_or}
@@ -10,11 +10,14 @@ use Rattle.cap_values.specs.declared.message.SsfMsg.{SsfMsg}
 use Rattle.cap_values.specs.declared.message.SsfMsg.TheVariants as msg
 use Rattle.dialogue_core.specs.Phases.{Phase, FirstAsk, Running, Settling, MoreAsk, Returning, Ending, Closed, Asks}
 use Rattle.dialogue_core.specs.Table.{Step, on_begin}
-use Rattle.held_calls.proofs.Entries.{credit_entry, grown_apart}
+use Rattle.held_calls.proofs.Entries.{IsHonestEntry, credit_entry, grown_apart}
 use Rattle.held_calls.proofs.Holding.{AreKept, IsUnmoved, SameEntries, first_kept, kept_once, same_lists, talk_apart}
 use Rattle.held_calls.proofs.Messages.{own_step}
-use Rattle.held_calls.proofs.Steps.{IsOwnStep, has_passed, is_running, none_either, stands_at}
-use Rattle.held_calls.specs.Going.{PaidCallsGoOn, after_item, after_message, ended_from, ended_in, goes_on_from, is_there, pays, taken_from, taken_in}
+use Rattle.held_calls.proofs.Steps.{IsOwnStep, same_grows, same_returns, has_passed, is_running, none_either, stands_at}
+use Rattle.shared_account.specs.Prefixes.{IsPrefix}
+use Rattle.shared_account.proofs.Beginnings.{begins_further}
+use Rattle.runs_core.proofs.Listed.{all_first}
+use Rattle.held_calls.specs.Going.{left_at, left_from, left_in, PaidCallsGoOn, after_item, after_message, ended_from, ended_in, goes_on_from, is_there, pays, taken_from, taken_in}
 use Rattle.held_calls.specs.Held.{entries_at}
 use Rattle.held_calls.specs.Laws.{WorkedCallsAreReturned, WorkedReportsAreSettled}
 use Rattle.run_values.specs.Setups.{Setup}
@@ -27,7 +30,7 @@ use Rattle.workers_core.proofs.Abouts.{TakesTo, begun_about, begun_says, takes_t
 use Rattle.workers_core.proofs.Chaining.{first_sound}
 use Rattle.workers_core.proofs.Entering.{none_at_first}
 use Rattle.workers_core.proofs.Handling.{Means, is_itself, means_on, own_of, same_number, sound_after}
-use Rattle.workers_core.specs.Chains.{AreAnswered, at_first, seat_numbers}
+use Rattle.workers_core.specs.Chains.{AreAnswered, IsAnswered, at_first, seat_numbers}
 use Rattle.workers_core.specs.Handled.{AnswerView, Holding, IsDone, IsRightlyHandled}
 use Rattle.workers_core.specs.Laws.{IsRunning, ends_call}
 use Rattle.workers_core.specs.Refusals.{NeverRefusesClosing}
@@ -76,6 +79,10 @@ record IsStep (Closes : Type 0) (setup : Setup) (call number : ℕ) (body : Body
   passed : has_passed (old.talks call) ≡ true → SameEntries call old.lists new.lists × (has_passed (new.talks call) ≡ true)
   ends : Closes → (there : ℕ) → ended_in call (stands_at (old.talks call)) body ≡ Some there
       → (has_passed (new.talks call) ≡ true) × ((place : ℕ) → returns_of (entries_at call new.lists place) ≡ (if place == there then call ∷ [] else []))
+  grows : (place : ℕ) → IsPrefix (entries_at call old.lists place) (entries_at call new.lists place)
+  returns : Closes → (place : ℕ) → All IsHonestEntry (entries_at call new.lists place)
+      → returns_of (entries_at call new.lists place)
+      ≡ returns_of (entries_at call old.lists place) ++ left_in call place (stands_at (old.talks call)) (after_item setup call (stands_at (old.talks call)) body told)
 
 unmoved_step : (Closes : Type 0) (setup : Setup) (call number : ℕ) (body : Body) (old new : Holding) (told : AnswerView) → IsUnmoved call old new
     → after_item setup call (stands_at (old.talks call)) body told ≡ stands_at (old.talks call) → filter (λ (report : Report). report.1 == call) (reported_in number body) ≡ []
@@ -88,6 +95,9 @@ unmoved_step Closes setup call number body old new told unmoved same none open_s
       (sym (none_either (is_there (stands_at (old.talks call)) place) (filter (λ (report : Report). report.1 == call) (reported_in number body)) none));
   passed = λ was. (unmoved.0, ap has_passed unmoved.1 ∙ was);
   ends = λ closes there is. let never : None ≡ Some there = sym open_still ∙ is in absurd (cc);
+  grows = same_grows call old new unmoved.0;
+  returns = λ closes place honest.
+      same_returns call old new (stands_at (old.talks call)) (after_item setup call (stands_at (old.talks call)) body told) unmoved.0 same place;
 }
 
 pub other_report : (number call other : ℕ) (message : SsfMsg) → (other == call) ≡ false → filter (λ (report : Report). report.1 == call) (report_in number other message) ≡ []
@@ -118,6 +128,11 @@ message_step Closes setup call number message old new told own =
       passed = own.passed;
       ends = λ closes there is.
           let by = ended_by (ends_call message) was there (ap (λ (b : Bool). if b && ends_call message then was else None) (sym (is_itself call)) ∙ is) in own.ends closes by.0 there by.1;
+      grows = own.grows;
+      returns = λ closes place honest.
+          own.returns closes place honest
+          ∙ ap (λ (now : Option ℕ). returns_of (entries_at call old.lists place) ++ left_in call place was now)
+          (own.goes ∙ ap (λ (b : Bool). if b then after_message setup (pays told.orders) was message else was) (sym (is_itself call)));
     }
 
 another : (call other : ℕ) (message : SsfMsg) (body : Body) → (other == call) ≡ false → body ≡ Ssf other message → (its : SsfMsg) → body ≡ Ssf call its → ⊥
@@ -161,6 +176,9 @@ record IsPath (Closes : Type 0) (setup : Setup) (call : ℕ) (posts : List Post)
   passed : has_passed (old.talks call) ≡ true → SameEntries call old.lists new.lists
   ends : Closes → (there : ℕ) → ended_from setup call (stands_at (old.talks call)) (map item_of posts) answers ≡ Some there
       → (place : ℕ) → returns_of (entries_at call new.lists place) ≡ (if place == there then call ∷ [] else [])
+  grows : (place : ℕ) → IsPrefix (entries_at call old.lists place) (entries_at call new.lists place)
+  returns : Closes → (place : ℕ) → All IsHonestEntry (entries_at call new.lists place)
+      → returns_of (entries_at call new.lists place) ≡ returns_of (entries_at call old.lists place) ++ left_from setup call place (stands_at (old.talks call)) (map item_of posts) answers
 
 ended_first : (first later : Option ℕ) (there : ℕ) (P : Type 0) → option_or first later ≡ Some there → (first ≡ Some there → P) → (later ≡ Some there → P) → P
 ended_first None later there P is one more = more is
@@ -174,6 +192,12 @@ path Shows setup numbers call done [] [] old new sound kept are = record {
       ap (λ (h : Holding). settles_of (entries_at call h.lists place)) (sym are) ∙ sym (append-nil (settles_of (entries_at call old.lists place)));
   passed = λ was place. ap (λ (h : Holding). entries_at call h.lists place) (sym are);
   ends = λ closes there is place. absurd (cc);
+  grows = λ place. record {
+    rest = [];
+    is = ap (λ (h : Holding). entries_at call h.lists place) (sym are) ∙ sym (append-nil (entries_at call old.lists place));
+  };
+  returns = λ closes place honest.
+      ap (λ (h : Holding). returns_of (entries_at call h.lists place)) (sym are) ∙ sym (append-nil (returns_of (entries_at call old.lists place)));
 }
 path Shows setup numbers call done [] (told ∷ answers) old new sound kept are = absurd are
 path Shows setup numbers call done (post ∷ posts) [] old new sound kept are = absurd are
@@ -197,6 +221,16 @@ path Shows setup numbers call done (post ∷ posts) (told ∷ answers) old new s
           (returns_of (entries_at call new.lists place) ≡ (if place == there then call ∷ [] else [])) is
           (λ here. let its = step.ends closes there here in ap returns_of (rest.passed its.0 place) ∙ its.1 place)
           (λ later. rest.ends closes there (ap (λ (was : Option ℕ). ended_from setup call was items answers) step.goes ∙ later) place);
+      grows = λ place.
+          begins_further (entries_at call old.lists place) (entries_at call between.lists place) (entries_at call new.lists place) (step.grows place) (rest.grows place);
+      returns = λ closes place honest.
+          let now : Option ℕ = after_item setup call (stands_at (old.talks call)) post.body told in
+          let so_far : All IsHonestEntry (entries_at call between.lists place) =
+          all_first IsHonestEntry (entries_at call between.lists place) (rest.grows place).rest (subst (λ (l : List EntryData). All IsHonestEntry l) (rest.grows place).is honest) in
+          rest.returns closes place honest
+          ∙ ap (λ (was : Option ℕ). returns_of (entries_at call between.lists place) ++ left_from setup call place was items answers) step.goes
+          ∙ ap (λ l. l ++ left_from setup call place now items answers) (step.returns closes place so_far)
+          ∙ append_assoc (returns_of (entries_at call old.lists place)) (left_in call place (stands_at (old.talks call)) now) (left_from setup call place now items answers);
     }
 
 -- ---- the laws of a worker
@@ -239,3 +273,13 @@ pub worked_returned : (Shows : ℕ → Showing) → WorkedCallsAreReturned Shows
 worked_returned Shows setup number posts answers lists call there never is ended place =
     let held : Holding = record { lists = lists; talks = is.talks } in
     let so = first_path Shows setup number call posts answers held is.chain in so.ends never there ended place
+
+-- a call that goes on no more was returned, where its entries have the replies of accounts
+pub worked_left : (Shows : ℕ → Showing) (setup : Setup) (number : ℕ) (posts : List Post) (answers : List AnswerView) (lists : List (List EntryData)) (call : ℕ) → NeverRefusesClosing Shows call
+    → IsAnswered Shows setup number posts answers lists → (place : ℕ) → All IsHonestEntry (entries_at call lists place)
+    → returns_of (entries_at call lists place) ≡ left_at setup call place (map item_of posts) answers
+worked_left Shows setup number posts answers lists call never is place honest =
+    let held : Holding = record { lists = lists; talks = is.talks } in
+    let so = first_path Shows setup number call posts answers held is.chain in
+    so.returns never place honest
+    ∙ ap (λ l. l ++ left_from setup call place None (map item_of posts) answers) (ap (λ (mine : List EntryData). returns_of (of_call call mine)) (none_at_first setup.accounts place))

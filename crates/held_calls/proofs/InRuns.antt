@@ -1,17 +1,33 @@
 -- What the books of a run have of a call.
 use Rattle.std.proofs.Common.{◌≡◌, ◌+◌, ◌++◌, ◌∙◌, ℕ, Bool, true, false, Option, Some, None, List, [], ◌∷◌, map, refl, sym, ap, subst, All, arith}
+use Rattle.account_core.specs.Answers.{IsLegal, IsLegalPast, answer, inadmissible}
+use Rattle.account_core.specs.Asked.{Asked, Credits, IsOfCall, Reserves, Returns, Settles}
+use Rattle.account_core.specs.Events.{EntryData}
+use Rattle.account_core.specs.Known.{CallFacts, known}
+use Rattle.account_core.specs.Laws.{AnswersAreKindly}
+use Rattle.account_core.specs.Standing.{FitsCall}
+use Rattle.account_core.specs.declared.entry.Reply.{Reply}
+use Rattle.account_core.specs.declared.entry.Reply.TheVariants.{Granted, Denied, Settled, Forfeit, Returned}
+use Rattle.dialogue_core.specs.Runs.{IsHonest}
+use Rattle.held_calls.proofs.Entries.{IsHonestEntry}
+use Rattle.runs_core.proofs.Listed.{all_first, all_later}
+use Rattle.shared_account.proofs.Owning.{filter_reverse}
+use Rattle.std.proofs.lemmas.List.{reverse-append, reverse-reverse}
+use Rattle.std.proofs.lemmas.List.Elements.{All-cons, All-head, All-nil}
+use Rattle.tariff_core.specs.declared.plan.TheConstants.{MAX_MONEY}
+use Rattle.workers_core.proofs.Handling.{same_number}
 use Rattle.std.specs.Option.{option_or}
-use Rattle.std.specs.Prelude.{◌==◌, ◌%◌, ◌&&◌, filter, if◌then◌else◌, slice_index_or}
+use Rattle.std.specs.Prelude.{◌==◌, ◌%◌, ◌&&◌, ◌≤◌, filter, if◌then◌else◌, reverse, slice_index_or}
 use Rattle.std.proofs.lemmas.Bool.Decides.{nat_tests}
 use Rattle.std.proofs.lemmas.List.{get_or-map}
 use Rattle.std.proofs.lemmas.Nat.{mod_below}
 use Rattle.account_core.specs.Ledger.{Ledger}
 use Rattle.held_calls.proofs.Going.{other_report}
-use Rattle.held_calls.proofs.Steps.{none_either}
-use Rattle.held_calls.specs.Going.{after_item, after_message, ended_from, ended_in, is_there, pays, taken_from, taken_in}
+use Rattle.held_calls.proofs.Steps.{left_same, none_either}
+use Rattle.held_calls.specs.Going.{after_item, after_message, ended_from, ended_in, is_there, left_from, left_in, pays, taken_from, taken_in}
 use Rattle.held_calls.specs.Held.{entries_at}
-use Rattle.held_calls.specs.Runs.{RunCallsAreReturned, RunReportsAreSettled}
-use Rattle.held_calls.proofs.Going.{worked_returned, worked_settled}
+use Rattle.held_calls.specs.Runs.{RunCallsAreReturned, RunCallsThatEndAreReturned, RunReportsAreSettled}
+use Rattle.held_calls.proofs.Going.{worked_left, worked_returned, worked_settled}
 use Rattle.run_values.specs.Setups.{Setup}
 use Rattle.run_values.specs.declared.post.Answer.{Answer}
 use Rattle.run_values.specs.declared.post.Body.{Body}
@@ -22,7 +38,7 @@ use Rattle.runs_core.specs.Hearing.{answers_to}
 use Rattle.runs_core.specs.Shares.{Item, item_at, item_of, numbered, share_from, worker_of}
 use Rattle.shared_account.proofs.Beginnings.{begins_itself}
 use Rattle.shared_account.specs.Closed.{Closed}
-use Rattle.shared_account.specs.Own.{of_call, own}
+use Rattle.shared_account.specs.Own.{is_of, of_call, own}
 use Rattle.shared_account.specs.Seen.{CallsOfOneSeatAreAlone, IsBySeat, StoodIn}
 use Rattle.workers_core.specs.Handled.{AnswerView, answer_view}
 use Rattle.workers_core.specs.Laws.{ends_call}
@@ -109,6 +125,34 @@ shared_ended setup workers call was first (next ∷ given) [] = ended_none setup
 shared_ended setup workers call was first (next ∷ given) (answer ∷ answers) =
     ended_next setup workers call was first next given answer answers (worker_of workers next.1 == call % workers) refl (λ now. shared_ended setup workers call now (first + 1) given answers)
 
+left_none : (setup : Setup) (call place : ℕ) (was : Option ℕ) (items : List Item) → left_from setup call place was items [] ≡ []
+left_none setup call place was [] = refl
+left_none setup call place was (item ∷ items) = refl
+
+left_next : (setup : Setup) (workers call place : ℕ) (was : Option ℕ) (first : ℕ) (next : ℕ × Body) (given : List (ℕ × Body)) (answer : Answer) (answers : List Answer) (b : Bool)
+    → (worker_of workers next.1 == call % workers) ≡ b
+    → ((now : Option ℕ) → left_from setup call place now (share_from workers (first + 1) given (call % workers)) (map answer_view (answers_to workers (call % workers) given answers))
+    ≡ left_from setup call place now (numbered (first + 1) given) (map answer_view answers))
+    → left_from setup call place was (if b then item_at first next ∷ share_from workers (first + 1) given (call % workers) else share_from workers (first + 1) given (call % workers))
+    (map answer_view (if b then answer ∷ answers_to workers (call % workers) given answers else answers_to workers (call % workers) given answers))
+    ≡ left_from setup call place was (numbered first (next ∷ given)) (map answer_view (answer ∷ answers))
+left_next setup workers call place was first next given answer answers true is rest =
+    ap (λ l. left_in call place was (after_item setup call was next.1 (answer_view answer)) ++ l) (rest (after_item setup call was next.1 (answer_view answer)))
+left_next setup workers call place was first next given answer answers false is rest =
+    let now : Option ℕ = after_item setup call was next.1 (answer_view answer) in
+    let apart = apart_item setup workers call first was next.1 (answer_view answer) is in
+    rest was ∙ ap (λ (w : Option ℕ). left_from setup call place w (numbered (first + 1) given) (map answer_view answers)) (sym apart.after)
+    ∙ ap (λ l. l ++ left_from setup call place now (numbered (first + 1) given) (map answer_view answers)) (sym (left_same call place was now apart.after))
+
+shared_left : (setup : Setup) (workers call place : ℕ) (was : Option ℕ) (first : ℕ) (given : List (ℕ × Body)) (answers : List Answer)
+    → left_from setup call place was (share_from workers first given (call % workers)) (map answer_view (answers_to workers (call % workers) given answers))
+    ≡ left_from setup call place was (numbered first given) (map answer_view answers)
+shared_left setup workers call place was first [] answers = refl
+shared_left setup workers call place was first (next ∷ given) [] = left_none setup call place was (share_from workers first (next ∷ given) (call % workers))
+shared_left setup workers call place was first (next ∷ given) (answer ∷ answers) =
+    left_next setup workers call place was first next given answer answers (worker_of workers next.1 == call % workers) refl
+    (λ now. shared_left setup workers call place now (first + 1) given answers)
+
 -- ---- in the books
 
 -- the entries of a call in a book are those of its worker there
@@ -142,3 +186,58 @@ run_returned closing one alone setup workers given answers books account place b
     ap (λ (items : List Item). ended_from setup call None items told) by.share ∙ shared_ended setup workers call None 0 given answers ∙ ended in
     ap returns_of (whole books workers call account place setup book alone (one setup workers given answers books run) at)
     ∙ worked_returned (refuses_in StoodIn books worker) setup worker by.posts told (lists_of worker books) call there (closing setup workers given answers books call run) by.answered its place
+
+-- ---- the replies of a legal history are of the kinds that accounts give
+
+of_its : (call : ℕ) (asked : Asked) → is_of call asked ≡ true → IsOfCall call asked
+of_its call (Credits amount until) is = absurd (cc)
+of_its call (Reserves other plan wanted least at) is = same_number other call is
+of_its call (Settles other number info) is = same_number other call is
+of_its call (Returns other) is = same_number other call is
+
+honest_fit : (facts : CallFacts) (asked : Asked) (reply : Reply) → FitsCall facts asked reply → IsHonest asked reply
+honest_fit facts (Reserves call plan wanted least at) (Granted units last a) fits = (fits.some, omega (arith, fits.day))
+honest_fit facts (Reserves call plan wanted least at) (Denied a) fits = tt
+honest_fit facts (Settles call number info) (Settled p a) fits = tt
+honest_fit facts (Settles call number info) (Forfeit p a) fits = tt
+honest_fit facts (Returns call) (Returned p a) fits = tt
+honest_fit facts asked reply fits = absurd fits
+
+honest_or : (call : ℕ) (b : Bool) (event : EntryData) (rest : List EntryData) → (b ≡ true → IsHonestEntry event) → All IsHonestEntry rest → All IsHonestEntry (if b then event ∷ rest else rest)
+honest_or call true event rest here all = All-cons IsHonestEntry event rest (here refl) all
+honest_or call false event rest here all = all
+
+honest_past : AnswersAreKindly → (opening : ℕ) (until : Option ℕ) (call : ℕ) (h : List EntryData) → opening ≤ MAX_MONEY → IsLegalPast opening until h → All IsHonestEntry (of_call call h)
+honest_past kindly opening until call [] small legal = All-nil IsHonestEntry
+honest_past kindly opening until call (event ∷ h) small legal =
+    let before : IsLegal opening until (reverse h) = subst (IsLegalPast opening until) (sym (reverse-reverse h)) legal.0 in
+    let admissible : inadmissible (reverse (reverse h)) event.asked ≡ None = subst (λ (l : List EntryData). inadmissible l event.asked ≡ None) (sym (reverse-reverse h)) legal.1.admissible in
+    honest_or call (is_of call event.asked) event (of_call call h)
+    (λ is.
+    let kind = kindly opening until (reverse h) call event.asked small before admissible (of_its call event.asked is) in
+    let given = honest_fit (known call (reverse (reverse h))) event.asked (answer opening until (reverse (reverse h)) event.asked) kind.1 in
+    subst (λ (r : Reply). IsHonest event.asked r) (sym (legal.1.answered ∙ ap (λ (l : List EntryData). answer opening until l event.asked) (sym (reverse-reverse h)))) given)
+    (honest_past kindly opening until call h small legal.0)
+
+turned : (xs : List EntryData) → All IsHonestEntry (reverse xs) → All IsHonestEntry xs
+turned [] all = All-nil IsHonestEntry
+turned (x ∷ xs) all =
+    let parts : All IsHonestEntry (reverse xs ++ x ∷ []) = subst (All IsHonestEntry) (reverse-append (x ∷ []) xs) all in
+    All-cons IsHonestEntry x xs (All-head IsHonestEntry x [] (all_later IsHonestEntry (reverse xs) (x ∷ []) parts)) (turned xs (all_first IsHonestEntry (reverse xs) (x ∷ []) parts))
+
+honest_book : AnswersAreKindly → (book : Closed) (call : ℕ) → book.opening ≤ MAX_MONEY → IsLegal book.opening book.until book.history → All IsHonestEntry (of_call call book.history)
+honest_book kindly book call small legal =
+    turned (of_call call book.history)
+    (subst (All IsHonestEntry) (filter_reverse (λ (event : EntryData). is_of call event.asked) book.history) (honest_past kindly book.opening book.until call (reverse book.history) small legal))
+
+pub run_left : AnswersAreKindly → RunClosingIsNeverRefused → RunCallsAreOfOneWorker StoodIn → CallsOfOneSeatAreAlone → RunCallsThatEndAreReturned
+run_left kindly closing one alone setup workers given answers books account place book call some run at small =
+    let worker : ℕ = call % workers in
+    let by = run.answered worker (mod_below call workers some) in
+    let told = map answer_view (answers_to workers worker given answers) in
+    let legal : IsLegal book.opening book.until book.history = subst (λ (b : Closed). IsLegal b.opening b.until b.history) at.book_is (run.legal place book at.within) in
+    let all_of = whole books workers call account place setup book alone (one setup workers given answers books run) at in
+    let honest : All IsHonestEntry (entries_at call (lists_of worker books) place) = subst (All IsHonestEntry) all_of (honest_book kindly book call small legal) in
+    ap returns_of all_of
+    ∙ worked_left (refuses_in StoodIn books worker) setup worker by.posts told (lists_of worker books) call (closing setup workers given answers books call run) by.answered place honest
+    ∙ ap (λ (items : List Item). left_from setup call place None items told) by.share ∙ shared_left setup workers call place None 0 given answers

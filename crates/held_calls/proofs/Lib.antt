@@ -3,6 +3,7 @@ pub mod Entries
 pub mod Going
 pub mod Holding
 pub mod InRuns
+pub mod Leaving
 pub mod Messages
 pub mod Steps
 pub mod Tables

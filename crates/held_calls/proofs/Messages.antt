@@ -1,5 +1,5 @@
 -- What a message of a call does to it, by where its dialogue is.
-use Rattle.std.proofs.Common.{◌≡◌, ◌<◌, ◌++◌, ◌∙◌, ℕ, Bool, true, false, Option, Some, None, Ok, List, [], ◌∷◌, length, refl, sym, ap, subst, append-nil}
+use Rattle.std.proofs.Common.{All, ◌≡◌, ◌<◌, ◌++◌, ◌∙◌, ℕ, Bool, true, false, Option, Some, None, Ok, Err, List, [], ◌∷◌, length, refl, sym, ap, subst, append-nil}
 use Rattle.std.specs.Map.{keys_of}
 use Rattle.std.specs.Prelude.{◌==◌, if◌then◌else◌, slice_index_or}
 use Rattle.account_core.specs.Asked.{Returns, Settles}
@@ -9,9 +9,11 @@ use Rattle.cap_values.specs.declared.event.Event.TheVariants as event
 use Rattle.cap_values.specs.declared.message.SsfMsg.{SsfMsg}
 use Rattle.cap_values.specs.declared.message.SsfMsg.TheVariants as msg
 use Rattle.dialogue_core.specs.Phases.{Conditions, Phase, Says, FirstAsk, Running, Settling, MoreAsk, Returning, Ending, Closed, Asks, Sends}
-use Rattle.dialogue_core.specs.Table.{on_begin, on_message}
-use Rattle.dialogue_core.specs.Talks.{Got, sent_by, talked}
-use Rattle.held_calls.proofs.Closing.{ending_asked, ending_returned, its_call, report_asked, report_settled, sequel_to}
+use Rattle.dialogue_core.specs.Table.{are_units, conditions, first_period, on_begin, on_message}
+use Rattle.dialogue_core.specs.Talks.{Got, after_got, is_ask, or_done, sent_by, talked}
+use Rattle.dialogue_core.specs.declared.fault.DialogueFault.TheVariants.{Unexpected}
+use Rattle.account_core.specs.declared.entry.Reply.TheVariants.{Granted, Denied}
+use Rattle.held_calls.proofs.Closing.{one_got, ending_asked, ending_returned, its_call, report_asked, report_settled, sequel_to}
 use Rattle.held_calls.proofs.Holding.{AreKept, IsBound, IsKept, apart_from, begins_bound, goes_bound, same_lists, talk_said}
 use Rattle.held_calls.specs.Going.{after_message, pays}
 use Rattle.held_calls.specs.Held.{entries_at}
@@ -24,15 +26,19 @@ use Rattle.workers_core.proofs.Abouts.{begun_settles}
 use Rattle.workers_core.proofs.AtRest.{nothing_asked}
 use Rattle.workers_core.proofs.Growing.{place_within}
 use Rattle.workers_core.proofs.Handling.{home_within, same_number}
-use Rattle.workers_core.proofs.Through.{is_through, through_still}
+use Rattle.workers_core.proofs.Through.{is_through, returns_none, through_still}
 use Rattle.workers_core.specs.Handled.{AnswerView, Holding, IsDone, IsRightlyHandled, IsTalked}
 use Rattle.workers_core.specs.Laws.{IsRunning, ends_call}
 use Rattle.workers_core.specs.Refusals.{NeverRefusesClosing}
 use Rattle.workers_core.specs.Served.{report_in, returned_in, returns_of, settled_in, settles_of}
-use Rattle.workers_core.specs.Talks.{Showing, entries_of}
+use Rattle.workers_core.specs.Talks.{AllAsk, Showing, entries_of}
 use Rattle.workers_core.specs.Verdicts.{DialogueAt, begins, fresh, goes_on, home_of, spoken, verdict_on}
 use Rattle.workers_core.specs.Workers.{IsSound}
-use Rattle.held_calls.proofs.Steps.{IsOwnStep, asked_pays, has_passed, idle_over, idle_pays, idle_place, idle_step, idle_talk, is_running, none_either, not_false, read_said, settles_none, stands_at, stray_step, through_idle, unasked_stray}
+use Rattle.held_calls.proofs.Entries.{IsHonestEntry}
+use Rattle.held_calls.proofs.Leaving.{talk_leaves}
+use Rattle.runs_core.proofs.Listed.{all_later}
+use Rattle.held_calls.specs.Going.{left_in}
+use Rattle.held_calls.proofs.Steps.{same_grows, same_returns, said_grows, IsOwnStep, asked_pays, has_passed, idle_over, idle_pays, idle_place, idle_step, idle_talk, is_running, none_either, not_false, read_said, settles_none, stands_at, stray_step, through_idle, unasked_stray}
 
 -- ---- the first message of a call
 
@@ -49,6 +55,28 @@ begun_goes setup numbers at call place None old new told bound is =
 begun_goes setup numbers at call place (Some route) old new told bound is =
     ap (λ (b : Bool). if b then Some place else None)
     (asked_pays numbers call place (on_begin call at setup.service.wanted setup.service.least (Some route)) old new told bound refl is)
+
+-- it has no Return
+rests_granted : (t : Conditions) (units : ℕ) (last b : Bool) → is_ask (or_done (FirstAsk t) (if b then Ok (first_period t units last, Running t) else Err Unexpected)).0 ≡ false
+rests_granted t units last true = refl
+rests_granted t units last false = refl
+
+rests_first : (t : Conditions) (got : Got) → is_ask (after_got (FirstAsk t) got).0 ≡ false
+rests_first t (Ok (Granted units last a)) = rests_granted t units last (are_units units)
+rests_first t (Ok (Denied a)) = refl
+rests_first t (Ok reply) = refl
+rests_first t (Err fault) = refl
+
+begun_returns : (seat call now wanted least : ℕ) (route : Option Route) (gots : List Got) → AllAsk (on_begin call now wanted least route) gots
+    → returns_of (entries_of seat (on_begin call now wanted least route) gots) ≡ []
+begun_returns seat call now wanted least None gots asked =
+    ap (λ (g : List Got). returns_of (entries_of seat (on_begin call now wanted least None) g)) (nothing_asked (on_begin call now wanted least None) gots refl asked)
+begun_returns seat call now wanted least (Some route) [] asked = refl
+begun_returns seat call now wanted least (Some route) (Ok reply ∷ []) asked = refl
+begun_returns seat call now wanted least (Some route) (Err fault ∷ []) asked = refl
+begun_returns seat call now wanted least (Some route) (got ∷ (last ∷ earlier)) asked =
+    let first = on_begin call now wanted least (Some route) in
+    let none : last ∷ earlier ≡ [] = one_got first (rests_first (conditions call now wanted least route)) got (last ∷ earlier) asked in absurd (cc)
 
 begun_step : (Closes : Type 0) (setup : Setup) (numbers : List ℕ) (number at call place : ℕ) (other : ℕ) (calling called : _) (route : Option Route) (old new : Holding) (told : AnswerView) → place < length old.lists
     → old.talks call ≡ None → IsKept old.lists call None → home_of calling setup ≡ Some place
@@ -69,6 +97,12 @@ begun_step Closes setup numbers number at call place other calling called route 
           (settles_none seat call first is.gots bound.about (begun_settles call at setup.service.wanted setup.service.least route)));
       passed = λ was. absurd (cc);
       ends = λ closes ended there stands. absurd (cc);
+      grows = λ p. said_grows seat call place first is.gots old new is.phase said p (p == place) refl;
+      returns = λ closes p honest.
+          read_said (λ (e : EntryData). returned_in e.asked) seat call place first is.gots old new is.phase p (p == place) refl said
+          ∙ ap (λ l. returns_of (entries_at call old.lists p) ++ l)
+          (none_either (p == place) (returns_of (entries_of seat first is.gots))
+          (begun_returns seat call at setup.service.wanted setup.service.least route is.gots is.asked));
     }
 
 own_begun : (Closes : Type 0) (setup : Setup) (numbers : List ℕ) (number at call : ℕ) (other : ℕ) (calling called : _) (home : Option ℕ) (old new : Holding) (told : AnswerView)
@@ -92,6 +126,21 @@ own_fresh Closes setup numbers number at call (msg.ChargingReport active info) o
 own_fresh Closes setup numbers number at call msg.Ended old new told within none kept done = unasked_stray Closes setup numbers at call number msg.Ended None old new told refl none done
 
 -- ---- a message of a call that goes on
+
+not_through : (phase : Phase) → is_running phase ≡ true → is_through phase ≡ false
+not_through (FirstAsk t) still = refl
+not_through (Running t) still = refl
+not_through (Settling t active since) still = refl
+not_through (MoreAsk t) still = refl
+not_through (Returning after) still = absurd (cc)
+not_through Ending still = absurd (cc)
+not_through Closed still = absurd (cc)
+
+left_by : (call place p : ℕ) (here : Bool) → (p == place) ≡ here → (b : Bool) (returned : List ℕ) → (b ≡ true → returned ≡ []) → (here ≡ true → b ≡ false → returned ≡ call ∷ [])
+    → (if p == place then returned else []) ≡ left_in call p (Some place) (if b then Some place else None)
+left_by call place p here is true returned still over = none_either (p == place) returned (still refl)
+left_by call place p true is false returned still over = ap (λ (l : List ℕ). if p == place then l else []) (over refl refl)
+left_by call place p false is false returned still over = ap (λ (c : Bool). if c then returned else []) is ∙ sym (ap (λ (c : Bool). if c then call ∷ [] else []) is)
 
 -- before that it had no Return, at no account
 none_before : (lists : List (List EntryData)) (call : ℕ) (phase : Phase) (place : ℕ) → IsKept lists call (Some (record { phase = phase; place = place })) → is_through phase ≡ false
@@ -133,6 +182,11 @@ ended_step Shows setup numbers posts post old new told call place message sound 
                 ∙ ap (λ l. l ++ (if p == place then returns_of (entries_of seat first talk.gots) else [])) (none_before old.lists call (Running running.terms) place held refl p (p == place) refl)
                 ∙ ap (λ (l : List ℕ). if p == place then l else []) returned ∙ ap (λ (t : ℕ). if p == t then call ∷ [] else []) same,
           );
+      grows = λ p. said_grows seat call place first talk.gots old new talk.phase said p (p == place) refl;
+      returns = λ closes p honest.
+          read_said (λ (e : EntryData). returned_in e.asked) seat call place first talk.gots old new talk.phase p (p == place) refl said
+          ∙ ap (λ (l : List ℕ). returns_of (entries_at call old.lists p) ++ (if p == place then l else [])) (ending_returned Shows numbers call place message old new told closes running taken)
+          ∙ ap (λ (now : Option ℕ). returns_of (entries_at call old.lists p) ++ left_in call p (Some place) now) (sym (ap stands_at said.now ∙ idle_place talk.phase place idle));
     }
 
 -- a report of it
@@ -159,6 +213,21 @@ report_step Shows setup numbers posts post old new told call place active info s
           (report_settled Shows numbers call place post.number active info post.at old new told closes running about taken);
       passed = λ was. absurd (cc);
       ends = λ closes ended there stands. absurd (cc);
+      grows = λ p. said_grows seat call place first talk.gots old new talk.phase said p (p == place) refl;
+      returns = λ closes p honest.
+          let entries = entries_of seat first talk.gots in
+          let fair = λ (here : (p == place) ≡ true).
+          let own : All IsHonestEntry (entries_at call new.lists place) =
+          subst (λ (n : ℕ). All IsHonestEntry (entries_at call new.lists n)) (same_number p place here) honest in
+          all_later IsHonestEntry (entries_at call old.lists place) entries (subst (λ (l : List EntryData). All IsHonestEntry l) said.own own) in
+          read_said (λ (e : EntryData). returned_in e.asked) seat call place first talk.gots old new talk.phase p (p == place) refl said
+          ∙ ap (λ l. returns_of (entries_at call old.lists p) ++ l)
+          (left_by call place p (p == place) refl (is_running talk.phase) (returns_of entries)
+          (λ still. returns_none seat first talk.gots tt (ap (λ (q : Says × Phase). is_through q.1) talk.talk ∙ not_through talk.phase still))
+          (λ here idle.
+          talk_leaves Shows call place seat post.number info running.terms active post.at (slice_index_or old.lists place []) talk.gots talk.last talk.phase closes about talk.asked bound.stands taken.right (fair here)
+          talk.talk talk.rests idle))
+          ∙ ap (λ (now : Option ℕ). returns_of (entries_at call old.lists p) ++ left_in call p (Some place) now) (sym (ap stands_at said.now));
     }
 
 -- an Answer
@@ -174,6 +243,8 @@ answer_step Closes setup numbers call number leg mode t place old new told is =
           ∙ ap (λ l. settles_of (entries_at call old.lists p) ++ l) (sym (none_either (p == place) [] refl));
       passed = λ was. absurd (cc);
       ends = λ closes ended there stands. absurd (cc);
+      grows = same_grows call old new talk.same;
+      returns = λ closes p honest. same_returns call old new (Some place) (stands_at (new.talks call)) talk.same (ap stands_at talk.now) p;
     }
 
 own_running : (Shows : ℕ → Showing) (setup : Setup) (numbers : List ℕ) (posts : List Post) (post : Post) (old new : Holding) (told : AnswerView) (call place : ℕ) (t : Conditions) (message : SsfMsg)

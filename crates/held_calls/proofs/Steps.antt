@@ -1,5 +1,5 @@
 -- What one post does to a call: where the call goes on then, and what is entered of it.
-use Rattle.std.proofs.Common.{◌≡◌, ◌++◌, ◌∙◌, ℕ, Bool, true, false, Option, Some, None, Ok, Err, List, [], ◌∷◌, refl, sym, ap, subst, append-nil}
+use Rattle.std.proofs.Common.{All, ◌≡◌, ◌++◌, ◌∙◌, ℕ, Bool, true, false, Option, Some, None, Ok, Err, List, [], ◌∷◌, refl, sym, ap, subst, append-nil}
 use Rattle.std.specs.Prelude.{◌==◌, flat_map, if◌then◌else◌, not, slice_index_or}
 use Rattle.std.proofs.lemmas.Grind.{flat_map-append}
 use Rattle.account_core.specs.Events.{EntryData}
@@ -13,10 +13,11 @@ use Rattle.dialogue_core.specs.Phases as phase
 use Rattle.dialogue_core.specs.Table.{Step, are_units, first_period, on_message, on_refusal, on_reply, sequel}
 use Rattle.dialogue_core.specs.Talks.{Got, after_got, is_ask, or_done, sent_by, talked}
 use Rattle.dialogue_core.specs.declared.fault.DialogueFault.TheVariants.{Unexpected}
-use Rattle.held_calls.proofs.Entries.{grown_apart, talk_stands}
+use Rattle.held_calls.proofs.Entries.{IsHonestEntry, grown_apart, talk_stands}
 use Rattle.held_calls.proofs.Holding.{IsBound, IsSaid, IsUnmoved, SameEntries, apart_from, same_lists}
 use Rattle.held_calls.proofs.Tables.{Awaits, Fits}
-use Rattle.held_calls.specs.Going.{after_message, is_there, pays}
+use Rattle.shared_account.specs.Prefixes.{IsPrefix}
+use Rattle.held_calls.specs.Going.{left_in, after_message, is_there, pays}
 use Rattle.held_calls.specs.Held.{entries_at}
 use Rattle.run_values.specs.Setups.{Setup}
 use Rattle.workers_core.proofs.Abouts.{settled_by, talk_settles}
@@ -172,6 +173,33 @@ pub record IsOwnStep (Closes : Type 0) (setup : Setup) (call number : ℕ) (mess
   pub passed : has_passed found ≡ true → SameEntries call old.lists new.lists × (has_passed (new.talks call) ≡ true)
   pub ends : Closes → ends_call message ≡ true → (there : ℕ) → stands_at found ≡ Some there
       → (has_passed (new.talks call) ≡ true) × ((place : ℕ) → returns_of (entries_at call new.lists place) ≡ (if place == there then call ∷ [] else []))
+  pub grows : (place : ℕ) → IsPrefix (entries_at call old.lists place) (entries_at call new.lists place)
+  pub returns : Closes → (place : ℕ) → All IsHonestEntry (entries_at call new.lists place)
+      → returns_of (entries_at call new.lists place) ≡ returns_of (entries_at call old.lists place) ++ left_in call place (stands_at found) (stands_at (new.talks call))
+
+-- where the entries of a call are the same
+pub same_grows : (call : ℕ) (old new : Holding) → SameEntries call old.lists new.lists → (place : ℕ) → IsPrefix (entries_at call old.lists place) (entries_at call new.lists place)
+same_grows call old new same place = record { rest = []; is = same place ∙ sym (append-nil (entries_at call old.lists place)) }
+
+pub left_same : (call place : ℕ) (was now : Option ℕ) → now ≡ was → left_in call place was now ≡ []
+left_same call place None now same = refl
+left_same call place (Some there) None same = absurd (cc)
+left_same call place (Some there) (Some now) same = refl
+
+-- and it goes on as before
+pub same_returns : (call : ℕ) (old new : Holding) (was now : Option ℕ) → SameEntries call old.lists new.lists → now ≡ was → (place : ℕ)
+    → returns_of (entries_at call new.lists place) ≡ returns_of (entries_at call old.lists place) ++ left_in call place was now
+same_returns call old new was now same is place =
+    ap returns_of (same place) ∙ sym (append-nil (returns_of (entries_at call old.lists place)))
+    ∙ ap (λ l. returns_of (entries_at call old.lists place) ++ l) (sym (left_same call place was now is))
+
+-- after a talk of it
+pub said_grows : (seat call at : ℕ) (first : Says × Phase) (gots : List Got) (old new : Holding) (phase : Phase) → IsSaid seat call at first gots old new phase → (place : ℕ) (b : Bool) → (place == at) ≡ b
+    → IsPrefix (entries_at call old.lists place) (entries_at call new.lists place)
+said_grows seat call at first gots old new phase said place true is =
+    subst (λ (p : ℕ). IsPrefix (entries_at call old.lists p) (entries_at call new.lists p)) (sym (same_number place at is)) (record { rest = entries_of seat first gots; is = said.own })
+said_grows seat call at first gots old new phase said place false is =
+    record { rest = []; is = said.elsewhere place (apart_from place at is) ∙ sym (append-nil (entries_at call old.lists place)) }
 
 pub none_either : {X : Type 0} (b : Bool) (none : List X) → none ≡ [] → (if b then none else []) ≡ []
 none_either true none is = is
@@ -193,6 +221,8 @@ stray_step Closes setup call number message found old new told unmoved is same n
       ∙ ap (λ l. settles_of (entries_at call old.lists place) ++ l) (sym (none place));
   passed = λ was. (unmoved.0, ap has_passed (unmoved.1 ∙ is) ∙ was);
   ends = λ closes ended there stands. let never : None ≡ Some there = sym (idle ended) ∙ stands in absurd (cc);
+  grows = same_grows call old new unmoved.0;
+  returns = λ closes place honest. same_returns call old new (stands_at found) (stands_at (new.talks call)) unmoved.0 (ap stands_at (unmoved.1 ∙ is)) place;
 }
 
 -- a call that doesn't go on goes on no more after a message that isn't paid for
@@ -284,4 +314,8 @@ idle_step Closes setup numbers at call number message phase place (Ok next) old 
           ∙ ap (λ (was : Option ℕ). settles_of (entries_at call old.lists place') ++ (if is_there was place' then report_in number call message else [])) (sym none);
       passed = λ was. (talk.same, ap has_passed talk.now ∙ not_false (is_running next.1) later);
       ends = λ closes ended there stands. let never : None ≡ Some there = sym none ∙ stands in absurd (cc);
+      grows = same_grows call old new talk.same;
+      returns = λ closes p honest.
+          same_returns call old new (stands_at (Some (record { phase = phase; place = place }))) (stands_at (new.talks call)) talk.same
+          (ap stands_at talk.now ∙ idle_place next.1 place later ∙ sym none) p;
     }

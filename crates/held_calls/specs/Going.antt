@@ -74,6 +74,23 @@ taken_at setup call place items answers = taken_from setup call place None items
 
 -- ---- its end
 
+-- the Return of a call that went on at the account at a place before, and goes on no more now
+abbrev pub left_in : ℕ → ℕ → Option ℕ → Option ℕ → List ℕ
+left_in call place None now = []
+left_in call place (Some there) None = if place == there then call ∷ [] else []
+left_in call place (Some there) (Some now) = []
+
+-- those of a call that goes on no more after one of the items, where it went on here before
+abbrev pub left_from : Setup → ℕ → ℕ → Option ℕ → List Item → List AnswerView → List ℕ
+left_from setup call place was [] answers = []
+left_from setup call place was (item ∷ items) [] = []
+left_from setup call place was (item ∷ items) (told ∷ answers) =
+    left_in call place was (after_item setup call was item.body told) ++ left_from setup call place (after_item setup call was item.body told) items answers
+
+-- of all items
+abbrev pub left_at : Setup → ℕ → ℕ → List Item → List AnswerView → List ℕ
+left_at setup call place items answers = left_from setup call place None items answers
+
 -- the place of the account at which a call goes on that an item ends by its message
 abbrev pub ended_in : ℕ → Option ℕ → Body → Option ℕ
 ended_in call was (Ssf other message) = if (other == call) && ends_call message then was else None

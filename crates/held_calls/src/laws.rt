@@ -4,9 +4,10 @@ ghost use Rattle.std.specs.Prelude.{List};
 ghost use Rattle.held_calls.specs.Going.{PaidCallsGoOn};
 ghost use Rattle.held_calls.specs.Held.{CallsAreHeld};
 ghost use Rattle.held_calls.specs.Laws.{EndedCallsAreReturned, TakenReportsAreSettled, WorkedCallsAreReturned, WorkedReportsAreSettled};
-ghost use Rattle.held_calls.specs.Runs.{RunCallsAreReturned, RunReportsAreSettled};
+ghost use Rattle.held_calls.specs.Runs.{RunCallsAreReturned, RunCallsThatEndAreReturned, RunReportsAreSettled};
 ghost use Rattle.workers_core.specs.Refusals.{RefusesAt};
 
+use account_core::answers_are_kindly;
 use runs_core::{run_calls_are_of_one_worker, run_closing_is_never_refused};
 use shared_account::{Shared, TurnAccount, calls_of_one_seat_are_alone};
 
@@ -72,6 +73,21 @@ pub fn run_reports_are_settled()
 pub fn run_calls_are_returned()
     ensures { RunCallsAreReturned }
 {
+    run_closing_is_never_refused();
+    run_calls_are_of_one_worker::<TurnAccount>();
+    calls_of_one_seat_are_alone();
+}
+
+/// In such a run the book of an account has one Return of a call where the call went on there and
+/// goes on no more in the end, whether a message ended it or a report that no ApplyCharging
+/// answered, and none else. So nothing is held any more for a call that is over.
+///
+/// It takes that the opening credit of the book is at most `MAX_MONEY`, a clause of
+/// `Book::history`.
+pub fn run_calls_that_end_are_returned()
+    ensures { RunCallsThatEndAreReturned }
+{
+    answers_are_kindly();
     run_closing_is_never_refused();
     run_calls_are_of_one_worker::<TurnAccount>();
     calls_of_one_seat_are_alone();

@@ -6,6 +6,6 @@ mod laws;
 
 pub use laws::{
     calls_are_held, ended_calls_are_returned, paid_calls_go_on, run_calls_are_returned,
-    run_reports_are_settled, taken_reports_are_settled, worked_calls_are_returned,
-    worked_reports_are_settled,
+    run_calls_that_end_are_returned, run_reports_are_settled, taken_reports_are_settled,
+    worked_calls_are_returned, worked_reports_are_settled,
 };
