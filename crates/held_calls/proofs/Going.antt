@@ -14,9 +14,6 @@ use Rattle.held_calls.proofs.Entries.{IsHonestEntry, credit_entry, grown_apart}
 use Rattle.held_calls.proofs.Holding.{AreKept, IsUnmoved, SameEntries, first_kept, kept_once, same_lists, talk_apart}
 use Rattle.held_calls.proofs.Messages.{own_step}
 use Rattle.held_calls.proofs.Steps.{IsOwnStep, same_grows, same_returns, has_passed, is_running, none_either, stands_at}
-use Rattle.shared_account.specs.Prefixes.{IsPrefix}
-use Rattle.shared_account.proofs.Beginnings.{begins_further}
-use Rattle.runs_core.proofs.Listed.{all_first}
 use Rattle.held_calls.specs.Going.{left_at, left_from, left_in, PaidCallsGoOn, after_item, after_message, ended_from, ended_in, goes_on_from, is_there, pays, taken_from, taken_in}
 use Rattle.held_calls.specs.Held.{entries_at}
 use Rattle.held_calls.specs.Laws.{WorkedCallsAreReturned, WorkedReportsAreSettled}
@@ -24,8 +21,11 @@ use Rattle.run_values.specs.Setups.{Setup}
 use Rattle.run_values.specs.declared.post.Body.{Body}
 use Rattle.run_values.specs.declared.post.Body.TheVariants.{Ssf, Recharge}
 use Rattle.run_values.specs.declared.post.Post.{Post}
+use Rattle.runs_core.proofs.Listed.{all_first}
 use Rattle.runs_core.specs.Shares.{item_of}
+use Rattle.shared_account.proofs.Beginnings.{begins_further}
 use Rattle.shared_account.specs.Own.{of_call}
+use Rattle.shared_account.specs.Prefixes.{IsPrefix}
 use Rattle.workers_core.proofs.Abouts.{TakesTo, begun_about, begun_says, takes_told}
 use Rattle.workers_core.proofs.Chaining.{first_sound}
 use Rattle.workers_core.proofs.Entering.{none_at_first}

@@ -1,45 +1,43 @@
 -- What the books of a run have of a call.
 use Rattle.std.proofs.Common.{◌≡◌, ◌+◌, ◌++◌, ◌∙◌, ℕ, Bool, true, false, Option, Some, None, List, [], ◌∷◌, map, refl, sym, ap, subst, All, arith}
+use Rattle.std.specs.Option.{option_or}
+use Rattle.std.specs.Prelude.{◌==◌, ◌%◌, ◌&&◌, ◌≤◌, filter, if◌then◌else◌, reverse, slice_index_or}
+use Rattle.std.proofs.lemmas.List.{reverse-append, reverse-reverse, get_or-map}
+use Rattle.std.proofs.lemmas.List.Elements.{All-cons, All-head, All-nil}
+use Rattle.std.proofs.lemmas.Bool.Decides.{nat_tests}
+use Rattle.std.proofs.lemmas.Nat.{mod_below}
 use Rattle.account_core.specs.Answers.{IsLegal, IsLegalPast, answer, inadmissible}
 use Rattle.account_core.specs.Asked.{Asked, Credits, IsOfCall, Reserves, Returns, Settles}
 use Rattle.account_core.specs.Events.{EntryData}
 use Rattle.account_core.specs.Known.{CallFacts, known}
 use Rattle.account_core.specs.Laws.{AnswersAreKindly}
+use Rattle.account_core.specs.Ledger.{Ledger}
 use Rattle.account_core.specs.Standing.{FitsCall}
 use Rattle.account_core.specs.declared.entry.Reply.{Reply}
 use Rattle.account_core.specs.declared.entry.Reply.TheVariants.{Granted, Denied, Settled, Forfeit, Returned}
 use Rattle.dialogue_core.specs.Runs.{IsHonest}
 use Rattle.held_calls.proofs.Entries.{IsHonestEntry}
-use Rattle.runs_core.proofs.Listed.{all_first, all_later}
-use Rattle.shared_account.proofs.Owning.{filter_reverse}
-use Rattle.std.proofs.lemmas.List.{reverse-append, reverse-reverse}
-use Rattle.std.proofs.lemmas.List.Elements.{All-cons, All-head, All-nil}
-use Rattle.tariff_core.specs.declared.plan.TheConstants.{MAX_MONEY}
-use Rattle.workers_core.proofs.Handling.{same_number}
-use Rattle.std.specs.Option.{option_or}
-use Rattle.std.specs.Prelude.{◌==◌, ◌%◌, ◌&&◌, ◌≤◌, filter, if◌then◌else◌, reverse, slice_index_or}
-use Rattle.std.proofs.lemmas.Bool.Decides.{nat_tests}
-use Rattle.std.proofs.lemmas.List.{get_or-map}
-use Rattle.std.proofs.lemmas.Nat.{mod_below}
-use Rattle.account_core.specs.Ledger.{Ledger}
-use Rattle.held_calls.proofs.Going.{other_report}
+use Rattle.held_calls.proofs.Going.{other_report, worked_left, worked_returned, worked_settled}
 use Rattle.held_calls.proofs.Steps.{left_same, none_either}
 use Rattle.held_calls.specs.Going.{after_item, after_message, ended_from, ended_in, is_there, left_from, left_in, pays, taken_from, taken_in}
 use Rattle.held_calls.specs.Held.{entries_at}
 use Rattle.held_calls.specs.Runs.{RunCallsAreReturned, RunCallsThatEndAreReturned, RunReportsAreSettled}
-use Rattle.held_calls.proofs.Going.{worked_left, worked_returned, worked_settled}
 use Rattle.run_values.specs.Setups.{Setup}
 use Rattle.run_values.specs.declared.post.Answer.{Answer}
 use Rattle.run_values.specs.declared.post.Body.{Body}
 use Rattle.run_values.specs.declared.post.Body.TheVariants.{Ssf, Recharge}
+use Rattle.runs_core.proofs.Listed.{all_first, all_later}
 use Rattle.runs_core.specs.Closing.{lists_of, refuses_in}
 use Rattle.runs_core.specs.Entered.{IsBookAt, RunCallsAreOfOneWorker, RunClosingIsNeverRefused}
 use Rattle.runs_core.specs.Hearing.{answers_to}
 use Rattle.runs_core.specs.Shares.{Item, item_at, item_of, numbered, share_from, worker_of}
 use Rattle.shared_account.proofs.Beginnings.{begins_itself}
+use Rattle.shared_account.proofs.Owning.{filter_reverse}
 use Rattle.shared_account.specs.Closed.{Closed}
 use Rattle.shared_account.specs.Own.{is_of, of_call, own}
 use Rattle.shared_account.specs.Seen.{CallsOfOneSeatAreAlone, IsBySeat, StoodIn}
+use Rattle.tariff_core.specs.declared.plan.TheConstants.{MAX_MONEY}
+use Rattle.workers_core.proofs.Handling.{same_number}
 use Rattle.workers_core.specs.Handled.{AnswerView, answer_view}
 use Rattle.workers_core.specs.Laws.{ends_call}
 use Rattle.workers_core.specs.Served.{Report, reported_in, returns_of, settles_of}

@@ -12,8 +12,8 @@ use Rattle.account_core.specs.declared.entry.Reply.{Reply}
 use Rattle.account_core.specs.declared.entry.Reply.TheVariants.{Granted, Denied, Settled, Forfeit, Returned}
 use Rattle.account_core.specs.declared.fault.AccountFault.{AccountFault}
 use Rattle.cap_values.specs.Orders.{Pay}
-use Rattle.dialogue_core.specs.Phases.{Conditions, Phase, Says, Sequel, FirstAsk, Running, Settling, MoreAsk, Returning, Ending, Closed, Asks, Sends, Finished}
 use Rattle.dialogue_core.specs.Phases as phase
+use Rattle.dialogue_core.specs.Phases.{Conditions, Phase, Says, Sequel, FirstAsk, Running, Settling, MoreAsk, Returning, Ending, Closed, Asks, Sends, Finished}
 use Rattle.dialogue_core.specs.Runs.{IsHonest}
 use Rattle.dialogue_core.specs.Table.{are_units, on_reply, sequel}
 use Rattle.dialogue_core.specs.Talks.{Got, after_got, is_ask, or_done, talked}

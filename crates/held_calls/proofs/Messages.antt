@@ -4,6 +4,7 @@ use Rattle.std.specs.Map.{keys_of}
 use Rattle.std.specs.Prelude.{◌==◌, if◌then◌else◌, slice_index_or}
 use Rattle.account_core.specs.Asked.{Returns, Settles}
 use Rattle.account_core.specs.Events.{EntryData}
+use Rattle.account_core.specs.declared.entry.Reply.TheVariants.{Granted, Denied}
 use Rattle.cap_values.specs.Orders.{Order, Release}
 use Rattle.cap_values.specs.declared.event.Event.TheVariants as event
 use Rattle.cap_values.specs.declared.message.SsfMsg.{SsfMsg}
@@ -12,15 +13,18 @@ use Rattle.dialogue_core.specs.Phases.{Conditions, Phase, Says, FirstAsk, Runnin
 use Rattle.dialogue_core.specs.Table.{are_units, conditions, first_period, on_begin, on_message}
 use Rattle.dialogue_core.specs.Talks.{Got, after_got, is_ask, or_done, sent_by, talked}
 use Rattle.dialogue_core.specs.declared.fault.DialogueFault.TheVariants.{Unexpected}
-use Rattle.account_core.specs.declared.entry.Reply.TheVariants.{Granted, Denied}
 use Rattle.held_calls.proofs.Closing.{one_got, ending_asked, ending_returned, its_call, report_asked, report_settled, sequel_to}
+use Rattle.held_calls.proofs.Entries.{IsHonestEntry}
 use Rattle.held_calls.proofs.Holding.{AreKept, IsBound, IsKept, apart_from, begins_bound, goes_bound, same_lists, talk_said}
-use Rattle.held_calls.specs.Going.{after_message, pays}
+use Rattle.held_calls.proofs.Leaving.{talk_leaves}
+use Rattle.held_calls.proofs.Steps.{same_grows, same_returns, said_grows, IsOwnStep, asked_pays, has_passed, idle_over, idle_pays, idle_place, idle_step, idle_talk, is_running, none_either, not_false, read_said, settles_none, stands_at, stray_step, through_idle, unasked_stray}
+use Rattle.held_calls.specs.Going.{after_message, pays, left_in}
 use Rattle.held_calls.specs.Held.{entries_at}
 use Rattle.run_values.specs.Setups.{Setup, account_of}
 use Rattle.run_values.specs.declared.post.Body.{Body}
 use Rattle.run_values.specs.declared.post.Body.TheVariants.{Ssf}
 use Rattle.run_values.specs.declared.post.Post.{Post}
+use Rattle.runs_core.proofs.Listed.{all_later}
 use Rattle.tariff_core.specs.declared.route.Route.{Route}
 use Rattle.workers_core.proofs.Abouts.{begun_settles}
 use Rattle.workers_core.proofs.AtRest.{nothing_asked}
@@ -34,11 +38,6 @@ use Rattle.workers_core.specs.Served.{report_in, returned_in, returns_of, settle
 use Rattle.workers_core.specs.Talks.{AllAsk, Showing, entries_of}
 use Rattle.workers_core.specs.Verdicts.{DialogueAt, begins, fresh, goes_on, home_of, spoken, verdict_on}
 use Rattle.workers_core.specs.Workers.{IsSound}
-use Rattle.held_calls.proofs.Entries.{IsHonestEntry}
-use Rattle.held_calls.proofs.Leaving.{talk_leaves}
-use Rattle.runs_core.proofs.Listed.{all_later}
-use Rattle.held_calls.specs.Going.{left_in}
-use Rattle.held_calls.proofs.Steps.{same_grows, same_returns, said_grows, IsOwnStep, asked_pays, has_passed, idle_over, idle_pays, idle_place, idle_step, idle_talk, is_running, none_either, not_false, read_said, settles_none, stands_at, stray_step, through_idle, unasked_stray}
 
 -- ---- the first message of a call
 

@@ -8,18 +8,19 @@ use Rattle.cap_values.specs.Orders.{Pay}
 use Rattle.cap_values.specs.declared.message.SsfMsg.{SsfMsg}
 use Rattle.cap_values.specs.declared.message.SsfMsg.TheVariants as msg
 use Rattle.cap_values.specs.declared.mode.Mode.TheVariants.{Interrupted, NotifyAndContinue, Transparent}
-use Rattle.dialogue_core.specs.Phases.{Conditions, Phase, Says, Sequel, FirstAsk, Running, Settling, MoreAsk, Returning, Ending, Closed, Asks, Sends, Finished}
 use Rattle.dialogue_core.specs.Phases as phase
+use Rattle.dialogue_core.specs.Phases.{Conditions, Phase, Says, Sequel, FirstAsk, Running, Settling, MoreAsk, Returning, Ending, Closed, Asks, Sends, Finished}
 use Rattle.dialogue_core.specs.Table.{Step, are_units, first_period, on_message, on_refusal, on_reply, sequel}
 use Rattle.dialogue_core.specs.Talks.{Got, after_got, is_ask, or_done, sent_by, talked}
 use Rattle.dialogue_core.specs.declared.fault.DialogueFault.TheVariants.{Unexpected}
 use Rattle.held_calls.proofs.Entries.{IsHonestEntry, grown_apart, talk_stands}
 use Rattle.held_calls.proofs.Holding.{IsBound, IsSaid, IsUnmoved, SameEntries, apart_from, same_lists}
 use Rattle.held_calls.proofs.Tables.{Awaits, Fits}
-use Rattle.shared_account.specs.Prefixes.{IsPrefix}
 use Rattle.held_calls.specs.Going.{left_in, after_message, is_there, pays}
 use Rattle.held_calls.specs.Held.{entries_at}
 use Rattle.run_values.specs.Setups.{Setup}
+use Rattle.shared_account.specs.Own.{of_call}
+use Rattle.shared_account.specs.Prefixes.{IsPrefix}
 use Rattle.workers_core.proofs.Abouts.{settled_by, talk_settles}
 use Rattle.workers_core.proofs.AtRest.{nothing_asked}
 use Rattle.workers_core.proofs.Handling.{is_itself, same_number}
@@ -27,7 +28,6 @@ use Rattle.workers_core.proofs.Through.{StepIsOver, is_through, over_told}
 use Rattle.workers_core.specs.Handled.{AnswerView, Holding, IsDone, IsTalked}
 use Rattle.workers_core.specs.Laws.{ends_call}
 use Rattle.workers_core.specs.Served.{IsPart, Report, report_in, returns_of, settles_of}
-use Rattle.shared_account.specs.Own.{of_call}
 use Rattle.workers_core.specs.Talks.{AllAsk, entries_of}
 use Rattle.workers_core.specs.Verdicts.{DialogueAt, Strays, goes_on}
 use Rattle.workers_core.specs.Workers.{IsAbout}

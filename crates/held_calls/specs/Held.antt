@@ -2,11 +2,11 @@
 use Rattle.std.specs.Prelude.{◌≡◌, ◌≢◌, ℕ, true, false, Option, Some, None, List, [], reverse, slice_index_or}
 use Rattle.account_core.specs.Events.{EntryData}
 use Rattle.account_core.specs.Known.{CallFacts, is_open, known}
+use Rattle.account_core.specs.declared.fault.AccountFault.{AccountFault}
 use Rattle.dialogue_core.specs.Phases.{Phase, FirstAsk, Running, Settling, MoreAsk, Returning, Ending, Closed}
 use Rattle.run_values.specs.Setups.{Setup}
 use Rattle.run_values.specs.declared.post.Post.{Post}
 use Rattle.shared_account.specs.Own.{of_call}
-use Rattle.account_core.specs.declared.fault.AccountFault.{AccountFault}
 use Rattle.workers_core.specs.Chains.{AreHandled, at_first, seat_numbers}
 use Rattle.workers_core.specs.Handled.{Holding}
 use Rattle.workers_core.specs.Verdicts.{DialogueAt}
