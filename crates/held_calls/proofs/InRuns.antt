@@ -19,7 +19,7 @@ use Rattle.dialogue_core.specs.Runs.{IsHonest}
 use Rattle.held_calls.proofs.Entries.{IsHonestEntry}
 use Rattle.held_calls.proofs.Going.{other_report, worked_left, worked_returned, worked_settled}
 use Rattle.held_calls.proofs.Steps.{left_same, none_either}
-use Rattle.held_calls.specs.Going.{after_item, after_message, ended_from, ended_in, is_there, left_from, left_in, pays, taken_from, taken_in}
+use Rattle.held_calls.specs.Going.{after_item, after_message, ended_from, ended_in, gathered, is_there, left_from, left_in, pays, taken_from, taken_in}
 use Rattle.held_calls.specs.Held.{entries_at}
 use Rattle.held_calls.specs.Runs.{RunCallsAreReturned, RunCallsThatEndAreReturned, RunReportsAreSettled}
 use Rattle.run_values.specs.Setups.{Setup}
@@ -46,7 +46,6 @@ use Rattle.workers_core.specs.Served.{Report, reported_in, returns_of, settles_o
 
 record IsApart (setup : Setup) (call number : ℕ) (was : Option ℕ) (body : Body) (told : AnswerView) : Type 0 where
   after : after_item setup call was body told ≡ was
-  taken : (place : ℕ) → taken_in call place was number body ≡ []
   ended : ended_in call was body ≡ None
 
 differs_so : (workers call other : ℕ) (b : Bool) → (other == call) ≡ b → (other % workers == call % workers) ≡ false → (other == call) ≡ false
@@ -60,46 +59,57 @@ apart_item setup workers call number was (Ssf other message) told apart =
     let differs = differs_so workers call other (other == call) refl apart in
     record {
       after = ap (λ (b : Bool). if b then after_message setup (pays told.orders) was message else was) differs;
-      taken = λ place.
-          none_either (is_there was place) (filter (λ (report : Report). report.1 == call) (reported_in number (Ssf other message))) (other_report number call other message differs);
       ended = ap (λ (b : Bool). if b && ends_call message then was else None) differs;
     }
 apart_item setup workers call number was (Recharge account amount until) told apart =
-    record { after = refl; taken = λ place. none_either (is_there was place) [] refl; ended = refl }
+    record { after = refl; ended = refl }
+
+-- nor has it a report of it
+taken_apart : (workers call place number : ℕ) (was : Option ℕ) (body : Body) → (worker_of workers body == call % workers) ≡ false → taken_in call place was number body ≡ []
+taken_apart workers call place number was (Ssf other message) apart =
+    none_either (is_there was place) (filter (λ (report : Report). report.1 == call) (reported_in number (Ssf other message)))
+    (other_report number call other message (differs_so workers call other (other == call) refl apart))
+taken_apart workers call place number was (Recharge account amount until) apart = none_either (is_there was place) [] refl
 
 -- ---- a worker's share says of its calls what all items do
 
-taken_none : (setup : Setup) (call place : ℕ) (was : Option ℕ) (items : List Item) → taken_from setup call place was items [] ≡ []
-taken_none setup call place was [] = refl
-taken_none setup call place was (item ∷ items) = refl
+gathered_none : {X : Type 0} (comes : Option ℕ → Option ℕ → Item → List X) (setup : Setup) (call : ℕ) (was : Option ℕ) (items : List Item) → gathered comes setup call was items [] ≡ []
+gathered_none comes setup call was [] = refl
+gathered_none comes setup call was (item ∷ items) = refl
 
 ended_none : (setup : Setup) (call : ℕ) (was : Option ℕ) (items : List Item) → ended_from setup call was items [] ≡ None
 ended_none setup call was [] = refl
 ended_none setup call was (item ∷ items) = refl
 
--- with the next item
-taken_next : (setup : Setup) (workers call place : ℕ) (was : Option ℕ) (first : ℕ) (next : ℕ × Body) (given : List (ℕ × Body)) (answer : Answer) (answers : List Answer) (b : Bool)
-    → (worker_of workers next.1 == call % workers) ≡ b
-    → ((now : Option ℕ) → taken_from setup call place now (share_from workers (first + 1) given (call % workers)) (map answer_view (answers_to workers (call % workers) given answers))
-    ≡ taken_from setup call place now (numbered (first + 1) given) (map answer_view answers))
-    → taken_from setup call place was (if b then item_at first next ∷ share_from workers (first + 1) given (call % workers) else share_from workers (first + 1) given (call % workers))
-    (map answer_view (if b then answer ∷ answers_to workers (call % workers) given answers else answers_to workers (call % workers) given answers))
-    ≡ taken_from setup call place was (numbered first (next ∷ given)) (map answer_view (answer ∷ answers))
-taken_next setup workers call place was first next given answer answers true is rest =
-    ap (λ l. taken_in call place was first next.1 ++ l) (rest (after_item setup call was next.1 (answer_view answer)))
-taken_next setup workers call place was first next given answer answers false is rest =
-    let apart = apart_item setup workers call first was next.1 (answer_view answer) is in
-    rest was ∙ ap (λ (now : Option ℕ). taken_from setup call place now (numbered (first + 1) given) (map answer_view answers)) (sym apart.after)
-    ∙ ap (λ l. l ++ taken_from setup call place (after_item setup call was next.1 (answer_view answer)) (numbered (first + 1) given) (map answer_view answers)) (sym (apart.taken place))
+-- an item of another worker comes to nothing
+abbrev ComesToNone : {X : Type 0} → (Option ℕ → Option ℕ → Item → List X) → ℕ → ℕ → Type 0
+ComesToNone comes workers call = (was now : Option ℕ) (item : Item) → (worker_of workers item.body == call % workers) ≡ false → now ≡ was → comes was now item ≡ []
 
-shared_taken : (setup : Setup) (workers call place : ℕ) (was : Option ℕ) (first : ℕ) (given : List (ℕ × Body)) (answers : List Answer)
-    → taken_from setup call place was (share_from workers first given (call % workers)) (map answer_view (answers_to workers (call % workers) given answers))
-    ≡ taken_from setup call place was (numbered first given) (map answer_view answers)
-shared_taken setup workers call place was first [] answers = refl
-shared_taken setup workers call place was first (next ∷ given) [] = taken_none setup call place was (share_from workers first (next ∷ given) (call % workers))
-shared_taken setup workers call place was first (next ∷ given) (answer ∷ answers) =
-    taken_next setup workers call place was first next given answer answers (worker_of workers next.1 == call % workers) refl
-    (λ now. shared_taken setup workers call place now (first + 1) given answers)
+-- with the next item
+gathered_next : {X : Type 0} (comes : Option ℕ → Option ℕ → Item → List X) (setup : Setup) (workers call : ℕ) (was : Option ℕ) (first : ℕ) (next : ℕ × Body) (given : List (ℕ × Body)) (answer : Answer) (answers : List Answer) (b : Bool)
+    → ComesToNone comes workers call → (worker_of workers next.1 == call % workers) ≡ b
+    → ((now : Option ℕ) → gathered comes setup call now (share_from workers (first + 1) given (call % workers)) (map answer_view (answers_to workers (call % workers) given answers))
+    ≡ gathered comes setup call now (numbered (first + 1) given) (map answer_view answers))
+    → gathered comes setup call was (if b then item_at first next ∷ share_from workers (first + 1) given (call % workers) else share_from workers (first + 1) given (call % workers))
+    (map answer_view (if b then answer ∷ answers_to workers (call % workers) given answers else answers_to workers (call % workers) given answers))
+    ≡ gathered comes setup call was (numbered first (next ∷ given)) (map answer_view (answer ∷ answers))
+gathered_next comes setup workers call was first next given answer answers true none is rest =
+    let now : Option ℕ = after_item setup call was next.1 (answer_view answer) in ap (λ l. comes was now (item_at first next) ++ l) (rest now)
+gathered_next comes setup workers call was first next given answer answers false none is rest =
+    let now : Option ℕ = after_item setup call was next.1 (answer_view answer) in
+    let apart = apart_item setup workers call first was next.1 (answer_view answer) is in
+    rest was ∙ ap (λ (w : Option ℕ). gathered comes setup call w (numbered (first + 1) given) (map answer_view answers)) (sym apart.after)
+    ∙ ap (λ l. l ++ gathered comes setup call now (numbered (first + 1) given) (map answer_view answers)) (sym (none was now (item_at first next) is apart.after))
+
+shared_gathered : {X : Type 0} (comes : Option ℕ → Option ℕ → Item → List X) (setup : Setup) (workers call : ℕ) (was : Option ℕ) (first : ℕ) (given : List (ℕ × Body)) (answers : List Answer)
+    → ComesToNone comes workers call
+    → gathered comes setup call was (share_from workers first given (call % workers)) (map answer_view (answers_to workers (call % workers) given answers))
+    ≡ gathered comes setup call was (numbered first given) (map answer_view answers)
+shared_gathered comes setup workers call was first [] answers none = refl
+shared_gathered comes setup workers call was first (next ∷ given) [] none = gathered_none comes setup call was (share_from workers first (next ∷ given) (call % workers))
+shared_gathered comes setup workers call was first (next ∷ given) (answer ∷ answers) none =
+    gathered_next comes setup workers call was first next given answer answers (worker_of workers next.1 == call % workers) none refl
+    (λ now. shared_gathered comes setup workers call now (first + 1) given answers none)
 
 ended_next : (setup : Setup) (workers call : ℕ) (was : Option ℕ) (first : ℕ) (next : ℕ × Body) (given : List (ℕ × Body)) (answer : Answer) (answers : List Answer) (b : Bool)
     → (worker_of workers next.1 == call % workers) ≡ b
@@ -123,34 +133,6 @@ shared_ended setup workers call was first (next ∷ given) [] = ended_none setup
 shared_ended setup workers call was first (next ∷ given) (answer ∷ answers) =
     ended_next setup workers call was first next given answer answers (worker_of workers next.1 == call % workers) refl (λ now. shared_ended setup workers call now (first + 1) given answers)
 
-left_none : (setup : Setup) (call place : ℕ) (was : Option ℕ) (items : List Item) → left_from setup call place was items [] ≡ []
-left_none setup call place was [] = refl
-left_none setup call place was (item ∷ items) = refl
-
-left_next : (setup : Setup) (workers call place : ℕ) (was : Option ℕ) (first : ℕ) (next : ℕ × Body) (given : List (ℕ × Body)) (answer : Answer) (answers : List Answer) (b : Bool)
-    → (worker_of workers next.1 == call % workers) ≡ b
-    → ((now : Option ℕ) → left_from setup call place now (share_from workers (first + 1) given (call % workers)) (map answer_view (answers_to workers (call % workers) given answers))
-    ≡ left_from setup call place now (numbered (first + 1) given) (map answer_view answers))
-    → left_from setup call place was (if b then item_at first next ∷ share_from workers (first + 1) given (call % workers) else share_from workers (first + 1) given (call % workers))
-    (map answer_view (if b then answer ∷ answers_to workers (call % workers) given answers else answers_to workers (call % workers) given answers))
-    ≡ left_from setup call place was (numbered first (next ∷ given)) (map answer_view (answer ∷ answers))
-left_next setup workers call place was first next given answer answers true is rest =
-    ap (λ l. left_in call place was (after_item setup call was next.1 (answer_view answer)) ++ l) (rest (after_item setup call was next.1 (answer_view answer)))
-left_next setup workers call place was first next given answer answers false is rest =
-    let now : Option ℕ = after_item setup call was next.1 (answer_view answer) in
-    let apart = apart_item setup workers call first was next.1 (answer_view answer) is in
-    rest was ∙ ap (λ (w : Option ℕ). left_from setup call place w (numbered (first + 1) given) (map answer_view answers)) (sym apart.after)
-    ∙ ap (λ l. l ++ left_from setup call place now (numbered (first + 1) given) (map answer_view answers)) (sym (left_same call place was now apart.after))
-
-shared_left : (setup : Setup) (workers call place : ℕ) (was : Option ℕ) (first : ℕ) (given : List (ℕ × Body)) (answers : List Answer)
-    → left_from setup call place was (share_from workers first given (call % workers)) (map answer_view (answers_to workers (call % workers) given answers))
-    ≡ left_from setup call place was (numbered first given) (map answer_view answers)
-shared_left setup workers call place was first [] answers = refl
-shared_left setup workers call place was first (next ∷ given) [] = left_none setup call place was (share_from workers first (next ∷ given) (call % workers))
-shared_left setup workers call place was first (next ∷ given) (answer ∷ answers) =
-    left_next setup workers call place was first next given answer answers (worker_of workers next.1 == call % workers) refl
-    (λ now. shared_left setup workers call place now (first + 1) given answers)
-
 -- ---- in the books
 
 -- the entries of a call in a book are those of its worker there
@@ -173,7 +155,9 @@ run_settled closing one alone setup workers given answers books account place bo
     let told = map answer_view (answers_to workers worker given answers) in
     let settled = worked_settled (refuses_in StoodIn books worker) setup worker by.posts told (lists_of worker books) call (closing setup workers given answers books call run) by.answered place in
     ap settles_of (whole books workers call account place setup book alone (one setup workers given answers books run) at)
-    ∙ settled ∙ ap (λ (items : List Item). taken_from setup call place None items told) by.share ∙ shared_taken setup workers call place None 0 given answers
+    ∙ settled ∙ ap (λ (items : List Item). taken_from setup call place None items told) by.share
+    ∙ shared_gathered (λ was now item. taken_in call place was item.number item.body) setup workers call None 0 given answers
+    (λ was now item apart same. taken_apart workers call place item.number was item.body apart)
 
 pub run_returned : RunClosingIsNeverRefused → RunCallsAreOfOneWorker StoodIn → CallsOfOneSeatAreAlone → RunCallsAreReturned
 run_returned closing one alone setup workers given answers books account place book call there some run at ended =
@@ -238,4 +222,5 @@ run_left kindly closing one alone setup workers given answers books account plac
     let honest : All IsHonestEntry (entries_at call (lists_of worker books) place) = subst (All IsHonestEntry) all_of (honest_book kindly book call small legal) in
     ap returns_of all_of
     ∙ worked_left (refuses_in StoodIn books worker) setup worker by.posts told (lists_of worker books) call (closing setup workers given answers books call run) by.answered place honest
-    ∙ ap (λ (items : List Item). left_from setup call place None items told) by.share ∙ shared_left setup workers call place None 0 given answers
+    ∙ ap (λ (items : List Item). left_from setup call place None items told) by.share
+    ∙ shared_gathered (λ was now item. left_in call place was now) setup workers call None 0 given answers (λ was now item apart same. left_same call place was now same)

@@ -50,6 +50,13 @@ PaidCallsGoOn Shows =
     → AreAnswered Shows setup (seat_numbers number setup) posts answers (at_first setup) held → goes_on_at setup call (map item_of posts) answers ≡ Some place
     → IsRunning held call place
 
+-- what the items of a call come to, each by where the call went on before it and where it goes on after it, where it went on here before the first
+abbrev pub gathered : {X : Type 0} → (Option ℕ → Option ℕ → Item → List X) → Setup → ℕ → Option ℕ → List Item → List AnswerView → List X
+gathered comes setup call was [] answers = []
+gathered comes setup call was (item ∷ items) [] = []
+gathered comes setup call was (item ∷ items) (told ∷ answers) =
+    comes was (after_item setup call was item.body told) item ++ gathered comes setup call (after_item setup call was item.body told) items answers
+
 -- ---- its reports
 
 -- whether a call goes on at the account at a place
@@ -63,10 +70,7 @@ taken_in call place was number body = if is_there was place then filter (λ repo
 
 -- the reports of a call among items that come while it goes on there, where it went on here before
 abbrev pub taken_from : Setup → ℕ → ℕ → Option ℕ → List Item → List AnswerView → List Report
-taken_from setup call place was [] answers = []
-taken_from setup call place was (item ∷ items) [] = []
-taken_from setup call place was (item ∷ items) (told ∷ answers) =
-    taken_in call place was item.number item.body ++ taken_from setup call place (after_item setup call was item.body told) items answers
+taken_from setup call place = gathered (λ was now item. taken_in call place was item.number item.body) setup call
 
 -- of all items
 abbrev pub taken_at : Setup → ℕ → ℕ → List Item → List AnswerView → List Report
@@ -82,10 +86,7 @@ left_in call place (Some there) (Some now) = []
 
 -- those of a call that goes on no more after one of the items, where it went on here before
 abbrev pub left_from : Setup → ℕ → ℕ → Option ℕ → List Item → List AnswerView → List ℕ
-left_from setup call place was [] answers = []
-left_from setup call place was (item ∷ items) [] = []
-left_from setup call place was (item ∷ items) (told ∷ answers) =
-    left_in call place was (after_item setup call was item.body told) ++ left_from setup call place (after_item setup call was item.body told) items answers
+left_from setup call place = gathered (λ was now item. left_in call place was now) setup call
 
 -- of all items
 abbrev pub left_at : Setup → ℕ → ℕ → List Item → List AnswerView → List ℕ
