@@ -1,5 +1,5 @@
 -- What words ask of the program.
-use Rattle.std.specs.Prelude.{◌≡◌, ◌≢◌, ◌⊎◌, List, [], Option, Some, None, Result, Ok, Err, ⊤, codes, if◌then◌else◌, ok_or, option_map}
+use Rattle.std.specs.Prelude.{◌≡◌, ◌≢◌, ◌⊎◌, Bool, false, List, [], ◌∷◌, Option, Some, None, Result, Ok, Err, ⊤, codes, if◌then◌else◌, ok_or, option_map}
 use Rattle.std.specs.Str.{bytes_eq}
 use Rattle.clap.specs.Words.{IsAmong, Row, Text}
 use Rattle.clap.specs.declared.error.kind.ErrorKind.{ErrorKind}
@@ -47,6 +47,11 @@ IsRequestOf wish (Ok (request.Serve options log)) = wish ≡ Ok (Serves (live_as
 IsRequestOf wish (Err fault.Arguments) = wish ≡ Err fault.Arguments
 IsRequestOf wish (Err fault.Config) = wish ≡ Err fault.Config
 IsRequestOf wish _ = ⊥
+
+-- the word `--explain` is in front of the others
+abbrev pub explains : List Text → Bool
+explains [] = false
+explains (word ∷ words) = bytes_eq word (codes "--explain")
 
 -- the words ask for help
 abbrev pub AsksHelp : List Text → Type 0

@@ -1,8 +1,8 @@
 //! The words of a command line.
 
-ghost use Rattle.std.specs.Prelude.{map};
+ghost use Rattle.std.specs.Prelude.{◌≡◌, map};
 ghost use Rattle.clap.specs.Words.{kind_of, subcommand_rows_of};
-ghost use Rattle.command_words.specs.Arguments.{IsRead, IsRefusal, IsRequestOf, wish_in};
+ghost use Rattle.command_words.specs.Arguments.{IsRead, IsRefusal, IsRequestOf, explains, wish_in};
 
 use crate::audit_words::audit_ask;
 use crate::command_line::program_command;
@@ -15,7 +15,7 @@ use crate::run_words::run_request;
 use crate::serve_words::serve_request;
 use clap::error::ErrorKind;
 use clap::{ArgMatches, Error};
-use std::alloc::Global;
+use std::alloc::{AllocError, Global};
 use std::convert::AsStr;
 
 /// What the words after the program's name ask for. `Arguments` where they ask for nothing that the
@@ -29,6 +29,24 @@ pub fn read_words<'a, S: AsStr>(alloc: Global, words: &'a [S]) -> Result<Request
         Err(error) => return refusal(alloc, &error),
     };
     asked(&matches)
+}
+
+/// Whether a fault is to be explained: the word `--explain` is in front of the others.
+pub fn explains<S: AsStr>(words: &[S]) -> bool
+    ensures { result ≡ explains (map S.text words.now) }
+{
+    match words.first() {
+        Some(word) => word.as_str() == "--explain",
+        None => false,
+    }
+}
+
+/// What `clap` says of words that it doesn't take; empty where it takes them.
+pub fn explain_words<S: AsStr>(alloc: Global, words: &[S]) -> Result<String, AllocError> {
+    match program_command(alloc)?.try_get_matches_from(words) {
+        Ok(_) => Ok(String::new(alloc)),
+        Err(error) => error.to_string(alloc),
+    }
 }
 
 /// What the command that the words name asks for, if its options say it.

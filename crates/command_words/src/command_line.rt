@@ -14,7 +14,7 @@ use std::alloc::{AllocError, Global};
 pub(crate) fn program_command<'a>(alloc: Global) -> Result<Command<'a>, AllocError>
     ensures app { IfOk result (λ command. app_of command ≡ program_app) }
 {
-    bare_command(alloc)
+    bare_command(alloc)?
         .subcommand(price_command(alloc)?)?
         .subcommand(replay_command(alloc)?)?
         .subcommand(run_command(alloc)?)?
@@ -25,14 +25,16 @@ pub(crate) fn program_command<'a>(alloc: Global) -> Result<Command<'a>, AllocErr
 }
 
 /// The program without its commands.
-fn bare_command<'a>(alloc: Global) -> Command<'a>
-    ensures { app_of result ≡ bare_app }
+fn bare_command<'a>(alloc: Global) -> Result<Command<'a>, AllocError>
+    ensures { IfOk result (λ command. app_of command ≡ bare_app) }
 {
     let about = "Prepaid call control: prices, accounts and calls";
-    new_command(alloc, "prepaid", about)
+    let command = new_command(alloc, "prepaid", about)
         .version(help::VERSION)
         .no_binary_name(true)
-        .subcommand_required(true)
+        .subcommand_required(true);
+    let explain = "Says behind a fault where it is and what is wrong there";
+    add(command, flag(alloc, "explain", explain))
 }
 
 #[tactic(auto, unfolding(crate::specs::CommandLine::price_app))]

@@ -13,6 +13,6 @@ mod request;
 mod run_words;
 mod serve_words;
 
-pub use arguments::read_words;
+pub use arguments::{explain_words, explains, read_words};
 pub use fault::WordsFault;
 pub use request::{Opening, QuoteAsk, Request};

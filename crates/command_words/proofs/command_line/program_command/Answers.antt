@@ -6,7 +6,7 @@ use Rattle.command_words.proofs.command_line.program_command.Goals as goal
 pub returns : goal.returns
 unfolding program_app
 returns c =
-    let price = added _ _ _ _ _ c.in_ok-subcommand.ensures c.in_ok-price_command.ensures.local c.bare_command.ensures c.in_ok-price_command.ensures.app in
+    let price = added _ _ _ _ _ c.in_ok-subcommand.ensures c.in_ok-price_command.ensures.local c.in_ok-bare_command.ensures c.in_ok-price_command.ensures.app in
     let replay = added _ _ _ _ _ c.in_ok-subcommand-2.ensures c.in_ok-replay_command.ensures.local price c.in_ok-replay_command.ensures.app in
     let run = added _ _ _ _ _ c.in_ok-subcommand-3.ensures c.in_ok-run_command.ensures.local replay c.in_ok-run_command.ensures.app in
     let audit = added _ _ _ _ _ c.in_ok-subcommand-4.ensures c.in_ok-audit_command.ensures.local run c.in_ok-audit_command.ensures.app in

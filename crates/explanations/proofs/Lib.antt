@@ -1,0 +1,4 @@
+pub mod MarkLemmas
+pub mod SectionLemmas
+pub mod ShownLemmas
+pub mod WalkLemmas

@@ -1,0 +1,5 @@
+pub mod RowLines
+pub mod RowStarts
+pub mod Sections
+pub mod Slips
+pub mod Walks

@@ -1,0 +1,54 @@
+-- What is said of a fault in a table of an input.
+use Rattle.std.specs.Prelude.{◌≡◌, ◌⊎◌, ◌++◌, ℕ, List, [], take}
+use Rattle.explanations.specs.RowLines.{row_line}
+use Rattle.explanations.specs.RowStarts.{BeginsRow, HasFewer}
+use Rattle.explanations.specs.Sections.{IsSection}
+use Rattle.explanations.specs.declared.sections.Section.{Section}
+use Rattle.explanations.specs.declared.sections.Section.TheVariants as section
+use Rattle.explanations.specs.declared.slip.Slip.{Slip}
+use Rattle.explanations.specs.declared.slip.Slip.TheVariants as slip
+
+-- the part of the input that the table is
+abbrev pub section_of : Slip → Section
+section_of (slip.Reports fault) = section.Whole
+section_of (slip.Ops fault) = section.Whole
+section_of (slip.Book fault) = section.Whole
+section_of (slip.Tariff fault) = section.Whole
+section_of (slip.RunTariff fault) = section.First
+section_of (slip.Setup fault) = section.Second
+section_of (slip.Script fault) = section.Third
+
+-- the number of the row
+abbrev pub row_of : Slip → ℕ
+row_of (slip.Reports fault) = fault.row
+row_of (slip.Ops fault) = fault.row
+row_of (slip.Book fault) = fault.row
+row_of (slip.Tariff fault) = fault.row
+row_of (slip.RunTariff fault) = fault.row
+row_of (slip.Setup fault) = fault.row
+row_of (slip.Script fault) = fault.row
+
+-- a row of a part that has this text in front of it begins in this line
+pub record BeginsIn (before part : List ℕ) (row : ℕ) (line : List ℕ) : Type 0 where
+  pub at : ℕ
+  pub begins : BeginsRow part row at
+  pub line_is : line ≡ row_line before part at
+
+-- the line of a row, or none where the part has fewer rows
+abbrev pub IsLineOf : List ℕ → List ℕ → ℕ → List ℕ → Type 0
+IsLineOf before part row line = BeginsIn before part row line ⊎ (HasFewer part row × (line ≡ []))
+
+-- the same of a row of a part of the input
+pub record ShowsRow (input : List ℕ) (section : Section) (row : ℕ) (line : List ℕ) : Type 0 where
+  -- the part, and where it begins
+  pub start : ℕ
+  pub part : List ℕ
+  pub is_section : IsSection section input start part
+  pub is_line : IsLineOf (take start input) part row line
+
+-- an explanation: the line of the row, and what is wrong there
+pub record Explains (input : List ℕ) (slip : Slip) (text : List ℕ) : Type 0 where
+  pub line : List ℕ
+  pub shows : ShowsRow input (section_of slip) (row_of slip) line
+  pub more : List ℕ
+  pub text_is : text ≡ line ++ more

@@ -1,0 +1,17 @@
+//! What is said of a fault of the input besides its line: where it is, and what is wrong there.
+//!
+//! All of it is found in the bytes of the input once the fault is known, so no reader keeps
+//! anything for it.
+#![tactic(auto)]
+
+mod explaining;
+mod row_line;
+mod sections;
+mod slip;
+mod starts;
+mod walk;
+
+pub use explaining::explain;
+pub use sections::Section;
+pub use slip::Slip;
+pub use starts::row_start;
