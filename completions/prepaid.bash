@@ -4,8 +4,15 @@ _prepaid()
 {
     local current=${COMP_WORDS[COMP_CWORD]} previous=${COMP_WORDS[COMP_CWORD - 1]}
     local words
-    if ((COMP_CWORD == 1)); then
-        words='price replay run audit quote rate serve help --help -h --version -V'
+    local -a given=("${COMP_WORDS[@]}")
+    local place=$COMP_CWORD
+    if [[ ${given[1]} == --explain ]] && ((place > 1)); then
+        # the command comes behind this word
+        given=("${given[0]}" "${given[@]:2}")
+        place=$((place - 1))
+    fi
+    if ((place == 1)); then
+        words='price replay run audit quote rate serve help --explain --help -h --version -V'
     elif [[ $previous == --default ]]; then
         words='proceed release'
     elif [[ $previous == --log ]]; then
@@ -15,7 +22,7 @@ _prepaid()
         # a number or a name comes next
         words=''
     else
-        case ${COMP_WORDS[1]} in
+        case ${given[1]} in
             price) words='--fee --before --after --free --first --step --help -h' ;;
             replay) words='--opening --limit --help -h' ;;
             run) words='--workers --wanted --least --tssf --tccd --delay --default --book --calls --trace --clock --help -h' ;;

@@ -14,8 +14,8 @@ import sys
 import tempfile
 
 HELP = {"-h", "--help"}
-# What the program takes in the place of a command.
-VERSION = {"-V", "--version"}
+# What the program takes in the place of a command, and in front of one.
+VERSION = {"-V", "--version", "--explain"}
 # Kinds of a tariff's faults that the program tells as those of a run.
 OF_RUN = {"Device", "OutOfMemory"}
 PARTS = r"(reports|ops|setup|script|book|records|messages) row"
@@ -199,8 +199,8 @@ def said_in_zsh(path):
     for name, arm in re.findall(r"^    ([a-z]+)\)\n(.*?);;", text, re.M | re.S):
         commands[name] = set(re.findall(r"'(--[a-z]+)\[", arm)) | (HELP if "{-h,--help}" in arm else set())
     words = {("run", "--default"): ", ".join(re.search(r"--default\[[^:]*:word:\(([^)]*)\)", text)[1].split())}
-    if "{-V,--version}" not in text:
-        raise SystemExit(f"{path}: no version")
+    if "{-V,--version}" not in text or "'--explain[" not in text:
+        raise SystemExit(f"{path}: no version, or no word in front of a command")
     return commands if listed == set(commands) else {"listed": listed}, words
 
 

@@ -52,6 +52,8 @@ def command(words, text, book=None, write=None):
     Of `serve` the text may be a file, and what is printed goes to `write` as it comes.
     """
     printed = []
+    explains = bool(words) and words[0] == "--explain"
+    words = words[1:] if explains else words
     try:
         if not words or words[0] not in TAKEN:
             raise ARGUMENTS
@@ -68,7 +70,55 @@ def command(words, text, book=None, write=None):
             return 0, "".join(printed), "", True
         return 0, {"price": do_price, "replay": do_replay, "quote": do_quote}[words[0]](given, text), "", True
     except Fault as fault:
-        return fault.status, "".join(printed), fault.line + "\n", True
+        said = explained(words, text, fault.line) if explains else ""
+        return fault.status, "".join(printed), fault.line + "\n" + said, True
+
+
+def explained(words, text, line):
+    """The line of the input in which the row of a fault begins. What is said behind it isn't compared."""
+    found = re.fullmatch(r"prepaid: (\w+) row (\d+): \w+", line)
+    if not found or words[0] in ("rate", "serve") or "--long" in words:
+        return ""
+    parts = {"tariff": 0, "setup": 1, "script": 2} if words[0] == "run" else {}
+    starts = [0] + [it.end() for it in re.finditer(rb"^%%(\r?\n|\r?\Z)", text, re.M)]
+    start = starts[parts.get(found[1], 0)]
+    end = starts[parts[found[1]] + 1] if parts and parts[found[1]] < 2 else len(text)
+    begins = row_starts(text[start:end], int(found[2]))
+    if begins is None:
+        return ""
+    shown = re.split(rb"[\r\n]", text[start + begins :], maxsplit=1)[0]
+    return f"line {text[: start + begins].count(10) + 1} of the input: {as_shown(shown)}\n"
+
+
+def as_shown(line):
+    """The bytes of a line, as far as 200 columns reach."""
+    shown = ""
+    for byte in line:
+        piece = chr(byte) if 32 <= byte < 127 else f"\\x{byte:02x}"
+        if len(shown) + len(piece) > 200:
+            break
+        shown += piece
+    return shown
+
+
+def row_starts(part, number):
+    """Where the row of a number begins in a table, by the quotes and the ends of lines in front of it."""
+    at, row = (3 if part.startswith(b"\xef\xbb\xbf") else 0), 0
+    while True:
+        while part[at : at + 1] in (b"\r", b"\n"):
+            at += 1
+        if at >= len(part):
+            return None
+        row += 1
+        if row == number:
+            return at
+        # a field is quoted text and then plain text, or plain text alone
+        field = re.compile(rb'(?:"(?:[^"]|"")*(?:"|\Z))?[^,\r\n]*')
+        while True:
+            at = field.match(part, at).end()
+            if part[at : at + 1] != b",":
+                break
+            at += 1
 
 
 def options_in(name, words):

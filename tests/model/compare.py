@@ -35,6 +35,11 @@ def compare(program, seed):
     book = said[1].decode("latin-1") if said[0] == 0 and "--book" in words else None
     status, output, fault, is_ordered = command(words, text, book)
     wanted = status, output.encode("latin-1"), fault.encode()
+    if words[:1] == ["--explain"]:
+        # the lines behind the one of the row have words of their own
+        lines = said[2].splitlines(keepends=True)
+        said = *said[:2], b"".join(lines[: fault.count("\n")])
+        words = words[1:]
     if said == wanted and words[:1] == ["rate"] and (apart := in_two_parts(program, seed, words, text, said)):
         return "differs", apart
     if said == wanted or not is_ordered and (said[0], said[2]) == (status, fault.encode()):

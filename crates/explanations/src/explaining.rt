@@ -1,37 +1,34 @@
 //! What is said of a fault in a table of an input.
 
 ghost use Rattle.std.specs.Prelude.{IfOk, string_bytes};
-ghost use Rattle.explanations.specs.Slips.{Explains, IsLineOf, ShowsRow};
+ghost use Rattle.explanations.specs.Slips.{Explains, IsLineOf};
 
+use crate::Slip;
+use crate::open_quote::open_quote;
+use crate::reasons::{Faulty, reason};
 use crate::row_line::push_row_line;
 use crate::sections::part_of;
 use crate::starts::row_start;
-use crate::{Section, Slip};
 use std::alloc::{AllocError, Global};
 
 /// The lines that explain a fault of the input, each with LF at its end: the line of the input in
 /// which the row begins, and what is wrong there.
+#[tactic(auto, using(crate::proofs::SectionLemmas::begins_within))]
 pub fn explain(alloc: Global, input: &[u8], slip: Slip) -> Result<String, AllocError>
     ensures { IfOk result (λ text. Explains input.now slip (string_bytes text)) }
 {
-    let mut text = row_text(alloc, input, slip.section(), slip.row())?;
-    let more = String::new(alloc);
+    let Ok(part) = part_of(alloc, input, slip.section()) else {
+        return Err(AllocError);
+    };
+    let (before, table) = (&input[..part.start], part.text.as_slice());
+    let mut text = line_of(alloc, before, table, slip.row())?;
+    let more = more_of(alloc, before, table, slip)?;
     text.push_str(more.as_str())?;
     Ok(text)
 }
 
-/// The line in which a row of a part of the input begins; empty where the part has fewer rows.
-#[tactic(auto, using(crate::proofs::SectionLemmas::begins_within))]
-fn row_text(alloc: Global, input: &[u8], section: Section, row: u32) -> Result<String, AllocError>
-    ensures { IfOk result (λ line. ShowsRow input.now section row (string_bytes line)) }
-{
-    let Ok(part) = part_of(alloc, input, section) else {
-        return Err(AllocError);
-    };
-    line_of(alloc, &input[..part.start], part.text.as_slice(), row)
-}
-
-/// The same of a part that has this text in front of it.
+/// The line in which a row of a part begins that has this text in front of it; empty where the part
+/// has fewer rows.
 fn line_of(alloc: Global, before: &[u8], part: &[u8], row: u32) -> Result<String, AllocError>
     ensures { IfOk result (λ line. IsLineOf before.now part.now row (string_bytes line)) }
 {
@@ -40,4 +37,23 @@ fn line_of(alloc: Global, before: &[u8], part: &[u8], row: u32) -> Result<String
         push_row_line(&mut line, before, part, at)?;
     }
     Ok(line)
+}
+
+/// What is wrong with a row of a part, and where a quote is open in it.
+fn more_of(alloc: Global, before: &[u8], part: &[u8], slip: Slip) -> Result<String, AllocError> {
+    let row = slip.row();
+    let mut text = reason(
+        alloc,
+        Faulty {
+            text: part,
+            slip,
+            row,
+        },
+    )?;
+    if let Some(start) = row_start(part, row) {
+        if let Some(line) = open_quote(before, part, start) {
+            writeln!(text, "a quote is open since line {line}")?;
+        }
+    }
+    Ok(text)
 }

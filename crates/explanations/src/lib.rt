@@ -4,13 +4,24 @@
 //! anything for it.
 #![tactic(auto)]
 
+mod dividers;
+mod earlier;
+mod empties;
 mod explaining;
+mod forms;
+mod found_rows;
+mod midnight;
+mod open_quote;
+mod reasons;
 mod row_line;
 mod sections;
 mod slip;
 mod starts;
+mod unknown_words;
 mod walk;
+mod wants;
 
+pub use dividers::explain_dividers;
 pub use explaining::explain;
 pub use sections::Section;
 pub use slip::Slip;

@@ -28,7 +28,7 @@ pub(crate) fn push_row_line(
 }
 
 /// How many lines of a text are ended by LF.
-fn lines_ended(text: &[u8]) -> usize
+pub(crate) fn lines_ended(text: &[u8]) -> usize
     ensures value { result ≡ lines_ended text.now }
     ensures few { result ≤ length text.now }
 {

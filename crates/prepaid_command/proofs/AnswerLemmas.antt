@@ -1,17 +1,21 @@
 -- An answer to a wish is an answer to the words that ask for it.
-use Rattle.std.proofs.Common.{◌≡◌, ℕ, Bool, true, false, List, Option, Some, None, Result, Ok, Err, ap, subst, sym, inl, inr}
-use Rattle.std.specs.Prelude.{◌⊎◌, ⊤, IfErr, IfSome, MatchResult, if◌then◌else◌, length, nat_lt}
+use Rattle.std.proofs.Common.{◌≡◌, ℕ, Bool, true, false, List, Option, Some, None, Result, Ok, Err, ap, refl, ◌∙◌, subst, sym, inl, inr}
+use Rattle.std.specs.Prelude.{◌⊎◌, ⊤, IfErr, IfNone, IfSome, MatchResult, option_map, if◌then◌else◌, length, nat_lt}
 use Rattle.std.specs.Result.{result_map_both}
 use Rattle.book_texts.specs.Books.{Books, books_of}
 use Rattle.book_texts.specs.Sizes.{most_rows}
 use Rattle.book_texts.specs.declared.size.AuditAsk.{AuditAsk}
 use Rattle.book_texts.specs.declared.size.BookSize.{BookSize}
 use Rattle.book_texts.specs.declared.size.BookSize.TheVariants as size
-use Rattle.command_words.specs.Arguments.{AsksFor, AsksHelp, AsksVersion, IsRead}
+use Rattle.command_words.specs.Arguments.{AsksFor, AsksHelp, AsksVersion, IsRead, explains}
 use Rattle.command_words.specs.QuoteWishes.{QuoteWish}
-use Rattle.command_words.specs.Wishes.{Wish, Audits, Prices, Quotes}
+use Rattle.command_words.specs.Wishes.{Wish, Audits, Prices, Quotes, Replays, Runs}
 use Rattle.command_words.specs.declared.fault.WordsFault.{WordsFault}
 use Rattle.command_words.specs.declared.fault.WordsFault.TheVariants as words_fault
+use Rattle.run_command.specs.Answers.{RunSaid}
+use Rattle.run_command.specs.declared.error.RunError.{RunError}
+use Rattle.run_command.specs.declared.error.RunError.TheVariants as error
+use Rattle.run_options.specs.declared.options.RunAsk.{RunAsk}
 use Rattle.run_texts.specs.Inputs.{tariff_in}
 use Rattle.run_texts.specs.declared.input_fault.InputFault.{InputFault}
 use Rattle.run_texts.specs.declared.input_fault.InputFault.TheVariants as input_fault
@@ -22,12 +26,14 @@ use Rattle.table_core.specs.declared.fault.RowFault.{RowFault}
 use Rattle.tariff_core.specs.Bands.{Band}
 use Rattle.tariff_core.specs.Rates.{Rates}
 use Rattle.tariff_core.specs.Times.{Elapsed}
-use Rattle.prepaid_command.specs.Answers.{Answers, IsAnswer, IsAnswerTo, IsAuditOfTable, IsTold, IsToldAudit, IsToldQuote, Written, price_of_input}
-use Rattle.prepaid_command.specs.Faults.{Gives, GivesOne, meaning_in, meaning_of_part, of_run_input, of_words}
+use Rattle.prepaid_command.specs.Answers.{Answers, IsAnswer, IsAnswerTo, IsAuditOfTable, IsTold, IsToldAudit, IsToldQuote, IsToldRun, Written, price_of_input, replay_of_input}
+use Rattle.prepaid_command.specs.Explanations.{IsOfWords, IsSaidBy, IsSaidOf, has_parts}
+use Rattle.prepaid_command.specs.Faults.{Gives, GivesOne, meaning_in, meaning_of_part, of_run, of_run_input, of_words}
 use Rattle.prepaid_command.specs.Input.{sized, sized_as}
 use Rattle.prepaid_command.specs.PriceLines.{price_lines}
 use Rattle.prepaid_command.specs.Reports.{reports_of}
-use Rattle.prepaid_command.specs.Tellings.{Telling, plain}
+use Rattle.prepaid_command.specs.Replays.{replayed}
+use Rattle.prepaid_command.specs.Tellings.{Telling, plain, telling_of_run}
 use Rattle.prepaid_command.specs.declared.fault.Fault.{Fault}
 use Rattle.prepaid_command.specs.declared.fault.Fault.TheVariants as fault
 use Rattle.prepaid_command.specs.declared.fault.Part.TheVariants as part
@@ -78,7 +84,7 @@ quote_by : (wish : QuoteWish) (meaning : Result (List Band) Fault) (answer : Res
 quote_by wish (Ok bands) answer of_meaning told = rw told.told tt
 quote_by wish (Err why) answer of_meaning is = rw is of_meaning
 
-quote_of : (wish : QuoteWish) (input : List ℕ) (answer : Result Telling Fault) → IsAnswerTo (Quotes wish) input answer → IfErr answer IsOfInput
+pub quote_of : (wish : QuoteWish) (input : List ℕ) (answer : Result Telling Fault) → IsAnswerTo (Quotes wish) input answer → IfErr answer IsOfInput
 quote_of wish input answer is =
     quote_by wish (after (sized input) (λ text. meaning_of_part (tariff_in text))) answer
     (after_of (sized input) (λ text. meaning_of_part (tariff_in text)) (sized_of input) (λ text. part_of (tariff_in text))) is
@@ -102,7 +108,7 @@ sized_as_of : (size : BookSize) (input : List ℕ) → IfErr (sized_as size inpu
 sized_as_of size.Short input = sized_of input
 sized_as_of size.Long input = tt
 
-audit_of : (ask : AuditAsk) (input : List ℕ) (answer : Result Telling Fault) → IsAnswerTo (Audits ask) input answer → IfErr answer IsOfInput
+pub audit_of : (ask : AuditAsk) (input : List ℕ) (answer : Result Telling Fault) → IsAnswerTo (Audits ask) input answer → IfErr answer IsOfInput
 audit_of ask input answer is = audit_in ask (sized_as ask.size input) answer (sized_as_of ask.size input) is
 
 -- ---- what is asked for
@@ -152,42 +158,123 @@ refused_words words input words_fault.Arguments is = is
 refused_words words input words_fault.Config is = is
 refused_words words input words_fault.OutOfMemory is = tt
 
+-- ---- replays and runs
+
+lines_by : (lines : Result (List ℕ) RowFault) → IfErr (after (meaning_in part.Ops lines) (λ text. Ok (plain text))) IsOfInput
+lines_by (Ok lines) = tt
+lines_by (Err why) = tt
+
+replay_of : (opening limit : ℕ) (input : List ℕ) → IfErr (replay_of_input opening limit input) IsOfInput
+replay_of opening limit input =
+    after_of (sized input) (λ text. after (meaning_in part.Ops (replayed opening limit (rows_of text))) (λ lines. Ok (plain lines))) (sized_of input)
+    (λ text. lines_by (replayed opening limit (rows_of text)))
+
+told_run : (made : Result RunSaid RunError) → IfErr (result_map_both telling_of_run of_run made) IsOfInput
+told_run (Ok said) = tt
+told_run (Err (error.Input why)) = run_input_of why
+told_run (Err (error.Run why)) = tt
+
+run_by : (ask : RunAsk) (text : Result (List ℕ) Fault) (answer : Result Telling Fault) → IfErr text IsOfInput
+    → MatchResult text (λ read. IsToldRun ask read answer) (λ why. answer ≡ Err why) → IfErr answer IsOfInput
+run_by ask (Ok text) answer of_text is = rw is.told (told_run is.made)
+run_by ask (Err why) answer of_text is = rw is of_text
+
+pub run_of : (ask : RunAsk) (input : List ℕ) (answer : Result Telling Fault) → IsAnswerTo (Runs ask) input answer → IfErr answer IsOfInput
+run_of ask input answer is = run_by ask (sized input) answer (sized_of input) is
+
 -- ---- and is told
 
+-- what is said over an input that was kept is said over the input
+said_over : {V W X : Type 0} (words : List (List ℕ)) (items : V → List ℕ) (text_of : W → List ℕ) (view : X → Telling) (known : Option (List ℕ)) (kept : Option V) (more : Option W)
+    (answer : Result X Fault) (wish : Wish) → AsksFor words wish → IfSome known (λ text. IfSome kept (λ bytes. items bytes ≡ text)) → IfNone kept (more ≡ None)
+    → IfSome kept (λ bytes. IfErr answer (λ why. IfSome more (λ said. IsSaidOf (has_parts wish) (items bytes) why (text_of said))))
+    → IfSome known (λ text. IfErr (result_map_both view (λ why. why) answer) (λ why. IfSome (option_map text_of more) (λ said. IsSaidBy words text why said)))
+said_over words items text_of view None kept more answer wish asked same none said = tt
+said_over words items text_of view (Some text) kept more (Ok x) wish asked same none said = tt
+said_over words items text_of view (Some text) kept None (Err why) wish asked same none said = tt
+said_over words items text_of view (Some text) None (Some m) (Err why) wish asked same none said = cc
+said_over words items text_of view (Some text) (Some bytes) (Some m) (Err why) wish asked same none said =
+    inl (record { wish = wish; asked = asked; said = subst (λ (t : List ℕ). IsSaidOf (has_parts wish) t why (text_of m)) same said })
+
+none_said : {W : Type 0} (text_of : W → List ℕ) (more : Option W) → more ≡ None → option_map text_of more ≡ None
+none_said text_of more is = rw is refl
+
+answered_known : (words : List (List ℕ)) (known : Option (List ℕ)) (wish : Wish) → ((input : List ℕ) (answer : Result Telling Fault) → IsAnswerTo wish input answer → IfErr answer IsOfInput)
+    → (answer : Result Telling Fault) → AsksFor words wish → IfSome known (λ input. GivesOne (IsAnswerTo wish input) answer) → IfSome known (λ input. IsAnswer words input answer)
+answered_known words None wish of_input answer asked is = tt
+answered_known words (Some input) wish of_input answer asked is = answers words wish input (of_input input) answer asked is
+
+pub gives_known : {X : Type 0} (view : X → Telling) (known : Option (List ℕ)) (result : Result X Fault) (meaning : List ℕ → Result Telling Fault)
+    → IfSome known (λ input. Gives view result (meaning input)) → IfSome known (λ input. GivesOne (λ answer. meaning input ≡ answer) (result_map_both view (λ why. why) result))
+gives_known view None result meaning gives = tt
+gives_known view (Some input) result meaning gives = gives_one view result (meaning input) gives
+
+said_of_words : (words : List (List ℕ)) (input : List ℕ) (fault : Fault) (more : Option (List ℕ)) → IfSome more (λ said. IsOfWords fault)
+    → IfSome more (λ said. IsSaidBy words input fault said)
+said_of_words words input fault None is = tt
+said_of_words words input fault (Some text) is = inr is
+
+module _ {V W X : Type 0} (items : V → List ℕ) (text_of : W → List ℕ) (view : X → Telling) (words : List (List ℕ)) (status : ℕ) (old new : Written) (known : Option (List ℕ))
+    (kept : Option V) (more : Option W) (told_answer answer : Result X Fault) (explaining : Bool) where
+  -- an answer to a wish, or its fault and what is said of that
+  pub wished : (wish : Wish) → ((input : List ℕ) (answer : Result Telling Fault) → IsAnswerTo wish input answer → IfErr answer IsOfInput) → AsksFor words wish
+      → IfSome known (λ input. GivesOne (IsAnswerTo wish input) (result_map_both view (λ why. why) answer)) → told_answer ≡ answer → explaining ≡ explains words
+      → (explaining ≡ false → more ≡ None) → IfSome known (λ text. IfSome kept (λ bytes. items bytes ≡ text)) → IfNone kept (more ≡ None)
+      → IfSome kept (λ bytes. IfErr answer (λ why. IfSome more (λ said. IsSaidOf (has_parts wish) (items bytes) why (text_of said))))
+      → IsTold (option_map text_of more) (result_map_both view (λ why. why) told_answer) status old new → Answers words known status old new
+  wished wish of_input asked is same_answer explains_is only same none said told = record {
+    answer = result_map_both view (λ why. why) answer;
+    answered = answered_known words known wish of_input (result_map_both view (λ why. why) answer) asked is;
+    more = option_map text_of more;
+    only = λ off. none_said text_of more (only (explains_is ∙ off));
+    said = said_over words items text_of view known kept more answer wish asked same none said;
+    told = subst (λ (a : Result X Fault). IsTold (option_map text_of more) (result_map_both view (λ why. why) a) status old new) same_answer told;
+  }
+
+pub price_wished : (plan : Rates) (input : List ℕ) (answer : Result Telling Fault) → IsAnswerTo (Prices plan) input answer → IfErr answer IsOfInput
+price_wished plan input answer is = rw (← is) (price_of plan input)
+
+pub replay_wished : (opening limit : ℕ) (input : List ℕ) (answer : Result Telling Fault) → IsAnswerTo (Replays opening limit) input answer → IfErr answer IsOfInput
+replay_wished opening limit input answer is = rw (← is) (replay_of opening limit input)
+
+about_texts : {W : Type 0} (text_of : W → List ℕ) (P : Type 0) (more : Option W) → IfSome more (λ said. P) → IfSome (option_map text_of more) (λ said. P)
+about_texts text_of P None is = tt
+about_texts text_of P (Some m) is = is
+
 module _ (words : List (List ℕ)) (status : ℕ) (old new : Written) where
-  -- a price
-  pub priced : {X : Type 0} (known : Option (List ℕ)) (view : X → Telling) (plan : Rates) (result : Result X Fault) → AsksFor words (Prices plan)
-      → IfSome known (λ input. Gives view result (price_of_input plan input)) → IsTold (result_map_both view (λ why. why) result) status old new → Answers words known status old new
-  priced None view plan result asked gives told = record { answer = result_map_both view (λ why. why) result; answered = tt; told = told }
-  priced (Some input) view plan result asked gives told = record {
-    answer = result_map_both view (λ why. why) result;
-    answered = answers words (Prices plan) input (λ answer is. rw (← is) (price_of plan input)) _ asked (gives_one view result (price_of_input plan input) gives);
+  -- the help or the version
+  pub helped : (known : Option (List ℕ)) (telling : Telling) (text : List ℕ) → AsksHelp words ⊎ AsksVersion words → telling ≡ plain text → IsTold None (Ok telling) status old new
+      → Answers words known status old new
+  helped None telling text asked is told = record { answer = Ok telling; answered = tt; more = None; only = λ off. refl; said = tt; told = told }
+  helped (Some input) telling text asked is told =
+      record { answer = Ok telling; answered = inl (asked, ap (λ t. t.passes) is); more = None; only = λ off. refl; said = tt; told = told }
+
+  -- words that are refused, and what is said of them
+  pub refused : (known more : Option (List ℕ)) (why : WordsFault) (fault : Fault) → IsRead words (Err why) → fault ≡ of_words why → (explains words ≡ false → more ≡ None)
+      → (IfSome more (λ said. IsOfWords fault)) → IsTold more (Err fault) status old new → Answers words known status old new
+  refused None more why fault read is only of_words told = record { answer = Err fault; answered = tt; more = more; only = only; said = tt; told = told }
+  refused (Some input) more why fault read is only of_words told = record {
+    answer = Err fault;
+    answered = subst (λ (w : Fault). IsAnswer words input (Err w)) (sym is) (refused_words words input why read);
+    more = more;
+    only = only;
+    said = said_of_words words input fault more of_words;
     told = told;
   }
 
-  -- a quote
-  pub quoted : (known : Option (List ℕ)) (wish : QuoteWish) (answer : Result Telling Fault) → AsksFor words (Quotes wish)
-      → IfSome known (λ input. GivesOne (IsAnswerTo (Quotes wish) input) answer) → IsTold answer status old new → Answers words known status old new
-  quoted None wish answer asked is told = record { answer = answer; answered = tt; told = told }
-  quoted (Some input) wish answer asked is told =
-      record { answer = answer; answered = answers words (Quotes wish) input (quote_of wish input) answer asked is; told = told }
+module _ {W X : Type 0} (text_of : W → List ℕ) (view : X → Telling) (words : List (List ℕ)) (status : ℕ) (old new : Written) (known : Option (List ℕ)) (more : Option W)
+    (told_answer : Result X Fault) where
+  -- the same, as the code tells it
+  pub helped_plainly : (answer : X) (text : List ℕ) → AsksHelp words ⊎ AsksVersion words → view answer ≡ plain text → told_answer ≡ Ok answer → more ≡ None
+      → IsTold (option_map text_of more) (result_map_both view (λ why. why) told_answer) status old new → Answers words known status old new
+  helped_plainly answer text asked is answer_is none told =
+      helped words status old new known (view answer) text asked is
+      (subst (λ (a : Result X Fault). IsTold (option_map text_of more) (result_map_both view (λ why. why) a) status old new) answer_is told)
 
-  -- an audit
-  pub audited : (known : Option (List ℕ)) (ask : AuditAsk) (answer : Result Telling Fault) → AsksFor words (Audits ask)
-      → IfSome known (λ input. GivesOne (IsAnswerTo (Audits ask) input) answer) → IsTold answer status old new → Answers words known status old new
-  audited None ask answer asked is told = record { answer = answer; answered = tt; told = told }
-  audited (Some input) ask answer asked is told =
-      record { answer = answer; answered = answers words (Audits ask) input (audit_of ask input) answer asked is; told = told }
-
-  -- the help or the version
-  pub helped : (known : Option (List ℕ)) (telling : Telling) (text : List ℕ) → AsksHelp words ⊎ AsksVersion words → telling ≡ plain text → IsTold (Ok telling) status old new
-      → Answers words known status old new
-  helped None telling text asked is told = record { answer = Ok telling; answered = tt; told = told }
-  helped (Some input) telling text asked is told = record { answer = Ok telling; answered = inl (asked, ap (λ t. t.passes) is); told = told }
-
-  -- words that are refused
-  pub refused : (known : Option (List ℕ)) (why : WordsFault) (fault : Fault) → IsRead words (Err why) → fault ≡ of_words why → IsTold (Err fault) status old new
-      → Answers words known status old new
-  refused None why fault read is told = record { answer = Err fault; answered = tt; told = told }
-  refused (Some input) why fault read is told =
-      record { answer = Err fault; answered = subst (λ (w : Fault). IsAnswer words input (Err w)) (sym is) (refused_words words input why read); told = told }
+  pub refused_words_told : (explaining : Bool) (why : WordsFault) → IsRead words (Err why) → told_answer ≡ Err (of_words why) → explaining ≡ explains words
+      → (explaining ≡ false → more ≡ None) → IfSome more (λ said. IsOfWords (of_words why))
+      → IsTold (option_map text_of more) (result_map_both view (λ why. why) told_answer) status old new → Answers words known status old new
+  refused_words_told explaining why read answer_is explains_is only about told =
+      refused words status old new known (option_map text_of more) why (of_words why) read refl (λ off. none_said text_of more (only (explains_is ∙ off)))
+      (about_texts text_of (IsOfWords (of_words why)) more about)
+      (subst (λ (a : Result X Fault). IsTold (option_map text_of more) (result_map_both view (λ why. why) a) status old new) answer_is told)

@@ -28,6 +28,14 @@ fits (Some text) bytes read short =
     let all : bytes ≡ text = read ∙ take_all 16777217 text (omega arith) in
     rw all (grind (arith, nat_tests))
 
+-- what was read then is the input
+pub same_bytes : (known : Option (List ℕ)) (bytes : List ℕ) → IfSome (option_map (take 16777217) known) (λ text. bytes ≡ [] ++ text)
+    → length bytes ≤ 16777216 → IfSome known (λ text. bytes ≡ text)
+same_bytes None bytes read short = tt
+same_bytes (Some text) bytes read short =
+    let count : length bytes ≡ min 16777217 (length text) = ap length read ∙ length-take 16777217 text in
+    read ∙ take_all 16777217 text (omega arith)
+
 -- a fault that may always come may come at any meaning
 pub run_fault : {Y : Type 0} (why : Fault) (meaning : Result Y Fault) → MayAlwaysCome why → Refuses why meaning
 run_fault fault.Arguments meaning is = absurd is

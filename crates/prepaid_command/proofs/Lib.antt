@@ -7,3 +7,4 @@ pub mod QuoteLemmas
 pub mod RateLemmas
 pub mod ReplayLemmas
 pub mod ReportLemmas
+pub mod WriteLemmas

@@ -1,5 +1,5 @@
 -- What the program answers to words and an input.
-use Rattle.std.specs.Prelude.{◌≡◌, ◌⊎◌, ◌++◌, ℕ, true, List, [], MatchResult, Option, Some, None, Result, Ok, Err, ⊤, IfSome, codes}
+use Rattle.std.specs.Prelude.{◌≡◌, ◌⊎◌, ◌++◌, ℕ, true, List, [], MatchResult, Option, Some, None, Result, Ok, Err, ⊤, IfErr, IfSome, codes, false}
 use Rattle.std.specs.Io.KnownBytes.{Appends, Keeps}
 use Rattle.std.specs.Result.{result_map_both}
 use Rattle.answer_command.specs.Inputs.{live_input_of}
@@ -9,7 +9,7 @@ use Rattle.book_texts.specs.Audits.{Audited, IsAuditOf}
 use Rattle.book_texts.specs.Books.{Books, books_of}
 use Rattle.book_texts.specs.Sizes.{most_rows}
 use Rattle.book_texts.specs.declared.size.AuditAsk.{AuditAsk}
-use Rattle.command_words.specs.Arguments.{AsksFor, AsksHelp, AsksInVain, AsksNothing, AsksVersion}
+use Rattle.command_words.specs.Arguments.{AsksFor, AsksHelp, AsksInVain, AsksNothing, AsksVersion, explains}
 use Rattle.command_words.specs.QuoteWishes.{QuoteWish}
 use Rattle.command_words.specs.Wishes.{Wish, Audits, Prices, Quotes, RatesRecords, Replays, Runs, Serves}
 use Rattle.command_words.specs.declared.fault.WordsFault.TheVariants as words_fault
@@ -24,6 +24,7 @@ use Rattle.table_core.specs.Judging.{after}
 use Rattle.table_core.specs.Rows.{rows_of}
 use Rattle.tariff_core.specs.Bands.{Band}
 use Rattle.tariff_core.specs.Rates.{Rates}
+use Rattle.prepaid_command.specs.Explanations.{IsSaidBy}
 use Rattle.prepaid_command.specs.Faults.{line_of, meaning_in, meaning_of_part, of_rate, of_run, of_serve, status_of}
 use Rattle.prepaid_command.specs.Summaries.{status_of_rating, summary_of}
 use Rattle.rating.specs.Asks.{RateWish}
@@ -141,16 +142,27 @@ pub record IsReported (why : Fault) (status : ℕ) (old new : Written) : Type 0 
   pub line : AppendsFront old.faults new.faults (line_of why ++ codes "\n")
   pub output : Keeps old.output new.output
 
--- an answer was told
-abbrev pub IsTold : Result Telling Fault → ℕ → Written → Written → Type 0
-IsTold (Ok telling) status old new = IsPrinted telling status old new ⊎ IsCutOff telling status old new
-IsTold (Err why) status old new = IsReported why status old new
+-- the line of a fault and behind it what is said of it went to the error writer, or where that failed a front of these. The output stays as it was
+pub record IsReportedWith (why : Fault) (text : List ℕ) (status : ℕ) (old new : Written) : Type 0 where
+  pub status_is : status ≡ status_of why
+  pub line : AppendsFront old.faults new.faults (line_of why ++ (codes "\n" ++ text))
+  pub output : Keeps old.output new.output
+
+-- an answer was told, or a fault and what is said of it
+abbrev pub IsTold : Option (List ℕ) → Result Telling Fault → ℕ → Written → Written → Type 0
+IsTold more (Ok telling) status old new = IsPrinted telling status old new ⊎ IsCutOff telling status old new
+IsTold None (Err why) status old new = IsReported why status old new
+IsTold (Some text) (Err why) status old new = IsReportedWith why text status old new
 
 -- the status and what was written are of one answer, which is that to the words and the input, where this is known
 pub record Answers (words : List (List ℕ)) (input : Option (List ℕ)) (status : ℕ) (old new : Written) : Type 0 where
   pub answer : Result Telling Fault
   pub answered : IfSome input (λ text. IsAnswer words text answer)
-  pub told : IsTold answer status old new
+  -- what is said of a fault behind its line: nothing where that isn't asked for
+  pub more : Option (List ℕ)
+  pub only : explains words ≡ false → more ≡ None
+  pub said : IfSome input (λ text. IfErr answer (λ why. IfSome more (λ said. IsSaidBy words text why said)))
+  pub told : IsTold more answer status old new
 
 -- ---- records that are rated as they come
 

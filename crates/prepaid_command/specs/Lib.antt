@@ -1,6 +1,7 @@
 pub mod Answers
 pub mod AskingOf
 pub mod Asks
+pub mod Explanations
 pub mod Faults
 pub mod Input
 pub mod PriceLines

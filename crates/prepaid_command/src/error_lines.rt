@@ -76,3 +76,27 @@ pub(crate) fn report<E: io::Write>(faults: &mut E, fault: Fault) -> u8
     }
     fault.status()
 }
+
+/// The same, with what is said of the fault behind its line.
+pub(crate) fn report_with<E: io::Write>(faults: &mut E, fault: Fault, more: &[u8]) -> u8
+    ensures status { result ≡ status_of fault }
+    ensures line { AppendsFront (E.contents faults.old) (E.contents faults.new)
+        (line_of fault ++ (codes "\n" ++ more.now)) }
+{
+    if let Ok(line) = fault_line(fault) {
+        write_both(faults, line.as_str().as_bytes(), more);
+    }
+    fault.status()
+}
+
+/// Writes a text and another behind it, as far as the writer takes them.
+#[tactic(auto, using(crate::proofs::WriteLemmas::first_written))]
+fn write_both<E: io::Write>(faults: &mut E, first: &[u8], second: &[u8])
+    ensures { AppendsFront (E.contents faults.old) (E.contents faults.new)
+        (first.now ++ second.now) }
+{
+    if !write_text(faults, first) {
+        return;
+    }
+    write_text(faults, second);
+}

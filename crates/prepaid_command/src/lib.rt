@@ -12,6 +12,7 @@ mod rating_rows;
 mod replaying;
 mod serving;
 mod tables;
+mod told;
 
 pub use fault::{Fault, Part};
 pub use input::MAX_INPUT;

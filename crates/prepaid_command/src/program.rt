@@ -1,6 +1,6 @@
 //! The program, from words and bytes to bytes.
 
-ghost use Rattle.std.specs.Prelude.{◌≡◌, ◌⊎◌, map, IfSome};
+ghost use Rattle.std.specs.Prelude.{◌≡◌, ◌⊎◌, None, map, option_map, IfSome, string_bytes};
 ghost use Rattle.std.specs.Io.KnownBytes.{Keeps};
 ghost use Rattle.std.specs.Result.{result_map_both};
 ghost use Rattle.tariff_core.specs.RatesOf.{rates_of};
@@ -13,7 +13,7 @@ ghost use Rattle.prepaid_command.specs.Refused.{refused_line};
 ghost use Rattle.prepaid_command.specs.Tellings.{telling_of};
 
 use crate::answer::Answer;
-use crate::error_lines::{refused_line, report};
+use crate::error_lines::{refused_line, report, report_with};
 use crate::fault::{Fault, Part};
 use crate::input::read_input;
 use crate::price_lines::{print_reports, read_reports};
@@ -21,8 +21,9 @@ use crate::quoting::print_quote;
 use crate::rating_rows::rate_input;
 use crate::replaying::replay;
 use crate::serving::serve_messages;
+use crate::told::Told;
 use book_texts::{AuditAsk, BookSize, audit_books};
-use command_words::{Opening, QuoteAsk, Request, read_words};
+use command_words::{Opening, QuoteAsk, Request, explains, read_words};
 use rating::write_text;
 use run_command::{Ran, Refusals, run};
 use run_options::RunOptions;
@@ -71,46 +72,94 @@ where
     ensures silent { result ≡ 1 → Keeps (O.contents output.old) (O.contents output.new) }
 {
     let alloc = rt.alloc();
+    let explains = explains(words);
+    let mut kept = None;
     match read_words(alloc, words) {
-        Ok(Request::Help(text)) => tell(output, faults, Ok(Answer::plain(text))),
-        Ok(Request::Version(text)) => tell(output, faults, Ok(Answer::plain(text))),
-        Ok(Request::Price(plan)) => tell(output, faults, price_reports(alloc, &plan, input)),
-        Ok(Request::Replay(account)) => {
-            tell(output, faults, replay_operations(alloc, account, input))
+        Ok(Request::Help(text)) => tell(output, faults, Told::plain(Ok(Answer::plain(text)))),
+        Ok(Request::Version(text)) => tell(output, faults, Told::plain(Ok(Answer::plain(text)))),
+        Ok(Request::Price(plan)) => {
+            let answer = price_reports(alloc, &plan, input, &mut kept);
+            tell(
+                output,
+                faults,
+                Told::over(alloc, explains, false, &kept, answer),
+            )
         }
-        Ok(Request::Run(options)) => tell(output, faults, run_script(rt, alloc, &options, input)),
-        Ok(Request::Audit(ask)) => tell(output, faults, audit_input(alloc, ask, input)),
-        Ok(Request::Quote(ask)) => tell(output, faults, quote_input(alloc, &ask, input)),
+        Ok(Request::Replay(account)) => {
+            let answer = replay_operations(alloc, account, input, &mut kept);
+            tell(
+                output,
+                faults,
+                Told::over(alloc, explains, false, &kept, answer),
+            )
+        }
+        Ok(Request::Run(options)) => {
+            let answer = run_script(rt, alloc, &options, input, &mut kept);
+            tell(
+                output,
+                faults,
+                Told::over(alloc, explains, true, &kept, answer),
+            )
+        }
+        Ok(Request::Audit(ask)) => {
+            let answer = audit_input(alloc, ask, input, &mut kept);
+            tell(
+                output,
+                faults,
+                Told::over(alloc, explains, false, &kept, answer),
+            )
+        }
+        Ok(Request::Quote(ask)) => {
+            let answer = quote_input(alloc, &ask, input, &mut kept);
+            tell(
+                output,
+                faults,
+                Told::over(alloc, explains, false, &kept, answer),
+            )
+        }
         Ok(Request::Rate(ask)) => rate_input(alloc, &ask, input, output, faults),
         Ok(Request::Serve(options, log)) => {
             serve_messages(rt, alloc, &options, log, input, output, faults)
         }
-        Err(why) => tell(output, faults, Err(Fault::from(why))),
+        Err(why) => tell(output, faults, Told::of_words(alloc, explains, words, why)),
     }
 }
 
-/// Prints an answer or reports a fault, and gives the status.
-fn tell<O: Write, E: Write>(output: &mut O, faults: &mut E, answer: Result<Answer, Fault>) -> u8
-    ensures told { IsTold (result_map_both telling_of (λ fault. fault) answer) result
+/// Prints an answer, or reports a fault with what is said of it, and gives the status.
+fn tell<O: Write, E: Write>(output: &mut O, faults: &mut E, told: Told) -> u8
+    ensures told { IsTold (option_map string_bytes told.more)
+        (result_map_both telling_of (λ fault. fault) told.answer) result
         (record { output = O.contents output.old; faults = E.contents faults.old })
         (record { output = O.contents output.new; faults = E.contents faults.new }) }
     ensures silent { result ≡ 1 → Keeps (O.contents output.old) (O.contents output.new) }
 {
-    match answer {
-        Ok(answer) => print(output, faults, &answer),
-        Err(fault) => report(faults, fault),
+    match (told.answer, told.more) {
+        (Ok(answer), _) => print(output, faults, &answer),
+        (Err(fault), None) => report(faults, fault),
+        (Err(fault), Some(more)) => report_with(faults, fault, more.as_bytes()),
     }
 }
 
 /// The lines of `price` for the reports in the input.
-fn price_reports<I: Read + Drop>(alloc: Global, plan: &Plan, input: I) -> Result<Answer, Fault>
-    ensures { IfSome (I.remaining input) (λ text.
+fn price_reports<I: Read + Drop>(
+    alloc: Global,
+    plan: &Plan,
+    input: I,
+    kept: &mut Option<Vec<u8>>,
+) -> Result<Answer, Fault>
+    requires { kept.old ≡ None }
+    ensures answer { IfSome (I.remaining input) (λ text.
         Gives telling_of result (price_of_input (rates_of plan.now) text)) }
+    ensures kept { IfSome (I.remaining input) (λ text.
+        IfSome kept.new (λ bytes. bytes.items ≡ text)) }
 {
     let bytes = read_input(alloc, input)?;
     match read_reports(alloc, plan, bytes.as_slice()) {
         Ok(reports) => Ok(Answer::plain(print_reports(alloc, plan, &reports)?)),
-        Err(fault) => Err(Fault::in_part(Part::Reports, fault)),
+        Err(fault) => {
+            *kept = Some(bytes);
+            Err(Fault::in_part(Part::Reports, fault))
+        }
     }
 }
 
@@ -119,14 +168,21 @@ fn replay_operations<I: Read + Drop>(
     alloc: Global,
     account: Opening,
     input: I,
+    kept: &mut Option<Vec<u8>>,
 ) -> Result<Answer, Fault>
-    ensures { IfSome (I.remaining input) (λ text.
+    requires { kept.old ≡ None }
+    ensures kept { IfSome (I.remaining input) (λ text.
+        IfSome kept.new (λ bytes. bytes.items ≡ text)) }
+    ensures answer { IfSome (I.remaining input) (λ text.
         Gives telling_of result (replay_of_input account.opening account.limit text)) }
 {
     let bytes = read_input(alloc, input)?;
     match replay(alloc, account.opening, account.limit, bytes.as_slice()) {
         Ok(text) => Ok(Answer::plain(text)),
-        Err(fault) => Err(Fault::in_part(Part::Ops, fault)),
+        Err(fault) => {
+            *kept = Some(bytes);
+            Err(Fault::in_part(Part::Ops, fault))
+        }
     }
 }
 
@@ -136,27 +192,49 @@ fn run_script<R: Wait + Threads + Sync, I: Read + Drop>(
     alloc: Global,
     options: &RunOptions,
     input: I,
+    kept: &mut Option<Vec<u8>>,
 ) -> Result<Answer, Fault>
-    ensures { IfSome (I.remaining input) (λ text.
+    requires { kept.old ≡ None }
+    ensures kept { IfSome (I.remaining input) (λ text.
+        IfSome kept.new (λ bytes. bytes.items ≡ text)) }
+    ensures answer { IfSome (I.remaining input) (λ text.
         GivesOne (IsRunOfInput (ask_of options.now) text)
         (result_map_both telling_of (λ fault. fault) result)) }
 {
     let bytes = read_input(alloc, input)?;
-    let Ran { text, refusals } = run(rt, alloc, options, bytes.as_slice())?;
-    Ok(Answer {
-        text,
-        passes: true,
-        refusals,
-    })
+    match run(rt, alloc, options, bytes.as_slice()) {
+        Ok(Ran { text, refusals }) => Ok(Answer {
+            text,
+            passes: true,
+            refusals,
+        }),
+        Err(error) => {
+            *kept = Some(bytes);
+            Err(Fault::from(error))
+        }
+    }
 }
 
 /// The lines of `audit` for the books in the input. A long table is read row by row and never kept.
-fn audit_input<I: Read + Drop>(alloc: Global, ask: AuditAsk, input: I) -> Result<Answer, Fault>
-    ensures { IfSome (I.remaining input) (λ text. GivesOne (IsAuditOfInput ask text)
+fn audit_input<I: Read + Drop>(
+    alloc: Global,
+    ask: AuditAsk,
+    input: I,
+    kept: &mut Option<Vec<u8>>,
+) -> Result<Answer, Fault>
+    requires { kept.old ≡ None }
+    ensures kept { IfSome (I.remaining input) (λ text.
+        IfSome kept.new (λ bytes. bytes.items ≡ text)) }
+    ensures answer { IfSome (I.remaining input) (λ text. GivesOne (IsAuditOfInput ask text)
         (result_map_both telling_of (λ fault. fault) result)) }
 {
     match ask.size {
-        BookSize::Short => audit_table(alloc, ask, read_input(alloc, input)?.as_slice()),
+        BookSize::Short => {
+            let bytes = read_input(alloc, input)?;
+            let answer = audit_table(alloc, ask, bytes.as_slice());
+            *kept = Some(bytes);
+            answer
+        }
         BookSize::Long => audit_table(alloc, ask, input),
     }
 }
@@ -177,15 +255,26 @@ fn audit_table<I: Read + Drop>(alloc: Global, ask: AuditAsk, table: I) -> Result
 }
 
 /// The lines of `quote` for the tariff in the input.
-fn quote_input<I: Read + Drop>(alloc: Global, ask: &QuoteAsk, input: I) -> Result<Answer, Fault>
-    ensures { IfSome (I.remaining input) (λ text. GivesOne
+fn quote_input<I: Read + Drop>(
+    alloc: Global,
+    ask: &QuoteAsk,
+    input: I,
+    kept: &mut Option<Vec<u8>>,
+) -> Result<Answer, Fault>
+    requires { kept.old ≡ None }
+    ensures kept { IfSome (I.remaining input) (λ text.
+        IfSome kept.new (λ bytes. bytes.items ≡ text)) }
+    ensures answer { IfSome (I.remaining input) (λ text. GivesOne
         (IsQuoteOfInput (wish_of ask.now) text)
         (result_map_both telling_of (λ fault. fault) result)) }
 {
     let bytes = read_input(alloc, input)?;
     let tariff = match read_tariff(alloc, bytes.as_slice()) {
         Ok(tariff) => tariff,
-        Err(fault) => return Err(Fault::of_run_input(fault)),
+        Err(fault) => {
+            *kept = Some(bytes);
+            return Err(Fault::of_run_input(fault));
+        }
     };
     Ok(Answer::plain(print_quote(alloc, &tariff, ask)?))
 }

@@ -11,6 +11,8 @@ mod calls;
 #[cfg(test)]
 mod devices;
 #[cfg(test)]
+mod explained;
+#[cfg(test)]
 mod free_units;
 #[cfg(test)]
 mod last_moments;

@@ -1,6 +1,6 @@
-use Rattle.std.proofs.Common.{◌≡◌, arith}
+use Rattle.std.proofs.Common.{◌≡◌, ◌≤◌, length, arith}
 use Rattle.std.specs.IoError.{error_kind}
-use Rattle.prepaid_command.proofs.InputLemmas.{failed_may_come, fits, run_fault}
+use Rattle.prepaid_command.proofs.InputLemmas.{failed_may_come, fits, run_fault, same_bytes}
 use Rattle.prepaid_command.proofs.Known.{if_known}
 use Rattle.prepaid_command.specs.Faults.{Refuses}
 use Rattle.prepaid_command.specs.Input.{sized}
@@ -10,9 +10,12 @@ pub returns-in-Ok-2 : goal.returns-in-Ok-2
 returns-in-Ok-2 g c =
     let read = rw (c.take-input.ensures.limit, c.take-input.ensures.inner, c.new-bytes.ensures.items) at c.in-Ok-2.ensures.bytes in
     let count : c.in-Ok-2.field-0 ≡ c.in-Ok.count = cc in
-    fits (g.I.Read.remaining c.args.input) c.read_to_end.new.buf.items read
-    (omega (arith, c.in-Ok-2.ensures.ok, c.read_to_end.new.buf.ok.0, c.new-bytes.ensures.len))
+    let few : length c.read_to_end.new.buf.items ≤ 16777216 = omega (arith, c.in-Ok-2.ensures.ok, c.read_to_end.new.buf.ok.0, c.new-bytes.ensures.len) in
+    record {
+      read = fits (g.I.Read.remaining c.args.input) c.read_to_end.new.buf.items read few;
+      same = same_bytes (g.I.Read.remaining c.args.input) c.read_to_end.new.buf.items read few;
+    }
 
-pub returns-in-Err : goal.returns-in-Err
-returns-in-Err g c = if_known (g.I.Read.remaining c.args.input) (λ text. Refuses c.fault_of.result (sized text)) (λ text known.
+pub returns-in-Err-clause-read : goal.returns-in-Err-clause-read
+returns-in-Err-clause-read g c = if_known (g.I.Read.remaining c.args.input) (λ text. Refuses c.fault_of.result (sized text)) (λ text known.
     run_fault c.fault_of.result (sized text) (failed_may_come (error_kind c.in-Err.error) c.fault_of.result c.fault_of.ensures.exact))

@@ -1,47 +1,67 @@
-use Rattle.std.proofs.Common.{inl, inr, rules}
-use Rattle.std.specs.Prelude.{option_map}
+use Rattle.std.proofs.Common.{Global, inl, inr, ℕ, string_bytes}
+use Rattle.std.specs.Prelude.{Vec, option_map}
 use Rattle.std.specs.Result.{result_map_both}
 use Rattle.tariff_core.specs.RatesOf.{rates_of}
 use Rattle.command_words.specs.QuoteWishes.{wish_of}
+use Rattle.command_words.specs.Wishes.{Audits, Prices, Quotes, Replays, Runs}
 use Rattle.rating.specs.SaidOf.{wish_of as rate_wish_of}
 use Rattle.run_options.specs.Logs.{log_wish_of}
-use Rattle.run_options.specs.Options.{live_ask_of}
-use Rattle.prepaid_command.proofs.AnswerLemmas.{audited, helped, priced, quoted, refused}
+use Rattle.run_options.specs.Options.{ask_of, live_ask_of}
+use Rattle.prepaid_command.proofs.AnswerLemmas.{audit_of, gives_known, helped_plainly, price_wished, quote_of, refused_words_told, replay_wished, run_of, wished}
+use Rattle.prepaid_command.specs.Answers.{price_of_input, replay_of_input}
 use Rattle.prepaid_command.specs.Tellings.{telling_of}
 use Rattle.prepaid_command.proofs.program.command.Goals as goal
 
 pub returns-in-Ok-Help-clause-answers : goal.returns-in-Ok-Help-clause-answers
-returns-in-Ok-Help-clause-answers g c = inl (helped _ _ _ _ (g.I.Read.remaining c.args.input) (telling_of c.plain.result) _ (inl (rw c.in-Ok-Help.field-0-is at c.in-Ok-Help.ensures)) c.plain.ensures c.tell.ensures.told)
+returns-in-Ok-Help-clause-answers g c =
+    inl (helped_plainly string_bytes telling_of _ _ _ _ (g.I.Read.remaining c.args.input) c.plain-in-Ok-Help.result.more c.plain-in-Ok-Help.result.answer c.plain.result _
+    (inl (rw c.in-Ok-Help.field-0-is at c.in-Ok-Help.ensures)) c.plain.ensures c.plain-in-Ok-Help.ensures.answer c.plain-in-Ok-Help.ensures.more c.tell.ensures.told)
 
 pub returns-in-Ok-Version-clause-answers : goal.returns-in-Ok-Version-clause-answers
 returns-in-Ok-Version-clause-answers g c =
-    inl (helped _ _ _ _ (g.I.Read.remaining c.args.input) (telling_of c.plain-in-Ok-Version.result) _ (inr (rw c.in-Ok-Version.field-0-is at c.in-Ok-Version.ensures)) c.plain-in-Ok-Version.ensures
-    c.tell-in-Ok-Version.ensures.told)
-
-pub returns-in-Ok-Price-clause-answers : goal.returns-in-Ok-Price-clause-answers
-returns-in-Ok-Price-clause-answers g c =
-    inl (priced _ _ _ _ (g.I.Read.remaining c.args.input) telling_of (rates_of c.in-Ok-Price.plan) c.price_reports.result (rw c.in-Ok-Price.field-0-is at c.in-Ok-Price.ensures) c.price_reports.ensures
-    c.tell-in-Ok-Price.ensures.told)
-
-pub returns-in-Ok-Quote-clause-answers : goal.returns-in-Ok-Quote-clause-answers
-returns-in-Ok-Quote-clause-answers g c =
-    inl (quoted _ _ _ _ (g.I.Read.remaining c.args.input) (wish_of c.in-Ok-Quote.ask) (result_map_both telling_of (λ fault. fault) c.quote_input.result)
-    (rw c.in-Ok-Quote.field-0-is at c.in-Ok-Quote.ensures) c.quote_input.ensures c.tell-in-Ok-Quote.ensures.told)
+    inl (helped_plainly string_bytes telling_of _ _ _ _ (g.I.Read.remaining c.args.input) c.plain-in-Ok-Version-2.result.more c.plain-in-Ok-Version-2.result.answer
+    c.plain-in-Ok-Version.result _ (inr (rw c.in-Ok-Version.field-0-is at c.in-Ok-Version.ensures)) c.plain-in-Ok-Version.ensures c.plain-in-Ok-Version-2.ensures.answer
+    c.plain-in-Ok-Version-2.ensures.more c.tell-in-Ok-Version.ensures.told)
 
 pub returns-in-Err-clause-answers : goal.returns-in-Err-clause-answers
 returns-in-Err-clause-answers g c =
-    inl (refused _ _ _ _ (g.I.Read.remaining c.args.input) c.in-Err.why c.from.result c.in-Err.ensures c.from.ensures c.tell-in-Err.ensures.told)
+    inl (refused_words_told string_bytes telling_of _ _ _ _ (g.I.Read.remaining c.args.input) c.of_words.result.more c.of_words.result.answer c.explains-explains.result c.in-Err.why
+    c.in-Err.ensures c.of_words.ensures.answer c.explains-explains.ensures c.of_words.ensures.only c.of_words.ensures.words c.tell-in-Err.ensures.told)
+
+pub returns-in-Ok-Price-clause-answers : goal.returns-in-Ok-Price-clause-answers
+returns-in-Ok-Price-clause-answers g c =
+    inl (wished (λ (bytes : Vec ℕ Global). bytes.items) string_bytes telling_of _ _ _ _ (g.I.Read.remaining c.args.input) c.price_reports-answer.new.kept c.over.result.more c.over.result.answer
+    c.price_reports-answer.result c.explains-explains.result (Prices (rates_of c.in-Ok-Price.plan)) (price_wished (rates_of c.in-Ok-Price.plan)) (rw c.in-Ok-Price.field-0-is at c.in-Ok-Price.ensures)
+    (gives_known telling_of (g.I.Read.remaining c.args.input) c.price_reports-answer.result (price_of_input (rates_of c.in-Ok-Price.plan)) c.price_reports-answer.ensures.answer) c.over.ensures.answer c.explains-explains.ensures
+    c.over.ensures.only c.price_reports-answer.ensures.kept c.over.ensures.none c.over.ensures.said c.tell-in-Ok-Price.ensures.told)
 
 pub returns-in-Ok-Replay-clause-answers : goal.returns-in-Ok-Replay-clause-answers
-returns-in-Ok-Replay-clause-answers g c = inl (search rules)
+returns-in-Ok-Replay-clause-answers g c =
+    inl (wished (λ (bytes : Vec ℕ Global). bytes.items) string_bytes telling_of _ _ _ _ (g.I.Read.remaining c.args.input) c.replay_operations-answer.new.kept c.over-in-Ok-Replay.result.more c.over-in-Ok-Replay.result.answer
+    c.replay_operations-answer.result c.explains-explains.result (Replays c.in-Ok-Replay.account.opening c.in-Ok-Replay.account.limit) (replay_wished c.in-Ok-Replay.account.opening c.in-Ok-Replay.account.limit) (rw c.in-Ok-Replay.field-0-is at c.in-Ok-Replay.ensures)
+    (gives_known telling_of (g.I.Read.remaining c.args.input) c.replay_operations-answer.result (replay_of_input c.in-Ok-Replay.account.opening c.in-Ok-Replay.account.limit) c.replay_operations-answer.ensures.answer) c.over-in-Ok-Replay.ensures.answer c.explains-explains.ensures
+    c.over-in-Ok-Replay.ensures.only c.replay_operations-answer.ensures.kept c.over-in-Ok-Replay.ensures.none c.over-in-Ok-Replay.ensures.said c.tell-in-Ok-Replay.ensures.told)
 
 pub returns-in-Ok-Run-clause-answers : goal.returns-in-Ok-Run-clause-answers
-returns-in-Ok-Run-clause-answers g c = inl (search rules)
+returns-in-Ok-Run-clause-answers g c =
+    inl (wished (λ (bytes : Vec ℕ Global). bytes.items) string_bytes telling_of _ _ _ _ (g.I.Read.remaining c.args.input) c.run_script-answer.new.kept c.over-in-Ok-Run.result.more c.over-in-Ok-Run.result.answer
+    c.run_script-answer.result c.explains-explains.result (Runs (ask_of c.in-Ok-Run.options)) (run_of (ask_of c.in-Ok-Run.options)) (rw c.in-Ok-Run.field-0-is at c.in-Ok-Run.ensures)
+    c.run_script-answer.ensures.answer c.over-in-Ok-Run.ensures.answer c.explains-explains.ensures
+    c.over-in-Ok-Run.ensures.only c.run_script-answer.ensures.kept c.over-in-Ok-Run.ensures.none c.over-in-Ok-Run.ensures.said c.tell-in-Ok-Run.ensures.told)
 
 pub returns-in-Ok-Audit-clause-answers : goal.returns-in-Ok-Audit-clause-answers
 returns-in-Ok-Audit-clause-answers g c =
-    inl (audited _ _ _ _ (g.I.Read.remaining c.args.input) c.in-Ok-Audit.ask (result_map_both telling_of (λ fault. fault) c.audit_input.result)
-    (rw c.in-Ok-Audit.field-0-is at c.in-Ok-Audit.ensures) c.audit_input.ensures c.tell-in-Ok-Audit.ensures.told)
+    inl (wished (λ (bytes : Vec ℕ Global). bytes.items) string_bytes telling_of _ _ _ _ (g.I.Read.remaining c.args.input) c.audit_input-answer.new.kept c.over-in-Ok-Audit.result.more c.over-in-Ok-Audit.result.answer
+    c.audit_input-answer.result c.explains-explains.result (Audits c.in-Ok-Audit.ask) (audit_of c.in-Ok-Audit.ask) (rw c.in-Ok-Audit.field-0-is at c.in-Ok-Audit.ensures)
+    c.audit_input-answer.ensures.answer c.over-in-Ok-Audit.ensures.answer c.explains-explains.ensures
+    c.over-in-Ok-Audit.ensures.only c.audit_input-answer.ensures.kept c.over-in-Ok-Audit.ensures.none c.over-in-Ok-Audit.ensures.said c.tell-in-Ok-Audit.ensures.told)
+
+pub returns-in-Ok-Quote-clause-answers : goal.returns-in-Ok-Quote-clause-answers
+returns-in-Ok-Quote-clause-answers g c =
+    inl (wished (λ (bytes : Vec ℕ Global). bytes.items) string_bytes telling_of _ _ _ _ (g.I.Read.remaining c.args.input) c.quote_input-answer.new.kept c.over-in-Ok-Quote.result.more c.over-in-Ok-Quote.result.answer
+    c.quote_input-answer.result c.explains-explains.result (Quotes (wish_of c.in-Ok-Quote.ask)) (quote_of (wish_of c.in-Ok-Quote.ask)) (rw c.in-Ok-Quote.field-0-is at c.in-Ok-Quote.ensures)
+    c.quote_input-answer.ensures.answer c.over-in-Ok-Quote.ensures.answer c.explains-explains.ensures
+    c.over-in-Ok-Quote.ensures.only c.quote_input-answer.ensures.kept c.over-in-Ok-Quote.ensures.none c.over-in-Ok-Quote.ensures.said c.tell-in-Ok-Quote.ensures.told)
 
 pub returns-in-Ok-Rate-clause-answers : goal.returns-in-Ok-Rate-clause-answers
 returns-in-Ok-Rate-clause-answers g c = inr (inl (record {

@@ -1,0 +1,119 @@
+//! Fields that must be empty and aren't.
+
+use crate::Slip;
+use crate::found_rows::at;
+use crate::row_line::push_shown;
+use crate::wants::push_column;
+use csv::ByteRecord;
+use std::alloc::AllocError;
+
+/// Adds which field of a row must be empty, and for what.
+pub(crate) fn push_not_empty(
+    text: &mut String,
+    slip: Slip,
+    names: &ByteRecord,
+    row: &ByteRecord,
+) -> Result<(), AllocError> {
+    for place in 0..row.len() {
+        if !at(row, place).is_empty() && takes_nothing(slip, row, place) {
+            push_column(text, at(names, place))?;
+            write!(text, ": ")?;
+            push_shown(text, at(row, place))?;
+            write!(text, ", where ")?;
+            push_shown(text, word_for(slip, row, place))?;
+            return writeln!(text, " takes nothing");
+        }
+    }
+    Ok(())
+}
+
+/// The word of a row because of which a column takes nothing.
+fn word_for(slip: Slip, row: &ByteRecord, place: usize) -> &[u8] {
+    match slip {
+        Slip::Script(_) => at(row, 2),
+        Slip::Ops(_) => at(row, 1),
+        Slip::Book(_) => {
+            let reply = row.len().saturating_sub(4);
+            if place < reply || at(row, 2) == b"opening".as_slice() {
+                at(row, 2)
+            } else {
+                at(row, reply)
+            }
+        }
+        _ => at(row, 0),
+    }
+}
+
+/// Whether a column must be empty in a row with its words.
+fn takes_nothing(slip: Slip, row: &ByteRecord, place: usize) -> bool {
+    match slip {
+        Slip::Script(_) => script_takes_nothing(at(row, 2), place),
+        Slip::Setup(_) => place == 3,
+        Slip::Ops(_) => place >= 1 && operation_takes_nothing(row, 1, row.len(), place),
+        Slip::Book(_) => book_takes_nothing(row, place),
+        _ => false,
+    }
+}
+
+/// The same of a script.
+fn script_takes_nothing(what: &[u8], place: usize) -> bool {
+    if what == b"start".as_slice() {
+        place == 5
+    } else if what == b"disconnect".as_slice() {
+        place > 3
+    } else if what == b"recharge".as_slice() {
+        place == 1
+    } else {
+        place > 2
+    }
+}
+
+/// The same of an operation whose columns begin at a place, and end before another.
+fn operation_takes_nothing(row: &ByteRecord, op: usize, end: usize, place: usize) -> bool {
+    let word = at(row, op);
+    let column = place.saturating_sub(op);
+    let has_moments = end.saturating_sub(op) > 8;
+    if word == b"reserve".as_slice() || column == 0 {
+        false
+    } else if word == b"settle".as_slice() {
+        let last = if at(row, op.saturating_add(3)) == b"s".as_slice() {
+            5
+        } else {
+            4
+        };
+        column > last
+    } else if word == b"return".as_slice() {
+        column > 1
+    } else {
+        column == 1 || column > 3 || column == 3 && !has_moments
+    }
+}
+
+/// The same of a book.
+fn book_takes_nothing(row: &ByteRecord, place: usize) -> bool {
+    let reply = row.len().saturating_sub(4);
+    let is_opening = at(row, 2) == b"opening".as_slice();
+    if place < 2 {
+        return is_opening && place == 1;
+    }
+    if place < reply {
+        return operation_takes_nothing(row, 2, reply, place);
+    }
+    if is_opening {
+        return true;
+    }
+    let word = at(row, reply);
+    let column = place - reply;
+    if word == b"granted".as_slice() || column == 0 || column == 3 {
+        false
+    } else if is_money(word) {
+        true
+    } else {
+        column == 2
+    }
+}
+
+/// Whether a reply says nothing but what is available.
+fn is_money(word: &[u8]) -> bool {
+    word == b"credited".as_slice() || word == b"over".as_slice() || word == b"denied".as_slice()
+}

@@ -1,0 +1,78 @@
+//! The rows of a table that has a fault.
+
+use csv::ByteRecord;
+use std::alloc::{AllocError, Global};
+use table_core::{Rows, decimal};
+
+/// A reader of the rows of a table that has taken the row of this number; none where there are
+/// fewer.
+pub(crate) fn rows_at(
+    alloc: Global,
+    text: &[u8],
+    row: u32,
+) -> Result<Option<Rows<&[u8]>>, AllocError> {
+    let mut rows = Rows::new(alloc, text);
+    for _row in 0..row {
+        match rows.next_row() {
+            Ok(true) => {}
+            Ok(false) => return Ok(None),
+            Err(_) => return Err(AllocError),
+        }
+    }
+    Ok(Some(rows))
+}
+
+/// The field of a row at a place, and no bytes behind its last one.
+pub(crate) fn at(row: &ByteRecord, place: usize) -> &[u8] {
+    match row.get(place) {
+        Some(field) => field,
+        None => &[],
+    }
+}
+
+/// What is looked for in the rows above a row.
+#[derive(Clone, Copy)]
+pub(crate) struct Sought<'a> {
+    /// A column, and the word that is in it.
+    pub word: (usize, &'a [u8]),
+    /// A column, and the text or the number that is in it.
+    pub key: (usize, &'a [u8]),
+}
+
+/// The first row of these, below the header and above the row of this number, that has what is
+/// looked for.
+pub(crate) fn find_above(
+    alloc: Global,
+    text: &[u8],
+    row: u32,
+    sought: Sought<'_>,
+) -> Result<Option<u32>, AllocError> {
+    let mut rows = Rows::new(alloc, text);
+    for number in 1..row {
+        match rows.next_row() {
+            Ok(true) => {}
+            Ok(false) => return Ok(None),
+            Err(_) => return Err(AllocError),
+        }
+        if number > 1 && has(rows.row(), sought) {
+            return Ok(Some(number));
+        }
+    }
+    Ok(None)
+}
+
+/// Whether a row has what is looked for.
+fn has(row: &ByteRecord, sought: Sought<'_>) -> bool {
+    at(row, sought.word.0) == sought.word.1 && are_same(at(row, sought.key.0), sought.key.1)
+}
+
+/// Whether two fields have the same text, or are the same number.
+fn are_same(one: &[u8], other: &[u8]) -> bool {
+    if one == other {
+        return true;
+    }
+    match (decimal(one, u64::MAX), decimal(other, u64::MAX)) {
+        (Some(one), Some(other)) => one == other,
+        _ => false,
+    }
+}

@@ -1,0 +1,195 @@
+//! What is wrong with a row.
+
+use crate::Slip;
+use crate::earlier::{push_order, push_repeated, push_unknown};
+use crate::empties::push_not_empty;
+use crate::forms::{
+    column, headers_of, limit_of, refused_in_book, refused_in_ops, refused_in_reports,
+    refused_in_script, refused_in_setup,
+};
+use crate::found_rows::{at, rows_at};
+use crate::midnight::{push_no_midnight, push_repeated_band};
+use crate::row_line::push_shown;
+use crate::unknown_words::push_unknown_word;
+use crate::wants::{Column, Wants, first_refused, push_refusal};
+use csv::ByteRecord;
+use std::alloc::{AllocError, Global};
+use table_core::{RowFault, RowKind};
+use tariff_core::{DAY, MAX_RATE, TariffFault, TariffKind};
+
+/// A table that has a fault.
+#[derive(Clone, Copy)]
+pub(crate) struct Faulty<'a> {
+    /// The bytes of the table.
+    pub text: &'a [u8],
+    /// The table, and its fault.
+    pub slip: Slip,
+    /// The row that has it.
+    pub row: u32,
+}
+
+/// The lines that say what is wrong with a row.
+pub(crate) fn reason(alloc: Global, table: Faulty<'_>) -> Result<String, AllocError> {
+    let mut text = String::new(alloc);
+    let Some(header) = rows_at(alloc, table.text, 1)? else {
+        push_header(&mut text, table.slip, None)?;
+        return Ok(text);
+    };
+    let Some(found) = rows_at(alloc, table.text, table.row)? else {
+        return Ok(text);
+    };
+    let (names, row) = (header.row(), found.row());
+    match table.slip {
+        Slip::Tariff(fault) | Slip::RunTariff(fault) => {
+            push_tariff_reason(&mut text, alloc, table, fault, names, row)?;
+        }
+        Slip::Reports(fault)
+        | Slip::Ops(fault)
+        | Slip::Book(fault)
+        | Slip::Setup(fault)
+        | Slip::Script(fault) => push_row_reason(&mut text, alloc, table, fault, names, row)?,
+    }
+    Ok(text)
+}
+
+/// Adds what is wrong with a row of a table that isn't a tariff.
+fn push_row_reason(
+    text: &mut String,
+    alloc: Global,
+    table: Faulty<'_>,
+    fault: RowFault,
+    names: &ByteRecord,
+    row: &ByteRecord,
+) -> Result<(), AllocError> {
+    match fault.kind {
+        RowKind::Csv => push_csv(text, names, row),
+        RowKind::Header => push_header(text, table.slip, Some(row)),
+        RowKind::TooManyRows => push_limit(text, table.slip),
+        RowKind::What => push_unknown_word(text, table.slip, names, row),
+        RowKind::Number => match refused_in(table.slip, row) {
+            Some(column) => push_column_reason(text, names, row, column),
+            None => Ok(()),
+        },
+        RowKind::Empty => push_not_empty(text, table.slip, names, row),
+        RowKind::Order => push_order(text, alloc, table, row),
+        RowKind::Repeated => push_repeated(text, alloc, table, row),
+        RowKind::Unknown => push_unknown(text, table.slip, row),
+    }
+}
+
+/// Adds what is wrong with a row of a tariff.
+fn push_tariff_reason(
+    text: &mut String,
+    alloc: Global,
+    table: Faulty<'_>,
+    fault: TariffFault,
+    names: &ByteRecord,
+    row: &ByteRecord,
+) -> Result<(), AllocError> {
+    match fault.kind {
+        TariffKind::Csv => push_csv(text, names, row),
+        TariffKind::Header => push_header(text, table.slip, Some(row)),
+        TariffKind::TooManyRows => push_limit(text, table.slip),
+        TariffKind::Repeated => push_repeated_band(text, alloc, table, row),
+        TariffKind::NoMidnightBand => push_no_midnight(text, alloc, table, row),
+        TariffKind::OutOfMemory | TariffKind::Device => Ok(()),
+        kind => match refused_in_tariff(kind, row) {
+            Some(column) => push_column_reason(text, names, row, column),
+            None => Ok(()),
+        },
+    }
+}
+
+/// The column whose field is refused of a row that has the fault `Number`.
+fn refused_in(slip: Slip, row: &ByteRecord) -> Option<Column> {
+    match slip {
+        Slip::Reports(_) => refused_in_reports(row),
+        Slip::Ops(_) => refused_in_ops(row),
+        Slip::Book(_) => refused_in_book(row),
+        Slip::Setup(_) => refused_in_setup(row),
+        Slip::Script(_) => refused_in_script(row),
+        Slip::Tariff(_) | Slip::RunTariff(_) => None,
+    }
+}
+
+/// The column whose field is refused of a row of a tariff.
+fn refused_in_tariff(kind: TariffKind, row: &ByteRecord) -> Option<Column> {
+    let rate = Wants::Number(0, MAX_RATE);
+    let time = Wants::Number(0, u64::from(DAY));
+    let column = match kind {
+        TariffKind::Digits => column(0, Wants::Digits(0, 15)),
+        TariffKind::From => column(1, Wants::TimeOfDay),
+        TariffKind::Free => column(4, time),
+        TariffKind::First => column(5, time),
+        TariffKind::Step => column(6, Wants::Number(1, u64::from(DAY))),
+        TariffKind::Days => column(7, Wants::Days),
+        _ => return first_refused(row, row.len(), &[column(2, rate), column(3, rate)]),
+    };
+    Some(column)
+}
+
+/// Adds what is wrong with the field of a column.
+fn push_column_reason(
+    text: &mut String,
+    names: &ByteRecord,
+    row: &ByteRecord,
+    column: Column,
+) -> Result<(), AllocError> {
+    push_refusal(
+        text,
+        at(names, column.place),
+        at(row, column.place),
+        column.wants,
+    )
+}
+
+/// Adds how many fields a row has, and how many its header.
+fn push_csv(text: &mut String, names: &ByteRecord, row: &ByteRecord) -> Result<(), AllocError> {
+    let (found, wanted) = (row.len(), names.len());
+    let fields = if found == 1 { "field" } else { "fields" };
+    write!(text, "{found} {fields}, and the header has {wanted}: ")?;
+    push_fields(text, names)?;
+    writeln!(text)
+}
+
+/// Adds the fields of a row, with commas between them.
+fn push_fields(text: &mut String, row: &ByteRecord) -> Result<(), AllocError> {
+    for place in 0..row.len() {
+        if place > 0 {
+            write!(text, ",")?;
+        }
+        push_shown(text, at(row, place))?;
+    }
+    Ok(())
+}
+
+/// Adds the headers that a table may have, the one that it has, and what separates its fields.
+fn push_header(
+    text: &mut String,
+    slip: Slip,
+    found: Option<&ByteRecord>,
+) -> Result<(), AllocError> {
+    let wanted = headers_of(slip);
+    writeln!(text, "wanted: {wanted}")?;
+    let Some(row) = found else {
+        return writeln!(text, "found: no row");
+    };
+    write!(text, "found: ")?;
+    push_fields(text, row)?;
+    writeln!(text)?;
+    if row.len() == 1 && is_separated(at(row, 0)) {
+        writeln!(text, "the separator is a comma")?;
+    }
+    Ok(())
+}
+
+/// Whether a field has another separator in it than a comma.
+fn is_separated(field: &[u8]) -> bool {
+    field.iter().any(|byte| *byte == b';' || *byte == b'\t')
+}
+
+/// Adds how many rows a table has at most.
+fn push_limit(text: &mut String, slip: Slip) -> Result<(), AllocError> {
+    let limit = limit_of(slip);
+    writeln!(text, "at most {limit}; docs/SCALING.md has larger loads")
+}

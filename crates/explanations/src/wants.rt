@@ -1,0 +1,132 @@
+//! What a column of a row takes.
+
+use crate::row_line::push_shown;
+use csv::ByteRecord;
+use moment_texts::moment;
+use std::alloc::AllocError;
+use table_core::{are_digits, decimal, is_decimal};
+use tariff_core::time_of_day;
+
+/// What a column of a row takes.
+#[derive(Clone, Copy)]
+pub(crate) enum Wants {
+    /// A decimal from the first to the second of these.
+    Number(u64, u64),
+    /// The same, or nothing.
+    Optional(u64, u64),
+    /// A moment up to this one.
+    Moment(u64),
+    /// The same, or nothing.
+    OptionalMoment(u64),
+    /// Digits: as many as the first to the second of these.
+    Digits(usize, usize),
+    /// A time of day.
+    TimeOfDay,
+    /// Days of the week.
+    Days,
+}
+
+/// A column of a row, and what it takes.
+#[derive(Clone, Copy)]
+pub(crate) struct Column {
+    /// Its place, from 0.
+    pub place: usize,
+    /// What it takes.
+    pub wants: Wants,
+}
+
+/// The first of these columns whose field isn't what it takes, among the first `end` of the row.
+pub(crate) fn first_refused(row: &ByteRecord, end: usize, columns: &[Column]) -> Option<Column> {
+    for column in columns {
+        if column.place < end {
+            if let Some(field) = row.get(column.place) {
+                if !takes(column.wants, field) {
+                    return Some(*column);
+                }
+            }
+        }
+    }
+    None
+}
+
+/// Whether a field is what a column takes.
+fn takes(wants: Wants, field: &[u8]) -> bool {
+    match wants {
+        Wants::Number(least, most) => is_within(field, least, most),
+        Wants::Optional(least, most) => field.is_empty() || is_within(field, least, most),
+        Wants::Moment(most) => moment(field, most).is_some(),
+        Wants::OptionalMoment(most) => field.is_empty() || moment(field, most).is_some(),
+        Wants::Digits(least, most) => {
+            least <= field.len() && field.len() <= most && are_digits(field)
+        }
+        Wants::TimeOfDay => time_of_day(field).is_some(),
+        Wants::Days => false,
+    }
+}
+
+/// Whether a field is a decimal from `least` to `most`.
+fn is_within(field: &[u8], least: u64, most: u64) -> bool {
+    match decimal(field, most) {
+        Some(number) => least <= number,
+        None => false,
+    }
+}
+
+/// Adds what is wrong with a field that isn't what its column takes.
+pub(crate) fn push_refusal(
+    text: &mut String,
+    name: &[u8],
+    field: &[u8],
+    wants: Wants,
+) -> Result<(), AllocError> {
+    push_column(text, name)?;
+    if field.is_empty() {
+        write!(text, ": it is empty, and ")?;
+    } else {
+        write!(text, ": ")?;
+        push_shown(text, field)?;
+        write!(text, " is ")?;
+    }
+    push_wanted(text, field, wants)?;
+    writeln!(text)
+}
+
+/// Adds the name of a column.
+pub(crate) fn push_column(text: &mut String, name: &[u8]) -> Result<(), AllocError> {
+    write!(text, "column ")?;
+    push_shown(text, name)
+}
+
+/// Adds what is wanted in place of a field.
+fn push_wanted(text: &mut String, field: &[u8], wants: Wants) -> Result<(), AllocError> {
+    match wants {
+        Wants::Number(least, most) | Wants::Optional(least, most) => {
+            push_range(text, field, least, most)
+        }
+        Wants::Moment(most) | Wants::OptionalMoment(most) => {
+            if is_decimal(field) {
+                write!(text, "above {most}")
+            } else {
+                let wanted = "no moment: a decimal, or a date and a time like 1970-01-01T18:00:08";
+                write!(text, "{wanted}")
+            }
+        }
+        Wants::Digits(least, most) => write!(text, "no {least} to {most} digits"),
+        Wants::TimeOfDay => write!(text, "no time of day from 00:00 to 23:59"),
+        Wants::Days => write!(
+            text,
+            "no days: digits from 1 to 7 in their order, each once"
+        ),
+    }
+}
+
+/// Adds what is wrong with a number.
+fn push_range(text: &mut String, field: &[u8], least: u64, most: u64) -> Result<(), AllocError> {
+    if !is_decimal(field) {
+        write!(text, "no decimal of 1 to 20 digits")
+    } else if decimal(field, most).is_some() {
+        write!(text, "below {least}")
+    } else {
+        write!(text, "above {most}")
+    }
+}
