@@ -1,7 +1,8 @@
 #!/usr/bin/env bash
 # `serve` live, beside a plain program that does the same without proofs: the round trip of a row over two pipes, with
 # a log and without, and the rows a second where they are sent without waiting. The log is where TMPDIR says: the
-# figures with a log are those of that disk. The last program of the last table only logs: it is what the syncs allow.
+# figures with a log are those of that disk. The last program of the last table only logs. With a log the service can take
+# the time that it takes without one, and that of the syncs: the first two lines say the one, the last line the other.
 set -eu
 cd "$(dirname "$0")/.."
 program=${PREPAID:-bin/prepaid}
@@ -59,5 +60,5 @@ echo "the same, the least processor time:"
 bench/beside.py 10 "$work/input" "$program" serve --lines -- "$work/plain_serve"
 make_input 1000
 echo "$(rows 1000 | wc -l) rows with a log, sent without waiting:"
-times all 3 -- "$program" serve --lines --log "$work/log" -- "$work/plain_serve" "$work/log" \
-    -- "$work/plain_serve" "$work/log" silent
+times all 10 -- "$program" serve --lines -- "$work/plain_serve" -- "$program" serve --lines --log "$work/log" \
+    -- "$work/plain_serve" "$work/log" -- "$work/plain_serve" "$work/log" silent
