@@ -1,0 +1,42 @@
+-- The account of a call, row by row.
+use Rattle.std.proofs.Common.{◌≡◌, ◌<◌, ◌+◌, ◌∙◌, ℕ, cond, Option, Some, None, List, [], ◌∷◌, ◌++◌, length, map, refl, sym, ap, get_or, take}
+use Rattle.std.proofs.lemmas.List.{map-append, take_more}
+use Rattle.std.specs.Option.{option_or}
+use Rattle.std.specs.Str.{bytes_eq}
+use Rattle.cap_values.specs.NumberDigits.{digits_of}
+use Rattle.cap_values.specs.declared.number.Number.{Number}
+use Rattle.run_parts.specs.Parts.{account_of, payer_by, payer_of}
+use Rattle.run_texts.specs.Happenings.{ScriptEvent}
+use Rattle.run_texts.specs.Views.{script_event, with_digits}
+use Rattle.run_texts.specs.declared.script.ScriptRow.{ScriptRow}
+use Rattle.run_values.specs.Setups as setups
+
+or_none : {X : Type 0} (one : Option X) → option_or one None ≡ one
+or_none None = refl
+or_none (Some x) = refl
+
+either : {X : Type 0} (one two three : Option X) → option_or one (option_or two three) ≡ option_or (option_or one two) three
+either None two three = refl
+either (Some x) two three = refl
+
+payer_more : (subscribers : List (List ℕ × ℕ)) (script : List ScriptEvent) (event : ScriptEvent) (call : ℕ)
+    → payer_of subscribers (script ++ event ∷ []) call ≡ option_or (payer_of subscribers script call) (payer_by subscribers call event.what)
+payer_more subscribers [] event call = or_none (payer_by subscribers call event.what)
+payer_more subscribers (first ∷ script) event call =
+    ap (λ later. option_or (payer_by subscribers call first.what) later) (payer_more subscribers script event call)
+    ∙ either (payer_by subscribers call first.what) (payer_of subscribers script call) (payer_by subscribers call event.what)
+
+-- the payer of a call, with one row more
+pub payer_next : (subscribers : List (List ℕ × ℕ)) (rows : List ScriptRow) (i : ℕ) (row : ScriptRow) (call : ℕ) → i < length rows → row ≡ get_or rows i row
+    → payer_of subscribers (map script_event (take (i + 1) rows)) call
+    ≡ option_or (payer_of subscribers (map script_event (take i rows)) call) (payer_by subscribers call (script_event row).what)
+payer_next subscribers rows i row call within is =
+    ap (λ done. payer_of subscribers (map script_event done) call) (take_more rows i row within ∙ ap (λ r. take i rows ++ r ∷ []) (sym is))
+    ∙ ap (λ script. payer_of subscribers script call) (map-append script_event (take i rows) (row ∷ []))
+    ∙ payer_more subscribers (map script_event (take i rows)) (script_event row) call
+
+-- the account of a number is that of its digits
+pub by_its_digits : (number : Number) (subscribers : List (Number × ℕ)) → setups.account_of number subscribers ≡ account_of (digits_of number) (with_digits subscribers)
+by_its_digits number [] = refl
+by_its_digits number (subscriber ∷ subscribers) =
+    ap (λ (rest : Option ℕ). cond (bytes_eq (digits_of subscriber.0) (digits_of number)) (Some subscriber.1) rest) (by_its_digits number subscribers)
