@@ -84,6 +84,12 @@ class Trial:
         self.compared += 1
         self.parts += parts
 
+    def inside(self, name, words, path, count, wanted):
+        """Compares the lines of a run that is in parts inside the program with those of one that isn't."""
+        _, found, fault = run(self.program, [*words, "--parts", str(count)], path)
+        if found != wanted:
+            raise SystemExit(f"{name}: {count} parts inside the program:\n{found}{fault}the whole:\n{wanted}")
+
     def refuses(self, name, words, path, fault):
         try:
             found, _ = in_parts(self.program, words, path, self.new(), 2, RUN)
@@ -98,13 +104,15 @@ class Trial:
         # the same worker serves all calls, or their order at a shared account is open
         if words[:1] != ["run"]:
             return False
-        words = ["run", *(it for it in words[1:] if it not in TABLES), "--workers", "1"]
-        for at in [at for at, it in enumerate(words[:-2]) if it == "--workers"]:
-            del words[at : at + 2]
+        words = ["run", *(it for it in words[1:] if it not in TABLES and not it.startswith("--parts=")), "--workers", "1"]
+        for name in ("--workers", "--parts"):
+            for at in reversed([at for at, it in enumerate(words[:-2]) if it == name]):
+                del words[at : at + 2]
         path = self.new(text)
         status, wanted, fault = run(self.program, words, path)
         if status == 0:
             self.same(f"seed {seed}", words, path, 1 + seed % 4, wanted=wanted)
+            self.inside(f"seed {seed}", words, path, 1 + seed % 4, wanted)
             try:
                 self.same(f"seed {seed}", words, path, limits=SMALL[seed % 2], wanted=wanted)
             except Wrong as small:

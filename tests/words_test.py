@@ -340,7 +340,7 @@ def refusal(name, option, value, allowed, defaults):
         return ""
     # a decimal has at most 20 digits; how many workers may be asked for stands first in their range
     asked = re.match(r"\d+ to (\d+);", allowed)
-    is_ask = name not in ("run", "serve") or option == "--again"
+    is_ask = name not in ("run", "serve") or option in ("--again", "--parts")
     if is_ask or value >= 10**20 or asked and value > int(asked[1]):
         return "prepaid: arguments"
     return "prepaid: run: Workers" if asked else "prepaid: input: Config"
@@ -364,7 +364,7 @@ def range_faults(program, values, lines):
             if (status, fault) != wanted:
                 faults.append(f"{name} {option} {word}: {(status, fault)} in place of {wanted}")
     # how many workers there are, and what becomes of a call without orders, change no answer
-    tried = {(name, option) for name, option, *_ in LEFT_OUT} | {("run", "--workers"), ("run", "--default")}
+    tried = {(name, option) for name, option, *_ in LEFT_OUT} | {("run", "--workers"), ("run", "--parts"), ("run", "--default")}
     faults += [f"{it}: not tried" for it in defaults if it not in tried]
     for name, option, words, text, other in LEFT_OUT:
         is_left = defaults[name, option]

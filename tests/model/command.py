@@ -4,7 +4,7 @@ import re
 
 from .account import DAY, MAX_MONEY, Account, Plan, Times, account_line, afford, call_lines, price
 from .rate import rate
-from .run import Options, Run
+from .run import Options, Run, divided
 from .serve import serve
 from .tables import (
     LAST_MOMENT,
@@ -41,7 +41,7 @@ TAKEN = {
     "audit": {"--long", "--rows", "--lines"},
     "rate": {"--called", "--answer", "--time", "--end", "--paid", "--before", "--after", "--differing"},
     "quote": {"--called", "--at", "--for", "--credit", "--clock"},
-    "run": {"--workers", "--wanted", "--least", "--tssf", "--tccd", "--delay", "--default", "--clock", *TABLES},
+    "run": {"--workers", "--parts", "--wanted", "--least", "--tssf", "--tccd", "--delay", "--default", "--clock", *TABLES},
     "serve": {"--wanted", "--least", "--tccd", "--log", "--again", *ENDS},
 }
 
@@ -269,7 +269,10 @@ def do_serve(given, source, write):
 
 
 def do_run(given, text, book):
-    workers = number(given, "--workers", 2, 99)
+    parts = number(given, "--parts", most=2**32 - 1) if "--parts" in given else None
+    workers = number(given, "--workers", 2 if parts is None else 1, 99)
+    if parts is not None and (parts < 1 or workers > 1 or "--trace" in given):
+        raise ARGUMENTS
     wanted, least = number(given, "--wanted", 600), number(given, "--least", 50)
     tssf, tccd, delay = number(given, "--tssf", 100), number(given, "--tccd", 50), number(given, "--delay", 2)
     if given.get("--default", "release") not in ("release", "proceed"):
@@ -284,5 +287,14 @@ def do_run(given, text, book):
         raise Fault("prepaid: run: Workers", 2)
     options = Options(workers, wanted, least, tssf, tccd, delay, given.get("--default") != "proceed")
     run = Run(tariff, setup, options, book, clock_of(given))
-    run.play(script)
+    if parts is None or "--book" not in given:
+        # the parts print the lines and the calls of one run
+        run.play(script)
+    else:
+        # but the numbers of settles count the messages of a part
+        for own, rows in divided(script, setup, parts):
+            part = Run(tariff, setup, options, book, clock_of(given))
+            part.play(rows)
+            run.accounts.update({it: part.accounts[it] for it in own})
+            run.refused.update(part.refused)
     return run

@@ -49,6 +49,29 @@ def reply_fields(reply):
     return ",".join([kind, *map(shown, [*y, None, None][:2]), str(available)])
 
 
+def divided(script, setup, count):
+    """The accounts and the rows of each part of a script."""
+    accounts, subscribers = setup
+    payers = {}
+    for _, call, word, *rest in script:
+        if word == "start" and rest[0] in subscribers:
+            payers.setdefault(call, subscribers[rest[0]])
+    owners = [rest[0] if word == "recharge" else payers.get(call) for _, call, word, *rest in script]
+    weights, count = collections.Counter(owners), max(1, min(count, len(accounts)))
+    share, firsts, taken = sum(weights[it] for it in accounts) // count, [], 0
+    for place, account in enumerate(sorted(accounts)):
+        missing = count - 1 - len(firsts)
+        if missing and (len(accounts) - place <= missing or place and taken >= share * (1 + len(firsts))):
+            firsts.append(account)
+        taken += weights[account]
+    parts = [([], []) for _ in range(count)]
+    for account in accounts:
+        parts[sum(it <= account for it in firsts)][0].append(account)
+    for row, owner in zip(script, owners):
+        parts[row[1] % count if owner is None else sum(it <= owner for it in firsts)][1].append(row)
+    return parts
+
+
 class Run:
     """Accounts, dialogues and switches. With the text of a book, the operations of a round are taken in its order."""
 

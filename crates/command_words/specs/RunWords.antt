@@ -1,9 +1,10 @@
 -- What the options of `run` say.
-use Rattle.std.specs.Prelude.{ℕ, Bool, List, Option, Some, None, Result, Ok, Err, true, false, codes, if◌then◌else◌, option_and_then, option_map, unwrap_or}
+use Rattle.std.specs.Prelude.{◌&&◌, ℕ, Bool, not, is_some, nat_le, List, Option, Some, None, Result, Ok, Err, true, false, codes, if◌then◌else◌, option_and_then, option_map, unwrap_or}
 use Rattle.std.specs.Str.{bytes_eq}
 use Rattle.std.specs.Str.Parse.{digits_value}
 use Rattle.clap.specs.Words.{Row, Text, first_of}
 use Rattle.run_options.specs.Configs.{is_config}
+use Rattle.run_options.specs.Options.{is_trace}
 use Rattle.run_options.specs.declared.options.RunAsk.{RunAsk}
 use Rattle.run_options.specs.declared.options.RunOutput.{RunOutput}
 use Rattle.run_options.specs.declared.options.RunOutput.TheVariants as output
@@ -28,9 +29,19 @@ number_or default (Some text) = number_of text
 abbrev pub setting_in : List Row → Text → ℕ → Option ℕ
 setting_in options name default = number_or default (first_of name options)
 
--- how many workers there are to be: 0 to 99, and 2 where that is left out
+-- how many workers there are to be: 0 to 99; where that is left out 2, but 1 in parts
 abbrev pub workers_in : List Row → Option ℕ
-workers_in options = option_map (λ workers. unwrap_or workers 2) (optional_number_in options (codes "workers") 99)
+workers_in options =
+    option_map (λ workers. unwrap_or workers (if is_some (first_of (codes "parts") options) then 1 else 2)) (optional_number_in options (codes "workers") 99)
+
+-- in how many parts a run is played, if it is: at least one, with one worker at most, and no trace
+abbrev pub parts_of : ℕ → RunOutput → Option ℕ → Option (Option ℕ)
+parts_of workers output None = Some None
+parts_of workers output (Some count) = if nat_le 1 count && nat_le workers 1 && not (is_trace output) then Some (Some count) else None
+
+-- what the options say of that
+abbrev pub parts_in : List Row → ℕ → RunOutput → Option (Option ℕ)
+parts_in options workers output = option_and_then (λ count. parts_of workers output count) (optional_number_in options (codes "parts") 4294967295)
 
 -- what is to become of a call without instructions: `release`, which it is where that is left out, or `proceed`
 abbrev pub handling_of : Option Text → Option DefaultHandling
@@ -60,7 +71,7 @@ output_in options =
 unfoldable pub ask_in : List Row → Option RunAsk
 ask_in options =
     option_and_then (λ workers. option_and_then (λ wanted. option_and_then (λ least. option_and_then (λ tssf. option_and_then (λ tccd. option_and_then (λ delay.
-    option_and_then (λ default. option_map (λ output. record {
+    option_and_then (λ default. option_and_then (λ output. option_map (λ parts. record {
       workers = workers;
       wanted = wanted;
       least = least;
@@ -69,8 +80,9 @@ ask_in options =
       delay = delay;
       default_handling = default;
       output = output;
+      parts = parts;
     })
-    (output_in options)) (handling_in options)) (setting_in options (codes "delay") 2)) (setting_in options (codes "tccd") 50)) (setting_in options (codes "tssf") 100))
+    (parts_in options workers output)) (output_in options)) (handling_in options)) (setting_in options (codes "delay") 2)) (setting_in options (codes "tccd") 50)) (setting_in options (codes "tssf") 100))
     (setting_in options (codes "least") 50)) (setting_in options (codes "wanted") 600)) (workers_in options)
 
 -- the run that is asked for, its times judged

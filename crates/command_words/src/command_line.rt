@@ -286,6 +286,8 @@ fn add_other_options<'a>(alloc: Global, command: Command<'a>) -> Result<Command<
 {
     let workers = option(alloc, "workers", "How many workers serve it, 1 to 16 [2]");
     let command = add(command, workers)?;
+    let parts = "Plays it in so many parts, one after another";
+    let command = add(command, option(alloc, "parts", parts))?;
     let handling = "Without orders: proceed, release [release]";
     add(command, named(alloc, "default", "WORD", handling))
 }

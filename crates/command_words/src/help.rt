@@ -105,7 +105,8 @@ Behind the answer, with status 0, a line on standard error may say what accounts
 A fault is one line on standard error, and then nothing is printed:
   prepaid: arguments
       No options of run: mostly a file name (use < FILE), an option given twice, a unit such
-      as 60s, two of --book, --calls and --trace, or --clock without one of the last two
+      as 60s, two of --book, --calls and --trace, or --clock without one of the last two, or
+      --parts beside --trace or more than one worker
   prepaid: input: Config
       A time is out of the relation above
   prepaid: input: TooLong

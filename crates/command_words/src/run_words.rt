@@ -1,10 +1,10 @@
 //! The options of `run`.
 
-ghost use Rattle.std.specs.Prelude.{◌≡◌, ◌<◌, option_map};
+ghost use Rattle.std.specs.Prelude.{◌≡◌, ◌≤◌, ◌<◌, option_map, unwrap_or};
 ghost use Rattle.clap.specs.Words.{found_of, rows_of};
 ghost use Rattle.command_words.specs.Arguments.{IsRequestOf};
 ghost use Rattle.command_words.specs.Capped.{capped, capped_ask};
-ghost use Rattle.command_words.specs.RunWords.{ask_in, handling_of, number_of, number_or, output_in, output_of, run_in, workers_in};
+ghost use Rattle.command_words.specs.RunWords.{ask_in, handling_of, number_of, number_or, output_in, output_of, parts_in, parts_of, run_in, workers_in};
 
 use crate::fault::WordsFault;
 use crate::options::{clock_by, has_flag, option_text, optional_number};
@@ -16,6 +16,9 @@ use table_core::{decimal, is_decimal};
 
 /// The most workers that may be asked for. A run has fewer.
 const MAX_WORKERS: u64 = 99;
+
+/// The most parts that may be asked for. A run has no more than accounts.
+const MAX_PARTS: u64 = 4_294_967_295;
 
 /// The run that the options ask for. `Config` where a time is out of its range, however large;
 /// `Arguments` where an option has no number or word of its own.
@@ -44,6 +47,7 @@ fn run_ask(options: &ArgMatches<'_>) -> Option<RunAsk>
     let delay = setting(option_text(options, "delay"), 2)?;
     let default_handling = handling(option_text(options, "default"))?;
     let output = output(options)?;
+    let parts = parts(options, workers, output)?;
     Some(RunAsk {
         workers,
         wanted,
@@ -53,15 +57,42 @@ fn run_ask(options: &ArgMatches<'_>) -> Option<RunAsk>
         delay,
         default_handling,
         output,
+        parts,
     })
 }
 
-/// How many workers there are to be, 0 to 99.
+/// How many workers there are to be, 0 to 99: where that is left out, two, but one in parts.
 fn workers(options: &ArgMatches<'_>) -> Option<u32>
     ensures { result ≡ workers_in (rows_of (found_of options.now)) }
 {
     let workers = optional_number(options, "workers", MAX_WORKERS)?;
-    Some(workers.unwrap_or(2) as u32)
+    let default = match option_text(options, "parts") {
+        Some(_) => 1,
+        None => 2,
+    };
+    Some(workers.unwrap_or(default) as u32)
+}
+
+/// In how many parts the run is to be played, if it is.
+fn parts(options: &ArgMatches<'_>, workers: u32, output: RunOutput) -> Option<Option<u32>>
+    ensures { result ≡ parts_in (rows_of (found_of options.now)) workers output }
+{
+    let count = optional_number(options, "parts", MAX_PARTS)?;
+    parts_of(workers, output, count)
+}
+
+/// The same, by the number of the option: at least one, with one worker at most, and no trace.
+fn parts_of(workers: u32, output: RunOutput, count: Option<u64>) -> Option<Option<u32>>
+    requires { unwrap_or count 0 ≤ 4294967295 }
+    ensures { result ≡ parts_of workers output count }
+{
+    let Some(count) = count else {
+        return Some(None);
+    };
+    if count < 1 || workers > 1 || matches!(output, RunOutput::Trace(_)) {
+        return None;
+    }
+    Some(Some(count as u32))
 }
 
 /// The number that a text writes, `default` where there is none; `u32::MAX` stands for all above.

@@ -39,12 +39,21 @@ const REFUSED: [&str; 24] = [
 ];
 
 /// Words after `run`, the status, and the fault. An empty word is after a space at the end.
-const OPTIONS: [(&str, u8, &str); 39] = [
+const OPTIONS: [(&str, u8, &str); 48] = [
     ("run --workers 0", 2, WORKERS),
     ("run --workers 1", 0, ""),
     ("run --workers 17", 2, WORKERS),
     ("run --workers 99", 2, WORKERS),
     ("run --workers 100", 1, ARGUMENTS),
+    ("run --parts 0", 1, ARGUMENTS),
+    ("run --parts 1", 0, ""),
+    ("run --parts 16", 0, ""),
+    ("run --parts 4294967295 --workers 1", 0, ""),
+    ("run --parts 4294967296", 1, ARGUMENTS),
+    ("run --parts 2 --workers 0", 2, WORKERS),
+    ("run --parts 2 --workers 2", 1, ARGUMENTS),
+    ("run --parts 2 --trace", 1, ARGUMENTS),
+    ("run --parts 2 --calls --book", 1, ARGUMENTS),
     ("run --wanted 49", 1, CONFIG),
     ("run --wanted 50", 0, ""),
     ("run --wanted 864000", 0, ""),

@@ -1,7 +1,11 @@
 pub mod ListenLemmas
+pub mod Merging
+pub mod Parting
 pub mod Passing
 pub mod Paying
 pub mod PlayLemmas
 pub mod RefusalLemmas
+pub mod Resaid
+pub mod Saying
 pub mod Starts
 pub mod Timing

@@ -1,13 +1,15 @@
 -- What `run` answers to an input.
-use Rattle.std.specs.Prelude.{◌≡◌, ℕ, true, false, List, Result, Ok, Err, ⊤}
+use Rattle.std.specs.Prelude.{◌≡◌, ℕ, true, false, Option, Some, None, List, Result, Ok, Err, ⊤}
 use Rattle.book_texts.specs.BookTexts.{book_text, version_of}
 use Rattle.book_texts.specs.RunTexts.{IsRunText}
 use Rattle.call_records.specs.Records.{Run}
 use Rattle.call_records.specs.Tables.{IsCallText}
 use Rattle.run_command.specs.Books.{AreBooksOf}
+use Rattle.run_command.specs.InParts.{IsRunInParts}
 use Rattle.run_command.specs.Laws.{CallsHavePaid, PassTheirAudits}
 use Rattle.run_command.specs.Plays.{IsGivenBy}
 use Rattle.run_command.specs.Refused.{refusals_in}
+use Rattle.run_options.specs.Options.{played_parts}
 use Rattle.run_options.specs.declared.options.RunAsk.{RunAsk}
 use Rattle.run_options.specs.declared.options.RunOutput.{RunOutput}
 use Rattle.run_options.specs.declared.options.RunOutput.TheVariants as output
@@ -56,6 +58,11 @@ pub record IsRunOf (ask : RunAsk) (input : List ℕ) (ran : RunSaid) : Type 0 wh
   -- the records of its calls have paid what the calls of its books have, a call without a route nothing, and a call without a forfeit the price of its times by its route
   pub paid : CallsHavePaid (record { setup = are_books.setup; given = given; books = books })
 
+-- what a run says, in parts or not
+abbrev pub IsRunSaid : Option ℕ → RunAsk → List ℕ → RunSaid → Type 0
+IsRunSaid None ask input ran = IsRunOf ask input ran
+IsRunSaid (Some parts) ask input ran = IsRunInParts parts ask input ran.text ran.refusals
+
 -- what can end a run of so many workers: `Workers` where there can't be so many, and only then; no gate closes
 abbrev pub MayEnd : ℕ → RunFault → Type 0
 MayEnd workers run.OutOfMemory = ⊤
@@ -76,7 +83,7 @@ pub record IsEnded (workers : ℕ) (input : List ℕ) (fault : RunFault) : Type 
 
 -- an answer to the input: what a run says, or the first fault of the input, or else a fault of the run. A failed reader and out of memory may come at any
 abbrev pub IsRunAnswer : RunAsk → List ℕ → Result RunSaid RunError → Type 0
-IsRunAnswer ask input (Ok ran) = IsRunOf ask input ran
+IsRunAnswer ask input (Ok ran) = IsRunSaid (played_parts ask) ask input ran
 IsRunAnswer ask input (Err (error.Run run.OutOfMemory)) = ⊤
 IsRunAnswer ask input (Err (error.Run fault)) = IsEnded ask.workers input fault
 IsRunAnswer ask input (Err (error.Input why)) = Refuses why (input_of input)

@@ -1,5 +1,6 @@
 pub mod Answers
 pub mod Books
+pub mod InParts
 pub mod Laws
 pub mod Listening
 pub mod Played

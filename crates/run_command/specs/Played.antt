@@ -1,25 +1,46 @@
 -- A script that was played.
-use Rattle.std.specs.Prelude.{◌≡◌, List, true}
+use Rattle.std.specs.Prelude.{◌≡◌, ℕ, List, map, true}
+use Rattle.book_texts.specs.Typed.{IsTyped}
 use Rattle.call_records.specs.Records.{Run}
-use Rattle.run_command.specs.Books.{AreBooksOf}
+use Rattle.run_command.specs.Answers.{IsTextOf, RunSaid}
 use Rattle.run_command.specs.Plays.{IsGivenBy}
 use Rattle.run_command.specs.Refused.{refusals_in}
-use Rattle.run_command.specs.declared.running.Played.{Played}
-use Rattle.run_options.specs.declared.options.RunAsk.{RunAsk}
+use Rattle.run_command.specs.declared.playing.Played.{Played}
 use Rattle.run_options.specs.Options.{is_trace}
-use Rattle.run_texts.specs.Inputs.{RunInput}
+use Rattle.run_options.specs.declared.options.RunAsk.{RunAsk}
+use Rattle.run_options.specs.declared.options.RunOutput.TheVariants as output
+use Rattle.run_texts.specs.Views.{script_event}
+use Rattle.run_texts.specs.declared.script.ScriptRow.{ScriptRow}
+use Rattle.run_values.specs.Setups.{Setup}
 use Rattle.run_values.specs.declared.post.Answer.{Answer}
+use Rattle.run_values.specs.declared.post.Body.{Body}
 use Rattle.runs_core.specs.Hearing.{all_heard}
+use Rattle.runs_core.specs.Runs.{IsRun}
+use Rattle.runs_core.specs.Teams.{are_workers}
+use Rattle.shared_account.specs.Closed.{Closed}
+use Rattle.shared_account.specs.Seen.{StoodIn}
+use Rattle.std.specs.List.{All}
 
--- what a play has come to: its setup, what its player has given, and its books
-abbrev pub run_of : Played → Run
-run_of played = record { setup = played.setup; given = played.listener.player.network.given; books = played.books.items }
+-- what a play over a setup has come to: what its player has given, and its books
+abbrev pub run_of : Setup → Played → Run
+run_of setup played = record { setup = setup; given = played.listener.player.network.given; books = played.books.items }
 
--- what was given is the play of this input's script, and the books are those of a run over the input, with this setup; the answers are kept for a trace, and their refusals are counted
-pub record AreOfPlay (ask : RunAsk) (said : RunInput) (played : Played) : Type 0 where
+-- what was given is the play of these rows, and the books are those of a run in this setup; the answers are kept for a trace, and their refusals are counted
+pub record IsPlayed (ask : RunAsk) (setup : Setup) (rows : List ScriptRow) (played : Played) : Type 0 where
   pub heard : List (List Answer)
-  pub given_by : IsGivenBy ask said.script heard (run_of played).given
-  pub books : AreBooksOf ask said (run_of played).given heard (run_of played).books
-  pub setup : books.setup ≡ played.setup
+  pub given_by : IsGivenBy ask (map script_event rows) heard (run_of setup played).given
+  pub run : IsRun StoodIn setup ask.workers (run_of setup played).given (all_heard heard) (run_of setup played).books
   pub kept : is_trace ask.output ≡ true → played.listener.heard.items ≡ all_heard heard
   pub counted : played.listener.refusals ≡ refusals_in (all_heard heard)
+
+-- rows were played that aren't in parts, and this was said
+pub record IsWhole (ask : RunAsk) (setup : Setup) (rows : List ScriptRow) (ran : RunSaid) : Type 0 where
+  pub workers : are_workers ask.workers ≡ true
+  pub given : List (ℕ × Body)
+  pub heard : List (List Answer)
+  pub given_by : IsGivenBy ask (map script_event rows) heard given
+  pub books : List Closed
+  pub run : IsRun StoodIn setup ask.workers given (all_heard heard) books
+  pub printed : IsTextOf ask.output (record { setup = setup; given = given; books = books }) (all_heard heard) ran.text
+  pub refused : ran.refusals ≡ refusals_in (all_heard heard)
+  pub typed : ask.output ≡ output.Book → All IsTyped books

@@ -1,5 +1,5 @@
 -- How many answers of a run say that an account refused what it was asked.
-use Rattle.std.specs.Prelude.{◌==◌, ◌+◌, ◌-◌, ◌^◌, ℕ, Bool, false, List, Option, Some, None, filter, length, min}
+use Rattle.std.specs.Prelude.{◌==◌, ◌+◌, ◌-◌, ◌^◌, ℕ, Bool, false, List, Option, Some, None, filter, length, min, sum_by}
 use Rattle.account_core.specs.declared.fault.AccountFault.{AccountFault}
 use Rattle.account_core.specs.declared.fault.AccountFault.TheVariants as fault
 use Rattle.run_command.specs.declared.refusals.Refusals.{Refusals}
@@ -50,3 +50,25 @@ one_more refusals fault.NotOpen = record refusals { not_open = counted (refusals
 one_more refusals fault.CallUsed = record refusals { call_used = counted (refusals.call_used + 1) }
 one_more refusals fault.HistoryFull = record refusals { history_full = counted (refusals.history_full + 1) }
 one_more refusals fault.OutOfMemory = record refusals { out_of_memory = counted (refusals.out_of_memory + 1) }
+
+-- as many refusals as these two are together
+abbrev pub with_refusals : Refusals → Refusals → Refusals
+with_refusals one other = record {
+  gate_closed = counted (one.gate_closed + other.gate_closed);
+  out_of_range = counted (one.out_of_range + other.out_of_range);
+  not_open = counted (one.not_open + other.not_open);
+  call_used = counted (one.call_used + other.call_used);
+  history_full = counted (one.history_full + other.history_full);
+  out_of_memory = counted (one.out_of_memory + other.out_of_memory);
+}
+
+-- as many as all of these are
+abbrev pub added : List Refusals → Refusals
+added all = record {
+  gate_closed = counted (sum_by (λ one. one.gate_closed) all);
+  out_of_range = counted (sum_by (λ one. one.out_of_range) all);
+  not_open = counted (sum_by (λ one. one.not_open) all);
+  call_used = counted (sum_by (λ one. one.call_used) all);
+  history_full = counted (sum_by (λ one. one.history_full) all);
+  out_of_memory = counted (sum_by (λ one. one.out_of_memory) all);
+}

@@ -5,6 +5,8 @@
 mod error;
 mod laws;
 mod listening;
+mod parts;
+mod playing;
 mod refusals;
 mod running;
 

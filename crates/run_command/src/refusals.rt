@@ -1,7 +1,7 @@
 //! How often the accounts of a run refused what they were asked.
 
 ghost use Rattle.std.specs.Prelude.{◌≡◌, ◌++◌, List};
-ghost use Rattle.run_command.specs.Refused.{none_refused, one_more, refusals_in};
+ghost use Rattle.run_command.specs.Refused.{none_refused, one_more, refusals_in, with_refusals};
 ghost use Rattle.run_values.specs.declared.post.Answer.{Answer};
 
 use account_core::AccountFault;
@@ -50,6 +50,18 @@ impl Refusals {
                 self.count(fault);
             }
         }
+    }
+
+    /// Counts as many refusals more as others are.
+    pub(crate) fn add(&mut self, more: &Refusals)
+        ensures { self.new ≡ with_refusals self.old more.now }
+    {
+        self.gate_closed = self.gate_closed.saturating_add(more.gate_closed);
+        self.out_of_range = self.out_of_range.saturating_add(more.out_of_range);
+        self.not_open = self.not_open.saturating_add(more.not_open);
+        self.call_used = self.call_used.saturating_add(more.call_used);
+        self.history_full = self.history_full.saturating_add(more.history_full);
+        self.out_of_memory = self.out_of_memory.saturating_add(more.out_of_memory);
     }
 
     /// Counts a refusal.

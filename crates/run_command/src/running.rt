@@ -1,31 +1,25 @@
 //! The command `run`.
 
-ghost use Rattle.std.specs.Prelude.{◌≡◌, ◌≤◌, ◌++◌, All, IfOk, OnOk, string_bytes, ℕ, true, List, map, IfErr};
+ghost use Rattle.std.specs.Prelude.{◌≡◌, ◌≤◌, All, IfOk, IfErr, OnOk, string_bytes, true};
 ghost use Rattle.std.specs.Result.{result_map_both};
 ghost use Rattle.run_command.specs.Answers.{IsRunAnswer, IsTextOf, MayFail};
-ghost use Rattle.run_command.specs.Played.{run_of, AreOfPlay};
+ghost use Rattle.run_command.specs.Played.{IsWhole, run_of};
 ghost use Rattle.run_command.specs.RanOf.{said_of};
 ghost use Rattle.book_texts.specs.Typed.{IsTyped};
 ghost use Rattle.run_options.specs.Options.{ask_of};
-ghost use Rattle.run_books.specs.Runs.{HasAccounts};
-ghost use Rattle.run_texts.specs.Inputs.{input_in};
-ghost use Rattle.runs_core.specs.Teams.{are_workers};
 ghost use Rattle.run_texts.specs.Views.{are_in_order};
-ghost use Rattle.run_texts.specs.declared.script.ScriptRow.{ScriptRow};
-ghost use Rattle.run_values.specs.Setups.{IsWithin};
 
-use crate::listening::Listener;
+use crate::parts::run_in_parts;
+use crate::playing::{Played, play};
 use crate::{Refusals, RunError, laws};
 use account_core::MAX_LIMIT;
 use book_texts::{book_table, run_lines};
 use call_records::{call_table, records};
 use run_options::{RunOptions, RunOutput};
-use run_texts::{RunTexts, read_texts};
+use run_texts::{ScriptRow, read_texts};
 use run_trace::trace_table;
 use run_values::RunSetup;
-use runs_core::{Driver, serve};
-use script_player::ScriptPlayer;
-use shared_account::{Book, OpenGate};
+use runs_core::Driver;
 use std::alloc::{AllocError, Global};
 use std::sync::Wait;
 use std::thread::Threads;
@@ -42,7 +36,9 @@ pub struct Ran {
 
 /// The text of a run of the input's script: a line for each account and for each of its calls, the
 /// table of their books, the table of the calls, or the trace of what was said; and the refusals
-/// that the answers of its workers speak of.
+/// that the answers of its workers speak of. A run may be played in parts, each of neighbouring
+/// accounts and of all that the script says of them; its text is that of the books and the calls of
+/// all parts together.
 ///
 /// The input is judged first, its parts in order, and its first fault is told. `Workers` where
 /// there can't be so many workers; any other fault of a run comes as `runs_core::serve` has it.
@@ -56,75 +52,61 @@ pub fn run<R: Wait + Threads + Sync>(
         (result_map_both said_of (λ error. error) result) }
 {
     let texts = read_texts(alloc, input)?;
-    let played = play(rt, alloc, options, texts)?;
+    let (directory, tariff) = (texts.directory, texts.tariff);
+    let setup = RunSetup::of(alloc, directory, tariff, options.service, MAX_LIMIT)?;
     laws::played_books_pass();
     laws::played_calls_have_paid();
+    let _ = setup.accounts();
+    match options.played_parts() {
+        None => Ok(run_whole(rt, alloc, options, &setup, texts.script)?),
+        Some(parts) => Ok(run_in_parts(rt, alloc, options, parts, &setup, texts.script)?),
+    }
+}
+
+/// Plays a script that isn't in parts, and prints what it comes to.
+fn run_whole<R: Wait + Threads + Sync>(
+    rt: &R,
+    alloc: Global,
+    options: &RunOptions,
+    setup: &RunSetup,
+    script: Vec<ScriptRow>,
+) -> Result<Ran, RunError>
+    requires in_range { All (λ row. row.at ≤ LAST_MOMENT) script.items }
+    requires in_order { are_in_order 0 script.items ≡ true }
+    ensures ran { IfOk result (λ ran.
+        IsWhole (ask_of options.now) setup.now script.items (said_of ran)) }
+    ensures fault { IfErr result (MayFail options.now.workers) }
+{
+    let played = play(rt, alloc, options, setup, script)?;
     Ok(Ran {
-        text: print(alloc, options.output, &played)?,
+        text: print(alloc, options.output, setup, &played)?,
         refusals: played.listener.refusals,
     })
 }
 
 /// The text of a script that was played.
-fn print(alloc: Global, output: RunOutput, played: &Played) -> Result<String, AllocError>
-    ensures text { IfOk result (λ text.
-        IsTextOf output (run_of played.now) played.now.listener.heard.items (string_bytes text)) }
+fn print(
+    alloc: Global,
+    output: RunOutput,
+    setup: &RunSetup,
+    played: &Played,
+) -> Result<String, AllocError>
+    ensures text { IfOk result (λ text. IsTextOf
+        output (run_of setup.now played.now) played.now.listener.heard.items (string_bytes text)) }
     ensures typed { output ≡ RunOutput.Book → OnOk result (All IsTyped played.now.books.items) }
 {
     let books = played.books.as_slice();
-    let Listener { player, heard, .. } = &played.listener;
+    let (given, heard) = (
+        played.listener.player.given(),
+        played.listener.heard.as_slice(),
+    );
     match output {
         RunOutput::Lines => run_lines(alloc, books),
-        RunOutput::Book => book_table(alloc, books, played.setup.tariff().has_steps()),
+        RunOutput::Book => book_table(alloc, books, setup.tariff().has_steps()),
         RunOutput::Calls(clock) => {
-            let calls = records(alloc, &played.setup, player.given(), books)?;
+            let calls = records(alloc, setup, given, books)?;
             call_table(alloc, clock, calls.as_slice())
         }
-        RunOutput::Trace(clock) => trace_table(alloc, clock, player.given(), heard.as_slice()),
+        RunOutput::Trace(clock) => trace_table(alloc, clock, given, heard),
     }
-}
-
-/// A script that was played.
-#[derive(Drop)]
-struct Played {
-    /// What the run was set up with.
-    setup: RunSetup,
-    /// The player of the script, which has all that it gave, and the answers that it kept.
-    listener: Listener,
-    /// The books of the accounts.
-    books: Vec<Book>,
-}
-
-/// Plays a script over its accounts.
-fn play<R: Wait + Threads + Sync>(
-    rt: &R,
-    alloc: Global,
-    options: &RunOptions,
-    texts: RunTexts,
-) -> Result<Played, RunError>
-    requires within { IsWithin texts.directory }
-    requires in_range { All (λ row. row.at ≤ LAST_MOMENT) texts.script.items }
-    requires in_order { are_in_order 0 texts.script.items ≡ true }
-    ensures workers { IfOk result (λ _. are_workers options.now.workers ≡ true) }
-    ensures books { IfOk result (AreOfPlay (ask_of options.now) (input_in texts)) }
-    ensures accounts { OnOk result (HasAccounts texts.directory.accounts) }
-    ensures fault { IfErr result (MayFail options.now.workers) }
-{
-    let RunTexts {
-        tariff,
-        directory,
-        script,
-    } = texts;
-    let setup = RunSetup::of(alloc, directory, tariff, options.service, MAX_LIMIT)?;
-    let player = ScriptPlayer::new(alloc, script, options.ssf, options.delay)?;
-    let mut listener = Listener::new(alloc, player, options.output);
-    let workers = options.workers;
-    let books = serve(rt, alloc, &setup, &mut listener, workers, &OpenGate)?;
-    laws::is_played(&listener.player);
-    let _ = setup.accounts();
-    Ok(Played {
-        setup,
-        listener,
-        books,
-    })
 }

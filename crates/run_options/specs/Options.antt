@@ -1,5 +1,5 @@
 -- What the options of a run say, and those of the service live.
-use Rattle.std.specs.Prelude.{Bool, true, false}
+use Rattle.std.specs.Prelude.{ℕ, Bool, true, false, Option, None, if◌then◌else◌}
 use Rattle.run_options.specs.declared.live.LiveAsk.{LiveAsk}
 use Rattle.run_options.specs.declared.live.LiveOptions.{LiveOptions}
 use Rattle.run_options.specs.declared.options.RunAsk.{RunAsk}
@@ -18,6 +18,7 @@ ask_of options = record {
   delay = options.delay;
   default_handling = options.ssf.default_handling;
   output = options.output;
+  parts = options.parts;
 }
 
 -- whether the trace is printed
@@ -26,6 +27,10 @@ is_trace output.Lines = false
 is_trace output.Book = false
 is_trace (output.Calls clock) = false
 is_trace (output.Trace clock) = true
+
+-- in how many parts a run is played, if it is: a trace is of a run that isn't in parts
+abbrev pub played_parts : RunAsk → Option ℕ
+played_parts ask = if is_trace ask.output then None else ask.parts
 
 -- what was asked of the service live
 abbrev pub live_ask_of : LiveOptions → LiveAsk

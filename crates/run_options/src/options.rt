@@ -21,12 +21,15 @@ pub struct RunOptions {
     pub delay: u32,
     /// What is printed.
     pub output: RunOutput,
+    /// In how many parts the run is played, if it is. A run has no more of them than accounts, and
+    /// at least one.
+    pub parts: Option<u32>,
     pub ghost delay_positive: { 1 ≤ delay },
     pub ghost delay_within_tccd: { delay ≤ ssf.tccd },
 }
 
 impl RunOptions {
-    ghost use Rattle.run_options.specs.Options.{ask_of};
+    ghost use Rattle.run_options.specs.Options.{ask_of, played_parts};
 
     /// The options that are asked for; none where a time is out of its range. The workers aren't
     /// judged here.
@@ -45,7 +48,18 @@ impl RunOptions {
             ssf,
             delay: ask.delay,
             output: ask.output,
+            parts: ask.parts,
         })
+    }
+
+    /// In how many parts the run is played, if it is. A trace is of a run that isn't in parts.
+    pub fn played_parts(&self) -> Option<u32>
+        ensures { result ≡ played_parts (ask_of self.now) }
+    {
+        match self.output {
+            RunOutput::Lines | RunOutput::Book | RunOutput::Calls(_) => self.parts,
+            RunOutput::Trace(_) => None,
+        }
     }
 }
 
@@ -68,6 +82,9 @@ pub struct RunAsk {
     pub default_handling: DefaultHandling,
     /// What is printed.
     pub output: RunOutput,
+    /// In how many parts the run is played, if it is. A run has no more of them than accounts, and
+    /// at least one.
+    pub parts: Option<u32>,
 }
 
 /// What a run prints.

@@ -2,14 +2,13 @@ use Rattle.std.proofs.Common.{◌∙◌, ◌++◌, List, [], ap, refl}
 use Rattle.run_command.proofs.ListenLemmas.{counts_heard, keeps_heard, player_hears}
 use Rattle.run_command.proofs.PlayLemmas.{given_by, rounds_of}
 use Rattle.run_options.specs.Options.{ask_of}
-use Rattle.run_texts.specs.Views.{with_digits}
 use Rattle.run_values.specs.declared.post.Answer.{Answer}
 use Rattle.runs_core.specs.Hearing.{all_heard}
 use Rattle.script_player.specs.Plays.{Play}
-use Rattle.run_command.proofs.running.play.Goals as goal
+use Rattle.run_command.proofs.playing.play.Goals as goal
 
-pub returns-clause-books : goal.returns-clause-books
-returns-clause-books g c =
+pub returns-clause-played : goal.returns-clause-played
+returns-clause-played g c =
     let listener = c.new-listener.result in
     let before = listener.player in
     let after = c.serve.new.driver.player in
@@ -22,27 +21,15 @@ returns-clause-books g c =
     let rows = ap (λ p. p.2) kept ∙ ap (λ (play : Play). play.taken ++ play.left) is_fresh in
     record {
       heard = ran.heard;
-      given_by = given_by (ask_of c.args.options.now) c.args.options.now.ssf after.network.config after.delay c.args.texts.script.items after.taken after.left ran.heard after.network.given
+      given_by = given_by (ask_of c.args.options.now) c.args.options.now.ssf after.network.config after.delay c.args.script.items after.taken after.left ran.heard after.network.given
           (record { tssf = refl; tccd = refl; default_handling = refl })
           config
           delay
           rows
-          (c.is_played.ensures c.args.texts.script.items ran.heard rows
-          (rounds_of c.args.options.now.ssf after.network.config c.args.options.now.delay after.delay c.args.texts.script.items before ran.heard after is_fresh config delay
+          (c.is_played.ensures c.args.script.items ran.heard rows
+          (rounds_of c.args.options.now.ssf after.network.config c.args.options.now.delay after.delay c.args.script.items before ran.heard after is_fresh config delay
           (player_hears [] listener ran.heard c.serve.new.driver ran.rounds)));
-      books = record {
-        setup = c.in_ok-setup.setup;
-        of_input = record {
-          accounts = c.in_ok-setup.ensures.accounts;
-          subscribers = ap with_digits c.in_ok-setup.ensures.subscribers;
-          tariff = c.in_ok-setup.ensures.tariff;
-          wanted = rw c.in_ok-setup.ensures.service refl;
-          least = rw c.in_ok-setup.ensures.service refl;
-          limit = c.in_ok-setup.ensures.limit;
-        };
-        run = ran.run;
-      };
-      setup = refl;
+      run = ran.run;
       kept = λ asked. keeps_heard [] listener ran.heard c.serve.new.driver (c.new-listener.ensures.keeps ∙ asked) ran.rounds ∙ ap (λ (l : List Answer). l ++ all_heard ran.heard) c.new-listener.ensures.heard;
       counted = counts_heard [] listener ran.heard c.serve.new.driver [] c.new-listener.ensures.refusals ran.rounds;
     }

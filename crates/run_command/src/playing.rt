@@ -1,0 +1,52 @@
+//! A script is played.
+
+ghost use Rattle.std.specs.Prelude.{◌≡◌, ◌≤◌, All, IfOk, IfErr, true};
+ghost use Rattle.run_command.specs.Answers.{MayFail};
+ghost use Rattle.run_command.specs.Played.{IsPlayed};
+ghost use Rattle.run_options.specs.Options.{ask_of};
+ghost use Rattle.run_texts.specs.Views.{are_in_order};
+ghost use Rattle.runs_core.specs.Teams.{are_workers};
+
+use crate::listening::Listener;
+use crate::{RunError, laws};
+use run_options::RunOptions;
+use run_texts::ScriptRow;
+use run_values::RunSetup;
+use runs_core::serve;
+use script_player::ScriptPlayer;
+use shared_account::{Book, OpenGate};
+use std::alloc::Global;
+use std::sync::Wait;
+use std::thread::Threads;
+use tariff_core::LAST_MOMENT;
+
+/// A script that was played.
+#[derive(Drop)]
+pub(crate) struct Played {
+    /// The player of the script, which has all that it gave, and the answers that it kept.
+    pub listener: Listener,
+    /// The books of the accounts.
+    pub books: Vec<Book>,
+}
+
+/// Plays a script over the accounts of a setup.
+pub(crate) fn play<R: Wait + Threads + Sync>(
+    rt: &R,
+    alloc: Global,
+    options: &RunOptions,
+    setup: &RunSetup,
+    script: Vec<ScriptRow>,
+) -> Result<Played, RunError>
+    requires in_range { All (λ row. row.at ≤ LAST_MOMENT) script.items }
+    requires in_order { are_in_order 0 script.items ≡ true }
+    ensures workers { IfOk result (λ _. are_workers options.now.workers ≡ true) }
+    ensures played { IfOk result (IsPlayed (ask_of options.now) setup.now script.items) }
+    ensures fault { IfErr result (MayFail options.now.workers) }
+{
+    let player = ScriptPlayer::new(alloc, script, options.ssf, options.delay)?;
+    let mut listener = Listener::new(alloc, player, options.output);
+    let workers = options.workers;
+    let books = serve(rt, alloc, setup, &mut listener, workers, &OpenGate)?;
+    laws::is_played(&listener.player);
+    Ok(Played { listener, books })
+}
