@@ -114,8 +114,8 @@ impl HistoryCheck {
         !matches!(self.heard, Heard::Illegal)
     }
 
-    /// What the account has come to, where the entries so far are a legal history. The only error is
-    /// out of memory.
+    /// What the account has come to, where the entries so far are a legal history. The only error
+    /// is out of memory.
     pub fn sum(&self, alloc: Global) -> Result<Option<AccountSum>, AllocError>
         ensures { IfOk result (λ sum. (opening : ℕ) (until : Option ℕ) (h : List EntryData)
             → IsCheckOf opening until h self.now → SumsUp opening until h sum) }

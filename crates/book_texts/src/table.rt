@@ -13,8 +13,9 @@ use shared_account::Book;
 use std::alloc::{AllocError, Global};
 
 /// The table of these books: a header, and for each book, in order, a row of its opening and a row
-/// for each entry of its history. It is of version 4, which has the billing steps of reserves, where
-/// `steps` says that the tariff of the books has any, or where a reserve has; else of version 3.
+/// for each entry of its history. It is of version 4, which has the billing steps of reserves,
+/// where `steps` says that the tariff of the books has any, or where a reserve has; else of version
+/// 3.
 ///
 /// Where there is a table, the calls, the plans and the other numbers in it that no rule but their
 /// type keeps are in the ranges of their types, and no history has more entries than its limit.

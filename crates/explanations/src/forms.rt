@@ -171,7 +171,8 @@ pub(crate) fn headers_of(slip: Slip) -> &'static str {
             "account,seat,op,call,x1,x2,x3,x4,x5,x6,x7,reply,y1,y2,y3, or an older one"
         }
         Slip::Tariff(_) | Slip::RunTariff(_) => {
-            "prefix,from,fee,rate,free,first,step,days, or without days, first to days, or free to days"
+            "prefix,from,fee,rate,free,first,step,days, or without days, first to days, \
+             or free to days"
         }
         Slip::Setup(_) => "kind,key,value,until or kind,key,value",
         Slip::Script(_) => "moment,call,what,x,y,z or moment,call,what,x,y",

@@ -36,8 +36,8 @@ pub(crate) fn played_books_pass()
 }
 
 /// The records of the calls of a run have paid, all together, what the calls of its books have, a
-/// call without a route has paid nothing, and a call without a forfeit the price of its times by the
-/// route at its start: the gsmSSF of a call sends one InitialDP.
+/// call without a route has paid nothing, and a call without a forfeit the price of its times by
+/// the route at its start: the gsmSSF of a call sends one InitialDP.
 pub(crate) fn played_calls_have_paid()
     ensures { PlayedCallsHavePaid }
 {
