@@ -11,8 +11,9 @@ use crate::options::{price_plan, replay_opening};
 use crate::quote_words::quote_ask;
 use crate::rate_words::rate_ask;
 use crate::request::Request;
-use crate::run_words::run_request;
-use crate::serve_words::serve_request;
+use crate::run_words::{run_ask, run_request};
+use crate::serve_words::{live_ask, serve_request};
+use crate::times::{explain_live_times, explain_run_times};
 use clap::error::ErrorKind;
 use clap::{ArgMatches, Error};
 use std::alloc::{AllocError, Global};
@@ -41,11 +42,27 @@ pub fn explains<S: AsStr>(words: &[S]) -> bool
     }
 }
 
-/// What `clap` says of words that it doesn't take; empty where it takes them.
+/// What `clap` says of words that it doesn't take. Of words that it takes, which time of `run` or
+/// `serve` is out of its range; empty where none is.
 pub fn explain_words<S: AsStr>(alloc: Global, words: &[S]) -> Result<String, AllocError> {
     match program_command(alloc)?.try_get_matches_from(words) {
-        Ok(_) => Ok(String::new(alloc)),
+        Ok(matches) => explain_options(alloc, &matches),
         Err(error) => error.to_string(alloc),
+    }
+}
+
+/// Which time of a command is out of its range.
+fn explain_options(alloc: Global, matches: &ArgMatches<'_>) -> Result<String, AllocError> {
+    match matches.subcommand() {
+        Some(("run", options)) => match run_ask(options) {
+            Some(ask) => explain_run_times(alloc, options, &ask),
+            None => Ok(String::new(alloc)),
+        },
+        Some(("serve", options)) => match live_ask(options) {
+            Some(ask) => explain_live_times(alloc, options, &ask),
+            None => Ok(String::new(alloc)),
+        },
+        _ => Ok(String::new(alloc)),
     }
 }
 

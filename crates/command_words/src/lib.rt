@@ -12,6 +12,7 @@ mod rate_words;
 mod request;
 mod run_words;
 mod serve_words;
+mod times;
 
 pub use arguments::{explain_words, explains, read_words};
 pub use fault::WordsFault;

@@ -36,7 +36,7 @@ pub(crate) fn run_request<'a>(options: &ArgMatches<'_>) -> Result<Request<'a>, W
 
 /// What the options say.
 #[tactic(auto, unfolding(crate::specs::RunWords::ask_in))]
-fn run_ask(options: &ArgMatches<'_>) -> Option<RunAsk>
+pub(crate) fn run_ask(options: &ArgMatches<'_>) -> Option<RunAsk>
     ensures { result ≡ option_map capped_ask (ask_in (rows_of (found_of options.now))) }
 {
     let workers = workers(options)?;

@@ -44,7 +44,7 @@ fn log_ask<'a>(options: &ArgMatches<'a>) -> Option<Option<LogAsk<'a>>>
 
 /// What the options say.
 #[tactic(auto, unfolding(crate::specs::ServeWords::live_ask_in))]
-fn live_ask(options: &ArgMatches<'_>) -> Option<LiveAsk>
+pub(crate) fn live_ask(options: &ArgMatches<'_>) -> Option<LiveAsk>
     ensures { result ≡ option_map capped_live_ask (live_ask_in (rows_of (found_of options.now))) }
 {
     let wanted = setting(option_text(options, "wanted"), 600)?;

@@ -51,14 +51,17 @@ impl Told {
         Told { answer, more }
     }
 
-    /// The fault of words, and what `clap` says of them where that is asked for.
+    /// The fault of words, and what is said of them where that is asked for: what `clap` says, or
+    /// which time is out of its range.
     pub fn of_words<S: AsStr>(alloc: Global, explains: bool, words: &[S], why: WordsFault) -> Told
         ensures answer { result.answer ≡ Err (of_words why) }
         ensures only { explains ≡ false → result.more ≡ None }
         ensures words { IfSome result.more (λ more. IsOfWords (of_words why)) }
     {
         let more = match why {
-            WordsFault::Arguments if explains => said_of_words(alloc, words),
+            WordsFault::Arguments | WordsFault::Config if explains => {
+                said_of_words(alloc, words)
+            }
             _ => None,
         };
         Told {
@@ -68,7 +71,7 @@ impl Told {
     }
 }
 
-/// What `clap` says of words, without empty lines; nothing where memory runs out.
+/// What is said of words, without empty lines; nothing where memory runs out.
 fn said_of_words<S: AsStr>(alloc: Global, words: &[S]) -> Option<String> {
     match explain_words(alloc, words) {
         Ok(said) => full_lines(alloc, said.as_str()).ok(),
@@ -76,8 +79,8 @@ fn said_of_words<S: AsStr>(alloc: Global, words: &[S]) -> Option<String> {
     }
 }
 
-/// The lines of a text that aren't empty. `clap` says nothing of words that it takes: then an
-/// option has a value out of its range.
+/// The lines of a text that aren't empty. Where nothing is said, another option has a value out of
+/// its range.
 fn full_lines(alloc: Global, said: &str) -> Result<String, AllocError> {
     let mut text = String::new(alloc);
     if said.is_empty() {
