@@ -59,10 +59,11 @@ TREE = $(shell git rev-parse HEAD) $(if $(shell git status --porcelain),changed,
 
 # Compares the page of definitions with their comments, proves everything from nothing, tries the edits that must
 # fail, and runs the tests and the programs; then holds the words of the man page and the completions against the
-# formats, runs the commands of the pages as they stand, makes packages and uses them, compares reports with their
-# tables and runs in parts with whole ones, drives the service over a pipe, cuts and kills one with a log, refuses
-# memory to each call that takes any, and compares the program with its model. Once all has passed, out/passed.txt
-# says so of the commit; make expands TREE before the first line.
+# formats, runs the commands of the pages as they are, makes packages and uses them, compares reports with their
+# tables and runs in parts with whole ones, drives the service over a pipe, compares what is said of faults with a
+# table, on a terminal too, cuts and kills a service with a log, refuses memory to each call that takes any, and
+# compares the program with its model. Once all has passed, out/passed.txt says so of the commit; make expands TREE
+# before the first line.
 test:
 	mkdir -p out
 	rm -f out/passed.txt
@@ -75,6 +76,7 @@ test:
 	tests/report_test.py --program crates/prepaid/out/prepaid
 	tests/divide_test.py --program crates/prepaid/out/prepaid
 	tests/pipe_test.py --program crates/prepaid/out/prepaid
+	tests/explain_test.py --program crates/prepaid/out/prepaid
 	tests/serve_test.py --program crates/prepaid/out/prepaid
 	tests/refused_growths.sh
 	tests/random.sh --program crates/prepaid/out/prepaid

@@ -6,13 +6,13 @@ _prepaid()
     local words
     local -a given=("${COMP_WORDS[@]}")
     local place=$COMP_CWORD
-    if [[ ${given[1]} == --explain ]] && ((place > 1)); then
+    if [[ ${given[1]} == --explain || ${given[1]} == --plain ]] && ((place > 1)); then
         # the command comes behind this word
         given=("${given[0]}" "${given[@]:2}")
         place=$((place - 1))
     fi
     if ((place == 1)); then
-        words='price replay run audit quote rate serve help --explain --help -h --version -V'
+        words='price replay run audit quote rate serve help --explain --plain --help -h --version -V'
     elif [[ $previous == --default ]]; then
         words='proceed release'
     elif [[ $previous == --log ]]; then

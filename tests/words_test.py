@@ -15,7 +15,7 @@ import tempfile
 
 HELP = {"-h", "--help"}
 # What the program takes in the place of a command, and in front of one.
-VERSION = {"-V", "--version", "--explain"}
+VERSION = {"-V", "--version", "--explain", "--plain"}
 # Kinds of a tariff's faults that the program tells as those of a run.
 OF_RUN = {"Device", "OutOfMemory"}
 PARTS = r"(reports|ops|setup|script|book|records|messages) row"
@@ -199,7 +199,7 @@ def said_in_zsh(path):
     for name, arm in re.findall(r"^    ([a-z]+)\)\n(.*?);;", text, re.M | re.S):
         commands[name] = set(re.findall(r"'(--[a-z]+)\[", arm)) | (HELP if "{-h,--help}" in arm else set())
     words = {("run", "--default"): ", ".join(re.search(r"--default\[[^:]*:word:\(([^)]*)\)", text)[1].split())}
-    if "{-V,--version}" not in text or "'--explain[" not in text:
+    if any(it not in text for it in ("{-V,--version}", "'--explain[", "'--plain[")):
         raise SystemExit(f"{path}: no version, or no word in front of a command")
     return commands if listed == set(commands) else {"listed": listed}, words
 

@@ -53,7 +53,7 @@ def command(words, text, book=None, write=None):
     """
     printed = []
     explains = bool(words) and words[0] == "--explain"
-    words = words[1:] if explains else words
+    words = words[1:] if words[:1] in (["--explain"], ["--plain"]) else words
     try:
         if not words or words[0] not in TAKEN:
             raise ARGUMENTS

@@ -43,7 +43,8 @@ def make(seed):
     if seed % 500 in (7, 8) and text:
         # as long as an input may be, and a byte longer
         text += b"\n" * (16_777_216 + seed % 500 - 7 - len(text))
-    return ["--explain", *words] if seed % 7 in (1, 3) else words, text
+    front = {1: ["--explain"], 3: ["--explain"], 5: ["--plain"]}.get(seed % 7, [])
+    return [*front, *words], text
 
 
 def table(rows):

@@ -93,10 +93,11 @@ end_rules = flag_rule (codes "lines") ∷ flag_rule (codes "book") ∷ flag_rule
 unfoldable pub serve_app : App
 serve_app = with_rules (with_rules (with_rule (with_rules (new_app (codes "serve")) service_rules) (option_rule (codes "tccd"))) log_rules) end_rules
 
--- the program itself, `[--explain]`, which has its version and commands besides
+-- the program itself, `[--explain] [--plain]`, which has its version and commands besides
 abbrev pub bare_app : App
 bare_app =
-    with_rule (on_top (λ top. record top { has_version = true; no_binary_name = true; subcommand_required = true }) (new_app (codes "prepaid"))) (flag_rule (codes "explain"))
+    with_rules (on_top (λ top. record top { has_version = true; no_binary_name = true; subcommand_required = true }) (new_app (codes "prepaid")))
+    (flag_rule (codes "explain") ∷ flag_rule (codes "plain") ∷ [])
 
 -- the program, with its commands
 unfoldable pub program_app : App

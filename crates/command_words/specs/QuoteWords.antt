@@ -9,7 +9,6 @@ use Rattle.tariff_core.specs.declared.plan.TheConstants.{MAX_MONEY}
 use Rattle.tariff_core.specs.declared.times.TheConstants.{DAY, LAST_MOMENT}
 use Rattle.command_words.specs.Options.{clock_by, has_flag, optional_number_in}
 use Rattle.command_words.specs.QuoteWishes.{QuoteWish}
-use Rattle.command_words.specs.Wishes.{Wish, Quotes}
 
 -- the digits of a number, 1 to 15 of them
 abbrev pub called_of : Text → Option (List ℕ)

@@ -1,5 +1,5 @@
 -- What the options of `rate` say.
-use Rattle.std.specs.Prelude.{ℕ, List, Option, Some, None, codes, option_map, unwrap_or}
+use Rattle.std.specs.Prelude.{List, Option, Some, None, codes, option_map, unwrap_or}
 use Rattle.clap.specs.Words.{Row, Text, first_of}
 use Rattle.rating.specs.Asks.{NamesWish, RateWish, TimesWish, ByEnd, BySplit, ByTime, ByUsualNames}
 use Rattle.command_words.specs.Options.{has_flag}

@@ -34,7 +34,9 @@ fn bare_command<'a>(alloc: Global) -> Result<Command<'a>, AllocError>
         .no_binary_name(true)
         .subcommand_required(true);
     let explain = "Says behind a fault where it is and what is wrong there";
-    add(command, flag(alloc, "explain", explain))
+    let command = add(command, flag(alloc, "explain", explain))?;
+    let plain = "Keeps --explain away where standard error is a terminal";
+    add(command, flag(alloc, "plain", plain))
 }
 
 #[tactic(auto, unfolding(crate::specs::CommandLine::price_app))]

@@ -1,28 +1,43 @@
 //! `prepaid`: prepaid call control on the command line. All of the work is in the library
-//! `prepaid_command`; here it gets the words, standard input and the two outputs.
+//! `prepaid_command`; here it gets the words, standard input and the two outputs, and whether
+//! somebody sits at a terminal.
 #![tactic(auto)]
 
 use prepaid_command::{Fault, command};
 use std::alloc::AllocError;
-use std::io::BufReader;
+use std::io::{BufReader, IsTerminal};
 use std::process::ExitCode;
 use std::{env, io};
 
 /// How many bytes of the input are read ahead: all that a pipe holds.
 const READ_AHEAD: usize = 65_536;
 
+/// The commands, each of which reads standard input.
+const COMMANDS: [&str; 7] = ["price", "replay", "run", "audit", "quote", "rate", "serve"];
+
+/// The words that ask for a help or the version.
+const HELP: [&str; 5] = ["help", "--help", "-h", "--version", "-V"];
+
+/// What is said where the input comes from a terminal.
+const WAITING: &str = "prepaid: the input comes from this terminal; Ctrl-D in a new line ends it";
+
 fn main(rt: HostRuntime) -> ExitCode {
     let status = match (
         words(&rt),
         BufReader::with_capacity(rt.alloc(), READ_AHEAD, rt.reader()),
     ) {
-        (Ok(words), Ok(input)) => command(
-            &rt,
-            words.as_slice(),
-            input,
-            &mut io::writer(&rt),
-            &mut rt.stderr(),
-        ),
+        (Ok(words), Ok(input)) => {
+            if rt.stdin().is_terminal() && rt.stderr().is_terminal() && wait(words.as_slice()) {
+                let _ = rt.eprintln(WAITING);
+            }
+            command(
+                &rt,
+                words.as_slice(),
+                input,
+                &mut io::writer(&rt),
+                &mut rt.stderr(),
+            )
+        }
         _ => {
             let fault = Fault::from(AllocError);
             let _ = rt.eprintln(fault);
@@ -32,7 +47,23 @@ fn main(rt: HostRuntime) -> ExitCode {
     ExitCode::from(status)
 }
 
-/// The words after the program's name.
+/// The words after the program's name. Where standard error is a terminal, `--explain` is put in
+/// front of them, but for `--plain` or that word itself.
 fn words(rt: &HostRuntime) -> io::Result<Vec<String>> {
-    Ok(env::args(rt)?.skip(1).collect(rt.alloc())?)
+    let alloc = rt.alloc();
+    let mut words: Vec<String> = env::args(rt)?.skip(1).collect(alloc)?;
+    let is_said = match words.first() {
+        Some(word) => matches!(word.as_str(), "--explain" | "--plain"),
+        None => false,
+    };
+    if !is_said && rt.stderr().is_terminal() {
+        words.insert(0, String::from_str(alloc, "--explain")?)?;
+    }
+    Ok(words)
+}
+
+/// Whether words ask for a command, which waits for its input.
+fn wait(words: &[String]) -> bool {
+    words.iter().any(|word| COMMANDS.contains(&word.as_str()))
+        && !words.iter().any(|word| HELP.contains(&word.as_str()))
 }

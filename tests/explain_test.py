@@ -1,0 +1,203 @@
+#!/usr/bin/env python3
+"""Tries what is said of a fault behind its line: tests/explain_test.py [--program FILE]
+
+Each slip of a table is told by its line alone, and with `--explain` in front of the command by this line and the lines of
+the table behind it; the output stays empty. The same holds with CR LF at the end of each line, without an LF at the end of
+the input, and where the row is at the end of an input of 16 MB. On a pseudo-terminal a fault is explained without the word,
+but not behind `--plain`, and a command says that it waits for its input.
+"""
+import argparse
+import os
+import pty
+import subprocess
+import sys
+import threading
+
+ROOT = os.path.dirname(os.path.dirname(os.path.abspath(__file__)))
+MAX_INPUT = 16_777_216
+SECONDS = 60
+
+BAND = "49,00:00,50,1000\n"
+TARIFF = f"prefix,from,fee,rate\n{BAND}"
+SETUP = "kind,key,value\naccount,7,5000\nsubscriber,491700001,7\n"
+SCRIPT = "moment,call,what,x,y\n10,1,start,491700001,4930\n"
+WORDS = "start, answer, busy, noanswer, routefail, abandon, disconnect, recharge"
+RUN_HEADERS = "moment,call,what,x,y,z or moment,call,what,x,y"
+
+
+def parts(tariff="", setup="", script=""):
+    """The input of a run with these rows behind those that it always has."""
+    return f"{TARIFF}{tariff}%%\n{SETUP}{setup}%%\n{SCRIPT}{script}"
+
+
+# Of each slip the words, the input, the line of the fault behind `prepaid: `, the row as it is shown, if it is, and the lines
+# behind it. The row is the last line of the input but for a Header.
+SLIPS = [
+    ("run", parts(script="20,1,hangup,,\n"), "script row 3: What", "20,1,hangup,,", f"column what: hangup; one of {WORDS}\n"),
+    ("run", parts(script="20,1,disconnect,1\n"), "script row 3: Csv", "20,1,disconnect,1",
+     "4 fields, and the header has 5: moment,call,what,x,y\n"),
+    ("run", parts(script="20,1,answer,5,\n"), "script row 3: Empty", "20,1,answer,5,", "column x: 5, where answer takes nothing\n"),
+    ("run", parts(script="5,1,answer,,\n"), "script row 3: Order", "5,1,answer,,", "moment 5 lies below 10 in row 2\n"),
+    ("run", parts(script="20,1,start,491700001,4930\n"), "script row 3: Repeated", "20,1,start,491700001,4930",
+     "call 1 is in row 2 already\n"),
+    ("run", parts(script="20,7,answer,,\n"), "script row 3: Unknown", "20,7,answer,,", "call 7 isn't started in an earlier row\n"),
+    ("run", parts(script="20,,recharge,8,1\n"), "script row 3: Unknown", "20,,recharge,8,1", "account 8 isn't in the setup\n"),
+    ("run", parts(script="20,,recharge,7,1000000000000001\n"), "script row 3: Number", "20,,recharge,7,1000000000000001",
+     "column y: 1000000000000001 is above 1000000000000000\n"),
+    ("run", parts(script="20,1,\0\x7f,,\n"), "script row 3: What", r"20,1,\x00\x7f,,", rf"column what: \x00\x7f; one of {WORDS}" "\n"),
+    ("run", parts(script='20,1,"answer,,\n'), "script row 3: Csv", '20,1,"answer,,', None),
+    ("price --fee 50 --before 1000", "before,after\n600,0\n500,0\n", "reports row 3: Order", "500,0",
+     "times 500,0 may not follow 600,0 in row 2\n"),
+    ("price --fee 50 --before 1000", "before,after\n600,x\n", "reports row 2: Number", "600,x",
+     "column after: x is no decimal of 1 to 20 digits\n"),
+    ("replay --opening 5000", "seat,op,call,x1,x2,x3,x4,x5\n16,return,1,,,,,\n", "ops row 2: Number", "16,return,1,,,,,",
+     "column seat: 16 is above 15\n"),
+    ("replay --opening 5000", "seat,op,call,x1,x2,x3,x4,x5\n0,debit,1,,,,,\n", "ops row 2: What", "0,debit,1,,,,,", None),
+    ("audit", "account,seat,op,call,x1,x2,x3,x4,x5,reply,y1,y2,y3\n1,,opening,,5,,,,,,,,\n1,,opening,,5,,,,,,,,\n",
+     "book row 3: Repeated", "1,,opening,,5,,,,,,,,", "account 1 is in row 2 already\n"),
+    ("audit", "account,seat,op,call,x1,x2,x3,x4,x5,reply,y1,y2,y3\n2,0,credit,,1,,,,,credited,,,1\n",
+     "book row 2: Unknown", "2,0,credit,,1,,,,,credited,,,1", "account 2 isn't opened in an earlier row\n"),
+    ("quote --called 4930 --at 0", f"{TARIFF}49,24:00,50,1000\n", "tariff row 3: From", "49,24:00,50,1000",
+     "column from: 24:00 is no time of day from 00:00 to 23:59\n"),
+    ("quote --called 4930 --at 0", f"{TARIFF}44,00:00,20.00,1000\n", "tariff row 3: Money", "44,00:00,20.00,1000",
+     "column fee: 20.00 is no decimal of 1 to 20 digits\n"),
+    ("quote --called 4930 --at 0", f"{TARIFF}{BAND}", "tariff row 3: Repeated", BAND.strip(), "prefix 49 from 00:00 is in row 2 already\n"),
+]
+# Inputs whose fault isn't in their last line: the words, the input, and all that is said behind `prepaid: `.
+OTHERS = [
+    ("run", f"{TARIFF}%%\n{SETUP}%%\nmoment;call;what;x;y\n", "script row 1: Header\nline 8 of the input: moment;call;what;x;y\n"
+     f"wanted: {RUN_HEADERS}\nfound: moment;call;what;x;y\nthe separator is a comma\n"),
+    ("run", f"{TARIFF}%%\n{SETUP}", "input: Parts\n1 line that is %% alone, in line 3; wanted 2\n"),
+    ("run", f"{TARIFF}%% \n{SETUP}%%\n{SCRIPT}", "input: Parts\n1 line that is %% alone, in line 7; wanted 2\n"
+     "line 3 is %% with a blank at it\n"),
+    ("quote --called 4930 --at 0", "prefix,from,fee,rate\n49,08:00,50,1000\n49,20:00,0,500\n",
+     "tariff row 2: NoMidnightBand\nline 2 of the input: 49,08:00,50,1000\nprefix 49 counts from 08:00 and 20:00, and nothing from "
+     "00:00: add 49,00:00,.. with what counts at midnight, mostly the row of 20:00\n"),
+    ("run --wokers 3", "", "arguments\nerror: unexpected argument '--wokers' found\n  tip: a similar argument exists: '--workers'\n"
+     "Usage: prepaid run [OPTIONS] < FILE\nFor more information, try '--help'.\n"),
+    ("run --delay 51", "", "input: Config\ndelay 51 is above tccd 50\n"),
+    ("run --delay 0", "", "input: Config\ndelay 0 is below 1\n"),
+    ("run --wanted 49", "", "input: Config\nleast 50 is above wanted 49\n"),
+    ("run --wanted 99999999999", "", "input: Config\nwanted 99999999999 is above 864000\n"),
+    ("run --tssf 864001", "", "input: Config\ntssf 864001 is above 864000\n"),
+    ("serve --tccd 51", "", "input: Config\ntccd 51 is above least 50\n"),
+    ("run --workers x", "", "arguments\nan option has a value that it doesn't take: see prepaid help COMMAND\n"),
+    ("audti", "", "arguments\nerror: unrecognized subcommand 'audti'\n  tip: a similar subcommand exists: 'audit'\n"
+     "Usage: prepaid [OPTIONS] <COMMAND>\nFor more information, try '--help'.\n"),
+    ("price --fee 1", "", "arguments\nerror: the following required arguments were not provided:\n  --before <N>\n"
+     "Usage: prepaid price [OPTIONS] --fee <N> --before <N> < FILE\nFor more information, try '--help'.\n"),
+]
+
+
+def run(program, words, text, **more):
+    done = subprocess.run([program, *words.split()], input=text.encode("latin-1"), capture_output=True, timeout=SECONDS, **more)
+    return done.stdout.decode(), done.stderr.decode(), done.returncode
+
+
+def compare(program, words, text, said):
+    """The faults of the input without the word and with it, beside what is wanted; `said` may be a front of it."""
+    line = said.partition("\n")[0] + "\n"
+    status = 1
+    if (found := run(program, words, text)) != ("", f"prepaid: {line}", status):
+        return f"{words}: {found} in place of {line!r}"
+    output, faults, code = run(program, f"--explain {words}", text)
+    wanted = f"prepaid: {said}"
+    if (output, code) != ("", status) or faults != wanted and not (said.endswith("\n\n") and faults.startswith(wanted[:-1])):
+        return f"--explain {words}: {(output, faults, code)} in place of {wanted!r}"
+    return None
+
+
+def said_of(slip, before):
+    """What is said of a slip whose row has so many lines in front of it; where that is open, an empty line is at its end."""
+    _, _, line, shown, more = slip
+    return f"{line}\nline {before + 1} of the input: {shown}\n" + ("\n" if more is None else more)
+
+
+def forms(slip):
+    """The input of a slip in several forms, with the lines in front of its row, and which form it is."""
+    text = slip[1]
+    front, row = text[: text[:-1].rindex("\n") + 1], text[text[:-1].rindex("\n") + 1 :]
+    before = front.count("\n")
+    yield text, before, "as it is"
+    yield text.replace("\n", "\r\n"), before, "with CR LF"
+    yield text[:-1], before, "without LF at its end"
+    filler = MAX_INPUT - len(text)
+    yield front + "\n" * filler + row, before + filler, "at the end of 16 MB"
+
+
+def slips(program):
+    for slip in SLIPS:
+        for text, before, form in forms(slip):
+            if wrong := compare(program, slip[0], text, said_of(slip, before)):
+                return f"{form}: {wrong[:600]}"
+    for words, text, said in OTHERS:
+        if wrong := compare(program, words, text, said):
+            return wrong
+    return None
+
+
+def on_terminal(program, words, text=None):
+    """What a terminal shows of the error writer, where the input is a text, or else what is typed there: one Ctrl-D."""
+    outer, inner = pty.openpty()
+    shown = []
+
+    def read():
+        try:
+            while more := os.read(outer, 4096):
+                shown.append(more)
+        except OSError:
+            pass
+
+    stdin = subprocess.PIPE if text is not None else inner
+    with subprocess.Popen([program, *words.split()], stdin=stdin, stdout=subprocess.PIPE, stderr=inner) as it:
+        os.close(inner)
+        reader = threading.Thread(target=read)
+        reader.start()
+        if text is None:
+            os.write(outer, b"\x04")
+            output = it.stdout.read()
+        else:
+            output = it.communicate(text.encode(), timeout=SECONDS)[0]
+        it.wait(timeout=SECONDS)
+        reader.join(SECONDS)
+    os.close(outer)
+    return b"".join(shown).decode().replace("\r\n", "\n").replace("^D\b\b", ""), output.decode(), it.returncode
+
+
+WAITING = "prepaid: the input comes from this terminal; Ctrl-D in a new line ends it\n"
+
+
+def terminals(program):
+    slip = SLIPS[0]
+    words, text, line = slip[0], slip[1], f"prepaid: {slip[2]}\n"
+    whole = f"prepaid: {said_of(slip, text.count(chr(10)) - 1)}"
+    for front, wanted in [("", whole), ("--explain ", whole), ("--plain ", line)]:
+        if (found := on_terminal(program, front + words, text)) != (wanted, "", 1):
+            return f"{front}{words} on a terminal: {found}"
+    for words, wanted, status in [("--plain run", WAITING + "prepaid: input: Parts\n", 1), ("--plain quote", "prepaid: arguments\n", 1)]:
+        found = on_terminal(program, words)
+        if words.endswith("quote"):
+            wanted = WAITING + wanted
+        if (found[0], found[2]) != (wanted, status):
+            return f"{words} typed: {found}"
+    for words in ["--version", "run --help", "help"]:
+        shown, output, status = on_terminal(program, words)
+        if (shown, status) != ("", 0) or not output:
+            return f"{words} on a terminal: {shown!r} {status}"
+    return None
+
+
+def main():
+    parser = argparse.ArgumentParser(description=__doc__.split("\n")[0])
+    parser.add_argument("--program", default=f"{ROOT}/bin/prepaid")
+    program = os.path.abspath(parser.parse_args().program)
+    for name, trial in {"slips": slips, "terminals": terminals}.items():
+        if wrong := trial(program):
+            print(f"explain: {name}: {wrong}")
+            return 1
+    print(f"explain: {len(SLIPS)} slips in 4 forms, {len(OTHERS)} others, and a terminal: as the pages say")
+    return 0
+
+
+if __name__ == "__main__":
+    sys.exit(main())
