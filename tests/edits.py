@@ -308,7 +308,7 @@ def page(crate, given):
         clause = goal and re.search(r"-clause-(\w+)$", goal[1])
         rows.append(f"| `{name}` | {changed} | {f'clause `{clause[1]}`' if clause else f'goal `{goal[1]}`' if goal else 'its proof'} |\n")
     head = f"# What refuses the edits of {crate.name}\n\n`tests/edits.py --pages {crate.name}` has tried them and written this page. "
-    head += "A goal that is no clause stands on the way to one.\n\n"
+    head += "A goal that is no clause is on the way to one.\n\n"
     return head + "| Edit | Changes | Refused by |\n|---|---|---|\n" + "".join(rows)
 
 
