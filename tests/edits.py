@@ -14,7 +14,7 @@ With --pages those of must-fail/ are tried too, and what refuses each edit is wr
 behind a crate, those of must-fail/ among them, are tried alone.
 
 The checks go over what `rt check` keeps in out/. The last line is 'N refused, M not refused', and
-the names of the M stand above it. The status is 0 where M is 0.
+the names of the M are above it. The status is 0 where M is 0.
 """
 import argparse
 import collections
@@ -30,6 +30,8 @@ import time
 from concurrent.futures import ThreadPoolExecutor
 
 PARTS = ("src", "specs", "proofs")
+# The gate tries those of the first, this program those of the second.
+FOLDERS = ("must-fail", "edits")
 HEAD = re.compile(r"( *)(?:pub(?:\([^)]*\))? )?(?:const )?(?:unsafe )?fn (\w+)")
 # An error in a proof file that only says that a name is gone.
 LACKS_A_NAME = re.compile(r"has no field|is not in scope|has no `|was not admitted")
@@ -77,13 +79,16 @@ class Edit:
     groups: int = 0
 
     def apply(self, texts):
-        """Returns the texts with its changes, or nothing where an old text doesn't stand there once."""
+        """Returns the texts with its changes; or nothing and the fault, where an old text isn't in its file once."""
         texts = dict(texts)
         for file, old, new in self.changes:
-            if texts.get(file, "").count(old) != 1:
-                return None
+            if file not in texts:
+                return None, f"the crate has no {file}"
+            times = texts[file].count(old)
+            if times != 1:
+                return None, f"{file} has its old text {times} times and not once: {old.strip()}"
             texts[file] = texts[file].replace(old, new)
-        return texts
+        return texts, ""
 
     def functions(self, texts, table):
         """Returns the functions that it changes, and nothing where it changes what is in none."""
@@ -118,8 +123,12 @@ def read_edit(path, texts):
         return edit
     if not edit.changes:
         edit.fault = "it has no 'old:' and 'new:' pair"
-    elif edit.apply(texts) is None:
-        edit.fault = "it no longer fits its file: an 'old:' text doesn't stand there once"
+    elif "/must-fail/" in path and any("\n" in old + new for _, old, new in edit.changes):
+        edit.fault = "a text of must-fail/ is one line"
+    elif any(old == new for _, old, new in edit.changes):
+        edit.fault = "an old text is its new one"
+    else:
+        edit.fault = edit.apply(texts)[1]
     return edit
 
 
@@ -194,7 +203,7 @@ class Crate:
         """Checks a fresh copy of the crate with these edits."""
         texts = self.texts
         for it in edits:
-            texts = it.apply(texts)
+            texts, _ = it.apply(texts)
         to = f"{self.room}/crates/{self.name}"
         shutil.rmtree(to, ignore_errors=True)
         for part in (*PARTS, "out/incremental"):
@@ -212,7 +221,7 @@ class Crate:
         chosen, texts, taken = [], self.texts, set()
         for edit in left:
             own = self.functions[edit.name]
-            changed = edit.apply(texts)
+            changed, _ = edit.apply(texts)
             if own and not own & taken and changed is not None:
                 chosen, texts, taken = [*chosen, edit], changed, taken | own
         return chosen
@@ -299,6 +308,14 @@ def link(source, to):
         shutil.copy2(source, to)
 
 
+def rows_of(path):
+    """Returns the rows of a page by the name of their edit, and none where there is no such page."""
+    if not os.path.isfile(path):
+        return {}
+    with open(path, encoding="utf-8") as it:
+        return {row[1]: row[0] for row in re.finditer(r"^\| `(\w+)` \|.*\n", it.read(), re.M)}
+
+
 def page(crate, given):
     """The page of a crate: for each edit that was refused, the functions that it changes and the goal that stays open."""
     rows = []
@@ -317,7 +334,7 @@ def try_crate(root, name, listed, pages, only):
     start = time.monotonic()
     with tempfile.TemporaryDirectory(prefix="edits-") as room:
         lay(root, name, listed, room)
-        crate = Crate(root, name, room, ("edits", "must-fail") if pages or only else ("edits",), only)
+        crate = Crate(root, name, room, FOLDERS if pages or only else ("edits",), only)
         given = crate.tried()
     if pages:
         os.makedirs(f"{root}/docs/edits", exist_ok=True)
@@ -338,7 +355,7 @@ def chosen(words, listed, root):
         if word in listed:
             name = word
             crates[name] = []
-        elif crates and any(os.path.isfile(f"{root}/crates/{name}/{it}/{word}.edit") for it in ("edits", "must-fail")):
+        elif crates and any(os.path.isfile(f"{root}/crates/{name}/{it}/{word}.edit") for it in FOLDERS):
             crates[name].append(word)
         else:
             sys.exit(f"edits: {word} is no crate of crates.txt" + (f", and no edit of {name}" if crates else ""))

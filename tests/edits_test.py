@@ -1,10 +1,19 @@
 #!/usr/bin/env python3
-"""Tries the program that tries edits, on a crate with edits of each kind: it names the one that the prover lets through."""
+"""Tells of edits that went stale, and tries the program that tries edits.
+
+Each edit of must-fail/ and edits/, in each crate, names files that are there, and each of its old texts is in its file
+once; no two edits of a crate have the same name; and each row of docs/edits is of an edit that is there. Then
+the program is tried on a crate with edits of each kind: it names those that the prover lets through.
+"""
 import os
+import re
 import subprocess
 import sys
 import tempfile
 
+import edits
+
+TESTS = os.path.dirname(os.path.abspath(__file__))
 LIBRARY = """//! A sample.
 #![tactic(auto)]
 
@@ -34,7 +43,7 @@ pub fn any() -> u32 {
     MOST
 }
 """
-# Of each edit: its name, its old and new text, and the word that it is told with.
+# Of each edit: its name, its old and new text, and what is printed of it.
 EDITS = [
     ("adds_nothing", "    x + 1", "    x", "refused"),
     ("adds_two", "    x + 1", "    x + 2", "refused"),
@@ -43,15 +52,37 @@ EDITS = [
     ("answers_another", "    MOST", "    MOST - 1", "NOT REFUSED: the crate is still proved with it"),
     ("has_another_most", "u32 = 1000", "u32 = 999", "NOT REFUSED: the crate is still proved with it"),
     ("names_what_is_not_there", "after(after(x))", "before(x)", "NOT REFUSED: BAD EDIT: the prover can't read"),
-    ("fits_no_longer", "    x + 3", "    x", "NOT REFUSED: BAD EDIT: it no longer fits its file"),
+    ("fits_no_longer", "    x + 3", "    x", "NOT REFUSED: BAD EDIT: src/lib.rt has its old text 0 times and not once: x + 3"),
+    ("fits_twice", "after(", "any(", "NOT REFUSED: BAD EDIT: src/lib.rt has its old text 4 times and not once: after("),
     ("has_a_bare_line", "    x + 1\r    y", "    x", "NOT REFUSED: BAD EDIT: a line begins with none of file:, old: and new:"),
+    ("changes_nothing", "    x + 1", "    x + 1", "NOT REFUSED: BAD EDIT: an old text is its new one"),
+]
+# An edit of two lines, and a page of two rows.
+TWO_LINES = "file: src/lib.rt\nold: {\nold:     x + 1\nnew: {\nnew:     x + 2\n"
+PAGE = """| Edit | Changes | Refused by |
+|---|---|---|
+| `adds_two` | `after` | clause `value` |
+| `is_gone` | `after` | clause `value` |
+"""
+# What is said of these edits before any is tried.
+STALE = [
+    "sample/changes_nothing: an old text is its new one",
+    "sample/fits_no_longer: src/lib.rt has its old text 0 times and not once: x + 3",
+    "sample/fits_twice: src/lib.rt has its old text 4 times and not once: after(",
+    "sample/has_a_bare_line: a line begins with none of file:, old: and new:     y",
+    "sample/is_in_no_file: the crate has no src/gone.rt",
+    "sample/of_two_lines: a text of must-fail/ is one line",
+    "sample/adds_two: two edits have this name",
+    "docs/edits/sample.md: no edit is named is_gone",
 ]
 LAST = """not refused: sample/answers_another
+not refused: sample/changes_nothing
 not refused: sample/fits_no_longer
+not refused: sample/fits_twice
 not refused: sample/has_a_bare_line
 not refused: sample/has_another_most
 not refused: sample/names_what_is_not_there
-4 refused, 5 not refused
+4 refused, 7 not refused
 """
 
 
@@ -61,23 +92,60 @@ def write(path, text):
         it.write(text)
 
 
+def stale(root):
+    """Returns what no longer fits among the edits of a repository and their pages, a line each."""
+    said = []
+    for name in sorted(os.listdir(f"{root}/crates")):
+        crate = edits.Crate(root, name, "", edits.FOLDERS)
+        said += [f"{name}/{it.name}: {it.fault}" for it in crate.edits if it.fault]
+        names = [it.name for it in crate.edits]
+        said += [f"{name}/{it}: two edits have this name" for it in sorted(set(names)) if names.count(it) > 1]
+        page = f"docs/edits/{name}.md"
+        said += [f"{page}: no edit is named {it}" for it in edits.rows_of(f"{root}/{page}") if it not in names]
+    return said
+
+
+def lay(root):
+    """Makes the repository of the sample, with its edits."""
+    write(f"{root}/crates.txt", "sample:\n")
+    write(f"{root}/HANDLES", "Handles allowed: none.\n")
+    write(f"{root}/crates/sample/src/lib.rt", LIBRARY)
+    for name, old, new, _ in EDITS:
+        texts = [f"{word}: {line}\n" for word, text in (("old", old), ("new", new)) for line in text.split("\n")]
+        write(f"{root}/crates/sample/edits/{name}.edit", "".join(["file: src/lib.rt\n", *texts]).replace("\r", "\n"))
+
+
+def lay_stale(root):
+    """Adds edits that the program doesn't try, and a page."""
+    write(f"{root}/crates/sample/edits/is_in_no_file.edit", "file: src/gone.rt\nold: x\nnew: y\n")
+    write(f"{root}/crates/sample/must-fail/of_two_lines.edit", TWO_LINES)
+    write(f"{root}/crates/sample/must-fail/adds_two.edit", "file: src/lib.rt\nold:     x + 1\nnew:     x + 2\n")
+    write(f"{root}/docs/edits/sample.md", PAGE)
+
+
+def tries(root, *names):
+    """Runs the program that tries edits on a repository."""
+    command = [sys.executable, f"{TESTS}/edits.py", "--root", root, *names]
+    return subprocess.run(command, stdout=subprocess.PIPE, stderr=subprocess.STDOUT, text=True)
+
+
 def main():
+    said = stale(os.path.dirname(TESTS))
+    if said:
+        sys.exit("\n".join([*said, f"edits: FAILED: {len(said)} no longer fit"]))
     with tempfile.TemporaryDirectory(prefix="edits-test-") as root:
-        write(f"{root}/crates.txt", "sample:\n")
-        write(f"{root}/HANDLES", "Handles allowed: none.\n")
-        write(f"{root}/crates/sample/src/lib.rt", LIBRARY)
-        for name, old, new, _ in EDITS:
-            texts = [f"{word}: {line}\n" for word, text in (("old", old), ("new", new)) for line in text.split("\n")]
-            write(f"{root}/crates/sample/edits/{name}.edit", "".join(["file: src/lib.rt\n", *texts]).replace("\r", "\n"))
-        program = f"{os.path.dirname(os.path.abspath(__file__))}/edits.py"
-        ran = subprocess.run([sys.executable, program, "--root", root], stdout=subprocess.PIPE, stderr=subprocess.STDOUT, text=True)
-        few = subprocess.run([sys.executable, program, "--root", root, "sample", "adds_two"], capture_output=True, text=True).stdout
-    lost = [name for name, _, _, word in EDITS if f"sample/{name}: {word}" not in ran.stdout]
+        lay(root)
+        ran, few = tries(root), tries(root, "sample", "adds_two").stdout
+        lay_stale(root)
+        said = stale(root)
+    lost = [name for name, _, _, told in EDITS if f"sample/{name}: {told}" not in ran.stdout]
     if lost or not ran.stdout.endswith(LAST) or ran.returncode != 1:
         sys.exit(f"{ran.stdout}edits: FAILED: {' '.join(lost) or 'its last lines or its status'}")
     if "sample/adds_two: refused" not in few or not few.endswith("\n1 refused, 0 not refused\n"):
         sys.exit(f"{few}edits: FAILED: tries more than the edit that it was given")
-    print("edits: names what the prover lets through, and what can't be tried: ok")
+    if said != STALE:
+        sys.exit("\n".join([*said, "edits: FAILED: says this of edits that no longer fit"]))
+    print("edits: all fit; what the prover lets through is named, and what can't be tried: ok")
 
 
 if __name__ == "__main__":
