@@ -2,8 +2,9 @@
 """Tells of edits that went stale, and tries the program that tries edits.
 
 Each edit of must-fail/ and edits/, in each crate, names files that are there, and each of its old texts is in its file
-once; no two edits of a crate have the same name; and each row of docs/edits is of an edit that is there. Then
-the program is tried on a crate with edits of each kind: it names those that the prover lets through.
+once; no two edits of a crate have the same name; must-fail/ has one edit of a function, and one at least for a crate
+whose code is edited; and each row of docs/edits is of an edit that is there. Then the program is tried on a crate with
+edits of each kind: it names those that the prover lets through.
 """
 import os
 import re
@@ -73,6 +74,7 @@ STALE = [
     "sample/is_in_no_file: the crate has no src/gone.rt",
     "sample/of_two_lines: a text of must-fail/ is one line",
     "sample/adds_two: two edits have this name",
+    "sample: must-fail/ has two edits of after",
     "docs/edits/sample.md: no edit is named is_gone",
 ]
 LAST = """not refused: sample/answers_another
@@ -100,8 +102,19 @@ def stale(root):
         said += [f"{name}/{it.name}: {it.fault}" for it in crate.edits if it.fault]
         names = [it.name for it in crate.edits]
         said += [f"{name}/{it}: two edits have this name" for it in sorted(set(names)) if names.count(it) > 1]
+        said += twins(root, crate)
         page = f"docs/edits/{name}.md"
         said += [f"{page}: no edit is named {it}" for it in edits.rows_of(f"{root}/{page}") if it not in names]
+    return said
+
+
+def twins(root, crate):
+    """Returns what must-fail/ has too much or too little of: one edit a function, and one at least where code is edited."""
+    tried = edits.Crate(root, crate.name, "", edits.FOLDERS[:1])
+    functions = [function for it in tried.functions.values() for function in it]
+    said = [f"{crate.name}: must-fail/ has two edits of {it}" for it in sorted({it.name for it in functions if functions.count(it) > 1})]
+    if any(crate.functions.values()) and not tried.edits:
+        said.append(f"{crate.name}: must-fail/ has no edit")
     return said
 
 
@@ -119,7 +132,8 @@ def lay_stale(root):
     """Adds edits that the program doesn't try, and a page."""
     write(f"{root}/crates/sample/edits/is_in_no_file.edit", "file: src/gone.rt\nold: x\nnew: y\n")
     write(f"{root}/crates/sample/must-fail/of_two_lines.edit", TWO_LINES)
-    write(f"{root}/crates/sample/must-fail/adds_two.edit", "file: src/lib.rt\nold:     x + 1\nnew:     x + 2\n")
+    for name, more in (("adds_two", 2), ("adds_four", 4)):
+        write(f"{root}/crates/sample/must-fail/{name}.edit", f"file: src/lib.rt\nold:     x + 1\nnew:     x + {more}\n")
     write(f"{root}/docs/edits/sample.md", PAGE)
 
 
@@ -136,6 +150,7 @@ def main():
     with tempfile.TemporaryDirectory(prefix="edits-test-") as root:
         lay(root)
         ran, few = tries(root), tries(root, "sample", "adds_two").stdout
+        bare = stale(root)
         lay_stale(root)
         said = stale(root)
     lost = [name for name, _, _, told in EDITS if f"sample/{name}: {told}" not in ran.stdout]
@@ -143,8 +158,8 @@ def main():
         sys.exit(f"{ran.stdout}edits: FAILED: {' '.join(lost) or 'its last lines or its status'}")
     if "sample/adds_two: refused" not in few or not few.endswith("\n1 refused, 0 not refused\n"):
         sys.exit(f"{few}edits: FAILED: tries more than the edit that it was given")
-    if said != STALE:
-        sys.exit("\n".join([*said, "edits: FAILED: says this of edits that no longer fit"]))
+    if said != STALE or "sample: must-fail/ has no edit" not in bare:
+        sys.exit("\n".join([*bare, *said, "edits: FAILED: says this of edits that no longer fit"]))
     print("edits: all fit; what the prover lets through is named, and what can't be tried: ok")
 
 
