@@ -8,12 +8,11 @@ use Rattle.account_core.specs.Events.{EntryData}
 use Rattle.account_core.specs.Places.{IsClosing}
 use Rattle.account_core.specs.declared.entry.Reply.TheVariants.{Returned}
 use Rattle.account_core.specs.declared.fault.AccountFault.{AccountFault}
-use Rattle.cap_values.specs.declared.event.Event.TheVariants as event
 use Rattle.cap_values.specs.declared.message.SsfMsg.{SsfMsg}
 use Rattle.cap_values.specs.declared.message.SsfMsg.TheVariants as msg
 use Rattle.dialogue_core.specs.Phases as phase
 use Rattle.dialogue_core.specs.Phases.{Conditions, Phase, Says, Sequel, Running, Settling, Returning, Asks}
-use Rattle.dialogue_core.specs.Table.{going_on, on_message}
+use Rattle.dialogue_core.specs.Table.{on_message}
 use Rattle.dialogue_core.specs.Talks.{Got, after_got, is_ask, talked}
 use Rattle.held_calls.proofs.Holding.{AreKept, IsKept, first_kept, kept_all}
 use Rattle.held_calls.specs.Laws.{EndedCallsAreReturned, IsAnsweredNext, TakenReportsAreSettled}
@@ -22,10 +21,11 @@ use Rattle.run_values.specs.declared.post.Body.TheVariants.{Ssf}
 use Rattle.run_values.specs.declared.post.Post.{Post}
 use Rattle.tariff_core.specs.declared.times.TimeInfo.{TimeInfo}
 use Rattle.workers_core.proofs.Abouts.{kept_got, no_settle, talked_about}
-use Rattle.workers_core.proofs.Chaining.{all_sound, first_sound}
+use Rattle.workers_core.proofs.Chaining.{all_sound, first_sound, handled_so}
 use Rattle.workers_core.proofs.Growing.{place_within, read_talked}
 use Rattle.workers_core.proofs.Handling.{many_keys, own_of}
-use Rattle.workers_core.specs.Chains.{AreAnswered, AreHandled, at_first, refusals_in, seat_numbers}
+use Rattle.workers_core.proofs.Returnings.{gives_back, sequel_to}
+use Rattle.workers_core.specs.Chains.{at_first, refusals_in, seat_numbers}
 use Rattle.workers_core.specs.Handled.{AnswerView, AreRefusedRightly, Holding, IsDone, IsRightlyHandled, IsTalked}
 use Rattle.workers_core.specs.Laws.{IsRunning, ends_call}
 use Rattle.workers_core.specs.Refusals.{NeverRefusesClosing}
@@ -33,16 +33,6 @@ use Rattle.workers_core.specs.Served.{returned_in, settled_in, settles_of, retur
 use Rattle.workers_core.specs.Talks.{AllAsk, AreRight, Showing, entries_of, entry_of}
 use Rattle.workers_core.specs.Verdicts.{DialogueAt, Verdict, GoesOn, goes_on, spoken, verdict_on}
 use Rattle.workers_core.specs.Workers.{IsAbout, IsSound}
-
--- ---- posts that were answered were handled
-
-pub handled_so : (Shows : ℕ → Showing) (setup : Setup) (numbers : List ℕ) (posts : List Post) (answers : List AnswerView) (old new : Holding) → AreAnswered Shows setup numbers posts answers old new
-    → AreHandled setup numbers posts (refusals_in answers) old new
-handled_so Shows setup numbers [] [] old new are = are
-handled_so Shows setup numbers [] (t ∷ answers) old new are = absurd are
-handled_so Shows setup numbers (p ∷ posts) [] old new are = absurd are
-handled_so Shows setup numbers (p ∷ posts) (t ∷ answers) old new are =
-    (are.0, record { told = t; handled = are.1.handled; refused = refl }, handled_so Shows setup numbers posts answers are.0 new are.2)
 
 -- ---- what a talk asks first got a reply
 
@@ -177,21 +167,6 @@ report_settled Shows numbers call place number active info at old new told never
     let closing : IsClosing (reverse mine) asked = (shown_of old call place running taken.kept).0.shown in
     let first = answered_first (Shows place) (slice_index_or numbers place 0) asked to mine taken.talk.gots taken.right (λ why shows. never place mine asked why refl closing shows) in
     talk_settles_it (slice_index_or numbers place 0) call number info to taken.talk.phase taken.talk.last taken.talk.gots about taken.talk.talk taken.talk.rests first
-
--- what follows when a message ends a call
-pub sequel_to : SsfMsg → Sequel
-sequel_to (msg.InitialDp other calling called) = phase.Nothing
-sequel_to (msg.EventReport event leg mode) = going_on mode
-sequel_to (msg.ChargingReport active info) = phase.Nothing
-sequel_to msg.Ended = phase.Closes
-
-gives_back : (t : Conditions) (number at : ℕ) (message : SsfMsg) → ends_call message ≡ true → on_message (Running t) number at message ≡ Ok (Asks (Returns t.call), Returning (sequel_to message))
-unfolding sequel_to
-gives_back t number at (msg.InitialDp other calling called) ends = absurd (cc)
-gives_back t number at (msg.EventReport event.Answer leg mode) ends = absurd (cc)
-gives_back t number at (msg.EventReport event leg mode) ends = refl
-gives_back t number at (msg.ChargingReport active info) ends = absurd (cc)
-gives_back t number at msg.Ended ends = refl
 
 -- a message that ends it
 pub ending_asked : (Shows : ℕ → Showing) (setup : Setup) (numbers : List ℕ) (posts : List Post) (post : Post) (old new : Holding) (told : AnswerView) (call place : ℕ) (message : SsfMsg)

@@ -11,10 +11,10 @@ use Rattle.account_core.specs.Asked.{Asked, Credits, IsOfCall, Reserves, Returns
 use Rattle.account_core.specs.Events.{EntryData}
 use Rattle.account_core.specs.Known.{CallFacts, known}
 use Rattle.account_core.specs.Laws.{AnswersAreKindly}
-use Rattle.account_core.specs.Ledger.{Ledger}
 use Rattle.account_core.specs.Standing.{FitsCall}
 use Rattle.account_core.specs.declared.entry.Reply.{Reply}
 use Rattle.account_core.specs.declared.entry.Reply.TheVariants.{Granted, Denied, Settled, Forfeit, Returned}
+use Rattle.account_core.specs.declared.fault.AccountFault.TheVariants as fault
 use Rattle.dialogue_core.specs.Runs.{IsHonest}
 use Rattle.held_calls.proofs.Entries.{IsHonestEntry}
 use Rattle.held_calls.proofs.Going.{other_report, worked_left, worked_returned, worked_settled}
@@ -35,6 +35,7 @@ use Rattle.shared_account.proofs.Beginnings.{begins_itself}
 use Rattle.shared_account.proofs.Owning.{filter_reverse}
 use Rattle.shared_account.specs.Closed.{Closed}
 use Rattle.shared_account.specs.Own.{is_of, of_call, own}
+use Rattle.shared_account.specs.Refusals.{Refusal}
 use Rattle.shared_account.specs.Seen.{CallsOfOneSeatAreAlone, IsBySeat, StoodIn}
 use Rattle.tariff_core.specs.declared.plan.TheConstants.{MAX_MONEY}
 use Rattle.workers_core.proofs.Handling.{same_number}
@@ -143,8 +144,12 @@ whole books workers call account place setup book alone by_one at =
     let by_it : IsBySeat book worker call = subst (λ (b : Closed). IsBySeat b worker call) at.book_is (by_one place book at.within call) in
     let listed : slice_index_or (lists_of worker books) place [] ≡ own worker book.history =
     get_or-map (λ (b : Closed). own worker b.history) books place book [] at.within ∙ ap (λ (b : Closed). own worker b.history) at.book_is in
-    let account_is : Ledger = record { opening = book.opening; until = book.until; limit = book.limit; history = book.history } in
-    alone book worker call by_it (own worker book.history) account_is
+    let refusal : Refusal = record {
+      account = record { opening = book.opening; until = book.until; limit = book.limit; history = book.history };
+      asked = Returns call;
+      why = fault.NotOpen;
+    } in
+    alone book worker call by_it (own worker book.history) refusal
     (record { opening = refl; until = refl; limit = refl; begins = begins_itself book.history; own = refl })
     ∙ ap (of_call call) (sym listed)
 

@@ -23,6 +23,7 @@ use Rattle.held_calls.proofs.Steps.{is_running}
 use Rattle.held_calls.proofs.Tables.{Awaits, Fits, Stands}
 use Rattle.held_calls.specs.Held.{IsShown}
 use Rattle.runs_core.proofs.Listed.{all_first, all_later}
+use Rattle.tariff_core.specs.declared.times.TheConstants.{DAY}
 use Rattle.workers_core.proofs.Abouts.{SaysOf, says_of_call}
 use Rattle.workers_core.specs.Refusals.{NeverRefusesClosing}
 use Rattle.workers_core.specs.Served.{returned_in, returns_of}
@@ -43,7 +44,7 @@ owes_after call phase.Clears = λ idle. refl
 owes_after call phase.Fails = λ idle. refl
 owes_after call phase.Closes = λ idle. refl
 
-units_are : (units : ℕ) → 1 ≤ units → units ≤ 864000 → are_units units ≡ true
+units_are : (units : ℕ) → 1 ≤ units → units ≤ DAY → are_units units ≡ true
 units_are units positive within = grind (arith, nat_tests)
 
 owes_more : (call : ℕ) (t : Conditions) (units : ℕ) (last b : Bool) → b ≡ true

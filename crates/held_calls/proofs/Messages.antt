@@ -13,7 +13,8 @@ use Rattle.dialogue_core.specs.Phases.{Conditions, Phase, Says, FirstAsk, Runnin
 use Rattle.dialogue_core.specs.Table.{are_units, conditions, first_period, on_begin, on_message}
 use Rattle.dialogue_core.specs.Talks.{Got, after_got, is_ask, or_done, sent_by, talked}
 use Rattle.dialogue_core.specs.declared.fault.DialogueFault.TheVariants.{Unexpected}
-use Rattle.held_calls.proofs.Closing.{one_got, ending_asked, ending_returned, its_call, report_asked, report_settled, sequel_to}
+use Rattle.held_calls.proofs.Closing.{one_got, ending_asked, ending_returned, its_call, report_asked, report_settled}
+use Rattle.workers_core.proofs.Returnings.{sequel_to}
 use Rattle.held_calls.proofs.Entries.{IsHonestEntry}
 use Rattle.held_calls.proofs.Holding.{AreKept, IsBound, IsKept, apart_from, begins_bound, goes_bound, same_lists, talk_said}
 use Rattle.held_calls.proofs.Leaving.{talk_leaves}

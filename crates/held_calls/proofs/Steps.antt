@@ -21,7 +21,7 @@ use Rattle.held_calls.specs.Held.{entries_at}
 use Rattle.run_values.specs.Setups.{Setup}
 use Rattle.shared_account.specs.Own.{of_call}
 use Rattle.shared_account.specs.Prefixes.{IsPrefix}
-use Rattle.workers_core.proofs.Abouts.{settled_by, talk_settles}
+use Rattle.workers_core.proofs.Abouts.{part_of_none, settled_by, talk_settles}
 use Rattle.workers_core.proofs.AtRest.{nothing_asked}
 use Rattle.workers_core.proofs.Handling.{is_itself, same_number}
 use Rattle.workers_core.proofs.Through.{StepIsOver, is_through, over_told}
@@ -154,10 +154,6 @@ read_said f seat call at first gots old new phase place true is said =
     (ap (flat_map f) said.own ∙ flat_map-append f (entries_at call old.lists at) (entries_of seat first gots))
 read_said f seat call at first gots old new phase place false is said =
     ap (flat_map f) (said.elsewhere place (apart_from place at is)) ∙ sym (append-nil (flat_map f (entries_at call old.lists place)))
-
-part_of_none : {X : Type 0} (part : List X) → IsPart part [] → part ≡ []
-part_of_none [] is = refl
-part_of_none (x ∷ part) is = absurd is
 
 -- a talk that begins with no Settle has none
 pub settles_none : (seat call : ℕ) (first : Says × Phase) (gots : List Got) → IsAbout call first.1 → settled_by first.0 ≡ [] → settles_of (entries_of seat first gots) ≡ []

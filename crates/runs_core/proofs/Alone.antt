@@ -107,7 +107,7 @@ calls_of_one Stood come setup workers given answers books run = λ place d withi
 
 pub closing_never : EntriesComeFromPosts → CallsOfOneSeatAreAlone → RunClosingIsNeverRefused
 closing_never come alone setup workers given answers books call run =
-    never_refused (StoodAt StoodIn books (call % workers)) call (λ place mine account was.
+    never_refused (StoodAt StoodIn books (call % workers)) call (λ place mine refusal was.
     let By : Closed → Type 0 = λ b. IsBySeat b (call % workers) call in
     let by_it : By was.book = subst By (sym was.book_is) (calls_of_one StoodIn come setup workers given answers books run place was.book was.within call) in
-    alone was.book (call % workers) call by_it mine account was.stood)
+    alone was.book (call % workers) call by_it mine refusal was.stood)

@@ -5,10 +5,9 @@ use Rattle.std.proofs.lemmas.List.{get_or-map, length-map}
 use Rattle.std.proofs.lemmas.List.Elements.{All-cons, All-head, All-nil, All-tail}
 use Rattle.account_core.specs.Answers.{IsLegal}
 use Rattle.account_core.specs.Events.{EntryData}
-use Rattle.account_core.specs.Ledger.{Ledger}
 use Rattle.shared_account.specs.Closed.{Closed}
 use Rattle.shared_account.specs.Own.{own}
-use Rattle.shared_account.specs.Refusals.{Knowing}
+use Rattle.shared_account.specs.Refusals.{Knowing, Refusal}
 use Rattle.shared_account.specs.Seats.{Reads}
 use Rattle.shared_account.specs.Terms.{Terms}
 use Rattle.runs_core.proofs.Columns.{AreEven, column, column_of, even_at, laid, laid_even, laid_many}
@@ -16,11 +15,11 @@ use Rattle.runs_core.proofs.Numbers.{numbered_at, teams_even}
 use Rattle.runs_core.specs.Closing.{AreBooksOf, AreNumberedFrom, IsInBooks, lists_of, terms_shown}
 
 -- the account of a book at a place was this
-record HasStood (Stood : Closed → ℕ → Knowing) (books : List Closed) (place number : ℕ) (mine : List EntryData) (account : Ledger) : Type 0 where
+record HasStood (Stood : Closed → ℕ → Knowing) (books : List Closed) (place number : ℕ) (mine : List EntryData) (refusal : Refusal) : Type 0 where
   pub book : Closed
   pub within : place < length books
   pub book_is : book ≡ slice_index_or books place book
-  pub stood : Stood book number mine account
+  pub stood : Stood book number mine refusal
 
 module _ {K S T : Type 0} (read : Reads K T) (Was : T → Knowing) (Stood : Closed → ℕ → Knowing) (terms : S → Terms) where
   pub books_legal : (accounts : List S) (rows : List (List T)) (books : List Closed) → AreBooksOf read Was Stood (map terms accounts) rows books
@@ -81,17 +80,17 @@ module _ {K S T : Type 0} (read : Reads K T) (Was : T → Knowing) (Stood : Clos
   none_listed worker (account ∷ accounts) rows books are none = absurd (omega (arith, none))
 
   -- and the books show what these knew
-  stood_at : (accounts : List S) (rows : List (List T)) (books : List Closed) (place worker : ℕ) (seat : T) (mine : List EntryData) (account : Ledger) → AreBooksOf read Was Stood (map terms accounts) rows books
-      → length rows ≡ length accounts → place < length rows → worker < length (slice_index_or rows place []) → seat ≡ slice_index_or (slice_index_or rows place []) worker seat → Was seat mine account
-      → HasStood Stood books place (read.number seat) mine account
-  stood_at accounts [] books place worker seat mine account are many within below is was = absurd (omega (arith, within))
-  stood_at [] (row ∷ rows) books place worker seat mine account are many within below is was = absurd (omega (arith, many))
-  stood_at (a ∷ accounts) (row ∷ rows) [] place worker seat mine account are many within below is was = absurd are
-  stood_at (a ∷ accounts) (row ∷ rows) (book ∷ books) zero worker seat mine account are many within below is was =
-      let Shows : T → Type 0 = λ t. Was t mine account → Stood book (read.number t) mine account in
-      record { book = book; within = omega (arith); book_is = refl; stood = subst Shows (sym is) (are.1 worker seat below mine account) was }
-  stood_at (a ∷ accounts) (row ∷ rows) (book ∷ books) (suc place) worker seat mine account are many within below is was =
-      let there = stood_at accounts rows books place worker seat mine account are.2 (omega (arith, many)) (omega (arith, within)) below is was in
+  stood_at : (accounts : List S) (rows : List (List T)) (books : List Closed) (place worker : ℕ) (seat : T) (mine : List EntryData) (refusal : Refusal) → AreBooksOf read Was Stood (map terms accounts) rows books
+      → length rows ≡ length accounts → place < length rows → worker < length (slice_index_or rows place []) → seat ≡ slice_index_or (slice_index_or rows place []) worker seat → Was seat mine refusal
+      → HasStood Stood books place (read.number seat) mine refusal
+  stood_at accounts [] books place worker seat mine refusal are many within below is was = absurd (omega (arith, within))
+  stood_at [] (row ∷ rows) books place worker seat mine refusal are many within below is was = absurd (omega (arith, many))
+  stood_at (a ∷ accounts) (row ∷ rows) [] place worker seat mine refusal are many within below is was = absurd are
+  stood_at (a ∷ accounts) (row ∷ rows) (book ∷ books) zero worker seat mine refusal are many within below is was =
+      let Shows : T → Type 0 = λ t. Was t mine refusal → Stood book (read.number t) mine refusal in
+      record { book = book; within = omega (arith); book_is = refl; stood = subst Shows (sym is) (are.1 worker seat below mine refusal) was }
+  stood_at (a ∷ accounts) (row ∷ rows) (book ∷ books) (suc place) worker seat mine refusal are many within below is was =
+      let there = stood_at accounts rows books place worker seat mine refusal are.2 (omega (arith, many)) (omega (arith, within)) below is was in
       record { book = there.book; within = omega (arith, there.within); book_is = there.book_is; stood = there.stood }
 
   lists_by : (accounts : List S) (rows : List (List T)) (books : List Closed) (worker : ℕ) (teams : List (List T)) (team : List T) → AreBooksOf read Was Stood (map terms accounts) rows books
@@ -113,13 +112,13 @@ module _ {K S T : Type 0} (read : Reads K T) (Was : T → Knowing) (Stood : Clos
       let its : (d : T) → column d worker rows ≡ team = λ d. ap (column d worker) is ∙ column_of d (length accounts) worker teams even below in
       record {
         lists = lists_by accounts rows books worker teams team are high many below its wide;
-        stood = λ place mine account known.
+        stood = λ place mine refusal known.
             let d = known.seat in
             let within : place < length rows = omega (arith, known.within, wide, many) in
             let at : d ≡ slice_index_or (slice_index_or rows place []) worker d =
             known.seat_is ∙ ap (λ (t : List T). slice_index_or t place d) (sym (its d)) ∙ get_or-map (λ (row : List T). slice_index_or row worker d) rows place [] d within in
-            let there = stood_at accounts rows books place worker d mine account are many within (omega (arith, below, even_at (length teams) rows place high within)) at known.was in
+            let there = stood_at accounts rows books place worker d mine refusal are many within (omega (arith, below, even_at (length teams) rows place high within)) at known.was in
             let here : 0 + worker ≡ worker = omega arith in
             let number : read.number d ≡ worker = ap read.number known.seat_is ∙ numbered_at read 0 teams worker numbered below place d known.within ∙ here in
-            record { book = there.book; within = there.within; book_is = there.book_is; stood = subst (λ n. Stood there.book n mine account) number there.stood };
+            record { book = there.book; within = there.within; book_is = there.book_is; stood = subst (λ n. Stood there.book n mine refusal) number there.stood };
       }

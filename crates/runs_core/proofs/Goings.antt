@@ -25,7 +25,7 @@ goes_none account_number key read Was worker ready = record {
   same_accounts = refl;
   same_number = refl;
   same_numbers = refl;
-  was = λ place mine account known. known;
+  was = λ place mine refusal known. known;
   answered = refl;
 }
 
@@ -41,7 +41,7 @@ goes_more account_number key read Was old posts later answers told between new f
       same_accounts = then_on.same_accounts ∙ first.same_accounts;
       same_number = then_on.same_number ∙ first.same_number;
       same_numbers = then_on.same_numbers ∙ first.same_numbers;
-      was = λ place mine account known. then_on.was place mine account (first.was place mine account known);
+      was = λ place mine refusal known. then_on.was place mine refusal (first.was place mine refusal known);
       answered = more_after (RefusesAt Was (seats_of new)) (setup_of old) (map read.number (seats_of old)) posts later answers told (holding read.mine old) (holding read.mine between) (holding read.mine new)
           (answered_still (WasAt Was (seats_of between)) (WasAt Was (seats_of new)) then_on.was (setup_of old) (map read.number (seats_of old)) posts answers (holding read.mine old) (holding read.mine between) first.answered)
           (subst (λ ns. Its (setup_of old) ns) first.same_numbers (subst (λ s. Its s (map read.number (seats_of between))) first.same_setup then_on.answered));

@@ -1,10 +1,9 @@
 -- The accounts of a run are closed: what their books show of the workers.
 use Rattle.std.specs.Prelude.{◌≡◌, ◌+◌, ◌<◌, ℕ, true, List, [], ◌∷◌, length, map, All, slice_index_or}
 use Rattle.account_core.specs.Events.{EntryData}
-use Rattle.account_core.specs.Ledger.{Ledger}
 use Rattle.shared_account.specs.Closed.{Closed, IsBookOf}
 use Rattle.shared_account.specs.Own.{own}
-use Rattle.shared_account.specs.Refusals.{IsRefusedAt, Knowing}
+use Rattle.shared_account.specs.Refusals.{IsRefusedAt, Knowing, Refusal}
 use Rattle.shared_account.specs.Seats.{Reads, are_all}
 use Rattle.shared_account.specs.Terms.{Terms}
 use Rattle.workers_core.specs.Refusals.{WasAt}
@@ -18,12 +17,12 @@ terms_shown seats book = record { number = book.account; opening = book.opening;
 abbrev pub lists_of : ℕ → List Closed → List (List EntryData)
 lists_of worker books = map (λ book. own worker book.history) books
 
--- what the account of the book at a place was, when a worker's own entries there were these
-pub record StoodAt (Stood : Closed → ℕ → Knowing) (books : List Closed) (worker place : ℕ) (mine : List EntryData) (account : Ledger) : Type 0 where
+-- a refusal by the account of the book at a place, when a worker's own entries there were these
+pub record StoodAt (Stood : Closed → ℕ → Knowing) (books : List Closed) (worker place : ℕ) (mine : List EntryData) (refusal : Refusal) : Type 0 where
   pub book : Closed
   pub within : place < length books
   pub book_is : book ≡ slice_index_or books place book
-  pub stood : Stood book worker mine account
+  pub stood : Stood book worker mine refusal
 
 -- what shows a refusal of a worker in the books of a run: the account of the book at a place has refused the ask with just that fault
 abbrev pub refuses_in : (Closed → ℕ → Knowing) → List Closed → ℕ → ℕ → Showing
@@ -33,7 +32,7 @@ refuses_in Stood books worker place = IsRefusedAt (StoodAt Stood books worker pl
 
 -- a book shows all that the seats of its account knew
 abbrev pub ShowsAll : {K T : Type 0} → Reads K T → (T → Knowing) → (Closed → ℕ → Knowing) → List T → Closed → Type 0
-ShowsAll read Was Stood row book = All (λ seat. (mine : List EntryData) (account : Ledger) → Was seat mine account → Stood book (read.number seat) mine account) row
+ShowsAll read Was Stood row book = All (λ seat. (mine : List EntryData) (refusal : Refusal) → Was seat mine refusal → Stood book (read.number seat) mine refusal) row
 
 -- these are the books of accounts that were made with these terms and closed with these rows of seats
 abbrev pub AreBooksOf : {K T : Type 0} → Reads K T → (T → Knowing) → (Closed → ℕ → Knowing) → List Terms → List (List T) → List Closed → Type 0
@@ -66,4 +65,4 @@ AreNumberedFrom read number (team ∷ teams) = All (λ seat. read.number seat �
 -- the books have just the entries of a worker that has left these seats, and show what they knew
 pub record IsInBooks {K T : Type 0} (read : Reads K T) (Was : T → Knowing) (Stood : Closed → ℕ → Knowing) (books : List Closed) (worker : ℕ) (team : List T) : Type 0 where
   pub lists : lists_of worker books ≡ map read.mine team
-  pub stood : (place : ℕ) (mine : List EntryData) (account : Ledger) → WasAt Was team place mine account → StoodAt Stood books worker place mine account
+  pub stood : (place : ℕ) (mine : List EntryData) (refusal : Refusal) → WasAt Was team place mine refusal → StoodAt Stood books worker place mine refusal

@@ -1,8 +1,7 @@
 -- A worker goes on: the posts that it handles, one after another, and its answers.
 use Rattle.std.specs.Prelude.{◌≡◌, ℕ, List, map}
 use Rattle.account_core.specs.Events.{EntryData}
-use Rattle.account_core.specs.Ledger.{Ledger}
-use Rattle.shared_account.specs.Refusals.{Knowing}
+use Rattle.shared_account.specs.Refusals.{Knowing, Refusal}
 use Rattle.shared_account.specs.Seats.{Reads}
 use Rattle.workers_core.specs.Chains.{AreAnswered, at_first, seat_numbers}
 use Rattle.workers_core.specs.Handled.{AnswerView}
@@ -19,7 +18,7 @@ pub record GoesOn {K S T : Type 0} (account_number : S → ℕ) (key : S → K) 
   pub same_accounts : accounts_of new ≡ accounts_of old
   pub same_number : number_of new ≡ number_of old
   pub same_numbers : map read.number (seats_of new) ≡ map read.number (seats_of old)
-  pub was : (place : ℕ) (mine : List EntryData) (account : Ledger) → WasAt Was (seats_of old) place mine account → WasAt Was (seats_of new) place mine account
+  pub was : (place : ℕ) (mine : List EntryData) (refusal : Refusal) → WasAt Was (seats_of old) place mine refusal → WasAt Was (seats_of new) place mine refusal
   pub answered : AreAnswered (RefusesAt Was (seats_of new)) (setup_of old) (map read.number (seats_of old)) posts answers (holding read.mine old) (holding read.mine new)
 
 -- the worker of a number has handled these posts, from the first on, and these are its answers

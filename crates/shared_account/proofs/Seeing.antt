@@ -12,7 +12,7 @@ use Rattle.account_core.specs.declared.entry.Reply.TheVariants as reply
 use Rattle.account_core.specs.declared.fault.AccountFault.{AccountFault}
 use Rattle.account_core.specs.declared.fault.AccountFault.TheVariants as fault
 use Rattle.shared_account.specs.Own.{is_of, of_call, own}
-use Rattle.shared_account.specs.Refusals.{IsAlone}
+use Rattle.shared_account.specs.Refusals.{IsAlone, Refusal}
 use Rattle.shared_account.specs.Seen.{CallsOfOneSeatAreAlone, HasSeen}
 use Rattle.shared_account.specs.TurnViews.{TurnSeatView, own_of}
 use Rattle.shared_account.proofs.Beginnings.{begins_itself}
@@ -25,13 +25,21 @@ pub closes_alone : (seat : TurnSeatView) (mine : List EntryData) (entry : Reply 
     → IfErr told (λ why. why ≡ fault.GateClosed)
 closes_alone seat mine entry asked (Ok reply) own closing alone closes = tt
 closes_alone seat mine entry asked (Err why) own closing alone closes =
-    let seen : HasSeen seat mine seat.view = record { opening = refl; until = refl; limit = refl; begins = begins_itself seat.view.history; own = own } in
-    closing (closing_alike mine seat.view.history asked closes (sym (alone mine seat.view seen)))
+    let refusal : Refusal = record { account = seat.view; asked = asked; why = why } in
+    let seen : HasSeen seat mine refusal = record { opening = refl; until = refl; limit = refl; begins = begins_itself seat.view.history; own = own } in
+    closing (closing_alike mine seat.view.history asked closes (sym (alone mine refusal seen)))
 
 -- ---- where any account may be there, no call is a seat's alone
 
 abbrev return_of : ℕ → EntryData
 return_of call = event_by 0 (Returns call) (reply.Returned 0 0)
+
+abbrev some_refusal : ℕ → Refusal
+some_refusal call = record {
+  account = record { opening = 0; until = None; limit = 0; history = return_of call ∷ [] };
+  asked = Returns call;
+  why = fault.NotOpen;
+}
 
 not_none : {X : Type 0} (here : Bool) (x : X) → here ≡ true → (if here then x ∷ [] else []) ≡ [] → ⊥
 not_none true x is none = cc none
@@ -39,7 +47,7 @@ not_none false x is none = cc is
 
 pub none_alone : (call : ℕ) → IsAlone (λ _ _. Unit {0}) call → ⊥
 none_alone call alone =
-    not_none (call == call) (return_of call) (eq-eqb call call refl) (alone [] (record { opening = 0; until = None; limit = 0; history = return_of call ∷ [] }) tt)
+    not_none (call == call) (return_of call) (eq-eqb call call refl) (alone [] (some_refusal call) tt)
 
 -- ---- a call whose entries are by one seat
 
@@ -59,6 +67,6 @@ by_seat seat call (event ∷ begun) rest all =
     (by_seat seat call begun rest (All-tail By event (begun ++ rest) all))
 
 pub one_seat_is_alone : CallsOfOneSeatAreAlone
-one_seat_is_alone book seat call by_it mine account stood =
+one_seat_is_alone book seat call by_it mine refusal stood =
     let By : EntryData → Type 0 = λ event. is_of call event.asked ≡ true → event.seat ≡ seat in
-    by_seat seat call account.history stood.begins.rest (subst (All By) stood.begins.is by_it) ∙ ap (of_call call) stood.own
+    by_seat seat call refusal.account.history stood.begins.rest (subst (All By) stood.begins.is by_it) ∙ ap (of_call call) stood.own

@@ -5,16 +5,16 @@ use Rattle.account_core.specs.Ledger.{Ledger}
 use Rattle.shared_account.specs.Closed.{Closed}
 use Rattle.shared_account.specs.Own.{is_of, own}
 use Rattle.shared_account.specs.Prefixes.{IsPrefix}
-use Rattle.shared_account.specs.Refusals.{IsAlone}
+use Rattle.shared_account.specs.Refusals.{IsAlone, Refusal}
 use Rattle.shared_account.specs.TurnViews.{TurnSeatView}
 
--- when the seat's own entries were these, the account was this: it was opened as the seat's view says, and its history begins what the seat has seen
-pub record HasSeen (seat : TurnSeatView) (mine : List EntryData) (account : Ledger) : Type 0 where
-  pub opening : account.opening ≡ seat.view.opening
-  pub until : account.until ≡ seat.view.until
-  pub limit : account.limit ≡ seat.view.limit
-  pub begins : IsPrefix account.history seat.view.history
-  pub own : own seat.number account.history ≡ mine
+-- when the seat's own entries were these, the account that refused it was this: it was opened as the seat's view says, and its history begins what the seat has seen
+pub record HasSeen (seat : TurnSeatView) (mine : List EntryData) (refusal : Refusal) : Type 0 where
+  pub opening : refusal.account.opening ≡ seat.view.opening
+  pub until : refusal.account.until ≡ seat.view.until
+  pub limit : refusal.account.limit ≡ seat.view.limit
+  pub begins : IsPrefix refusal.account.history seat.view.history
+  pub own : own seat.number refusal.account.history ≡ mine
 
 -- a book is of an account that was opened as this one was
 pub record IsOpenedAs (account : Ledger) (book : Closed) : Type 0 where
@@ -22,13 +22,13 @@ pub record IsOpenedAs (account : Ledger) (book : Closed) : Type 0 where
   pub until : book.until ≡ account.until
   pub limit : book.limit ≡ account.limit
 
--- the account of a book was this when the own entries of the seat with this number were these: it was opened as the book says, and its history begins the book's
-pub record StoodIn (book : Closed) (seat : ℕ) (mine : List EntryData) (account : Ledger) : Type 0 where
-  pub opening : account.opening ≡ book.opening
-  pub until : account.until ≡ book.until
-  pub limit : account.limit ≡ book.limit
-  pub begins : IsPrefix account.history book.history
-  pub own : own seat account.history ≡ mine
+-- the account of a book that refused the seat with this number was this when that seat's own entries were these: it was opened as the book says, and its history begins the book's
+pub record StoodIn (book : Closed) (seat : ℕ) (mine : List EntryData) (refusal : Refusal) : Type 0 where
+  pub opening : refusal.account.opening ≡ book.opening
+  pub until : refusal.account.until ≡ book.until
+  pub limit : refusal.account.limit ≡ book.limit
+  pub begins : IsPrefix refusal.account.history book.history
+  pub own : own seat refusal.account.history ≡ mine
 
 -- each entry of a call in a book is by this seat
 abbrev pub IsBySeat : Closed → ℕ → ℕ → Type 0

@@ -17,25 +17,30 @@ use tariff_core::MAX_MONEY;
 /// are asking too, that `NotOpen`, `CallUsed` or `HistoryFull` was right; and nothing of who comes
 /// first, nor that a call returns.
 ///
-/// It also says what a seat knows of the account (`was`), and what a book shows of it later
-/// (`stood`): when a seat's own entries were these, the account was this. A fault comes with such
-/// an account, which refuses just that operation with just that fault. Nothing but a call shows
-/// that, so whoever is generic over the form can't tell of a refusal that no account gave.
+/// It also says which refusals a seat knows of (`was`), and which a book shows later (`stood`): when
+/// a seat's own entries were these, it asked for this, and the account, which was this, refused that
+/// with this fault. A fault comes with such a refusal.
+///
+/// And it says that a call led from one state of a seat to the next (`calls`). Nothing but a call
+/// shows this, or a refusal: whoever is generic over the form can't claim an ask that wasn't put,
+/// not even that memory ran out there, nor keep one to itself.
 ///
 /// What a form says of a seat is `reads`: the key of its account, its number and its own entries.
 /// A seat is of the account whose key it has: the account's number, or whatever else a form says
 /// its seats by.
 pub trait Shared: Sync + Drop {
-    ghost use Rattle.std.specs.Prelude.{◌≡◌, ◌≤◌, ◌↔◌, ◌⊎◌, ◌++◌, ◌∷◌, ℕ, List, [], true, false, map, reverse, All, OnErr, IfOk, IfErr};
+    ghost use Rattle.std.specs.Prelude.{◌≡◌, ◌≤◌, ◌↔◌, ◌⊎◌, ◌++◌, ◌∷◌, ℕ, List, [], true, false, Result, map, reverse, All, MatchResult, IfOk, IfErr};
     ghost use Rattle.std.specs.Coded.{Coded};
-    ghost use Rattle.account_core.specs.Asked.{call_of};
+    ghost use Rattle.account_core.specs.Asked.{Asked, call_of};
     ghost use Rattle.account_core.specs.Events.{EntryData, asked_of};
-    ghost use Rattle.account_core.specs.Ledger.{Ledger, event_by};
+    ghost use Rattle.account_core.specs.Ledger.{event_by};
     ghost use Rattle.account_core.specs.Places.{IsClosing};
+    ghost use Rattle.account_core.specs.declared.entry.Reply.{Reply};
+    ghost use Rattle.account_core.specs.declared.fault.AccountFault.{AccountFault};
     ghost use Rattle.account_core.specs.declared.fault.AccountFault.TheVariants as out;
     ghost use Rattle.shared_account.specs.Closed.{Closed, IsBookOf};
     ghost use Rattle.shared_account.specs.Kinds.{IsReplyTo, IsReturn};
-    ghost use Rattle.shared_account.specs.Refusals.{IsAlone, IsRefusedAt};
+    ghost use Rattle.shared_account.specs.Refusals.{IsAlone, IsRefusedAt, Refusal};
     ghost use Rattle.shared_account.specs.Seats.{Reads, are_all};
     ghost use Rattle.shared_account.specs.Terms.{Terms};
     ghost use Rattle.shared_account.specs.declared.fault.CloseFault.TheVariants as close;
@@ -53,9 +58,11 @@ pub trait Shared: Sync + Drop {
 
     ghost reads: { Reads Key Self.Seat };
 
-    ghost was: { Self.Seat → List EntryData → Ledger → Type 0 };
+    ghost was: { Self.Seat → List EntryData → Refusal → Type 0 };
 
-    ghost stood: { Closed → ℕ → List EntryData → Ledger → Type 0 };
+    ghost calls: { Self.Seat → Asked → Result Reply AccountFault → Self.Seat → Type 0 };
+
+    ghost stood: { Closed → ℕ → List EntryData → Refusal → Type 0 };
 
     /// An account with this number, an opening credit of 0 to `MAX_MONEY`, a last moment, if it has
     /// one, an empty history and the number of entries that this may grow to; and its seats, 1 to
@@ -104,14 +111,16 @@ pub trait Shared: Sync + Drop {
         requires { reads.key seat.old ≡ key self.now }
         ensures same_key { reads.key seat.new ≡ reads.key seat.old }
         ensures same_number { reads.number seat.new ≡ reads.number seat.old }
-        ensures mine { IfOk result (λ reply. reads.mine seat.new
-            ≡ reads.mine seat.old ++ event_by (reads.number seat.old) (asked_of op) reply ∷ []) }
+        ensures mine { MatchResult result
+            (λ reply. reads.mine seat.new
+            ≡ reads.mine seat.old ++ event_by (reads.number seat.old) (asked_of op) reply ∷ [])
+            (λ _. reads.mine seat.new ≡ reads.mine seat.old) }
         ensures kind { IfOk result (λ reply. IsReplyTo (asked_of op) reply) }
-        ensures kept { OnErr result (reads.mine seat.new ≡ reads.mine seat.old) }
+        ensures called { calls seat.old (asked_of op) result seat.new }
         ensures refused { IfErr result (λ fault. (fault ≡ out.GateClosed)
             ⊎ IsRefusedAt (was seat.new) (reads.mine seat.old) (asked_of op) fault) }
-        ensures was { (mine : List EntryData) (account : Ledger)
-            → was seat.old mine account → was seat.new mine account }
+        ensures was { (mine : List EntryData) (refusal : Refusal)
+            → was seat.old mine refusal → was seat.new mine refusal }
         ensures closing { IsAlone (was seat.new) (call_of (asked_of op))
             → IsClosing (reverse (reads.mine seat.old)) (asked_of op)
             → IfErr result (λ fault. fault ≡ out.GateClosed) }
@@ -127,8 +136,8 @@ pub trait Shared: Sync + Drop {
         ensures book { IfOk result (λ book.
             IsBookOf (terms self) (map reads.mine seats.items) book) }
         ensures was { IfOk result (λ book. All
-            (λ seat. (mine : List EntryData) (account : Ledger) → was seat mine account
-            → stood book (reads.number seat) mine account) seats.items) }
+            (λ seat. (mine : List EntryData) (refusal : Refusal) → was seat mine refusal
+            → stood book (reads.number seat) mine refusal) seats.items) }
         ensures seats { (result ≡ Err close.Seats)
             ↔ (are_all (terms self).seats (map reads.number seats.items) ≡ false) };
 }

@@ -3,10 +3,10 @@
 ghost use Rattle.std.specs.Prelude.{◌≡◌, ◌≢◌, ◌≤◌, ◌↔◌, ◌⊎◌, ◌++◌, ◌∷◌, List, [], false, map, reverse, All, OnErr, IfOk, IfErr};
 ghost use Rattle.shared_account.specs.Closed.{IsBookOf};
 ghost use Rattle.shared_account.specs.Kinds.{IsReplyTo, IsReturn};
-ghost use Rattle.shared_account.specs.Refusals.{IsRefusedAt};
+ghost use Rattle.shared_account.specs.Refusals.{IsRefusedAt, Refusal};
 ghost use Rattle.shared_account.specs.Seats.{are_all, fresh_seats};
 ghost use Rattle.account_core.specs.Events.{EntryData, asked_of};
-ghost use Rattle.account_core.specs.Ledger.{Ledger, event_by};
+ghost use Rattle.account_core.specs.Ledger.{event_by};
 ghost use Rattle.account_core.specs.Places.{IsClosing};
 ghost use Rattle.shared_account.specs.declared.fault.CloseFault.TheVariants as close;
 
@@ -183,6 +183,8 @@ impl Shared for SharedAccount {
 
     ghost was = { λ _ _ _. Unit {0} };
 
+    ghost calls = { λ _ _ _ _. Unit {0} };
+
     ghost stood = { λ _ _ _ _. Unit {0} };
 
     fn new<R>(
@@ -212,7 +214,7 @@ impl Shared for SharedAccount {
         ensures book { IfOk result (λ book.
             IsBookOf self (map (λ seat. seat.mine) seats.items) book) }
         ensures was { IfOk result (λ book. All (λ seat. (mine : List EntryData)
-            (account : Ledger) → Unit {0} → Unit {0}) seats.items) }
+            (refusal : Refusal) → Unit {0} → Unit {0}) seats.items) }
         ensures seats { (result ≡ Err close.Seats)
             ↔ (are_all self.seats (map (λ seat. seat.number) seats.items) ≡ false) }
     {

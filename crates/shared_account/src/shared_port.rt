@@ -1,6 +1,6 @@
 //! The port of a shared account.
 
-ghost use Rattle.std.specs.Prelude.{◌≡◌, ◌⊎◌, ◌++◌, ◌∷◌, [], reverse, IfErr, IfOk, OnErr};
+ghost use Rattle.std.specs.Prelude.{◌≡◌, ◌⊎◌, ◌++◌, ◌∷◌, [], reverse, IfErr, IfOk, MatchResult};
 ghost use Rattle.account_core.specs.Events.{asked_of};
 ghost use Rattle.account_core.specs.Ledger.{event_by};
 ghost use Rattle.account_core.specs.Places.{IsClosing};
@@ -49,12 +49,12 @@ impl<'a, S: Shared, R: Wait, G: Gate> SharedPort<'a, S, R, G> {
 
 impl<S: Shared, R: Wait, G: Gate> Port for SharedPort<'_, S, R, G> {
     fn ask(&mut self, op: Op) -> Result<Reply, AccountFault>
-        ensures mine { IfOk result (λ reply. S.reads.mine self.new.seat.now
-            ≡ S.reads.mine self.old.seat.now
-            ++ event_by (S.reads.number self.old.seat.now) (asked_of op) reply ∷ []) }
+        ensures mine { MatchResult result
+            (λ reply. S.reads.mine self.new.seat.now ≡ S.reads.mine self.old.seat.now
+            ++ event_by (S.reads.number self.old.seat.now) (asked_of op) reply ∷ [])
+            (λ _. S.reads.mine self.new.seat.now ≡ S.reads.mine self.old.seat.now) }
         ensures kind { IfOk result (λ reply. IsReplyTo (asked_of op) reply) }
-        ensures kept { OnErr result (S.reads.mine self.new.seat.now
-            ≡ S.reads.mine self.old.seat.now) }
+        ensures called { S.calls self.old.seat.now (asked_of op) result self.new.seat.now }
         ensures refused { IfErr result (λ fault. (fault ≡ AccountFault.GateClosed)
             ⊎ IsRefusedAt (S.was self.new.seat.now)
             (S.reads.mine self.old.seat.now) (asked_of op) fault) }

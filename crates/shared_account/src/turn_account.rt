@@ -2,6 +2,7 @@
 
 ghost use Rattle.std.specs.Prelude.{◌≡◌, ◌≤◌, ◌↔◌, ◌⊎◌, ◌++◌, ◌∷◌, List, [], Some, false, map, reverse, All, MatchResult, OnErr, IfOk, IfErr};
 ghost use Rattle.shared_account.specs.Closed.{IsBookOf};
+ghost use Rattle.shared_account.specs.Refusals.{Refusal};
 ghost use Rattle.shared_account.specs.Seats.{are_all};
 ghost use Rattle.shared_account.specs.Seen.{IsOpenedAs};
 ghost use Rattle.shared_account.specs.Plays.{with_entry};
@@ -11,7 +12,7 @@ ghost use Rattle.shared_account.specs.Sitting.{IsAt};
 ghost use Rattle.shared_account.specs.Views.{IsServing, seeing};
 ghost use Rattle.account_core.specs.Answers.{IsLegal};
 ghost use Rattle.account_core.specs.Events.{EntryData, asked_of};
-ghost use Rattle.account_core.specs.Ledger.{IsRefusal, Ledger, event_by};
+ghost use Rattle.account_core.specs.Ledger.{IsRefusal, event_by};
 ghost use Rattle.account_core.specs.Places.{IsClosing};
 ghost use Rattle.shared_account.specs.declared.fault.CloseFault.TheVariants as close;
 
@@ -247,6 +248,8 @@ impl Shared for TurnAccount {
 
     ghost was = { HasSeen };
 
+    ghost calls = { λ _ _ _ _. Unit {0} };
+
     ghost stood = { StoodIn };
 
     fn new<R>(
@@ -275,8 +278,8 @@ impl Shared for TurnAccount {
         requires { All (λ seat. seat.table ≡ self.table) seats.items }
         ensures book { IfOk result (λ book. IsBookOf self.terms (map own_of seats.items) book) }
         ensures was { IfOk result (λ book. All
-            (λ seat. (mine : List EntryData) (account : Ledger) → HasSeen seat mine account
-            → StoodIn book seat.number mine account) seats.items) }
+            (λ seat. (mine : List EntryData) (refusal : Refusal) → HasSeen seat mine refusal
+            → StoodIn book seat.number mine refusal) seats.items) }
         ensures seats { (result ≡ Err close.Seats)
             ↔ (are_all self.terms.seats (map (λ seat. seat.number) seats.items) ≡ false) }
     {

@@ -146,7 +146,7 @@ entry_settles seat (Asks asked) (Err fault) = tt
 entry_settles seat (Sends orders) got = tt
 entry_settles seat Finished got = tt
 
-part_of_none : {X : Type 0} (part : List X) → IsPart part [] → part ≡ []
+pub part_of_none : {X : Type 0} (part : List X) → IsPart part [] → part ≡ []
 part_of_none [] is = refl
 part_of_none (x ∷ part) is = absurd is
 

@@ -5,11 +5,10 @@ use Rattle.std.proofs.lemmas.List.Elements.{All-nil}
 use Rattle.std.specs.Prelude.{slice_index_or}
 use Rattle.account_core.specs.Asked.{Asked, Credits}
 use Rattle.account_core.specs.Events.{EntryData}
-use Rattle.account_core.specs.Ledger.{Ledger}
 use Rattle.account_core.specs.declared.fault.AccountFault.{AccountFault}
 use Rattle.dialogue_core.specs.Phases.{Asks}
 use Rattle.dialogue_core.specs.Table.{on_begin}
-use Rattle.shared_account.specs.Refusals.{IsRefusedAt, Knowing}
+use Rattle.shared_account.specs.Refusals.{IsRefusedAt, Knowing, Refusal}
 use Rattle.workers_core.proofs.Handling.{sound_after}
 use Rattle.workers_core.proofs.Talking.{all_right_still, refused_still, right_still}
 use Rattle.workers_core.specs.Chains.{AreAnswered, AreHandled, IsAnswered, IsHandledOnce, IsWorked, at_first, refusals_in, seat_numbers}
@@ -76,7 +75,7 @@ still_answered Shows Later still setup numbers (p ∷ posts) (t ∷ answers) old
 )
 
 -- what was known at each place is known later
-pub answered_still : (Was Later : ℕ → Knowing) → ((place : ℕ) (mine : List EntryData) (account : Ledger) → Was place mine account → Later place mine account)
+pub answered_still : (Was Later : ℕ → Knowing) → ((place : ℕ) (mine : List EntryData) (refusal : Refusal) → Was place mine refusal → Later place mine refusal)
     → (setup : Setup) (numbers : List ℕ) (posts : List Post) (answers : List AnswerView) (old new : Holding) → AreAnswered (λ place. IsRefusedAt (Was place)) setup numbers posts answers old new
     → AreAnswered (λ place. IsRefusedAt (Later place)) setup numbers posts answers old new
 answered_still Was Later still =
@@ -84,7 +83,7 @@ answered_still Was Later still =
 
 -- ---- posts that were answered were handled, and those were refused of which the answers tell it
 
-handled_so : (Shows : ℕ → Showing) (setup : Setup) (numbers : List ℕ) (posts : List Post) (answers : List AnswerView) (old new : Holding) → AreAnswered Shows setup numbers posts answers old new
+pub handled_so : (Shows : ℕ → Showing) (setup : Setup) (numbers : List ℕ) (posts : List Post) (answers : List AnswerView) (old new : Holding) → AreAnswered Shows setup numbers posts answers old new
     → AreHandled setup numbers posts (refusals_in answers) old new
 handled_so Shows setup numbers [] [] old new are = are
 handled_so Shows setup numbers [] (t ∷ answers) old new are = absurd are

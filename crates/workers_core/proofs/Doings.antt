@@ -10,8 +10,7 @@ use mathlib.Core.Logic.{dite}
 use native.Mathlib.Decide.{ℕ_discrete}
 use Rattle.account_core.specs.Asked.{Credits}
 use Rattle.account_core.specs.Events.{EntryData}
-use Rattle.account_core.specs.Ledger.{Ledger}
-use Rattle.shared_account.specs.Refusals.{Knowing}
+use Rattle.shared_account.specs.Refusals.{Knowing, Refusal}
 use Rattle.account_core.specs.declared.fault.AccountFault.{AccountFault}
 use Rattle.cap_values.specs.Orders.{Order}
 use Rattle.dialogue_core.specs.Phases.{Phase, Says, Asks}
@@ -67,8 +66,8 @@ stands_now old new call talk kept other = ap (option_map standing_of) (kept othe
 -- ---- what is known at each place
 
 pub was_there : {T : Type 0} (Was : T → Knowing) (seats : List T) (place : ℕ) (after : T) → place < length seats
-    → (mine : List EntryData) (account : Ledger) → Was after mine account → WasAt Was (slice_set seats place after) place mine account
-was_there Was seats place after within mine account was = record {
+    → (mine : List EntryData) (refusal : Refusal) → Was after mine refusal → WasAt Was (slice_set seats place after) place mine refusal
+was_there Was seats place after within mine refusal was = record {
   seat = after;
   within = subst (λ (n : ℕ). place < n) (sym (length-set seats place after)) within;
   seat_is = sym (get_or-set_same seats place after after within);
@@ -76,15 +75,15 @@ was_there Was seats place after within mine account was = record {
 }
 
 pub was_at : {T : Type 0} (Was : T → Knowing) (seats : List T) (place : ℕ) (before after : T) → place < length seats → before ≡ get_or seats place before
-    → ((mine : List EntryData) (account : Ledger) → Was before mine account → Was after mine account)
-    → (other : ℕ) (mine : List EntryData) (account : Ledger) → WasAt Was seats other mine account → WasAt Was (slice_set seats place after) other mine account
-was_at Was seats place before after within is still other mine account known =
+    → ((mine : List EntryData) (refusal : Refusal) → Was before mine refusal → Was after mine refusal)
+    → (other : ℕ) (mine : List EntryData) (refusal : Refusal) → WasAt Was seats other mine refusal → WasAt Was (slice_set seats place after) other mine refusal
+was_at Was seats place before after within is still other mine refusal known =
     dite (ℕ_discrete other place)
     (λ (here : other ≡ place).
     let same : known.seat ≡ before = known.seat_is ∙ ap (λ (n : ℕ). get_or seats n known.seat) here ∙ get_or_default seats place known.seat before within ∙ sym is in
-    let there : WasAt Was (slice_set seats place after) place mine account =
-    was_there Was seats place after within mine account (still mine account (subst (λ (t : _). Was t mine account) same known.was)) in
-    subst (λ (n : ℕ). WasAt Was (slice_set seats place after) n mine account) (sym here) there)
+    let there : WasAt Was (slice_set seats place after) place mine refusal =
+    was_there Was seats place after within mine refusal (still mine refusal (subst (λ (t : _). Was t mine refusal) same known.was)) in
+    subst (λ (n : ℕ). WasAt Was (slice_set seats place after) n mine refusal) (sym here) there)
     (λ (apart : other ≢ place). record {
       seat = known.seat;
       within = subst (λ (n : ℕ). other < n) (sym (length-set seats place after)) known.within;

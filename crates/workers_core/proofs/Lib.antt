@@ -1,6 +1,7 @@
 pub mod Abouts
 pub mod Asking
 pub mod AtRest
+pub mod Calling
 pub mod Chaining
 pub mod Closes
 pub mod Doings

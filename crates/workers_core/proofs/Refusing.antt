@@ -7,5 +7,5 @@ use Rattle.workers_core.specs.Refusals.{NeverRefusesClosing}
 
 pub never_refused : (Was : ℕ → Knowing) (call : ℕ) → ((place : ℕ) → IsAlone (Was place) call) → NeverRefusesClosing (λ place. IsRefusedAt (Was place)) call
 never_refused Was call alone place mine asked why is closing refused =
-    let same = subst (λ (c : ℕ). of_call c refused.account.history ≡ of_call c mine) (sym is) (alone place mine refused.account refused.was) in
+    let same = subst (λ (c : ℕ). of_call c refused.account.history ≡ of_call c mine) (sym is) (alone place mine _ refused.was) in
     refused.room (closing_alike mine refused.account.history asked closing (sym same)) closing

@@ -203,13 +203,13 @@ after_all setup numbers call done (post ∷ posts) (refusal ∷ refusals) old ne
 -- ---- a call that goes on
 
 -- what follows when a message ends a call
-sequel_to : SsfMsg → Sequel
+pub sequel_to : SsfMsg → Sequel
 sequel_to (msg.InitialDp other calling called) = phase.Nothing
 sequel_to (msg.EventReport event leg mode) = going_on mode
 sequel_to (msg.ChargingReport active info) = phase.Nothing
 sequel_to msg.Ended = phase.Closes
 
-gives_back : (t : Conditions) (number at : ℕ) (message : SsfMsg) → ends_call message ≡ true → on_message (Running t) number at message ≡ Ok (Asks (Returns t.call), Returning (sequel_to message))
+pub gives_back : (t : Conditions) (number at : ℕ) (message : SsfMsg) → ends_call message ≡ true → on_message (Running t) number at message ≡ Ok (Asks (Returns t.call), Returning (sequel_to message))
 unfolding sequel_to
 gives_back t number at (msg.InitialDp other calling called) ends = absurd (cc)
 gives_back t number at (msg.EventReport event.Answer leg mode) ends = absurd (cc)

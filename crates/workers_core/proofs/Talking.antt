@@ -2,15 +2,14 @@
 use Rattle.std.proofs.Common.{◌≡◌, ◌≢◌, ◌⊎◌, ◌++◌, ◌∙◌, inl, inr, ℕ, false, Option, None, Ok, Err, List, [], ◌∷◌, refl, sym, ap, subst, append_assoc, append-nil}
 use Rattle.account_core.specs.Asked.{Asked}
 use Rattle.account_core.specs.Events.{EntryData}
-use Rattle.account_core.specs.Ledger.{Ledger}
-use Rattle.shared_account.specs.Refusals.{IsRefusedAt, Knowing}
+use Rattle.shared_account.specs.Refusals.{IsRefusedAt, Knowing, Refusal}
 use Rattle.shared_account.specs.Seats.{Reads}
 use Rattle.account_core.specs.declared.fault.AccountFault.{AccountFault}
 use Rattle.account_core.specs.declared.fault.AccountFault.TheVariants as fault
 use Rattle.cap_values.specs.Orders.{Order}
 use Rattle.dialogue_core.specs.Phases.{Phase, Says, Asks, Sends, Finished}
 use Rattle.workers_core.specs.Cases.{AtDesk, or_fault}
-use Rattle.dialogue_core.specs.Talks.{AreGot, Gets, Got, IsTalkedOut, after_got, is_ask, sent_by, talked}
+use Rattle.dialogue_core.specs.Talks.{AreGot, Asking, Gets, Got, IsTalkedOut, after_got, is_ask, sent_by, talked}
 use Rattle.workers_core.specs.Talks.{AllAsk, AreRight, IsRight, IsTalk, Showing, entries_of, entry_of, last_fault}
 
 -- ---- how far a talk has come
@@ -44,16 +43,16 @@ all_right_still Shows Later still seat first before (got ∷ earlier) right = (
   all_right_still Shows Later still seat first before earlier right.1,
 )
 
-pub refused_still : (Was Later : Knowing) → ((mine : List EntryData) (account : Ledger) → Was mine account → Later mine account)
+pub refused_still : (Was Later : Knowing) → ((mine : List EntryData) (refusal : Refusal) → Was mine refusal → Later mine refusal)
     → (mine : List EntryData) (asked : Asked) (why : AccountFault) → IsRefusedAt Was mine asked why → IsRefusedAt Later mine asked why
 refused_still Was Later still mine asked why is =
-    record { account = is.account; was = still mine is.account is.was; legal = is.legal; refused = is.refused; room = is.room }
+    record { account = is.account; was = still mine _ is.was; legal = is.legal; refused = is.refused; room = is.room }
 
-pub rights_known : (Was Later : Knowing) → ((mine : List EntryData) (account : Ledger) → Was mine account → Later mine account)
+pub rights_known : (Was Later : Knowing) → ((mine : List EntryData) (refusal : Refusal) → Was mine refusal → Later mine refusal)
     → (seat : ℕ) (first : Says × Phase) (before : List EntryData) (gots : List Got) → AreRight (IsRefusedAt Was) seat first before gots → AreRight (IsRefusedAt Later) seat first before gots
 rights_known Was Later still = all_right_still (IsRefusedAt Was) (IsRefusedAt Later) (refused_still Was Later still)
 
-pub right_known : (Was Later : Knowing) → ((mine : List EntryData) (account : Ledger) → Was mine account → Later mine account)
+pub right_known : (Was Later : Knowing) → ((mine : List EntryData) (refusal : Refusal) → Was mine refusal → Later mine refusal)
     → (mine : List EntryData) (says : Says) (got : Got) → IsRight (IsRefusedAt Was) mine says got → IsRight (IsRefusedAt Later) mine says got
 right_known Was Later still = right_still (IsRefusedAt Was) (IsRefusedAt Later) (refused_still Was Later still)
 
@@ -68,7 +67,7 @@ pub fault_after : (gots : List Got) (got : Got) → or_fault (last_fault gots) g
 fault_after gots (Ok reply) = refl
 fault_after gots (Err fault) = refl
 
-so_asked : (Was Later : Knowing) → ((mine : List EntryData) (account : Ledger) → Was mine account → Later mine account)
+so_asked : (Was Later : Knowing) → ((mine : List EntryData) (refusal : Refusal) → Was mine refusal → Later mine refusal)
     → (seat : ℕ) (first : Says × Phase) (before between after : List EntryData) (asked : Asked) (from : Phase) (got : Got) (old new : Option AccountFault)
     → IsSoFar (IsRefusedAt Was) seat first before between (Asks asked, from) old → after ≡ between ++ entry_of seat (Asks asked) got → new ≡ or_fault old got
     → IsRight (IsRefusedAt Later) between (Asks asked) got → IsSoFar (IsRefusedAt Later) seat first before after (after_got from got) new
@@ -104,40 +103,74 @@ pub record IsSpoken {X G K T : Type 0} (gate : X → G) (shown : X → T × Opti
   pub same_gate : gate now ≡ gate from
   pub same_key : reads.key (shown now).0 ≡ reads.key (shown from).0
   pub same_number : reads.number (shown now).0 ≡ reads.number (shown from).0
-  pub still : (mine : List EntryData) (account : Ledger) → Was (shown from).0 mine account → Was (shown now).0 mine account
+  pub still : (mine : List EntryData) (refusal : Refusal) → Was (shown from).0 mine refusal → Was (shown now).0 mine refusal
   pub so_far : IsSoFar (IsRefusedAt (Was (shown now).0)) (reads.number (shown from).0) first (reads.mine (shown from).0) (reads.mine (shown now).0) next (shown now).1
 
-asked_at : {X G K T : Type 0} (gate : X → G) (shown : X → T × Option AccountFault) (reads : Reads K T) (Was : T → Knowing) (first : Says × Phase) (from between to : X) (said : Says) (phase : Phase) (got : Got)
-    → Gets (AtDesk gate shown reads Was) between said got to → IsSpoken gate shown reads Was first from between (said, phase) → IsSpoken gate shown reads Was first from to (after_got phase got)
-asked_at gate shown reads Was first from between to (Asks asked) phase got is so =
+asked_at : {X G K T : Type 0} (gate : X → G) (shown : X → T × Option AccountFault) (reads : Reads K T) (Was : T → Knowing) (Calls : Asking T) (first : Says × Phase) (from between to : X) (said : Says) (phase : Phase) (got : Got)
+    → Gets (AtDesk gate shown reads Was Calls) between said got to → IsSpoken gate shown reads Was first from between (said, phase) → IsSpoken gate shown reads Was first from to (after_got phase got)
+asked_at gate shown reads Was Calls first from between to (Asks asked) phase got is so =
     let (same, ask) = is in
     record {
       same_gate = same ∙ so.same_gate;
       same_key = ask.same_key ∙ so.same_key;
       same_number = ask.same_number ∙ so.same_number;
-      still = λ mine account was. ask.still mine account (so.still mine account was);
+      still = λ mine refusal was. ask.still mine refusal (so.still mine refusal was);
       so_far =
           so_asked (Was (shown between).0) (Was (shown to).0) ask.still (reads.number (shown from).0) first (reads.mine (shown from).0) (reads.mine (shown between).0) (reads.mine (shown to).0) asked phase got
           (shown between).1 (shown to).1 so.so_far (rw so.same_number at ask.enters) ask.refuses ask.right;
     }
-asked_at gate shown reads Was first from between to (Sends orders) phase got is so = absurd is
-asked_at gate shown reads Was first from between to Finished phase got is so = absurd is
+asked_at gate shown reads Was Calls first from between to (Sends orders) phase got is so = absurd is
+asked_at gate shown reads Was Calls first from between to Finished phase got is so = absurd is
 
 -- what the asks got leads so far
-pub spoken : {X G K T : Type 0} (gate : X → G) (shown : X → T × Option AccountFault) (reads : Reads K T) (Was : T → Knowing) (first : Says × Phase) (from : X) (gots : List Got) (to : X)
-    → AreGot (AtDesk gate shown reads Was) first from gots to → (shown from).1 ≡ None → IsSpoken gate shown reads Was first from to (talked first gots)
-spoken gate shown reads Was first from [] to is none = rw is (record {
+pub spoken : {X G K T : Type 0} (gate : X → G) (shown : X → T × Option AccountFault) (reads : Reads K T) (Was : T → Knowing) (Calls : Asking T) (first : Says × Phase) (from : X) (gots : List Got) (to : X)
+    → AreGot (AtDesk gate shown reads Was Calls) first from gots to → (shown from).1 ≡ None → IsSpoken gate shown reads Was first from to (talked first gots)
+spoken gate shown reads Was Calls first from [] to is none = rw is (record {
   same_gate = refl;
   same_key = refl;
   same_number = refl;
-  still = λ mine account was. was;
+  still = λ mine refusal was. was;
   so_far = rw none (so_begun (IsRefusedAt (Was (shown from).0)) (reads.number (shown from).0) first (reads.mine (shown from).0));
 })
-spoken gate shown reads Was first from (got ∷ earlier) to is none =
+spoken gate shown reads Was Calls first from (got ∷ earlier) to is none =
     let (between, before, gets) = is in
-    asked_at gate shown reads Was first from between to (talked first earlier).0 (talked first earlier).1 got gets (spoken gate shown reads Was first from earlier between before none)
+    asked_at gate shown reads Was Calls first from between to (talked first earlier).0 (talked first earlier).1 got gets (spoken gate shown reads Was Calls first from earlier between before none)
 
 -- what a talk that was ended by nothing leads to
-pub spoken_out : {X G K T : Type 0} (gate : X → G) (shown : X → T × Option AccountFault) (reads : Reads K T) (Was : T → Knowing) (first : Says × Phase) (from to : X) (phase : Phase) (orders : List Order)
-    (talk : IsTalkedOut (AtDesk gate shown reads Was) first from to phase orders) → (shown from).1 ≡ None → IsSpoken gate shown reads Was first from to (talk.last, phase)
-spoken_out gate shown reads Was first from to phase orders talk none = rw talk.talks at (spoken gate shown reads Was first from talk.gots to talk.are_got none)
+pub spoken_out : {X G K T : Type 0} (gate : X → G) (shown : X → T × Option AccountFault) (reads : Reads K T) (Was : T → Knowing) (Calls : Asking T) (first : Says × Phase) (from to : X) (phase : Phase) (orders : List Order)
+    (talk : IsTalkedOut (AtDesk gate shown reads Was Calls) first from to phase orders) → (shown from).1 ≡ None → IsSpoken gate shown reads Was first from to (talk.last, phase)
+spoken_out gate shown reads Was Calls first from to phase orders talk none = rw talk.talks at (spoken gate shown reads Was Calls first from talk.gots to talk.are_got none)
+
+-- ---- its calls
+
+call_for : {X G K T : Type 0} (gate : X → G) (shown : X → T × Option AccountFault) (reads : Reads K T) (Was : T → Knowing) (Calls : Asking T) (from to : X) (said : Says) (got : Got)
+    → Gets (AtDesk gate shown reads Was Calls) from said got to → Gets Calls (shown from).0 said got (shown to).0
+call_for gate shown reads Was Calls from to (Asks asked) got is = is.1.called
+call_for gate shown reads Was Calls from to (Sends orders) got is = absurd is
+call_for gate shown reads Was Calls from to Finished got is = absurd is
+
+-- what the asks of a talk at a desk got, they got by calls
+pub calls_for : {X G K T : Type 0} (gate : X → G) (shown : X → T × Option AccountFault) (reads : Reads K T) (Was : T → Knowing) (Calls : Asking T) (first : Says × Phase) (from : X) (gots : List Got) (to : X)
+    → AreGot (AtDesk gate shown reads Was Calls) first from gots to → AreGot Calls first (shown from).0 gots (shown to).0
+calls_for gate shown reads Was Calls first from [] to is = ap (λ x. (shown x).0) is
+calls_for gate shown reads Was Calls first from (got ∷ earlier) to is =
+    let (between, before, gets) = is in (
+      (shown between).0,
+      calls_for gate shown reads Was Calls first from earlier between before,
+      call_for gate shown reads Was Calls between to (talked first earlier).0 got gets,
+    )
+
+fault_kept : {X G K T : Type 0} (gate : X → G) (shown : X → T × Option AccountFault) (reads : Reads K T) (Was : T → Knowing) (Calls : Asking T) (from to : X) (said : Says) (got : Got)
+    → Gets (AtDesk gate shown reads Was Calls) from said got to → (shown to).1 ≡ or_fault (shown from).1 got
+fault_kept gate shown reads Was Calls from to (Asks asked) got is = is.1.refuses
+fault_kept gate shown reads Was Calls from to (Sends orders) got is = absurd is
+fault_kept gate shown reads Was Calls from to Finished got is = absurd is
+
+-- and the last fault of these asks is kept
+pub fault_told : {X G K T : Type 0} (gate : X → G) (shown : X → T × Option AccountFault) (reads : Reads K T) (Was : T → Knowing) (Calls : Asking T) (first : Says × Phase) (from : X) (gots : List Got) (to : X)
+    → AreGot (AtDesk gate shown reads Was Calls) first from gots to → (shown from).1 ≡ None → (shown to).1 ≡ last_fault gots
+fault_told gate shown reads Was Calls first from [] to is none = ap (λ x. (shown x).1) is ∙ none
+fault_told gate shown reads Was Calls first from (got ∷ earlier) to is none =
+    let (between, before, gets) = is in
+    fault_kept gate shown reads Was Calls between to (talked first earlier).0 got gets ∙ ap (λ fault. or_fault fault got) (fault_told gate shown reads Was Calls first from earlier between before none)
+    ∙ fault_after earlier got

@@ -5,7 +5,6 @@ use Rattle.std.specs.Map.{lookup}
 use Rattle.std.specs.Ordering.{nat_cmp}
 use Rattle.account_core.specs.Asked.{Asked, Credits}
 use Rattle.account_core.specs.Events.{EntryData}
-use Rattle.account_core.specs.Ledger.{Ledger}
 use Rattle.account_core.specs.declared.fault.AccountFault.{AccountFault}
 use Rattle.cap_values.specs.NumberDigits.{digits_of}
 use Rattle.cap_values.specs.Orders.{Release}
@@ -13,7 +12,7 @@ use Rattle.cap_values.specs.declared.number.Number.{Number}
 use Rattle.dialogue_core.specs.Phases.{Phase, Says, Asks}
 use Rattle.dialogue_core.specs.Table.{on_begin}
 use Rattle.dialogue_core.specs.Views.{phase_of, says_of}
-use Rattle.shared_account.specs.Refusals.{IsRefusedAt, Knowing}
+use Rattle.shared_account.specs.Refusals.{IsRefusedAt, Knowing, Refusal}
 use Rattle.shared_account.specs.Seats.{Reads}
 use Rattle.tariff_core.specs.declared.route.Route.{Route}
 use Rattle.workers_core.specs.Handled.{Holding, IsRecharged, IsTalked, IsUnasked, AnswerView}
@@ -89,19 +88,20 @@ pub record IsRightlyActed (Shows : ℕ → Showing) (numbers : List ℕ) (case :
   pub acted : IsActed numbers case old new told
   pub right : AreRightIn Shows numbers case old new told acted
 
--- an account was asked once, from a seat beside which the last fault is kept: what it got was entered and is right, and what the seat
+-- an account was called once, from a seat beside which the last fault is kept: what it got was entered and is right, and what the seat
 -- knew it still knows
-pub record IsAsked {K T : Type 0} (reads : Reads K T) (Was : T → Knowing) (before : T × Option AccountFault) (asked : Asked) (got : Got) (after : T × Option AccountFault) : Type 0 where
+pub record IsAsked {K T : Type 0} (reads : Reads K T) (Was : T → Knowing) (Calls : Asking T) (before : T × Option AccountFault) (asked : Asked) (got : Got) (after : T × Option AccountFault) : Type 0 where
   pub same_key : reads.key after.0 ≡ reads.key before.0
   pub same_number : reads.number after.0 ≡ reads.number before.0
+  pub called : Calls before.0 asked got after.0
   pub enters : reads.mine after.0 ≡ reads.mine before.0 ++ entry_of (reads.number before.0) (Asks asked) got
   pub refuses : after.1 ≡ or_fault before.1 got
   pub right : IsRight (IsRefusedAt (Was after.0)) (reads.mine before.0) (Asks asked) got
-  pub still : (mine : List EntryData) (account : Ledger) → Was before.0 mine account → Was after.0 mine account
+  pub still : (mine : List EntryData) (refusal : Refusal) → Was before.0 mine refusal → Was after.0 mine refusal
 
 -- an ask at a desk, whose gate stays
-abbrev pub AtDesk : {X G K T : Type 0} → (X → G) → (X → T × Option AccountFault) → Reads K T → (T → Knowing) → Asking X
-AtDesk gate shown reads Was before asked got after = (gate after ≡ gate before) × IsAsked reads Was (shown before) asked got (shown after)
+abbrev pub AtDesk : {X G K T : Type 0} → (X → G) → (X → T × Option AccountFault) → Reads K T → (T → Knowing) → Asking T → Asking X
+AtDesk gate shown reads Was Calls before asked got after = (gate after ≡ gate before) × IsAsked reads Was Calls (shown before) asked got (shown after)
 
 -- an account was asked for a Credit, and what it got is right
 pub record IsCredited (Shows : Showing) (seat : ℕ) (asked : Asked) (before after : List EntryData) (told : AnswerView) : Type 0 where

@@ -2,18 +2,17 @@
 use Rattle.std.specs.Prelude.{◌≡◌, ◌<◌, ℕ, List, length, reverse, slice_index_or}
 use Rattle.account_core.specs.Asked.{Asked, call_of}
 use Rattle.account_core.specs.Events.{EntryData}
-use Rattle.account_core.specs.Ledger.{Ledger}
 use Rattle.account_core.specs.Places.{IsClosing}
 use Rattle.account_core.specs.declared.fault.AccountFault.{AccountFault}
-use Rattle.shared_account.specs.Refusals.{IsAlone, IsRefusedAt, Knowing}
+use Rattle.shared_account.specs.Refusals.{IsAlone, IsRefusedAt, Knowing, Refusal}
 use Rattle.workers_core.specs.Talks.{Showing}
 
--- what the seat at a place knows of its account
-pub record WasAt {T : Type 0} (Was : T → Knowing) (seats : List T) (place : ℕ) (mine : List EntryData) (account : Ledger) : Type 0 where
+-- a refusal that the seat at a place knows of
+pub record WasAt {T : Type 0} (Was : T → Knowing) (seats : List T) (place : ℕ) (mine : List EntryData) (refusal : Refusal) : Type 0 where
   pub seat : T
   pub within : place < length seats
   pub seat_is : seat ≡ slice_index_or seats place seat
-  pub was : Was seat mine account
+  pub was : Was seat mine refusal
 
 -- what shows a refusal at a place: an account that the seat there knows has refused the ask with just that fault
 abbrev pub RefusesAt : {T : Type 0} → (T → Knowing) → List T → ℕ → Showing

@@ -4,14 +4,14 @@ ghost use Rattle.std.specs.Prelude.{◌≡◌, ◌≢◌, ◌==◌, ◌∷◌, �
 ghost use Rattle.std.specs.BTreeMap.{is_at};
 ghost use Rattle.std.specs.Map.{lookup};
 ghost use Rattle.std.specs.Ordering.{nat_cmp};
+ghost use Rattle.workers_core.specs.Calls.{AreCalledIn, IsOnceCalled};
 ghost use Rattle.workers_core.specs.Cases.{HasRoom, IsAsked, IsCredited, IsRightlyActed, IsWithin, with_room};
 ghost use Rattle.workers_core.specs.Handled.{IsRecharged, IsTalked, answer_view};
 ghost use Rattle.workers_core.specs.Refusals.{RefusesAt, WasAt};
 ghost use Rattle.workers_core.specs.Workers.{standing_of, standings_in};
 ghost use Rattle.dialogue_core.specs.Talks.{asks_after, asks_left};
 ghost use Rattle.account_core.specs.Events.{EntryData, asked_of};
-ghost use Rattle.account_core.specs.Ledger.{Ledger};
-ghost use Rattle.shared_account.specs.Refusals.{IsRefusedAt};
+ghost use Rattle.shared_account.specs.Refusals.{IsRefusedAt, Refusal};
 ghost use Rattle.cap_values.specs.Orders.{Release, orders_of};
 ghost use Rattle.dialogue_core.specs.Views.{phase_of, says_of};
 
@@ -87,9 +87,11 @@ pub(crate) fn act<S: Shared, R: Wait, G: Gate>(
         (record { lists = map S.reads.mine seats.old.items; talks = standings_in talks.old })
         (record { lists = map S.reads.mine seats.new.items; talks = standings_in talks.new })
         (answer_view answer)) }
-    ensures was { OnOk result ((place : ℕ) (mine : List EntryData) (account : Ledger)
-        → WasAt S.was seats.old.items place mine account
-        → WasAt S.was seats.new.items place mine account) }
+    ensures called { IfOk result (λ answer. AreCalledIn S.calls case
+        seats.old.items seats.new.items (answer_view answer)) }
+    ensures was { OnOk result ((place : ℕ) (mine : List EntryData) (refusal : Refusal)
+        → WasAt S.was seats.old.items place mine refusal
+        → WasAt S.was seats.new.items place mine refusal) }
     ensures fault { IfErr result (λ fault. fault ≡ WorkerFault.GateClosed) }
     ensures gate { result ≡ Err WorkerFault.GateClosed → G.may_shut gate.now }
 {
@@ -174,8 +176,10 @@ fn recharge<S: Shared, R: Wait, G: Gate>(
     ensures credited { IfOk result (λ answer. IsCredited (IsRefusedAt (S.was seat.new))
         (S.reads.number seat.old) (asked_of credit)
         (S.reads.mine seat.old) (S.reads.mine seat.new) (answer_view answer)) }
-    ensures was { (mine : List EntryData) (ledger : Ledger)
-        → S.was seat.old mine ledger → S.was seat.new mine ledger }
+    ensures called { IfOk result (λ answer. IsOnceCalled S.calls (asked_of credit)
+        (answer_view answer) seat.old seat.new) }
+    ensures was { (mine : List EntryData) (refusal : Refusal)
+        → S.was seat.old mine refusal → S.was seat.new mine refusal }
     ensures fault { IfErr result (λ fault. fault ≡ WorkerFault.GateClosed) }
     ensures gate { result ≡ Err WorkerFault.GateClosed → G.may_shut gate.now }
 {
@@ -219,7 +223,7 @@ impl<S: Shared, R: Wait, G: Gate> Asker<S::Seat> for Desk<'_, S, R, G> {
 
     ghost may_ask = { λ at. S.reads.key at.1 ≡ S.key at.0.account.now };
 
-    ghost does = { AtDesk (λ at. at.0.gate) (λ at. (at.1, at.0.refused)) S.reads S.was };
+    ghost does = { AtDesk (λ at. at.0.gate) (λ at. (at.1, at.0.refused)) S.reads S.was S.calls };
 
     ghost ends = { λ before asked end after. (end ≡ out.GateClosed)
         × G.may_shut before.0.gate.now };

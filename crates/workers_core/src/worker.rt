@@ -3,11 +3,12 @@
 ghost use Rattle.std.specs.Prelude.{◌≡◌, ◌++◌, ◌∷◌, ◌≤◌, ◌<◌, [], ℕ, List, None, Option, true, map, All, IfErr, IfOk, IfSome, OnOk, IfNone, length};
 ghost use Rattle.std.specs.Map.{keys_of};
 ghost use Rattle.account_core.specs.Events.{EntryData};
-ghost use Rattle.account_core.specs.Ledger.{Ledger};
+ghost use Rattle.shared_account.specs.Refusals.{Refusal};
 ghost use Rattle.workers_core.specs.Handled.{IsRecharged, IsRightlyHandled, answer_view};
 ghost use Rattle.workers_core.specs.Refusals.{RefusesAt, WasAt};
 ghost use Rattle.workers_core.specs.Verdicts.{Recharges, Rejects, strays, verdict, fresh, goes_on, home_of, recharged};
 ghost use Rattle.workers_core.specs.Workers.{IsReady, accounts_of, holding, number_by, number_of, seats_of, setup_of, talks_of, standings_in};
+ghost use Rattle.workers_core.specs.Calls.{AreCalled};
 ghost use Rattle.workers_core.specs.Cases.{IsCase};
 ghost use Rattle.cap_values.specs.Orders.{Release, orders_of};
 ghost use Rattle.dialogue_core.specs.Table.{on_message};
@@ -74,9 +75,12 @@ impl<'s, S: Shared> Worker<'s, S> {
     /// dialogue: it sends no operation and asks no account. An InitialDp from a number that is no
     /// subscriber's is answered by ReleaseCall(21), and no account is asked. Else the dialogue of
     /// the call talks with its account until it sends operations or is done, or the account is
-    /// recharged. The answer has the last refusal of an ask for the post. Each ask that was
-    /// refused, told or not, was refused by an account that the seat there knows, as it was at the
+    /// recharged. The answer has the last refusal of an ask for the post. Each ask that was refused,
+    /// in the answer or not, was refused by an account that the seat there knows, as it was at the
     /// entries that the seat had then: so never with `GateClosed`.
+    ///
+    /// The accounts are called for these asks, in order, and for nothing else: no ask is passed
+    /// over and said to have been refused, and none is put that the answer doesn't speak of.
     ///
     /// `OutOfMemory` comes before any account is asked; `GateClosed` where a gate is closed. After
     /// either the worker isn't used again.
@@ -92,9 +96,12 @@ impl<'s, S: Shared> Worker<'s, S> {
             (RefusesAt S.was (seats_of self.new)) (setup_of self.old)
             (map S.reads.number (seats_of self.old)) post
             (holding S.reads.mine self.old) (holding S.reads.mine self.new) (answer_view answer)) }
-        ensures was { OnOk result ((place : ℕ) (mine : List EntryData) (account : Ledger)
-            → WasAt S.was (seats_of self.old) place mine account
-            → WasAt S.was (seats_of self.new) place mine account) }
+        ensures called { IfOk result (λ answer. AreCalled S.calls (setup_of self.old) post.at
+            (verdict (setup_of self.old) (talks_of self.old) post)
+            (seats_of self.old) (seats_of self.new) (answer_view answer)) }
+        ensures was { OnOk result ((place : ℕ) (mine : List EntryData) (refusal : Refusal)
+            → WasAt S.was (seats_of self.old) place mine refusal
+            → WasAt S.was (seats_of self.new) place mine refusal) }
         ensures stray { IfOk result (λ answer. answer.stray ≡ strays
             (verdict (setup_of self.old) (talks_of self.old) post)) }
         ensures stray_asks_nothing { IfOk result (λ answer. answer.stray ≡ true

@@ -1,13 +1,14 @@
-use Rattle.std.proofs.Common.{◌<◌, [], length, refl, map}
+use Rattle.std.proofs.Common.{◌<◌, ◌∙◌, [], length, refl, map, ap, sym}
 use Rattle.std.proofs.lemmas.Result.{IfOk-weaker}
 use Rattle.account_core.specs.Asked.{Credits}
 use Rattle.cap_values.specs.Orders.{orders_of}
 use Rattle.dialogue_core.specs.Phases.{Asks}
 use Rattle.dialogue_core.specs.Views.{phase_of, says_of}
+use Rattle.dialogue_core.specs.Talks.{is_ask, sent_by}
 use Rattle.workers_core.specs.Handled.{answer_view}
 use Rattle.workers_core.specs.Workers.{standings_in}
 use Rattle.workers_core.proofs.Doings.{as_many, grown_at, mine_at, numbered_at, on_ok, own_account, recharged_by, same_seats, stands_now, talked_by, was_at, was_there}
-use Rattle.workers_core.proofs.Talking.{right_known, rights_known, so_ended, spoken, spoken_out}
+use Rattle.workers_core.proofs.Talking.{calls_for, fault_told, right_known, rights_known, so_ended, spoken, spoken_out}
 use Rattle.workers_core.specs.Refusals.{WasAt}
 use Rattle.shared_account.specs.Refusals.{IsRefusedAt}
 use Rattle.std.specs.Prelude.{slice_index_or, slice_set}
@@ -56,12 +57,12 @@ returns-in-Recharge-clause-acted g c =
 
 pub returns-in-Ok-clause-same_keys : goal.returns-in-Ok-clause-same_keys
 returns-in-Ok-clause-same_keys g c =
-    same_seats g.S.Shared.reads.key c.args.seats.now.items c.in-Talk.talk.place c.index_mut-in-Talk.result.now c.converse.new.way c.index_mut-in-Talk.ensures.value (spoken_out _ _ g.S.Shared.reads g.S.Shared.was _ _ _ _ _ c.in-Ok.ensures.talks refl).same_key
+    same_seats g.S.Shared.reads.key c.args.seats.now.items c.in-Talk.talk.place c.index_mut-in-Talk.result.now c.converse.new.way c.index_mut-in-Talk.ensures.value (spoken_out _ _ g.S.Shared.reads g.S.Shared.was g.S.Shared.calls _ _ _ _ _ c.in-Ok.ensures.talks refl).same_key
 
 pub returns-in-Ok-clause-same_numbers :
     goal.returns-in-Ok-clause-same_numbers
 returns-in-Ok-clause-same_numbers g c =
-    same_seats g.S.Shared.reads.number c.args.seats.now.items c.in-Talk.talk.place c.index_mut-in-Talk.result.now c.converse.new.way c.index_mut-in-Talk.ensures.value (spoken_out _ _ g.S.Shared.reads g.S.Shared.was _ _ _ _ _ c.in-Ok.ensures.talks refl).same_number
+    same_seats g.S.Shared.reads.number c.args.seats.now.items c.in-Talk.talk.place c.index_mut-in-Talk.result.now c.converse.new.way c.index_mut-in-Talk.ensures.value (spoken_out _ _ g.S.Shared.reads g.S.Shared.was g.S.Shared.calls _ _ _ _ _ c.in-Ok.ensures.talks refl).same_number
 
 pub returns-in-Ok-clause-acted : goal.returns-in-Ok-clause-acted
 returns-in-Ok-clause-acted g c =
@@ -73,7 +74,7 @@ returns-in-Ok-clause-acted g c =
     talked_by (IsRefusedAt (g.S.Shared.was c.converse.new.way)) (map g.S.Shared.reads.number c.args.seats.now.items) c.in-Talk.call c.in-Talk.talk.place (g.S.Shared.reads.number c.index_mut-in-Talk.result.now)
     (says_of c.in-Talk.turn, phase_of c.in-Talk.talk.dialogue) (phase_of c.converse.new.dialogue) _ _ (standings_in c.args.talks.now) (standings_in c.keep.new.talks)
     (g.S.Shared.reads.mine c.index_mut-in-Talk.result.now) (g.S.Shared.reads.mine c.converse.new.way) (orders_of c.in-Ok.ops.items) c.converse.new.asker.refused _
-    (so_ended _ _ _ _ _ talk.last _ _ _ (spoken_out _ _ g.S.Shared.reads g.S.Shared.was _ _ _ _ _ talk refl).so_far talk.rests talk.sends)
+    (so_ended _ _ _ _ _ talk.last _ _ _ (spoken_out _ _ g.S.Shared.reads g.S.Shared.was g.S.Shared.calls _ _ _ _ _ talk refl).so_far talk.rests talk.sends)
     (numbered_at g.S.Shared.reads.number c.args.seats.now.items c.in-Talk.talk.place c.index_mut-in-Talk.result.now there c.index_mut-in-Talk.ensures.value)
     (mine_at g.S.Shared.reads.mine c.args.seats.now.items c.in-Talk.talk.place c.index_mut-in-Talk.result.now there c.index_mut-in-Talk.ensures.value)
     (λ entries. grown_at g.S.Shared.reads.mine c.args.seats.now.items c.in-Talk.talk.place c.index_mut-in-Talk.result.now c.converse.new.way entries there c.index_mut-in-Talk.ensures.value)
@@ -97,9 +98,39 @@ pub returns-in-Ok-clause-was : goal.returns-in-Ok-clause-was
 returns-in-Ok-clause-was g c =
     let there : c.in-Talk.talk.place < length c.args.seats.now.items =
     rw (as_many g.S.Shared.reads.key g.S.Shared.key c.args.seats.now.items c.args.accounts.now c.requires.keys) (rw c.in-Talk.is at c.requires.within) in
-    was_at g.S.Shared.was c.args.seats.now.items c.in-Talk.talk.place c.index_mut-in-Talk.result.now c.converse.new.way there c.index_mut-in-Talk.ensures.value (spoken_out _ _ g.S.Shared.reads g.S.Shared.was _ _ _ _ _ c.in-Ok.ensures.talks refl).still
+    was_at g.S.Shared.was c.args.seats.now.items c.in-Talk.talk.place c.index_mut-in-Talk.result.now c.converse.new.way there c.index_mut-in-Talk.ensures.value (spoken_out _ _ g.S.Shared.reads g.S.Shared.was g.S.Shared.calls _ _ _ _ _ c.in-Ok.ensures.talks refl).still
 
 pub returns-in-Err-clause-gate : goal.returns-in-Err-clause-gate
 returns-in-Err-clause-gate g c = λ shut.
     let cut = c.in-Err.ensures.cut_off in
-    rw (spoken _ _ g.S.Shared.reads g.S.Shared.was _ _ cut.gots cut.between cut.are_got refl).same_gate at cut.ends.1
+    rw (spoken _ _ g.S.Shared.reads g.S.Shared.was g.S.Shared.calls _ _ cut.gots cut.between cut.are_got refl).same_gate at cut.ends.1
+
+pub returns-in-Recharge-clause-called : goal.returns-in-Recharge-clause-called
+returns-in-Recharge-clause-called g c =
+    rw c.in-Recharge.is
+    (IfOk-weaker c.recharge.result _ _ (λ answer is. record {
+      from = c.index_mut.result.now;
+      to = c.recharge.new.seat;
+      from_is = c.index_mut.ensures.value;
+      only = refl;
+      goes = is;
+    })
+    c.recharge.ensures.called)
+
+pub returns-in-Ok-clause-called : goal.returns-in-Ok-clause-called
+returns-in-Ok-clause-called g c =
+    rw c.in-Talk.is
+    (let talk = c.in-Ok.ensures.talks in
+    record {
+      from = c.index_mut-in-Talk.result.now;
+      to = c.converse.new.way;
+      from_is = c.index_mut-in-Talk.ensures.value;
+      only = refl;
+      goes = record {
+        gots = talk.gots;
+        called = calls_for _ _ g.S.Shared.reads g.S.Shared.was g.S.Shared.calls _ _ talk.gots _ talk.are_got;
+        rests = ap (λ said. is_ask said.0) talk.talks ∙ talk.rests;
+        orders = talk.sends ∙ ap (λ said. sent_by said.0) (sym talk.talks);
+        refused = fault_told _ _ g.S.Shared.reads g.S.Shared.was g.S.Shared.calls _ _ talk.gots _ talk.are_got refl;
+      };
+    })

@@ -4,6 +4,7 @@ use Rattle.workers_core.specs.Handled.{answer_view}
 use Rattle.workers_core.specs.Refusals.{RefusesAt}
 use Rattle.workers_core.specs.Verdicts.{verdict}
 use Rattle.workers_core.specs.Workers.{holding, number_by, standings_in}
+use Rattle.workers_core.proofs.Calling.{called_by}
 use Rattle.workers_core.proofs.Handling.{case_within, done_by, placed_after, recharged_so, rejected_so, stray_is, stray_lists}
 use Rattle.run_values.specs.declared.directory.OpeningCredit.{OpeningCredit}
 use Rattle.workers_core.proofs.worker.Worker.handle.Goals as goal
@@ -48,3 +49,8 @@ returns-clause-rejected g c = λ is. rejected_so _ _ _ _ _ _ (answer_view c.in_o
 
 pub returns-clause-recharged : goal.returns-clause-recharged
 returns-clause-recharged g c = λ place amount until is. recharged_so _ _ _ _ _ _ (answer_view c.in_ok-answer.answer) place amount until (returns-clause-handled g c).handled.done is
+
+pub returns-clause-called : goal.returns-clause-called
+returns-clause-called g c =
+    called_by g.S.Shared.calls c.args.self.now.setup.now c.args.post.at (verdict c.args.self.now.setup.now (standings_in c.args.self.now.talks) c.args.post) c.judge-case.result
+    c.args.self.now.seats.items c.act.new.seats.items (answer_view c.in_ok-answer.answer) c.judge-case.ensures c.in_ok-answer.ensures.called
