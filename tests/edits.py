@@ -10,8 +10,9 @@ an error of its own in its proof files. It isn't refused by what a caller of it 
 function itself waits for another that isn't proved, nor where a proof file only lacks a name. What
 a check leaves undecided is tried in the next one, and at last alone.
 
-With --pages those of must-fail/ are tried too, and what refuses each edit is written to docs/edits/NAME.md. Names of edits
-behind a crate, those of must-fail/ among them, are tried alone.
+With --pages those of must-fail/ are tried too, and what refuses each edit is written to docs/edits/NAME.md. Where
+names of edits are behind a crate, those of must-fail/ among them, no others are tried, and the other rows of its page
+stay as they are.
 
 The checks go over what `rt check` keeps in out/. The last line is 'N refused, M not refused', and
 the names of the M are above it. The status is 0 where M is 0.
@@ -316,17 +317,16 @@ def rows_of(path):
         return {row[1]: row[0] for row in re.finditer(r"^\| `(\w+)` \|.*\n", it.read(), re.M)}
 
 
-def page(crate, given):
-    """The page of a crate: for each edit that was refused, the functions that it changes and the goal that stays open."""
-    rows = []
-    for name, (_, why) in sorted(it for it in given.items() if it[1][0]):
+def page(crate, given, rows):
+    """The page of a crate: these rows, and for each edit that was refused, the functions that it changes and the goal that stays open."""
+    for name, (_, why) in (it for it in given.items() if it[1][0]):
         changed = ", ".join(sorted(f"`{it.name}`" for it in crate.functions.get(name, ())))
         goal = re.search(r"`(\w+(?:-\w+)+)`", why)
         clause = goal and re.search(r"-clause-(\w+)$", goal[1])
-        rows.append(f"| `{name}` | {changed} | {f'clause `{clause[1]}`' if clause else f'goal `{goal[1]}`' if goal else 'its proof'} |\n")
+        rows[name] = f"| `{name}` | {changed} | {f'clause `{clause[1]}`' if clause else f'goal `{goal[1]}`' if goal else 'its proof'} |\n"
     head = f"# What refuses the edits of {crate.name}\n\n`tests/edits.py --pages {crate.name}` has tried them and written this page. "
     head += "A goal that is no clause is on the way to one.\n\n"
-    return head + "| Edit | Changes | Refused by |\n|---|---|---|\n" + "".join(rows)
+    return head + "| Edit | Changes | Refused by |\n|---|---|---|\n" + "".join(rows[it] for it in sorted(rows))
 
 
 def try_crate(root, name, listed, pages, only):
@@ -337,9 +337,11 @@ def try_crate(root, name, listed, pages, only):
         crate = Crate(root, name, room, FOLDERS if pages or only else ("edits",), only)
         given = crate.tried()
     if pages:
-        os.makedirs(f"{root}/docs/edits", exist_ok=True)
-        with open(f"{root}/docs/edits/{name}.md", "w", encoding="utf-8") as it:
-            it.write(page(crate, given))
+        path = f"{root}/docs/edits/{name}.md"
+        os.makedirs(os.path.dirname(path), exist_ok=True)
+        kept = {it: row for it, row in rows_of(path).items() if only and it not in given}
+        with open(path, "w", encoding="utf-8") as it:
+            it.write(page(crate, given, kept))
     refused = [it for it, (well, _) in given.items() if well]
     with PRINTING:
         for it in sorted(given):
@@ -371,8 +373,6 @@ def main():
     words = asked.parse_args()
     listed = lists(words.root)
     only = chosen(words.names, listed, words.root)
-    if words.pages and any(only.values()):
-        sys.exit("edits: --pages takes no names of edits")
     names = [it for it in listed if os.path.isdir(f"{words.root}/crates/{it}/edits") and (not only or it in only)]
     # each crate must be proved as it is, and its check brings out/ up to date, the crates below included
     for it in names:
