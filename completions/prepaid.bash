@@ -25,7 +25,7 @@ _prepaid()
         case ${given[1]} in
             price) words='--fee --before --after --free --first --step --help -h' ;;
             replay) words='--opening --limit --help -h' ;;
-            run) words='--workers --parts --wanted --least --tssf --tccd --delay --default --book --calls --trace --clock --help -h' ;;
+            run) words='--workers --parts --threads --wanted --least --tssf --tccd --delay --default --book --calls --trace --clock --help -h' ;;
             audit) words='--long --rows --lines --help -h' ;;
             quote) words='--called --at --for --credit --clock --help -h' ;;
             rate) words='--called --answer --paid --time --end --before --after --differing --summary --help -h' ;;

@@ -30,6 +30,8 @@ WRONG = {
     "Unknown account": (["subscriber,493,9"], []),
     "What": (["accounts,9,5"], []),
 }
+# How many threads play the parts inside the program.
+THREADS = ["1", "2", "4", "64"]
 # Faults that a part needn't have: the input is only too long for one run.
 TOO_LARGE = ["TooLong", "TooManyRows"]
 
@@ -85,10 +87,18 @@ class Trial:
         self.parts += parts
 
     def inside(self, name, words, path, count, wanted):
-        """Compares the lines of a run that is in parts inside the program with those of one that isn't."""
-        _, found, fault = run(self.program, [*words, "--parts", str(count)], path)
-        if found != wanted:
-            raise SystemExit(f"{name}: {count} parts inside the program:\n{found}{fault}the whole:\n{wanted}")
+        """Compares the lines of runs that are in parts inside the program, by some threads, with those of one that isn't."""
+        for threads in THREADS:
+            _, found, fault = run(self.program, [*words, "--parts", str(count), "--threads", threads], path)
+            if found != wanted:
+                raise SystemExit(f"{name}: {count} parts inside the program, {threads} threads:\n{found}{fault}the whole:\n{wanted}")
+
+    def threaded(self, name, words, path):
+        """Compares what runs in parts print by different threads, books too."""
+        for table in ([], ["--book"], ["--calls"]):
+            printed = {run(self.program, [*words, *table, "--parts", "16", "--threads", it], path)[1] for it in THREADS}
+            if len(printed) != 1 or not printed.pop():
+                raise SystemExit(f"{name} {table}: not the same by {THREADS} threads")
 
     def refuses(self, name, words, path, fault):
         try:
@@ -105,7 +115,7 @@ class Trial:
         if words[:1] != ["run"]:
             return False
         words = ["run", *(it for it in words[1:] if it not in TABLES and not it.startswith("--parts=")), "--workers", "1"]
-        for name in ("--workers", "--parts"):
+        for name in ("--workers", "--parts", "--threads"):
             for at in reversed([at for at, it in enumerate(words[:-2]) if it == name]):
                 del words[at : at + 2]
         path = self.new(text)
@@ -152,8 +162,11 @@ def main():
         one = ["run", "--workers", "1"]
         for name in ("evening", "call", "free_minute", "expiring"):
             path = os.path.join(TOP, "examples", f"{name}.txt")
+            wanted = run(trial.program, one, path)[1]
             for count in (1, 2, 3, 9):
                 trial.same(name, one, path, count)
+                trial.inside(name, one, path, count, wanted)
+            trial.threaded(name, one, path)
         for limits in SMALL:
             trial.same(f"evening {limits}", one, os.path.join(TOP, "examples", "evening.txt"), limits=limits)
         for name, rows in WRONG.items():

@@ -12,8 +12,8 @@ cd "$(dirname "$0")/.."
 calls=crates/refused_growths/out/refused_growths
 prepaid=crates/prepaid/out/prepaid
 commands='command/help command/price command/replay command/run command/run_book command/run_calls
-    command/run_trace command/run_parts command/audit command/audit_long command/audit_altered
-    command/audit_lines command/rate command/serve command/serve_log command/serve_again'
+    command/run_trace command/run_parts command/run_threads command/audit command/audit_long
+    command/audit_altered command/audit_lines command/rate command/serve command/serve_log command/serve_again'
 
 # The words of a command and its input, what it prints, and its status.
 words_of() {
@@ -26,6 +26,7 @@ words_of() {
         command/run_calls) echo 'run --calls' ;;
         command/run_trace) echo 'run --trace' ;;
         command/run_parts) echo 'run --parts 2' ;;
+        command/run_threads) echo 'run --parts 2 --threads 2' ;;
         command/audit_long) echo 'audit --long' ;;
         command/audit_altered) echo 'audit --rows' ;;
         command/audit_lines) echo 'audit --lines' ;;
@@ -66,7 +67,7 @@ answer_of() {
             echo 'settled paid 550 available 450'
             echo 'returned paid 550 available 950'
             ;;
-        command/run | command/run_parts | command/audit_lines)
+        command/run | command/run_parts | command/run_threads | command/audit_lines)
             echo 'account 7 opening 1500 available 950 entries 3'
             echo 'call 1 account 7 paid 550 returned'
             ;;
@@ -121,7 +122,9 @@ status_of() {
 # What a run prints where its account has no memory for the call's grant; nothing for the others.
 ungranted_of() {
     case $1 in
-        command/run | command/run_parts) echo 'account 7 opening 1500 available 1500 entries 0' ;;
+        command/run | command/run_parts | command/run_threads)
+            echo 'account 7 opening 1500 available 1500 entries 0'
+            ;;
         command/run_book)
             echo 'account,seat,op,call,x1,x2,x3,x4,x5,x6,x7,reply,y1,y2,y3'
             echo '7,,opening,,1500,,,,,,,,,,'

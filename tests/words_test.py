@@ -268,6 +268,7 @@ def ranges_in_formats(text, values):
     wanted["price", "Number"] = numbers_of(rows["reports"])
     wanted["price", "Order"] = [numbers_of(rows["reports"])[0].split()[-1]]
     wanted["run", "--workers"] = re.findall(r"takes (\d+ to \d+)", values["run", "--workers"][0])
+    wanted["run", "--threads"] = numbers_of(values["run", "--threads"][0])
     wanted["run", "times"] = f"{relation_of('run', '--delay', values)}, and tssf is {values['run', '--tssf'][0]}."
     wanted["serve", "times"] = f"{relation_of('serve', '--tccd', values)}."
     return wanted
@@ -317,7 +318,8 @@ def answer(program, name, words, text, option=None, value=None):
     """What a command with the words that it needs says to an input: its status, what it prints, and its fault."""
     needed = [it for pair in NEEDS[name][0].items() if pair[0] != option for it in pair]
     with tempfile.NamedTemporaryFile() as log:
-        given = [] if value is None else [option, value, *(["--log", log.name] if option == "--again" else [])]
+        beside = {"--again": ["--log", log.name], "--threads": ["--parts", "2"]}
+        given = [] if value is None else [option, value, *beside.get(option, [])]
         ran = subprocess.run([program, name, *needed, *words, *given], input=text, capture_output=True, text=True)
     return ran.returncode, ran.stdout, ran.stderr
 
@@ -340,7 +342,7 @@ def refusal(name, option, value, allowed, defaults):
         return ""
     # a decimal has at most 20 digits; how many workers may be asked for stands first in their range
     asked = re.match(r"\d+ to (\d+);", allowed)
-    is_ask = name not in ("run", "serve") or option in ("--again", "--parts")
+    is_ask = name not in ("run", "serve") or option in ("--again", "--parts", "--threads")
     if is_ask or value >= 10**20 or asked and value > int(asked[1]):
         return "prepaid: arguments"
     return "prepaid: run: Workers" if asked else "prepaid: input: Config"
@@ -363,8 +365,9 @@ def range_faults(program, values, lines):
             wanted = (lines[refused], refused + "\n") if refused else (0, "")
             if (status, fault) != wanted:
                 faults.append(f"{name} {option} {word}: {(status, fault)} in place of {wanted}")
-    # how many workers there are, and what becomes of a call without orders, change no answer
-    tried = {(name, option) for name, option, *_ in LEFT_OUT} | {("run", "--workers"), ("run", "--parts"), ("run", "--default")}
+    # how many workers and threads there are, and what becomes of a call without orders, change no answer
+    alike = {("run", it) for it in ("--workers", "--parts", "--threads", "--default")}
+    tried = {(name, option) for name, option, *_ in LEFT_OUT} | alike
     faults += [f"{it}: not tried" for it in defaults if it not in tried]
     for name, option, words, text, other in LEFT_OUT:
         is_left = defaults[name, option]

@@ -41,7 +41,7 @@ TAKEN = {
     "audit": {"--long", "--rows", "--lines"},
     "rate": {"--called", "--answer", "--time", "--end", "--paid", "--before", "--after", "--differing"},
     "quote": {"--called", "--at", "--for", "--credit", "--clock"},
-    "run": {"--workers", "--parts", "--wanted", "--least", "--tssf", "--tccd", "--delay", "--default", "--clock", *TABLES},
+    "run": {"--workers", "--parts", "--threads", "--wanted", "--least", "--tssf", "--tccd", "--delay", "--default", "--clock", *TABLES},
     "serve": {"--wanted", "--least", "--tccd", "--log", "--again", *ENDS},
 }
 
@@ -270,8 +270,9 @@ def do_serve(given, source, write):
 
 def do_run(given, text, book):
     parts = number(given, "--parts", most=2**32 - 1) if "--parts" in given else None
+    threads = number(given, "--threads", 1, 64)
     workers = number(given, "--workers", 2 if parts is None else 1, 99)
-    if parts is not None and (parts < 1 or workers > 1 or "--trace" in given):
+    if parts is None and "--threads" in given or parts is not None and (parts < 1 or threads < 1 or workers > 1 or "--trace" in given):
         raise ARGUMENTS
     wanted, least = number(given, "--wanted", 600), number(given, "--least", 50)
     tssf, tccd, delay = number(given, "--tssf", 100), number(given, "--tccd", 50), number(given, "--delay", 2)

@@ -210,6 +210,9 @@ def runs(it, few=False):
     third = script(it, given, base, accounts, subscribers)
     if given["workers"] == 1 and it.random() < (0.02 if table_of == "--trace" else 0.3):
         words += ["--parts", str(it.choice([1, 2, 3, 16, 16, 5000, 0, 2**32]) if it.random() < 0.1 else it.choice([1, 2, 3, 16]))]
+        words += it.choice([[], ["--threads", "1"], ["--threads", "3"]])
+    if it.random() < 0.01:
+        words += ["--threads", it.choice(["0", "1", "64", "65"])]
     return words, first + b"%%\n" + second + b"%%\n" + third
 
 
@@ -303,7 +306,7 @@ def played(it):
     """The options of a run that `serve` has too, the head of its input, and the messages of its trace."""
     words, text = runs(it)
     options = dict(zip(words[1::2], words[2::2]))
-    given = {name: value for name, value in options.items() if name not in TABLES and name not in ("--workers", "--parts")}
+    given = {name: value for name, value in options.items() if name not in TABLES and name not in ("--workers", "--parts", "--threads")}
     _, table_of, _, _ = command(["run", "--workers", "1", "--trace", *(word for pair in given.items() for word in pair)], text)
     rows = [row for row in table_of.encode().split(b"\n") if row.split(b",")[3:4] in ([b"switch"], [b"operator"])]
     options = [it for name in ("--wanted", "--least", "--tccd") if name in given for it in (name, given[name])]
@@ -474,7 +477,7 @@ def other_words(it, words):
     options = [at for at, word in enumerate(words) if word.startswith("--") and word not in FLAGS]
     what = it.choice(["value", "value", "value", "value", "twice", "less", "unknown", "none", "more"])
     if what == "value" and words[0] == "run" and it.random() < 0.7:
-        name = it.choice(["workers", "parts", "wanted", "least", "tssf", "tccd", "delay", "default"])
+        name = it.choice(["workers", "parts", "threads", "wanted", "least", "tssf", "tccd", "delay", "default"])
         if f"--{name}" in words:
             at = words.index(f"--{name}")
             del words[at : at + 2]

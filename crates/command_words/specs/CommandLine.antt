@@ -43,13 +43,13 @@ switch_rules = option_rule (codes "tssf") ∷ option_rule (codes "tccd") ∷ opt
 
 -- the other options of a run
 abbrev pub other_rules : List Rule
-other_rules = option_rule (codes "workers") ∷ option_rule (codes "parts") ∷ option_rule (codes "default") ∷ []
+other_rules = option_rule (codes "workers") ∷ option_rule (codes "parts") ∷ option_rule (codes "threads") ∷ option_rule (codes "default") ∷ []
 
 -- what it prints
 abbrev pub output_rules : List Rule
 output_rules = flag_rule (codes "book") ∷ flag_rule (codes "calls") ∷ flag_rule (codes "trace") ∷ flag_rule (codes "clock") ∷ []
 
--- `run [--wanted N] [--least N] [--tssf N] [--tccd N] [--delay N] [--workers N] [--parts N] [--default N] [--book] [--calls] [--trace] [--clock]`
+-- `run [--wanted N] [--least N] [--tssf N] [--tccd N] [--delay N] [--workers N] [--parts N] [--threads N] [--default N] [--book] [--calls] [--trace] [--clock]`
 unfoldable pub run_app : App
 run_app = with_rules (with_rules (with_rules (with_rules (new_app (codes "run")) service_rules) switch_rules) other_rules) output_rules
 

@@ -106,7 +106,7 @@ A fault is one line on standard error, and then nothing is printed:
   prepaid: arguments
       No options of run: mostly a file name (use < FILE), an option given twice, a unit such
       as 60s, two of --book, --calls and --trace, or --clock without one of the last two, or
-      --parts beside --trace or more than one worker
+      --parts beside --trace or more than one worker, or --threads without --parts
   prepaid: input: Config
       A time is out of the relation above
   prepaid: input: TooLong

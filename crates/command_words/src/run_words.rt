@@ -10,7 +10,7 @@ use crate::fault::WordsFault;
 use crate::options::{clock_by, has_flag, option_text, optional_number};
 use crate::request::Request;
 use clap::ArgMatches;
-use run_options::{RunAsk, RunOptions, RunOutput};
+use run_options::{PartsAsk, RunAsk, RunOptions, RunOutput};
 use ssf_core::DefaultHandling;
 use table_core::{decimal, is_decimal};
 
@@ -19,6 +19,9 @@ const MAX_WORKERS: u64 = 99;
 
 /// The most parts that may be asked for. A run has no more than accounts.
 const MAX_PARTS: u64 = 4_294_967_295;
+
+/// The most threads that may be asked for to play parts.
+const MAX_THREADS: u64 = 64;
 
 /// The run that the options ask for. `Config` where a time is out of its range, however large;
 /// `Arguments` where an option has no number or word of its own.
@@ -73,26 +76,39 @@ fn workers(options: &ArgMatches<'_>) -> Option<u32>
     Some(workers.unwrap_or(default) as u32)
 }
 
-/// In how many parts the run is to be played, if it is.
-fn parts(options: &ArgMatches<'_>, workers: u32, output: RunOutput) -> Option<Option<u32>>
+/// In how many parts the run is to be played, if it is, and by how many threads.
+fn parts(options: &ArgMatches<'_>, workers: u32, output: RunOutput) -> Option<Option<PartsAsk>>
     ensures { result ≡ parts_in (rows_of (found_of options.now)) workers output }
 {
     let count = optional_number(options, "parts", MAX_PARTS)?;
-    parts_of(workers, output, count)
+    let threads = optional_number(options, "threads", MAX_THREADS)?;
+    parts_of(workers, output, count, threads)
 }
 
-/// The same, by the number of the option: at least one, with one worker at most, and no trace.
-fn parts_of(workers: u32, output: RunOutput, count: Option<u64>) -> Option<Option<u32>>
-    requires { unwrap_or count 0 ≤ 4294967295 }
-    ensures { result ≡ parts_of workers output count }
+/// The same, by the numbers of the options: at least one part, with one worker at most, and no
+/// trace; at least one thread, which it is where that is left out, and none without parts.
+fn parts_of(
+    workers: u32,
+    output: RunOutput,
+    count: Option<u64>,
+    threads: Option<u64>,
+) -> Option<Option<PartsAsk>>
+    requires count { unwrap_or count 0 ≤ 4294967295 }
+    requires threads { unwrap_or threads 1 ≤ 64 }
+    ensures { result ≡ parts_of workers output count threads }
 {
     let Some(count) = count else {
-        return Some(None);
+        return if threads.is_none() { Some(None) } else { None };
     };
-    if count < 1 || workers > 1 || matches!(output, RunOutput::Trace(_)) {
+    let threads = threads.unwrap_or(1);
+    let is_trace = matches!(output, RunOutput::Trace(_));
+    if count < 1 || threads < 1 || workers > 1 || is_trace {
         return None;
     }
-    Some(Some(count as u32))
+    Some(Some(PartsAsk {
+        count: count as u32,
+        threads: threads as u32,
+    }))
 }
 
 /// The number that a text writes, `default` where there is none; `u32::MAX` stands for all above.

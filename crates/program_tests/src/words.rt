@@ -39,7 +39,7 @@ const REFUSED: [&str; 24] = [
 ];
 
 /// Words after `run`, the status, and the fault. An empty word is after a space at the end.
-const OPTIONS: [(&str, u8, &str); 48] = [
+const OPTIONS: [(&str, u8, &str); 52] = [
     ("run --workers 0", 2, WORKERS),
     ("run --workers 1", 0, ""),
     ("run --workers 17", 2, WORKERS),
@@ -50,6 +50,10 @@ const OPTIONS: [(&str, u8, &str); 48] = [
     ("run --parts 16", 0, ""),
     ("run --parts 4294967295 --workers 1", 0, ""),
     ("run --parts 4294967296", 1, ARGUMENTS),
+    ("run --parts 2 --threads 0", 1, ARGUMENTS),
+    ("run --parts 2 --threads 64", 0, ""),
+    ("run --parts 2 --threads 65", 1, ARGUMENTS),
+    ("run --threads 1", 1, ARGUMENTS),
     ("run --parts 2 --workers 0", 2, WORKERS),
     ("run --parts 2 --workers 2", 1, ARGUMENTS),
     ("run --parts 2 --trace", 1, ARGUMENTS),

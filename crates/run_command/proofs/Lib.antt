@@ -9,3 +9,4 @@ pub mod Resaid
 pub mod Saying
 pub mod Starts
 pub mod Timing
+pub mod Turning

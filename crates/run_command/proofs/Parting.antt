@@ -1,8 +1,8 @@
 -- Parts that are played one after another, and what they come to together.
-use Rattle.std.proofs.Common.{◌≡◌, ◌<◌, ◌+◌, ◌∙◌, ◌⊎◌, inl, inr, ℕ, Option, List, [], ◌∷◌, ◌++◌, length, map, refl, sym, ap, subst, arith, append_assoc, All}
+use Rattle.std.proofs.Common.{◌≡◌, ◌<◌, ◌+◌, ◌∙◌, ℕ, Option, List, [], ◌∷◌, ◌++◌, length, map, refl, sym, ap, subst, arith, append_assoc}
 use Rattle.std.proofs.Math.ListN.{get_or}
 use Rattle.std.proofs.lemmas.Grind.{flat_map-append}
-use Rattle.std.proofs.lemmas.List.{append-nil, get_or-map, get_or_append_left, length-append, length-map, map-append}
+use Rattle.std.proofs.lemmas.List.{append-nil, get_or-map, length-map, map-append}
 use Rattle.std.proofs.lemmas.List.Sums.{sum_by-append}
 use Rattle.std.specs.List.{flat_map, sum_by}
 use Rattle.run_command.specs.InParts.{ArePlayed, IsInParts, IsPartsText, IsPlayedPart, PartSaid, part_said}
@@ -63,80 +63,6 @@ joined_next parts part rest whole new books calls refusals are = record {
   refusals = refusals ∙ ap (λ r. with_refusals r part.refusals) are.refusals ∙ added_more (map (λ p. p.refusals) are.done) part.refusals
       ∙ ap added (sym (map-append (λ (p : Part). p.refusals) are.done (part ∷ [])));
 }
-
--- ---- the parts are played
-
--- a script for each of the parts so far was played
-pub record ArePlayedSo {V : Type 0} (inside : V → List ScriptRow) (ask : RunAsk) (setup : Setup) (firsts : List ℕ) (scripts rest : List V) (parts : List Part) : Type 0 where
-  pub done : List V
-  pub split : done ++ rest ≡ scripts
-  pub played : ArePlayed ask setup firsts (map inside done) parts
-
-none_played : (ask : RunAsk) (setup : Setup) (firsts : List ℕ) → ArePlayed ask setup firsts [] []
-none_played ask setup firsts = record { count = refl; each = λ part d within. absurd (omega (arith, within)) }
-
-pub none_so_far : {V : Type 0} (inside : V → List ScriptRow) (ask : RunAsk) (setup : Setup) (firsts : List ℕ) (scripts rest : List V) (parts : List Part) → rest ≡ scripts → parts ≡ []
-    → ArePlayedSo inside ask setup firsts scripts rest parts
-none_so_far inside ask setup firsts scripts rest parts whole none = record {
-  done = [];
-  split = whole;
-  played = subst (λ (p : List Part). ArePlayed ask setup firsts [] p) (sym none) (none_played ask setup firsts);
-}
-
-at_end : {X : Type 0} (xs : List X) (x d : X) → get_or (xs ++ x ∷ []) (length xs) d ≡ x
-at_end [] x d = refl
-at_end (y ∷ xs) x d = at_end xs x d
-
-up_to : (k n : ℕ) → k < n + 1 → (k < n) ⊎ (k ≡ n)
-up_to k n within = grind (arith, within)
-
-module _ (ask : RunAsk) (setup : Setup) (firsts : List ℕ) (scripts : List (List ScriptRow)) (rows : List ScriptRow) (parts : List Part) (part : Part)
-    (is : IsPlayedPart ask setup firsts (length parts) rows (part_said part)) (are : ArePlayed ask setup firsts scripts parts) where
-  at_part : (k : ℕ) (d : Part) → (k < length parts) ⊎ (k ≡ length parts)
-      → IsPlayedPart ask setup firsts k (get_or (scripts ++ rows ∷ []) k []) (part_said (get_or (parts ++ part ∷ []) k d))
-  at_part k d (inl before) =
-      let script : get_or (scripts ++ rows ∷ []) k [] ≡ get_or scripts k [] = get_or_append_left scripts (rows ∷ []) [] k (let count = are.count in omega (arith, count, before)) in
-      let own : get_or (parts ++ part ∷ []) k d ≡ get_or parts k d = get_or_append_left parts (part ∷ []) d k before in
-      rw (script, own) (are.each k d before)
-  at_part k d (inr last) =
-      let script : get_or (scripts ++ rows ∷ []) (length parts) [] ≡ rows = rw are.count (at_end scripts rows []) in
-      let own : get_or (parts ++ part ∷ []) (length parts) d ≡ part = at_end parts part d in
-      rw (last, script, own) is
-
-  pub one_played : ArePlayed ask setup firsts (scripts ++ rows ∷ []) (parts ++ part ∷ [])
-  one_played = record {
-    count = length-append parts (part ∷ []) ∙ ap (λ n. n + 1) are.count ∙ sym (length-append scripts (rows ∷ []));
-    each = λ k d within. at_part k d (up_to k (length parts) (let all = length-append parts (part ∷ []) in omega (arith, all, within)));
-  }
-
-pub played_next : {V : Type 0} (inside : V → List ScriptRow) (ask : RunAsk) (setup : Setup) (firsts : List ℕ) (scripts : List V) (script : V) (rest : List V) (parts : List Part) (part : Part) (new : List Part)
-    → new ≡ parts ++ part ∷ [] → IsPlayedPart ask setup firsts (length parts) (inside script) (part_said part) → ArePlayedSo inside ask setup firsts scripts (script ∷ rest) parts
-    → ArePlayedSo inside ask setup firsts scripts rest new
-played_next inside ask setup firsts scripts script rest parts part new grown is are =
-    let Are : List (List ScriptRow) → List Part → Type 0 = λ done now. ArePlayed ask setup firsts done now in
-    let more = one_played ask setup firsts (map inside are.done) (inside script) parts part is are.played in
-    record {
-      done = are.done ++ script ∷ [];
-      split = append_assoc are.done (script ∷ []) rest ∙ are.split;
-      played = subst (λ done. Are done new) (sym (map-append inside are.done (script ∷ []))) (subst (λ now. Are (map inside are.done ++ inside script ∷ []) now) (sym grown) more);
-    }
-
-pub all_played : {V : Type 0} (inside : V → List ScriptRow) (ask : RunAsk) (setup : Setup) (firsts : List ℕ) (scripts : List V) (parts : List Part) → ArePlayedSo inside ask setup firsts scripts [] parts
-    → ArePlayed ask setup firsts (map inside scripts) parts
-all_played inside ask setup firsts scripts parts are =
-    let all : are.done ≡ scripts = sym (append-nil are.done) ∙ are.split in
-    subst (λ (done : List _). ArePlayed ask setup firsts (map inside done) parts) all are.played
-
-at_seam : {X : Type 0} (xs : List X) (x : X) (ys : List X) (d : X) → get_or (xs ++ x ∷ ys) (length xs) d ≡ x
-at_seam [] x ys d = refl
-at_seam (y ∷ xs) x ys d = at_seam xs x ys d
-
--- what holds of all scripts holds of the next one
-pub next_script : {V : Type 0} (P : V → Type 0) (ask : RunAsk) (setup : Setup) (firsts : List ℕ) (inside : V → List ScriptRow) (scripts : List V) (script : V) (rest : List V) (parts : List Part)
-    → ArePlayedSo inside ask setup firsts scripts (script ∷ rest) parts → All P scripts → P script
-next_script P ask setup firsts inside scripts script rest parts are all =
-    let whole : All P (are.done ++ script ∷ rest) = subst (λ (l : List _). All P l) (sym are.split) all in
-    subst P (at_seam are.done script rest script) (whole (length are.done) script (let parts_of = length-append are.done (script ∷ rest) in omega (arith, parts_of)))
 
 -- ---- what all parts say
 

@@ -10,6 +10,7 @@ use Rattle.run_command.specs.Laws.{CallsHavePaid, PassTheirAudits}
 use Rattle.run_command.specs.Plays.{IsGivenBy}
 use Rattle.run_command.specs.Refused.{refusals_in}
 use Rattle.run_options.specs.Options.{played_parts}
+use Rattle.run_options.specs.declared.options.PartsAsk.{PartsAsk}
 use Rattle.run_options.specs.declared.options.RunAsk.{RunAsk}
 use Rattle.run_options.specs.declared.options.RunOutput.{RunOutput}
 use Rattle.run_options.specs.declared.options.RunOutput.TheVariants as output
@@ -58,10 +59,10 @@ pub record IsRunOf (ask : RunAsk) (input : List ℕ) (ran : RunSaid) : Type 0 wh
   -- the records of its calls have paid what the calls of its books have, a call without a route nothing, and a call without a forfeit the price of its times by its route
   pub paid : CallsHavePaid (record { setup = are_books.setup; given = given; books = books })
 
--- what a run says, in parts or not
-abbrev pub IsRunSaid : Option ℕ → RunAsk → List ℕ → RunSaid → Type 0
+-- what a run says, in parts or not; it is the same however many threads play the parts
+abbrev pub IsRunSaid : Option PartsAsk → RunAsk → List ℕ → RunSaid → Type 0
 IsRunSaid None ask input ran = IsRunOf ask input ran
-IsRunSaid (Some parts) ask input ran = IsRunInParts parts ask input ran.text ran.refusals
+IsRunSaid (Some parts) ask input ran = IsRunInParts parts.count ask input ran.text ran.refusals
 
 -- what can end a run of so many workers: `Workers` where there can't be so many, and only then; no gate closes
 abbrev pub MayEnd : ℕ → RunFault → Type 0

@@ -7,3 +7,4 @@ pub mod Played
 pub mod Plays
 pub mod RanOf
 pub mod Refused
+pub mod Turns

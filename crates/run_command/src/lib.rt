@@ -9,6 +9,7 @@ mod parts;
 mod playing;
 mod refusals;
 mod running;
+mod turns;
 
 pub use error::RunError;
 pub use refusals::Refusals;

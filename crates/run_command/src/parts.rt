@@ -9,12 +9,13 @@ ghost use Rattle.run_options.specs.Options.{ask_of};
 ghost use Rattle.run_texts.specs.Views.{are_in_order};
 
 use crate::playing::{Played, play};
+use crate::turns::play_all;
 use crate::{Ran, Refusals, RunError};
 use book_texts::{book_table, run_lines};
 use call_records::{CallRecord, call_table, records};
 use moment_texts::Clock;
-use run_options::{RunOptions, RunOutput};
-use run_parts::{divide, part_of_account};
+use run_options::{PartsAsk, RunOptions, RunOutput};
+use run_parts::{Division, Firsts, divide};
 use run_texts::ScriptRow;
 use run_values::{Body, RunSetup};
 use runs_core::Driver;
@@ -35,27 +36,25 @@ pub(crate) struct Part {
     pub refusals: Refusals,
 }
 
-/// Plays a script in parts, one after another, and prints what all of them come to. The fault told
-/// is that of the first part that has one.
+/// Plays a script in parts, by as many threads as are asked for, and prints what all of them come
+/// to. The fault told is that of the first part that has one.
 pub(crate) fn run_in_parts<R: Wait + Threads + Sync>(
     rt: &R,
     alloc: Global,
     options: &RunOptions,
-    asked: u32,
+    asked: PartsAsk,
     setup: &RunSetup,
     script: Vec<ScriptRow>,
 ) -> Result<Ran, RunError>
     requires in_range { All (λ row. row.at ≤ LAST_MOMENT) script.items }
     requires in_order { are_in_order 0 script.items ≡ true }
     ensures ran { IfOk result (λ ran.
-        IsInParts asked (ask_of options.now) setup.now script.items
+        IsInParts asked.count (ask_of options.now) setup.now script.items
         (string_bytes ran.text) ran.refusals) }
     ensures fault { IfErr result (MayFail options.now.workers) }
 {
-    let division = divide(alloc, setup, script, asked)?;
-    let scripts = division.scripts;
-    let firsts = division.firsts.as_slice();
-    let parts = play_all(rt, alloc, options, setup, firsts, scripts)?;
+    let Division { firsts, scripts } = divide(alloc, setup, script, asked.count)?;
+    let parts = play_all(rt, alloc, options, asked.threads, setup, &firsts, scripts)?;
     let whole = join(alloc, parts)?;
     let refusals = whole.refusals;
     Ok(Ran {
@@ -64,36 +63,13 @@ pub(crate) fn run_in_parts<R: Wait + Threads + Sync>(
     })
 }
 
-/// Plays parts one after another.
-fn play_all<R: Wait + Threads + Sync>(
-    rt: &R,
-    alloc: Global,
-    options: &RunOptions,
-    setup: &RunSetup,
-    firsts: &[u32],
-    scripts: Vec<Vec<ScriptRow>>,
-) -> Result<Vec<Part>, RunError>
-    requires in_range { All (λ rows. All (λ row. row.at ≤ LAST_MOMENT) rows.items) scripts.items }
-    requires in_order { All (λ rows. are_in_order 0 rows.items ≡ true) scripts.items }
-    ensures parts { IfOk result (λ parts. ArePlayed (ask_of options.now) setup.now firsts.now
-        (map (λ rows. rows.items) scripts.items) parts.items) }
-    ensures fault { IfErr result (MayFail options.now.workers) }
-{
-    let mut parts = Vec::with_capacity(alloc, scripts.len())?;
-    for script in scripts {
-        let number = parts.len();
-        parts.push(play_part(rt, alloc, options, setup, firsts, number, script)?)?;
-    }
-    Ok(parts)
-}
-
 /// Plays a part, and keeps what is printed of it.
-fn play_part<R: Wait + Threads + Sync>(
+pub(crate) fn play_part<R: Wait + Threads + Sync>(
     rt: &R,
     alloc: Global,
     options: &RunOptions,
     setup: &RunSetup,
-    firsts: &[u32],
+    firsts: &Firsts,
     number: usize,
     script: Vec<ScriptRow>,
 ) -> Result<Part, RunError>
@@ -138,10 +114,10 @@ fn kept_calls(
 }
 
 /// Keeps the books of the accounts of a part.
-fn keep_own(books: &mut Vec<Book>, firsts: &[u32], number: usize)
+fn keep_own(books: &mut Vec<Book>, firsts: &Firsts, number: usize)
     ensures { books.new.items ≡ own_books firsts.now number books.old.items }
 {
-    books.retain(|book| part_of_account(firsts, book.account()) == number);
+    books.retain(|book| firsts.part_of(book.account()) == number);
 }
 
 /// What all parts come to together, in order.

@@ -1,7 +1,8 @@
 -- What the options of a run say, and those of the service live.
-use Rattle.std.specs.Prelude.{ℕ, Bool, true, false, Option, None, if◌then◌else◌}
+use Rattle.std.specs.Prelude.{Bool, true, false, Option, None, if◌then◌else◌}
 use Rattle.run_options.specs.declared.live.LiveAsk.{LiveAsk}
 use Rattle.run_options.specs.declared.live.LiveOptions.{LiveOptions}
+use Rattle.run_options.specs.declared.options.PartsAsk.{PartsAsk}
 use Rattle.run_options.specs.declared.options.RunAsk.{RunAsk}
 use Rattle.run_options.specs.declared.options.RunOptions.{RunOptions}
 use Rattle.run_options.specs.declared.options.RunOutput.{RunOutput}
@@ -29,7 +30,7 @@ is_trace (output.Calls clock) = false
 is_trace (output.Trace clock) = true
 
 -- in how many parts a run is played, if it is: a trace is of a run that isn't in parts
-abbrev pub played_parts : RunAsk → Option ℕ
+abbrev pub played_parts : RunAsk → Option PartsAsk
 played_parts ask = if is_trace ask.output then None else ask.parts
 
 -- what was asked of the service live

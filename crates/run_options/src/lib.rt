@@ -8,4 +8,4 @@ mod options;
 
 pub use live::{LiveAsk, LiveOptions, LiveOutput};
 pub use log::LogAsk;
-pub use options::{RunAsk, RunOptions, RunOutput};
+pub use options::{PartsAsk, RunAsk, RunOptions, RunOutput};

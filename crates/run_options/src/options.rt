@@ -21,9 +21,8 @@ pub struct RunOptions {
     pub delay: u32,
     /// What is printed.
     pub output: RunOutput,
-    /// In how many parts the run is played, if it is. A run has no more of them than accounts, and
-    /// at least one.
-    pub parts: Option<u32>,
+    /// In how many parts the run is played, if it is.
+    pub parts: Option<PartsAsk>,
     pub ghost delay_positive: { 1 ≤ delay },
     pub ghost delay_within_tccd: { delay ≤ ssf.tccd },
 }
@@ -53,7 +52,7 @@ impl RunOptions {
     }
 
     /// In how many parts the run is played, if it is. A trace is of a run that isn't in parts.
-    pub fn played_parts(&self) -> Option<u32>
+    pub fn played_parts(&self) -> Option<PartsAsk>
         ensures { result ≡ played_parts (ask_of self.now) }
     {
         match self.output {
@@ -82,9 +81,17 @@ pub struct RunAsk {
     pub default_handling: DefaultHandling,
     /// What is printed.
     pub output: RunOutput,
-    /// In how many parts the run is played, if it is. A run has no more of them than accounts, and
-    /// at least one.
-    pub parts: Option<u32>,
+    /// In how many parts the run is played, if it is.
+    pub parts: Option<PartsAsk>,
+}
+
+/// In how many parts a run is played, and by how many threads.
+#[derive(Clone, Copy, Debug, PartialEq, Eq)]
+pub struct PartsAsk {
+    /// How many parts are asked for. A run has no more of them than accounts, and at least one.
+    pub count: u32,
+    /// How many threads are to play them. There are no more of them than parts, and at least one.
+    pub threads: u32,
 }
 
 /// What a run prints.

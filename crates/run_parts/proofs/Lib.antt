@@ -1,3 +1,4 @@
 pub mod Accounts
+pub mod Beginnings
 pub mod Orders
 pub mod Piles

@@ -2,10 +2,13 @@
 
 ghost use Rattle.std.specs.Prelude.{◌≡◌, ◌≤◌, ◌<◌, ◌+◌, ℕ, true, All, length, map, max, IfOk, IfSome};
 ghost use Rattle.std.specs.BTreeMap.{get};
+ghost use Rattle.std.specs.List.Sorted.{IsStrictlySortedBy};
 ghost use Rattle.std.specs.Ordering.{nat_cmp};
-ghost use Rattle.run_parts.specs.Parts.{AreParts, part_by, part_count, part_of, part_of_account, payer_of};
+ghost use Rattle.run_parts.specs.Parts.{AreParts, part_by, part_count, part_of, payer_of};
+ghost use Rattle.run_values.specs.Setups.{has_account};
 ghost use Rattle.run_texts.specs.Views.{are_in_order, happens_of, script_event, with_digits};
 
+use crate::firsts::Firsts;
 use crate::payers::payers_in;
 use run_texts::{Happening, ScriptRow};
 use run_values::RunSetup;
@@ -16,8 +19,8 @@ use tariff_core::LAST_MOMENT;
 /// A script that is divided.
 #[derive(Drop)]
 pub struct Division {
-    /// The numbers of the accounts with which the second part and each further one begins.
-    pub firsts: Vec<u32>,
+    /// Where its parts begin.
+    pub firsts: Firsts,
     /// The rows of each part, in the order of the whole script.
     pub scripts: Vec<Vec<ScriptRow>>,
 }
@@ -34,9 +37,12 @@ pub fn divide(
     script: Vec<ScriptRow>,
     parts: u32,
 ) -> Result<Division, AllocError>
-    ensures count { IfOk result (λ division. 1 + length division.firsts.items
+    ensures count { IfOk result (λ division. 1 + length division.firsts
         ≡ part_count parts (length setup.now.accounts)) }
-    ensures parts { IfOk result (λ division. AreParts division.firsts.items
+    ensures rising { IfOk result (λ division. IsStrictlySortedBy nat_cmp division.firsts) }
+    ensures firsts { IfOk result (λ division.
+        All (λ first. has_account first setup.now.accounts ≡ true) division.firsts) }
+    ensures parts { IfOk result (λ division. AreParts division.firsts
         (payer_of (with_digits setup.now.subscribers) (map script_event script.items))
         script.items (map (λ rows. rows.items) division.scripts.items)) }
     ensures in_range { IfOk result (λ division. All (λ row. row.at ≤ LAST_MOMENT) script.items
@@ -48,7 +54,7 @@ pub fn divide(
     let weights = weights_in(alloc, setup, &payers, script.as_slice())?;
     let count = (parts as usize).min(setup.account_count()).max(1);
     let firsts = first_accounts(alloc, setup, weights.as_slice(), count)?;
-    let scripts = deal(alloc, firsts.as_slice(), &payers, script.as_slice())?;
+    let scripts = deal(alloc, &firsts, &payers, script.as_slice())?;
     Ok(Division { firsts, scripts })
 }
 
@@ -92,25 +98,36 @@ fn first_accounts(
     setup: &RunSetup,
     weights: &[u64],
     count: usize,
-) -> Result<Vec<u32>, AllocError>
+) -> Result<Firsts, AllocError>
     requires weights { length weights.now ≡ length setup.now.accounts }
     requires some { 1 ≤ count }
     requires few { count ≤ max 1 (length setup.now.accounts) }
-    ensures { IfOk result (λ firsts. 1 + length firsts.items ≡ count) }
+    ensures count { IfOk result (λ firsts. 1 + length firsts ≡ count) }
+    ensures rising { IfOk result (λ firsts. IsStrictlySortedBy nat_cmp firsts) }
+    ensures accounts { IfOk result (λ firsts.
+        All (λ first. has_account first setup.now.accounts ≡ true) firsts) }
 {
+    let _ = setup.accounts();
     let share = total(weights) / count as u64;
     let mut firsts = Vec::with_capacity(alloc, count)?;
     let mut taken = 0u64;
     for place in 0..weights.len() {
         let missing = count - 1 - firsts.len();
-        let shares = share.saturating_mul(1 + firsts.len() as u64);
-        let is_needed = weights.len() - place <= missing;
-        if missing > 0 && (is_needed || (place > 0 && taken >= shares)) {
+        let is_full = place > 0 && taken >= share.saturating_mul(1 + firsts.len() as u64);
+        if is_begun(weights.len() - place, missing, is_full) {
             firsts.push(setup.number(place))?;
         }
         taken = taken.saturating_add(weights[place]);
     }
-    Ok(firsts)
+    Ok(Firsts::of(firsts))
+}
+
+/// Whether the next part begins, where so many accounts are left and so many parts are missing.
+fn is_begun(left: usize, missing: usize, is_full: bool) -> bool
+    ensures missing { result ≡ true → 1 ≤ missing }
+    ensures needed { 1 ≤ missing → left ≤ missing → result ≡ true }
+{
+    missing > 0 && (left <= missing || is_full)
 }
 
 /// The sum of weights, or `u64::MAX` where it is larger.
@@ -125,15 +142,15 @@ fn total(weights: &[u64]) -> u64 {
 /// Lays each row of a script onto the pile of its part.
 fn deal(
     alloc: Global,
-    firsts: &[u32],
+    firsts: &Firsts,
     payers: &BTreeMap<u64, u32>,
     script: &[ScriptRow],
 ) -> Result<Vec<Vec<ScriptRow>>, AllocError>
     ensures { IfOk result (λ piles. AreParts firsts.now (get nat_cmp payers.now)
         script.now (map (λ rows. rows.items) piles.items)) }
 {
-    let mut piles = Vec::with_capacity(alloc, firsts.len())?;
-    for _ in 0..=firsts.len() {
+    let mut piles = Vec::with_capacity(alloc, firsts.part_count())?;
+    for _ in 0..firsts.part_count() {
         piles.push(Vec::new(alloc))?;
     }
     for row in script {
@@ -143,7 +160,7 @@ fn deal(
 }
 
 /// The part of what happens.
-fn part_of(firsts: &[u32], payers: &BTreeMap<u64, u32>, what: Happening) -> usize
+fn part_of(firsts: &Firsts, payers: &BTreeMap<u64, u32>, what: Happening) -> usize
     ensures part { result ≡ part_of firsts.now (get nat_cmp payers.now) (happens_of what) }
     ensures within { result ≤ length firsts.now }
 {
@@ -151,25 +168,17 @@ fn part_of(firsts: &[u32], payers: &BTreeMap<u64, u32>, what: Happening) -> usiz
         Happening::Start { call, .. } | Happening::Meets { call, .. } => {
             part_by(firsts, payers.get(&call).copied(), call)
         }
-        Happening::Recharge { account, .. } => part_of_account(firsts, account),
+        Happening::Recharge { account, .. } => firsts.part_of(account),
     }
 }
 
 /// The part of a call of an account, or of none.
-fn part_by(firsts: &[u32], payer: Option<u32>, call: u64) -> usize
+fn part_by(firsts: &Firsts, payer: Option<u32>, call: u64) -> usize
     ensures part { result ≡ part_by firsts.now payer call }
     ensures within { result ≤ length firsts.now }
 {
     match payer {
-        Some(account) => part_of_account(firsts, account),
-        None => (call % (1 + firsts.len() as u64)) as usize,
+        Some(account) => firsts.part_of(account),
+        None => (call % firsts.part_count() as u64) as usize,
     }
-}
-
-/// The part of an account, by the accounts with which the second part and each further one begins.
-pub fn part_of_account(firsts: &[u32], account: u32) -> usize
-    ensures part { result ≡ part_of_account firsts.now account }
-    ensures within { result ≤ length firsts.now }
-{
-    firsts.iter().filter(|first| **first <= account).count()
 }

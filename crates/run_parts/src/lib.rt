@@ -2,6 +2,8 @@
 #![tactic(auto)]
 
 mod division;
+mod firsts;
 mod payers;
 
-pub use division::{Division, divide, part_of_account};
+pub use division::{Division, divide};
+pub use firsts::Firsts;

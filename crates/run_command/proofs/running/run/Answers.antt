@@ -1,4 +1,4 @@
-use Rattle.std.proofs.Common.{◌≡◌, ◌∙◌, ℕ, Option, true, refl, sym, ap, subst}
+use Rattle.std.proofs.Common.{◌≡◌, ◌∙◌, Option, true, refl, sym, ap, subst}
 use Rattle.std.proofs.lemmas.List.Elements.{All-map}
 use Rattle.run_command.proofs.Saying.{parts_said, whole_said}
 use Rattle.run_command.specs.Answers.{IsRunSaid}
@@ -6,6 +6,7 @@ use Rattle.run_books.specs.Runs.{HasAccounts}
 use Rattle.run_command.specs.Books.{IsSetupOf}
 use Rattle.run_command.specs.RanOf.{said_of}
 use Rattle.run_options.specs.Options.{ask_of}
+use Rattle.run_options.specs.declared.options.PartsAsk.{PartsAsk}
 use Rattle.run_texts.specs.Happenings.{ScriptEvent, is_in_time}
 use Rattle.run_texts.specs.Inputs.{input_in}
 use Rattle.run_texts.specs.Views.{script_event, with_digits}
@@ -28,7 +29,7 @@ returns-in-None g c =
       least = rw c.in_ok-setup.ensures.service refl;
       limit = c.in_ok-setup.ensures.limit;
     } in
-    subst (λ (parts : Option ℕ). IsRunSaid parts ask c.args.input.now ran) (sym c.in-None.is ∙ c.played_parts.ensures)
+    subst (λ (parts : Option PartsAsk). IsRunSaid parts ask c.args.input.now ran) (sym c.in-None.is ∙ c.played_parts.ensures)
     (whole_said c.played_books_pass.ensures c.played_calls_have_paid.ensures ask c.args.input.now (input_in texts) setup texts.script.items ran c.in_ok-texts.ensures.means of_input
     (record { accounts = accounts; few = c.in_ok-texts.ensures.within.accounts; recharges = in_time }) refl c.in_ok-run_whole-in-None.ensures.ran)
 
@@ -48,6 +49,6 @@ returns g c =
       least = rw c.in_ok-setup.ensures.service refl;
       limit = c.in_ok-setup.ensures.limit;
     } in
-    subst (λ (parts : Option ℕ). IsRunSaid parts ask c.args.input.now ran) (sym c.in-Some.is ∙ c.played_parts.ensures)
-    (parts_said c.played_calls_have_paid.ensures c.in-Some.parts ask c.args.input.now (input_in texts) setup texts.script.items ran.text ran.refusals c.in_ok-texts.ensures.means of_input accounts refl
+    subst (λ (parts : Option PartsAsk). IsRunSaid parts ask c.args.input.now ran) (sym c.in-Some.is ∙ c.played_parts.ensures)
+    (parts_said c.played_calls_have_paid.ensures c.in-Some.parts.count ask c.args.input.now (input_in texts) setup texts.script.items ran.text ran.refusals c.in_ok-texts.ensures.means of_input accounts refl
     c.in_ok-run_in_parts-in-Some.ensures.ran)

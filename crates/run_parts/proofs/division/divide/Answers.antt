@@ -10,12 +10,12 @@ use Rattle.run_parts.proofs.division.divide.Goals as goal
 pub returns-clause-in_range : goal.returns-clause-in_range
 returns-clause-in_range c =
     let Within : ScriptRow → Type 0 = λ row. row.at ≤ LAST_MOMENT in
-    λ all. of_each (λ pile. pile.items) (λ rows. All Within rows) c.in_ok-firsts.firsts.items (get nat_cmp c.in_ok-payers.payers) c.args.script.items c.in_ok-scripts.scripts.items
-    (rw (c.as_slice-4.ensures.value, c.as_slice-5.ensures.value) at c.in_ok-scripts.ensures)
-    (λ part. in_range Within c.in_ok-firsts.firsts.items (get nat_cmp c.in_ok-payers.payers) c.args.script.items part all)
+    λ all. of_each (λ pile. pile.items) (λ rows. All Within rows) c.in_ok-firsts.firsts (get nat_cmp c.in_ok-payers.payers) c.args.script.items c.in_ok-scripts.scripts.items
+    (rw (c.as_slice-4.ensures.value) at c.in_ok-scripts.ensures)
+    (λ part. in_range Within c.in_ok-firsts.firsts (get nat_cmp c.in_ok-payers.payers) c.args.script.items part all)
 
 pub returns-clause-in_order : goal.returns-clause-in_order
 returns-clause-in_order c =
-    λ are. of_each (λ pile. pile.items) (λ rows. are_in_order 0 rows ≡ true) c.in_ok-firsts.firsts.items (get nat_cmp c.in_ok-payers.payers) c.args.script.items c.in_ok-scripts.scripts.items
-    (rw (c.as_slice-4.ensures.value, c.as_slice-5.ensures.value) at c.in_ok-scripts.ensures)
-    (λ part. in_order c.in_ok-firsts.firsts.items (get nat_cmp c.in_ok-payers.payers) c.args.script.items part are)
+    λ are. of_each (λ pile. pile.items) (λ rows. are_in_order 0 rows ≡ true) c.in_ok-firsts.firsts (get nat_cmp c.in_ok-payers.payers) c.args.script.items c.in_ok-scripts.scripts.items
+    (rw (c.as_slice-4.ensures.value) at c.in_ok-scripts.ensures)
+    (λ part. in_order c.in_ok-firsts.firsts (get nat_cmp c.in_ok-payers.payers) c.args.script.items part are)
