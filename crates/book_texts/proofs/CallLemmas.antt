@@ -51,13 +51,6 @@ calls_more before book lines sums are so_far call =
     let here = sum_listed book.account call sums are.rising ∙ ap (λ sum. cons_option (option_map (line_of book.account) sum) []) (are.each call) in
     rw (filter_map-append (line_in call) before (book ∷ []), filter-append, so_far call, here) refl
 
--- the same of the next book of a list
-pub calls_listed : (books : List Closed) (i : ℕ) (book : Closed) (lines : List CallLine) (sums : List CallSum)
-    → i < length books → book ≡ get_or books i book → AreSums (reverse book.history) sums
-    → ((call : ℕ) → lines_of call lines ≡ filter_map (line_in call) (take i books))
-    → (call : ℕ) → lines_of call (lines ++ map (line_of book.account) sums) ≡ filter_map (line_in call) (take (i + 1) books)
-calls_listed books i book lines sums within is are so_far call = rw (next_item books i book within is) (calls_more (take i books) book lines sums are so_far call)
-
 is_tie : (call other : ℕ) → other == call ≡ not (is_lt (nat_cmp call other)) && not (is_lt (nat_cmp other call))
 is_tie call other = grind (arith, nat_tests)
 

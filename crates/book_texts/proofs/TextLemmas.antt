@@ -24,15 +24,6 @@ one_more text_of front text items i item within is so_far =
     rw (so_far, next_item items i item within is, flat_map-append text_of (take i items) (item ∷ []), append-nil (text_of item))
     (append_assoc front (flat_map text_of (take i items)) (text_of item))
 
--- the line of one more account, from its summary
-pub account_printed : (books : List Closed) (i : ℕ) (book : Closed) (text : List ℕ) (account opening credit entries : ℕ)
-    → i < length books → book ≡ get_or books i book
-    → account ≡ book.account → opening ≡ book.opening → credit ≡ available book.opening (reverse book.history) → entries ≡ length book.history
-    → text ≡ flat_map account_line (take i books)
-    → text ++ account_text account opening credit entries ≡ flat_map account_line (take (i + 1) books)
-account_printed books i book text account opening credit entries within is number opened left count so_far =
-    rw (number, opened, left, count) (one_more account_line [] text books i book within is so_far)
-
 -- ---- what holds of each item so far
 
 pub all_so_far : {X : Type 0} (P : X → Type 0) (items : List X) (i : ℕ) (item : X) → i < length items → item ≡ get_or items i item

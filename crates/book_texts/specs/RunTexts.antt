@@ -57,6 +57,16 @@ pub record AreCallLines (books : List Closed) (lines : List CallLine) : Type 0 w
   pub rising : IsNonDecreasingBy (λ line. line.sum.call) lines
   pub each : (call : ℕ) → lines_of call lines ≡ filter_map (line_in call) books
 
+-- the text of accounts, and the calls whose lines come behind it
+pub record LinesSaid : Type 0 where
+  pub accounts : List ℕ
+  pub calls : List CallLine
+
+-- these are of books: the lines of the accounts, in the order of the books, and of each call one of each account that granted it anything, in that order too
+pub record AreLinesOf (books : List Closed) (said : LinesSaid) : Type 0 where
+  pub accounts : said.accounts ≡ flat_map account_line books
+  pub calls : (call : ℕ) → lines_of call said.calls ≡ filter_map (line_in call) books
+
 -- the lines of the accounts, in the order of the books, and then those of the calls
 pub record IsRunText (books : List Closed) (text : List ℕ) : Type 0 where
   pub lines : List CallLine

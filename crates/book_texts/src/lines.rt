@@ -1,13 +1,15 @@
 //! The lines that a run prints of its books.
 
-ghost use Rattle.std.specs.Prelude.{◌≡◌, ◌++◌, OnOk, IfOk, List, string_bytes, map};
+ghost use Rattle.std.specs.Prelude.{◌≡◌, ◌++◌, ◌∷◌, [], OnOk, IfOk, List, string_bytes, map};
 ghost use Rattle.std.specs.List.{flat_map};
-ghost use Rattle.book_texts.specs.RunTexts.{AreOrdered, IsRunText, account_text, call_line, word_of, line_of};
+ghost use Rattle.book_texts.specs.RunTexts.{AreLinesOf, AreOrdered, IsRunText, account_text, call_line, word_of, line_of};
+ghost use Rattle.shared_account.specs.Closed.{Closed};
 ghost use Rattle.book_texts.specs.declared.lines.CallLine.{CallLine};
 
 use account_core::{CallSum, Fate};
 use shared_account::{Book, Summary};
 use std::alloc::{AllocError, Global};
+use std::marker::Model;
 
 /// A line `account A opening O available N entries E` for each book, in order, and then a line
 /// `call C account A paid P WORD` for each call that an account granted anything, by rising number.
@@ -15,22 +17,91 @@ use std::alloc::{AllocError, Global};
 pub fn run_lines(alloc: Global, books: &[Book]) -> Result<String, AllocError>
     ensures { IfOk result (λ text. IsRunText books.now (string_bytes text)) }
 {
-    let mut text = String::new(alloc);
-    let mut lines = Vec::new(alloc);
-    for book in books {
-        let Summary {
-            account,
-            opening,
-            available,
-            entries,
-            calls,
-        } = book.summary(alloc)?;
-        let (account, entries) = (u64::from(account), entries as u64);
-        write_account(&mut text, account, opening, available, entries)?;
-        add_calls(&mut lines, account, calls.as_slice())?;
+    let mut lines = RunLines::new(alloc);
+    lines.add(alloc, books)?;
+    lines.write()
+}
+
+/// The lines that a run prints of books, as far as these are known: the text of the accounts, and
+/// the calls whose lines come behind it. It holds no history.
+#[derive(Drop)]
+pub struct RunLines {
+    accounts: String,
+    calls: Vec<CallLine>,
+}
+
+impl Model for RunLines {
+    ghost use Rattle.std.specs.Prelude.{string_bytes};
+    ghost use Rattle.book_texts.specs.RunTexts.{LinesSaid};
+
+    ghost Value = { LinesSaid };
+
+    ghost view = { λ lines. record {
+      accounts = string_bytes lines.accounts;
+      calls = lines.calls.items;
+    } };
+}
+
+impl RunLines {
+    /// Those of no book.
+    pub fn new(alloc: Global) -> RunLines
+        ensures { AreLinesOf [] result }
+    {
+        RunLines {
+            accounts: String::new(alloc),
+            calls: Vec::new(alloc),
+        }
     }
-    write_in_order(&mut text, lines)?;
-    Ok(text)
+
+    /// Adds those of more books, behind those that there are.
+    pub fn add(&mut self, alloc: Global, books: &[Book]) -> Result<(), AllocError>
+        ensures { OnOk result ((before : List Closed) → AreLinesOf before self.old
+            → AreLinesOf (before ++ books.now) self.new) }
+    {
+        for book in books {
+            let summary = book.summary(alloc)?;
+            self.add_one(summary)?;
+        }
+        Ok(())
+    }
+
+    /// Adds those of a book.
+    fn add_one(&mut self, of: Summary) -> Result<(), AllocError>
+        ensures accounts { OnOk result (self.new.accounts ≡ self.old.accounts
+            ++ account_text of.account of.opening of.available of.entries) }
+        ensures calls { OnOk result (self.new.calls
+            ≡ self.old.calls ++ map (line_of of.account) of.calls.items) }
+    {
+        let (account, entries) = (u64::from(of.account), of.entries as u64);
+        let text = &mut self.accounts;
+        write_account(text, account, of.opening, of.available, entries)?;
+        add_calls(&mut self.calls, account, of.calls.as_slice())
+    }
+
+    /// Puts those of other books behind these.
+    pub fn append(&mut self, more: RunLines) -> Result<(), AllocError>
+        ensures { OnOk result ((books later : List Closed) → AreLinesOf books self.old
+            → AreLinesOf later more → AreLinesOf (books ++ later) self.new) }
+    {
+        let RunLines {
+            accounts,
+            mut calls,
+        } = more;
+        self.accounts.push_str(accounts.as_str())?;
+        self.calls.append(&mut calls)?;
+        Ok(())
+    }
+
+    /// The text of all lines: `run_lines` says in which order.
+    pub fn write(self) -> Result<String, AllocError>
+        ensures { IfOk result (λ text. (books : List Closed) → AreLinesOf books self
+            → IsRunText books (string_bytes text)) }
+    {
+        let RunLines { accounts, calls } = self;
+        let mut text = accounts;
+        write_in_order(&mut text, calls)?;
+        Ok(text)
+    }
 }
 
 /// Adds the line of an account: its number, its opening, what it has left, and how many entries.
