@@ -8,5 +8,6 @@ pub mod RefusalLemmas
 pub mod Resaid
 pub mod Saying
 pub mod Starts
+pub mod Tabling
 pub mod Timing
 pub mod Turning

@@ -1,33 +1,36 @@
 -- What a run of an input says, from what its rows came to over its setup.
-use Rattle.std.proofs.Common.{◌≡◌, ◌∙◌, ℕ, List, [], map, length, ap, subst, Ok, arith}
+use Rattle.std.proofs.Common.{◌≡◌, ◌∙◌, ℕ, List, [], map, length, ap, subst, arith}
 use Rattle.std.specs.List.{flat_map}
 use Rattle.run_books.specs.Runs.{HasAccounts}
 use Rattle.run_command.proofs.Resaid.{part_said_alike}
 use Rattle.run_command.specs.Answers.{IsRunOf, RunSaid}
 use Rattle.run_command.specs.Books.{AreBooksOf, IsSetupOf}
 use Rattle.run_command.specs.InParts.{IsInParts, IsPartOf, IsPartsText, IsPlayedPart, IsRunInParts, PartSaid}
-use Rattle.run_command.specs.Laws.{IsInRange, PlayedBooksPass, PlayedCallsHavePaid}
-use Rattle.run_command.specs.Played.{IsWhole}
+use Rattle.run_command.specs.Laws.{PlayedBooksPass, PlayedCallsHavePaid}
+use Rattle.run_command.specs.Played.{AreWhole, IsWhole}
 use Rattle.run_command.specs.Plays.{IsGivenBy}
 use Rattle.run_command.specs.Refused.{none_refused}
+use Rattle.run_command.specs.Starts.{IsStartOf}
+use Rattle.run_command.specs.Tables.{AreTablesOf, TablesSaid}
 use Rattle.run_command.specs.declared.refusals.Refusals.{Refusals}
 use Rattle.run_options.specs.declared.options.RunAsk.{RunAsk}
 use Rattle.run_parts.specs.Parts.{part_count, part_rows, part_script, payer_of}
 use Rattle.run_texts.specs.Happenings.{ScriptEvent}
-use Rattle.run_texts.specs.Inputs.{RunInput, input_of}
+use Rattle.run_texts.specs.Inputs.{RunInput}
 use Rattle.run_texts.specs.Views.{script_event, with_digits}
 use Rattle.run_texts.specs.declared.script.ScriptRow.{ScriptRow}
 use Rattle.run_values.specs.Setups.{Setup}
 use Rattle.tariff_core.specs.Bands.{Band}
 
-pub whole_said : PlayedBooksPass → PlayedCallsHavePaid → (ask : RunAsk) (input : List ℕ) (said : RunInput) (setup : Setup) (rows : List ScriptRow) (ran : RunSaid) → input_of input ≡ Ok said
-    → IsSetupOf ask said setup → IsInRange said → map script_event rows ≡ said.script → IsWhole ask setup rows ran → IsRunOf ask input ran
-whole_said pass paid ask input said setup rows ran read of_input range says is =
-    let given_by : IsGivenBy ask said.script is.heard is.given = subst (λ (s : List ScriptEvent). IsGivenBy ask s is.heard is.given) says is.given_by in
-    let are : AreBooksOf ask said is.given is.heard is.books = record { setup = setup; of_input = of_input; run = is.run } in
+pub whole_said : PlayedBooksPass → PlayedCallsHavePaid → (ask : RunAsk) (input : List ℕ) (setup : Setup) (rows : List ScriptRow) (ran : RunSaid) → IsStartOf ask input setup rows
+    → IsWhole ask setup rows ran → IsRunOf ask input ran
+whole_said pass paid ask input setup rows ran start is =
+    let said = start.said in
+    let given_by : IsGivenBy ask said.script is.heard is.given = subst (λ (s : List ScriptEvent). IsGivenBy ask s is.heard is.given) start.says is.given_by in
+    let are : AreBooksOf ask said is.given is.heard is.books = record { setup = setup; of_input = start.of_input; run = is.run } in
     record {
       said = said;
-      read = read;
+      read = start.read;
       workers = is.workers;
       given = is.given;
       heard = is.heard;
@@ -36,8 +39,30 @@ whole_said pass paid ask input said setup rows ran read of_input range says is =
       are_books = are;
       printed = is.printed;
       refused = is.refused;
-      passes = λ asked. pass ask said is.given is.heard is.books is.workers range given_by are (is.typed asked);
-      paid = paid ask said is.given is.heard is.books is.workers range.accounts given_by are;
+      passes = λ asked. pass ask said is.given is.heard is.books is.workers start.range given_by are (is.typed asked);
+      paid = paid ask said is.given is.heard is.books is.workers start.range.accounts given_by are;
+    }
+
+-- the same of all texts of one play
+pub tables_are_said : PlayedBooksPass → PlayedCallsHavePaid → (ask : RunAsk) (input : List ℕ) (setup : Setup) (rows : List ScriptRow) (tables : TablesSaid) → IsStartOf ask input setup rows
+    → AreWhole ask setup rows tables → AreTablesOf ask input tables
+tables_are_said pass paid ask input setup rows tables start is =
+    let said = start.said in
+    let given_by : IsGivenBy ask said.script is.heard is.given = subst (λ (s : List ScriptEvent). IsGivenBy ask s is.heard is.given) start.says is.given_by in
+    let are : AreBooksOf ask said is.given is.heard is.books = record { setup = setup; of_input = start.of_input; run = is.run } in
+    record {
+      said = said;
+      read = start.read;
+      workers = is.workers;
+      given = is.given;
+      heard = is.heard;
+      given_by = given_by;
+      books = is.books;
+      are_books = are;
+      printed = is.printed;
+      refused = is.refused;
+      passes = pass ask said is.given is.heard is.books is.workers start.range given_by are is.typed;
+      paid = paid ask said is.given is.heard is.books is.workers start.range.accounts given_by are;
     }
 
 module _ (paid : PlayedCallsHavePaid) (ask : RunAsk) (said : RunInput) (setup : Setup) (rows : List ScriptRow) (of_input : IsSetupOf ask said setup) (accounts : HasAccounts said.setup.accounts)
@@ -82,19 +107,18 @@ module _ (paid : PlayedCallsHavePaid) (ask : RunAsk) (said : RunInput) (setup : 
 some_said : PartSaid
 some_said = record { books = []; calls = []; refusals = none_refused }
 
-pub parts_said : PlayedCallsHavePaid → (asked : ℕ) (ask : RunAsk) (input : List ℕ) (said : RunInput) (setup : Setup) (rows : List ScriptRow) (text : List ℕ) (refusals : Refusals)
-    → input_of input ≡ Ok said → IsSetupOf ask said setup → HasAccounts said.setup.accounts → map script_event rows ≡ said.script → IsInParts asked ask setup rows text refusals
-    → IsRunInParts asked ask input text refusals
-parts_said paid asked ask input said setup rows text refusals read of_input accounts says is =
+pub parts_said : PlayedCallsHavePaid → (asked : ℕ) (ask : RunAsk) (input : List ℕ) (setup : Setup) (rows : List ScriptRow) (text : List ℕ) (refusals : Refusals)
+    → IsStartOf ask input setup rows → IsInParts asked ask setup rows text refusals → IsRunInParts asked ask input text refusals
+parts_said paid asked ask input setup rows text refusals start is =
     record {
-      said = said;
-      read = read;
+      said = start.said;
+      read = start.read;
       workers = (is.each 0 some_said (let all = is.all in omega (arith, all))).workers;
       firsts = is.firsts;
-      count = is.count ∙ ap (λ a. part_count asked (length a)) of_input.accounts;
+      count = is.count ∙ ap (λ a. part_count asked (length a)) start.of_input.accounts;
       parts = is.parts;
       all = is.all;
-      each = λ part d within. part_of_input paid ask said setup rows of_input accounts says is.firsts part _ (is.each part d within);
-      printed = subst (λ (t : List Band). IsPartsText ask.output t (flat_map (λ part. part.books) is.parts) (flat_map (λ part. part.calls) is.parts) text) of_input.tariff is.printed;
+      each = λ part d within. part_of_input paid ask start.said setup rows start.of_input start.range.accounts start.says is.firsts part _ (is.each part d within);
+      printed = subst (λ (t : List Band). IsPartsText ask.output t (flat_map (λ part. part.books) is.parts) (flat_map (λ part. part.calls) is.parts) text) start.of_input.tariff is.printed;
       refused = is.refused;
     }

@@ -7,4 +7,6 @@ pub mod Played
 pub mod Plays
 pub mod RanOf
 pub mod Refused
+pub mod Starts
+pub mod Tables
 pub mod Turns

@@ -5,6 +5,7 @@ use Rattle.call_records.specs.Records.{Run}
 use Rattle.run_command.specs.Answers.{IsTextOf, RunSaid}
 use Rattle.run_command.specs.Plays.{IsGivenBy}
 use Rattle.run_command.specs.Refused.{refusals_in}
+use Rattle.run_command.specs.Tables.{AreTextsOf, TablesSaid, clock_of}
 use Rattle.run_command.specs.declared.playing.Played.{Played}
 use Rattle.run_options.specs.Options.{is_trace}
 use Rattle.run_options.specs.declared.options.RunAsk.{RunAsk}
@@ -44,3 +45,15 @@ pub record IsWhole (ask : RunAsk) (setup : Setup) (rows : List ScriptRow) (ran :
   pub printed : IsTextOf ask.output (record { setup = setup; given = given; books = books }) (all_heard heard) ran.text
   pub refused : ran.refusals ≡ refusals_in (all_heard heard)
   pub typed : ask.output ≡ output.Book → All IsTyped books
+
+-- the same of all texts of one play
+pub record AreWhole (ask : RunAsk) (setup : Setup) (rows : List ScriptRow) (tables : TablesSaid) : Type 0 where
+  pub workers : are_workers ask.workers ≡ true
+  pub given : List (ℕ × Body)
+  pub heard : List (List Answer)
+  pub given_by : IsGivenBy ask (map script_event rows) heard given
+  pub books : List Closed
+  pub run : IsRun StoodIn setup ask.workers given (all_heard heard) books
+  pub printed : AreTextsOf (clock_of ask.output) (record { setup = setup; given = given; books = books }) (all_heard heard) tables
+  pub refused : tables.refusals ≡ refusals_in (all_heard heard)
+  pub typed : All IsTyped books

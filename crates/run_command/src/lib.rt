@@ -9,8 +9,11 @@ mod parts;
 mod playing;
 mod refusals;
 mod running;
+mod setting_up;
+mod tables;
 mod turns;
 
 pub use error::RunError;
 pub use refusals::Refusals;
 pub use running::{Ran, run};
+pub use tables::{RunTables, run_tables};

@@ -11,12 +11,12 @@ ghost use Rattle.run_texts.specs.Views.{are_in_order};
 
 use crate::parts::run_in_parts;
 use crate::playing::{Played, play};
+use crate::setting_up::{Start, set_up};
 use crate::{Refusals, RunError, laws};
-use account_core::MAX_LIMIT;
 use book_texts::{book_table, run_lines};
 use call_records::{call_table, records};
 use run_options::{RunOptions, RunOutput};
-use run_texts::{ScriptRow, read_texts};
+use run_texts::ScriptRow;
 use run_trace::trace_table;
 use run_values::RunSetup;
 use runs_core::Driver;
@@ -51,15 +51,12 @@ pub fn run<R: Wait + Threads + Sync>(
     ensures { IsRunAnswer (ask_of options.now) input.now
         (result_map_both said_of (λ error. error) result) }
 {
-    let texts = read_texts(alloc, input)?;
-    let (directory, tariff) = (texts.directory, texts.tariff);
-    let setup = RunSetup::of(alloc, directory, tariff, options.service, MAX_LIMIT)?;
+    let Start { setup, script } = set_up(alloc, options, input)?;
     laws::played_books_pass();
     laws::played_calls_have_paid();
-    let _ = setup.accounts();
     match options.played_parts() {
-        None => Ok(run_whole(rt, alloc, options, &setup, texts.script)?),
-        Some(parts) => Ok(run_in_parts(rt, alloc, options, parts, &setup, texts.script)?),
+        None => Ok(run_whole(rt, alloc, options, &setup, script)?),
+        Some(parts) => Ok(run_in_parts(rt, alloc, options, parts, &setup, script)?),
     }
 }
 
@@ -85,7 +82,7 @@ fn run_whole<R: Wait + Threads + Sync>(
 }
 
 /// The text of a script that was played.
-fn print(
+pub(crate) fn print(
     alloc: Global,
     output: RunOutput,
     setup: &RunSetup,

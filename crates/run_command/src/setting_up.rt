@@ -1,0 +1,42 @@
+//! What a run begins with.
+
+ghost use Rattle.std.specs.Prelude.{◌≡◌, ◌≤◌, All, IfErr, IfOk, true};
+ghost use Rattle.run_command.specs.Starts.{IsStartOf, MayNotStart};
+ghost use Rattle.run_options.specs.Options.{ask_of};
+ghost use Rattle.run_texts.specs.Views.{are_in_order};
+
+use crate::RunError;
+use account_core::MAX_LIMIT;
+use run_options::RunOptions;
+use run_texts::{ScriptRow, read_texts};
+use run_values::RunSetup;
+use std::alloc::Global;
+use tariff_core::LAST_MOMENT;
+
+/// What a run begins with.
+#[derive(Drop)]
+pub(crate) struct Start {
+    /// What it is set up with.
+    pub setup: RunSetup,
+    /// What happens, in order.
+    pub script: Vec<ScriptRow>,
+}
+
+/// What the run of an input begins with. The input is judged, its parts in order, and its first
+/// fault is told.
+pub(crate) fn set_up(alloc: Global, options: &RunOptions, input: &[u8]) -> Result<Start, RunError>
+    ensures start { IfOk result (λ start.
+        IsStartOf (ask_of options.now) input.now start.setup start.script.items) }
+    ensures in_range { IfOk result (λ start. All (λ row. row.at ≤ LAST_MOMENT) start.script.items) }
+    ensures in_order { IfOk result (λ start. are_in_order 0 start.script.items ≡ true) }
+    ensures fault { IfErr result (MayNotStart input.now) }
+{
+    let texts = read_texts(alloc, input)?;
+    let (directory, tariff) = (texts.directory, texts.tariff);
+    let setup = RunSetup::of(alloc, directory, tariff, options.service, MAX_LIMIT)?;
+    let _ = setup.accounts();
+    Ok(Start {
+        setup,
+        script: texts.script,
+    })
+}

@@ -1,0 +1,127 @@
+//! A run in all of its outputs.
+
+ghost use Rattle.std.specs.Prelude.{◌≡◌, ◌≤◌, All, IfErr, IfOk, None, true};
+ghost use Rattle.std.specs.Result.{result_map_both};
+ghost use Rattle.book_texts.specs.Typed.{IsTyped};
+ghost use Rattle.run_command.specs.Answers.{MayFail};
+ghost use Rattle.run_command.specs.Played.{AreWhole, run_of};
+ghost use Rattle.run_command.specs.Tables.{AreTextsOf, IsTablesAnswer, clock_of, tables_said};
+ghost use Rattle.run_options.specs.Options.{ask_of};
+ghost use Rattle.run_options.specs.declared.options.RunOutput.TheVariants as output;
+ghost use Rattle.run_texts.specs.Views.{are_in_order};
+
+use crate::playing::{Played, play};
+use crate::running::print;
+use crate::setting_up::{Start, set_up};
+use crate::{Refusals, RunError, laws};
+use moment_texts::Clock;
+use run_options::{RunOptions, RunOutput};
+use run_texts::ScriptRow;
+use run_values::RunSetup;
+use std::alloc::{AllocError, Global};
+use std::sync::Wait;
+use std::thread::Threads;
+use tariff_core::LAST_MOMENT;
+
+/// All that one and the same run prints.
+#[derive(Drop)]
+pub struct RunTables {
+    /// A line for each account and for each of its calls.
+    pub lines: String,
+    /// The table of books.
+    pub book: String,
+    /// The table of calls.
+    pub calls: String,
+    /// The trace.
+    pub trace: String,
+    /// How often its accounts refused what they were asked.
+    pub refusals: Refusals,
+}
+
+/// The texts of one run of the input's script, which isn't in parts: those that `run` gives for
+/// each output. The moments of the calls and of the trace are printed as those of the output that
+/// is asked for, in digits where that has none.
+///
+/// Its faults are those of `run`.
+pub fn run_tables<R: Wait + Threads + Sync>(
+    rt: &R,
+    alloc: Global,
+    options: &RunOptions,
+    input: &[u8],
+) -> Result<RunTables, RunError>
+    ensures { IsTablesAnswer (ask_of options.now) input.now
+        (result_map_both tables_said (λ error. error) result) }
+{
+    let Start { setup, script } = set_up(alloc, options, input)?;
+    laws::played_books_pass();
+    laws::played_calls_have_paid();
+    Ok(play_tables(rt, alloc, options, &setup, script)?)
+}
+
+/// Plays a script, and prints all that it comes to.
+fn play_tables<R: Wait + Threads + Sync>(
+    rt: &R,
+    alloc: Global,
+    options: &RunOptions,
+    setup: &RunSetup,
+    script: Vec<ScriptRow>,
+) -> Result<RunTables, RunError>
+    requires in_range { All (λ row. row.at ≤ LAST_MOMENT) script.items }
+    requires in_order { are_in_order 0 script.items ≡ true }
+    ensures tables { IfOk result (λ tables.
+        AreWhole (ask_of options.now) setup.now script.items (tables_said tables)) }
+    ensures fault { IfErr result (MayFail options.now.workers) }
+{
+    let clock = clock_of(options.output);
+    let played = play(rt, alloc, &traced(options, clock), setup, script)?;
+    Ok(print_all(alloc, clock, setup, &played)?)
+}
+
+/// How moments are printed.
+fn clock_of(output: RunOutput) -> Clock
+    ensures { result ≡ clock_of output }
+{
+    match output {
+        RunOutput::Lines | RunOutput::Book => Clock::Digits,
+        RunOutput::Calls(clock) | RunOutput::Trace(clock) => clock,
+    }
+}
+
+/// The options of the same run, where its answers are kept as for a trace.
+fn traced(options: &RunOptions, clock: Clock) -> RunOptions
+    ensures { ask_of result ≡ record (ask_of options.now) {
+      output = output.Trace clock;
+      parts = None;
+    } }
+{
+    RunOptions {
+        workers: options.workers,
+        service: options.service,
+        ssf: options.ssf,
+        delay: options.delay,
+        output: RunOutput::Trace(clock),
+        parts: None,
+    }
+}
+
+/// All texts of a script that was played, whose answers were kept.
+fn print_all(
+    alloc: Global,
+    clock: Clock,
+    setup: &RunSetup,
+    played: &Played,
+) -> Result<RunTables, AllocError>
+    ensures texts { IfOk result (λ tables. AreTextsOf clock (run_of setup.now played.now)
+        played.now.listener.heard.items (tables_said tables)) }
+    ensures refusals { IfOk result (λ tables.
+        tables.refusals ≡ played.now.listener.refusals) }
+    ensures typed { IfOk result (λ tables. All IsTyped played.now.books.items) }
+{
+    Ok(RunTables {
+        lines: print(alloc, RunOutput::Lines, setup, played)?,
+        book: print(alloc, RunOutput::Book, setup, played)?,
+        calls: print(alloc, RunOutput::Calls(clock), setup, played)?,
+        trace: print(alloc, RunOutput::Trace(clock), setup, played)?,
+        refusals: played.listener.refusals,
+    })
+}
