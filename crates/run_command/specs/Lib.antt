@@ -8,5 +8,6 @@ pub mod Plays
 pub mod RanOf
 pub mod Refused
 pub mod Starts
+pub mod Strangers
 pub mod Tables
 pub mod Turns

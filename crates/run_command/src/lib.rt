@@ -10,10 +10,12 @@ mod playing;
 mod refusals;
 mod running;
 mod setting_up;
+mod strangers;
 mod tables;
 mod turns;
 
 pub use error::RunError;
 pub use refusals::Refusals;
 pub use running::{Ran, run};
+pub use strangers::stranger_calls;
 pub use tables::{RunTables, run_tables};

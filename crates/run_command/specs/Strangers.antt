@@ -1,0 +1,22 @@
+-- The calls of numbers that no subscriber has.
+use Rattle.std.specs.Prelude.{◌≡◌, ℕ, List, [], ◌∷◌, Ok, if◌then◌else◌, is_some}
+use Rattle.std.specs.List.{flat_map}
+use Rattle.run_parts.specs.Parts.{account_of}
+use Rattle.run_texts.specs.Happenings.{Happens, Meets, Recharges, ScriptEvent, Starts}
+use Rattle.run_texts.specs.Inputs.{RunInput, input_of}
+
+-- the call that starts so, where no subscriber has its calling number
+abbrev pub stranger_of : List (List ℕ × ℕ) → Happens → List ℕ
+stranger_of subscribers (Starts call calling called) = if is_some (account_of calling subscribers) then [] else call ∷ []
+stranger_of subscribers (Meets call event) = []
+stranger_of subscribers (Recharges account amount until) = []
+
+-- all of these in a script, in the order in which they start
+abbrev pub strangers_in : List (List ℕ × ℕ) → List ScriptEvent → List ℕ
+strangers_in subscribers script = flat_map (λ event. stranger_of subscribers event.what) script
+
+-- those of an input
+pub record AreStrangersOf (input calls : List ℕ) : Type 0 where
+  pub said : RunInput
+  pub read : input_of input ≡ Ok said
+  pub are : calls ≡ strangers_in said.setup.subscribers said.script
