@@ -1,20 +1,26 @@
 -- Parts that are played one after another, and what they come to together.
-use Rattle.std.proofs.Common.{◌≡◌, ◌<◌, ◌+◌, ◌∙◌, ℕ, Option, List, [], ◌∷◌, ◌++◌, length, map, refl, sym, ap, subst, arith, append_assoc}
+use Rattle.std.proofs.Common.{◌≡◌, ◌<◌, ◌+◌, ◌∙◌, ℕ, zero, suc, List, [], ◌∷◌, ◌++◌, length, map, refl, sym, true, ap, subst, arith, append_assoc}
 use Rattle.std.proofs.Math.ListN.{get_or}
 use Rattle.std.proofs.lemmas.Grind.{flat_map-append}
-use Rattle.std.proofs.lemmas.List.{append-nil, get_or-map, length-map, map-append}
+use Rattle.std.proofs.lemmas.List.{append-nil, map-append}
 use Rattle.std.proofs.lemmas.List.Sums.{sum_by-append}
 use Rattle.std.specs.List.{flat_map, sum_by}
-use Rattle.run_command.specs.InParts.{ArePlayed, IsInParts, IsPartsText, IsPlayedPart, PartSaid, part_said}
+use Rattle.book_texts.specs.RunTexts.{AreLinesOf, LinesSaid}
+use Rattle.call_records.specs.declared.call_record.CallRecord.{CallRecord}
+use Rattle.run_command.specs.InParts.{AreKept, ArePlayed, IsInParts, IsKeptPart, IsPartsText, IsPlayedPart, Keeps, KeepsBooks, KeepsCalls, PartSaid, joined, own_books, with_part}
+use Rattle.run_command.specs.Played.{IsPlayed, run_of}
 use Rattle.run_command.specs.Refused.{added, counted, with_refusals}
 use Rattle.run_command.specs.declared.parts.Part.{Part}
+use Rattle.run_command.specs.declared.playing.Played.{Played}
 use Rattle.run_command.specs.declared.refusals.Refusals.{Refusals}
 use Rattle.run_options.specs.declared.options.RunAsk.{RunAsk}
+use Rattle.run_options.specs.declared.options.RunOutput.{RunOutput}
+use Rattle.run_options.specs.declared.options.RunOutput.TheVariants as output
 use Rattle.run_parts.specs.Parts.{AreParts, part_count, part_rows, payer_of}
 use Rattle.run_texts.specs.Views.{script_event, with_digits}
 use Rattle.run_texts.specs.declared.script.ScriptRow.{ScriptRow}
 use Rattle.run_values.specs.Setups.{Setup}
-use Rattle.call_records.specs.declared.call_record.CallRecord.{CallRecord}
+use Rattle.runs_core.specs.Teams.{are_workers}
 use Rattle.shared_account.specs.Closed.{Closed}
 
 -- ---- refusals are added up
@@ -40,66 +46,154 @@ added_more all one = rw (
 
 -- ---- the parts are joined
 
+added_part : (front : List PartSaid) (last : PartSaid) → with_part (joined front) last ≡ joined (front ++ last ∷ [])
+added_part front last =
+    let books : flat_map (λ (p : PartSaid). p.books) (front ++ last ∷ []) ≡ flat_map (λ (p : PartSaid). p.books) front ++ last.books =
+    flat_map-append (λ (p : PartSaid). p.books) front (last ∷ []) ∙ ap (λ l. flat_map (λ (p : PartSaid). p.books) front ++ l) (append-nil last.books) in
+    let calls : flat_map (λ (p : PartSaid). p.calls) (front ++ last ∷ []) ≡ flat_map (λ (p : PartSaid). p.calls) front ++ last.calls =
+    flat_map-append (λ (p : PartSaid). p.calls) front (last ∷ []) ∙ ap (λ l. flat_map (λ (p : PartSaid). p.calls) front ++ l) (append-nil last.calls) in
+    let refusals : with_refusals (added (map (λ (p : PartSaid). p.refusals) front)) last.refusals ≡ added (map (λ (p : PartSaid). p.refusals) (front ++ last ∷ [])) =
+    added_more (map (λ (p : PartSaid). p.refusals) front) last.refusals ∙ ap added (sym (map-append (λ (p : PartSaid). p.refusals) front (last ∷ []))) in
+    rw (books, calls, refusals) refl
+
+-- what is kept of parts, of which this is the last
+record IsLast (output : RunOutput) (said : List PartSaid) (done : List Part) (part : Part) : Type 0 where
+  front : List PartSaid
+  last : PartSaid
+  is : said ≡ front ++ last ∷ []
+  kept : AreKept output front done
+  keeps : Keeps output last part
+
+last_kept : (output : RunOutput) (said : List PartSaid) (done : List Part) (part : Part) → AreKept output said (done ++ part ∷ []) → IsLast output said done part
+last_kept output [] [] part are = absurd are
+last_kept output [] (first ∷ done) part are = absurd are
+last_kept output (said ∷ []) [] part are = record { front = []; last = said; is = refl; kept = tt; keeps = are.0 }
+last_kept output (said ∷ next ∷ rest) [] part are = absurd are.1
+last_kept output (said ∷ rest) (first ∷ done) part are =
+    let later = last_kept output rest done part are.1 in
+    record { front = said ∷ later.front; last = later.last; is = ap (λ (l : List PartSaid). said ∷ l) later.is; kept = (are.0, later.kept); keeps = later.keeps }
+
 -- the parts before these are joined
 pub record AreJoined (parts rest : List Part) (whole : Part) : Type 0 where
   pub done : List Part
   pub split : done ++ rest ≡ parts
-  pub books : whole.books.items ≡ flat_map (λ part. part.books.items) done
-  pub calls : whole.calls.items ≡ flat_map (λ part. part.calls.items) done
-  pub refusals : whole.refusals ≡ added (map (λ part. part.refusals) done)
+  pub keeps : (output : RunOutput) (said : List PartSaid) → AreKept output said done → Keeps output (joined said) whole
 
-items_more : {X : Type 0} (inside : Part → List X) (done : List Part) (part : Part) (so_far now : List X) → so_far ≡ flat_map inside done → now ≡ so_far ++ inside part
-    → now ≡ flat_map inside (done ++ part ∷ [])
-items_more inside done part so_far now are is =
-    is ∙ ap (λ l. l ++ inside part) are ∙ ap (λ l. flat_map inside done ++ l) (sym (append-nil (inside part))) ∙ sym (flat_map-append inside done (part ∷ []))
-
-pub joined_next : (parts : List Part) (part : Part) (rest : List Part) (whole new : Part) → new.books.items ≡ whole.books.items ++ part.books.items → new.calls.items ≡ whole.calls.items ++ part.calls.items
-    → new.refusals ≡ with_refusals whole.refusals part.refusals → AreJoined parts (part ∷ rest) whole → AreJoined parts rest new
-joined_next parts part rest whole new books calls refusals are = record {
+pub joined_next : (parts : List Part) (part : Part) (rest : List Part) (whole new : Part)
+    → ((output : RunOutput) (said later : PartSaid) → Keeps output said whole → Keeps output later part → Keeps output (with_part said later) new)
+    → AreJoined parts (part ∷ rest) whole → AreJoined parts rest new
+joined_next parts part rest whole new adds are = record {
   done = are.done ++ part ∷ [];
   split = append_assoc are.done (part ∷ []) rest ∙ are.split;
-  books = items_more (λ p. p.books.items) are.done part whole.books.items new.books.items are.books books;
-  calls = items_more (λ p. p.calls.items) are.done part whole.calls.items new.calls.items are.calls calls;
-  refusals = refusals ∙ ap (λ r. with_refusals r part.refusals) are.refusals ∙ added_more (map (λ p. p.refusals) are.done) part.refusals
-      ∙ ap added (sym (map-append (λ (p : Part). p.refusals) are.done (part ∷ [])));
+  keeps = λ output said kept.
+      let last = last_kept output said are.done part kept in
+      let Is : PartSaid → Type 0 = λ s. Keeps output s new in
+      subst (λ (l : List PartSaid). Is (joined l)) (sym last.is) (subst Is (added_part last.front last.last) (adds output (joined last.front) last.last (are.keeps output last.front last.kept) last.keeps));
 }
 
--- ---- what all parts say
+none_kept : (output : RunOutput) (whole : Part) → Keeps output (joined []) whole → (said : List PartSaid) → AreKept output said [] → Keeps output (joined said) whole
+none_kept output whole is [] kept = is
+none_kept output whole is (said ∷ rest) kept = absurd kept
 
-all_inside : {X : Type 0} (inside : PartSaid → List X) (parts : List Part) → flat_map inside (map part_said parts) ≡ flat_map (λ part. inside (part_said part)) parts
-all_inside inside [] = refl
-all_inside inside (part ∷ parts) = ap (λ l. inside (part_said part) ++ l) (all_inside inside parts)
+-- nothing is joined yet
+pub none_joined : (parts rest : List Part) (whole : Part) → rest ≡ parts → ((output : RunOutput) → Keeps output (joined []) whole) → AreJoined parts rest whole
+none_joined parts rest whole all none = record { done = []; split = all; keeps = λ output said kept. none_kept output whole (none output) said kept }
 
-all_refused : (parts : List Part) → map (λ (said : PartSaid). said.refusals) (map part_said parts) ≡ map (λ (part : Part). part.refusals) parts
-all_refused [] = refl
-all_refused (part ∷ parts) = ap (λ (l : List Refusals). part.refusals ∷ l) (all_refused parts)
+-- nothing is left to join
+pub none_left : (rest : List Part) → length rest ≡ 0 → rest ≡ []
+none_left [] none = refl
+none_left (part ∷ rest) none = absurd (omega (arith, none))
 
-module _ (ask : RunAsk) (setup : Setup) (rows : List ScriptRow) (firsts : List ℕ) (payer : ℕ → Option ℕ) (scripts : List (List ScriptRow)) (divided : AreParts firsts payer rows scripts) where
-  said_each : (parts : List Part) → ArePlayed ask setup firsts scripts parts → (part : ℕ) (d : PartSaid) → part < length (map part_said parts)
-      → IsPlayedPart ask setup firsts part (part_rows firsts payer rows part) (get_or (map part_said parts) part d)
-  said_each [] are part d within = absurd (omega (arith, within))
-  said_each (first ∷ parts) are part d within =
-      let here : part < length (first ∷ parts) = let as_many = length-map (first ∷ parts) part_said in omega (arith, as_many, within) in
-      let there : part < 1 + length firsts = let count = are.count in let all = divided.count in omega (arith, count, all, here) in
-      let its : get_or (map part_said (first ∷ parts)) part d ≡ part_said (get_or (first ∷ parts) part first) = get_or-map part_said (first ∷ parts) part first d here in
-      let Its : List ScriptRow → PartSaid → Type 0 = λ r k. IsPlayedPart ask setup firsts part r k in
-      subst (λ k. Its (part_rows firsts payer rows part) k) (sym its) (subst (λ r. Its r (part_said (get_or (first ∷ parts) part first))) (divided.each part there) (are.each part first here))
+-- all are joined
+pub all_joined : (parts rest : List Part) (whole : Part) → rest ≡ [] → AreJoined parts rest whole → (output : RunOutput) (said : List PartSaid) → AreKept output said parts → Keeps output (joined said) whole
+all_joined parts rest whole none are output said kept =
+    let all : are.done ≡ parts = sym (append-nil are.done) ∙ ap (λ (l : List Part). are.done ++ l) (sym none) ∙ are.split in
+    are.keeps output said (subst (λ (p : List Part). AreKept output said p) (sym all) kept)
+
+-- what is kept of a part that was played
+pub kept_part : (ask : RunAsk) (setup : Setup) (firsts : List ℕ) (number : ℕ) (rows : List ScriptRow) (played : Played) (calls : List CallRecord) (kept : Part) → are_workers ask.workers ≡ true
+    → IsPlayed ask setup rows played → KeepsCalls ask.output (run_of setup played) calls → KeepsBooks ask.output (own_books firsts number played.books.items) kept.lines kept.books.items
+    → kept.calls.items ≡ calls → kept.refusals ≡ played.listener.refusals → IsKeptPart ask setup firsts number rows kept
+kept_part ask setup firsts number rows played calls kept workers is calls_are books_are same_calls same_refusals = record {
+  said = record { books = own_books firsts number played.books.items; calls = calls; refusals = played.listener.refusals };
+  is = record {
+    workers = workers;
+    given = (run_of setup played).given;
+    heard = is.heard;
+    given_by = is.given_by;
+    books = played.books.items;
+    run = is.run;
+    own = refl;
+    calls = calls_are;
+    refused = is.counted;
+  };
+  keeps = record { books = books_are; calls = same_calls; refusals = same_refusals };
+}
+
+-- what is kept where nothing is
+pub keeps_nothing : (output : RunOutput) (lines : LinesSaid) (books : List Closed) → AreLinesOf [] lines → books ≡ [] → KeepsBooks output [] lines books
+keeps_nothing output.Lines lines books are none = are
+keeps_nothing output.Book lines books are none = none
+keeps_nothing (output.Calls clock) lines books are none = tt
+keeps_nothing (output.Trace clock) lines books are none = are
+
+-- what is kept of the books of two parts
+pub keeps_both : (output : RunOutput) (books later : List Closed) (lines more new : LinesSaid) (kept kept_more kept_new : List Closed)
+    → ((one other : List Closed) → AreLinesOf one lines → AreLinesOf other more → AreLinesOf (one ++ other) new) → kept_new ≡ kept ++ kept_more
+    → KeepsBooks output books lines kept → KeepsBooks output later more kept_more → KeepsBooks output (books ++ later) new kept_new
+keeps_both output.Lines books later lines more new kept kept_more kept_new adds grown are also = adds books later are also
+keeps_both output.Book books later lines more new kept kept_more kept_new adds grown are also = rw (grown, are, also) refl
+keeps_both (output.Calls clock) books later lines more new kept kept_more kept_new adds grown are also = tt
+keeps_both (output.Trace clock) books later lines more new kept kept_more kept_new adds grown are also = adds books later are also
+
+-- ---- what all parts come to
+
+module _ (ask : RunAsk) (setup : Setup) (firsts : List ℕ) (rows : ℕ → List ScriptRow) where
+  abbrev IsOne : ℕ → Part → Type 0
+  IsOne number part = IsKeptPart ask setup firsts number (rows number) part
+
+  abbrev IsSaid : ℕ → PartSaid → Type 0
+  IsSaid number said = IsPlayedPart ask setup firsts number (rows number) said
+
+  -- what the parts from a number on come to, and what is kept of them
+  record AreSaid (from : ℕ) (parts : List Part) : Type 0 where
+    said : List PartSaid
+    count : length said ≡ length parts
+    kept : AreKept ask.output said parts
+    each : (part : ℕ) (d : PartSaid) → part < length said → IsSaid (from + part) (get_or said part d)
+
+  each_said : (from : ℕ) (first : PartSaid) (rest : List PartSaid) → IsSaid from first → ((part : ℕ) (d : PartSaid) → part < length rest → IsSaid (suc from + part) (get_or rest part d))
+      → (part : ℕ) (d : PartSaid) → part < length (first ∷ rest) → IsSaid (from + part) (get_or (first ∷ rest) part d)
+  each_said from first rest is others zero d within = subst (λ n. IsSaid n first) (let same : from ≡ from + 0 = omega arith in same) is
+  each_said from first rest is others (suc part) d within =
+      subst (λ n. IsSaid n (get_or rest part d)) (let same : suc from + part ≡ from + suc part = omega arith in same) (others part d (omega (arith, within)))
+
+  all_said : (from : ℕ) (parts : List Part) → ((part : ℕ) (d : Part) → part < length parts → IsOne (from + part) (get_or parts part d)) → AreSaid from parts
+  all_said from [] each = record { said = []; count = refl; kept = tt; each = λ part d within. absurd (omega (arith, within)) }
+  all_said from (part ∷ parts) each =
+      let first : IsOne from part = subst (λ n. IsOne n part) (let same : from + 0 ≡ from = omega arith in same) (each 0 part (omega arith)) in
+      let rest : AreSaid (suc from) parts = all_said (suc from) parts (λ k d within. subst (λ n. IsOne n (get_or parts k d)) (let same : from + suc k ≡ suc from + k = omega arith in same) (each (suc k) d (omega (arith, within)))) in
+      record { said = first.said ∷ rest.said; count = ap suc rest.count; kept = (first.keeps, rest.kept); each = each_said from first.said rest.said first.is rest.each }
 
 pub in_parts : (asked : ℕ) (ask : RunAsk) (setup : Setup) (rows : List ScriptRow) (firsts : List ℕ) (scripts : List (List ScriptRow)) (parts : List Part) (whole : Part) (text : List ℕ)
     → 1 + length firsts ≡ part_count asked (length setup.accounts)
     → AreParts firsts (payer_of (with_digits setup.subscribers) (map script_event rows)) rows scripts → ArePlayed ask setup firsts scripts parts
-    → whole.books.items ≡ flat_map (λ part. part.books.items) parts → whole.calls.items ≡ flat_map (λ part. part.calls.items) parts → whole.refusals ≡ added (map (λ part. part.refusals) parts)
-    → IsPartsText ask.output setup.tariff whole.books.items whole.calls.items text → IsInParts asked ask setup rows text whole.refusals
-in_parts asked ask setup rows firsts scripts parts whole text count divided played books calls refusals printed =
-    let Text : List Closed → List CallRecord → Type 0 = λ b c. IsPartsText ask.output setup.tariff b c text in
-    let own = books ∙ sym (all_inside (λ p. p.books) parts) in
-    let records = calls ∙ sym (all_inside (λ p. p.calls) parts) in
+    → ((output : RunOutput) (said : List PartSaid) → AreKept output said parts → Keeps output (joined said) whole)
+    → ((said : PartSaid) → Keeps ask.output said whole → IsPartsText ask.output setup.tariff said.books said.calls text) → IsInParts asked ask setup rows text whole.refusals
+in_parts asked ask setup rows firsts scripts parts whole text count divided played joins printed =
+    let payer = payer_of (with_digits setup.subscribers) (map script_event rows) in
+    let own : (part : ℕ) → part < length parts → get_or scripts part [] ≡ part_rows firsts payer rows part =
+    λ part within. divided.each part (let all = played.count in let many = divided.count in omega (arith, all, many, within)) in
+    let said = all_said ask setup firsts (part_rows firsts payer rows) 0 parts
+    (λ part d within. let same : part ≡ 0 + part = omega arith in subst (λ n. IsKeptPart ask setup firsts n (part_rows firsts payer rows n) (get_or parts part d)) same
+    (subst (λ r. IsKeptPart ask setup firsts part r (get_or parts part d)) (own part within) (played.each part d within))) in
+    let keeps = joins ask.output said.said said.kept in
     record {
       firsts = firsts;
       count = count;
-      parts = map part_said parts;
-      all = length-map parts part_said ∙ played.count ∙ divided.count;
-      each = said_each ask setup rows firsts (payer_of (with_digits setup.subscribers) (map script_event rows)) scripts divided parts played;
-      printed = subst (λ b. Text b (flat_map (λ p. p.calls) (map part_said parts))) own (subst (λ c. Text whole.books.items c) records printed);
-      refused = refusals ∙ ap added (sym (all_refused parts));
+      parts = said.said;
+      all = said.count ∙ played.count ∙ divided.count;
+      each = λ part d within. let same : 0 + part ≡ part = omega arith in subst (λ n. IsPlayedPart ask setup firsts n (part_rows firsts payer rows n) (get_or said.said part d)) same (said.each part d within);
+      printed = printed (joined said.said) keeps;
+      refused = keeps.refusals;
     }

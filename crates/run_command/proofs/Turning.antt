@@ -4,7 +4,7 @@ use Rattle.std.proofs.Math.ListN.{drop, get_or, take}
 use Rattle.std.proofs.Math.Seq.{take-append_seam}
 use Rattle.std.proofs.lemmas.List.{get_or-map, length-map}
 use Rattle.std.specs.Prelude.{IfOk, Result}
-use Rattle.run_command.specs.InParts.{ArePlayed, IsPlayedPart, part_said}
+use Rattle.run_command.specs.InParts.{ArePlayed, IsKeptPart}
 use Rattle.run_command.specs.Turns.{HasPlayed, IsInOrder}
 use Rattle.run_command.specs.declared.error.RunError.{RunError}
 use Rattle.run_command.specs.declared.parts.Part.{Part}
@@ -30,7 +30,7 @@ module _ {V : Type 0} (inside : V → List ScriptRow) (script_of : Turn → V) (
 
   its_part : (after : List Turn) (parts : List Part) (part : ℕ) (d : Part) (t : Turn) → length after ≡ length before → map (λ turn. turn.played) after ≡ map kept_as parts → part < length parts
       → ((k : ℕ) (e : Turn) → k < length before → HasPlayed ask setup firsts k (get_or before k e) (get_or after k e))
-      → IsPlayedPart ask setup firsts part (get_or (map inside scripts) part []) (part_said (get_or parts part d))
+      → IsKeptPart ask setup firsts part (get_or (map inside scripts) part []) (get_or parts part d)
   its_part after parts part d t as_many kept within each =
       let played : List (Result Part RunError) = map (λ turn. turn.played) after in
       let many = length-map after (λ turn. turn.played) in
@@ -39,12 +39,12 @@ module _ {V : Type 0} (inside : V → List ScriptRow) (script_of : Turn → V) (
       let here : part < length before = omega (arith, there, as_many) in
       let is : (get_or after part t).played ≡ Ok (get_or parts part d) =
       sym (get_or-map (λ turn. turn.played) after part t (Ok d) there) ∙ ap (λ (l : List (Result Part RunError)). get_or l part (Ok d)) kept ∙ get_or-map kept_as parts part d (Ok d) within in
-      let Is : Result Part RunError → Type 0 = λ r. IfOk r (λ kept_part. IsPlayedPart ask setup firsts part (get_or before part t).script.items (part_said kept_part)) in
-      subst (λ rows. IsPlayedPart ask setup firsts part rows (part_said (get_or parts part d))) (sym (its_rows part t here)) (subst Is is (each part t here).kept)
+      let Is : Result Part RunError → Type 0 = λ r. IfOk r (IsKeptPart ask setup firsts part (get_or before part t).script.items) in
+      subst (λ rows. IsKeptPart ask setup firsts part rows (get_or parts part d)) (sym (its_rows part t here)) (subst Is is (each part t here).kept)
 
   from_any : (after : List Turn) (parts : List Part) (part : ℕ) (d : Part) → part < length parts → length after ≡ length before → map (λ turn. turn.played) after ≡ map kept_as parts
       → ((k : ℕ) (e : Turn) → k < length before → HasPlayed ask setup firsts k (get_or before k e) (get_or after k e))
-      → IsPlayedPart ask setup firsts part (get_or (map inside scripts) part []) (part_said (get_or parts part d))
+      → IsKeptPart ask setup firsts part (get_or (map inside scripts) part []) (get_or parts part d)
   from_any [] parts part d within as_many kept each =
       let all : 0 ≡ length parts = ap length kept ∙ length-map parts kept_as in
       absurd (omega (arith, all, within))

@@ -1,9 +1,9 @@
 -- A run that is played in parts.
-use Rattle.std.specs.Prelude.{◌≡◌, ◌<◌, ◌==◌, ◌+◌, ℕ, true, List, [], Ok, length, map, slice_index_or}
+use Rattle.std.specs.Prelude.{◌≡◌, ◌<◌, ◌==◌, ◌+◌, ◌++◌, ℕ, true, List, [], ◌∷◌, Ok, length, map, slice_index_or}
 use Rattle.std.specs.List.{filter, flat_map}
 use Rattle.std.specs.List.Sorted.{IsNonDecreasingBy}
 use Rattle.book_texts.specs.BookTexts.{book_text, version_of}
-use Rattle.book_texts.specs.RunTexts.{IsRunText}
+use Rattle.book_texts.specs.RunTexts.{AreLinesOf, IsRunText, LinesSaid}
 use Rattle.call_records.specs.Records.{AreRecords, Run}
 use Rattle.call_records.specs.Tables.{call_text}
 use Rattle.call_records.specs.declared.call_record.CallRecord.{CallRecord}
@@ -11,7 +11,7 @@ use Rattle.moment_texts.specs.declared.clock.Clock.{Clock}
 use Rattle.run_command.specs.Books.{AreBooksOf}
 use Rattle.run_command.specs.Laws.{CallsHavePaid}
 use Rattle.run_command.specs.Plays.{IsGivenBy}
-use Rattle.run_command.specs.Refused.{added, refusals_in}
+use Rattle.run_command.specs.Refused.{added, refusals_in, with_refusals}
 use Rattle.run_command.specs.declared.parts.Part.{Part}
 use Rattle.run_command.specs.declared.refusals.Refusals.{Refusals}
 use Rattle.run_options.specs.declared.options.RunAsk.{RunAsk}
@@ -31,15 +31,23 @@ use Rattle.shared_account.specs.Closed.{Closed}
 use Rattle.shared_account.specs.Seen.{StoodIn}
 use Rattle.tariff_core.specs.Bands.{Band, have_steps}
 
--- what is kept of a part: the books of its own accounts, the records of its calls where these are printed, and its refusals
+-- what a part comes to: the books of its own accounts, the records of its calls where these are printed, and its refusals
 pub record PartSaid : Type 0 where
   pub books : List Closed
   pub calls : List CallRecord
   pub refusals : Refusals
 
--- the same of the code
-abbrev pub part_said : Part → PartSaid
-part_said part = record { books = part.books.items; calls = part.calls.items; refusals = part.refusals }
+-- what two parts come to, one after the other
+abbrev pub with_part : PartSaid → PartSaid → PartSaid
+with_part said later = record { books = said.books ++ later.books; calls = said.calls ++ later.calls; refusals = with_refusals said.refusals later.refusals }
+
+-- what all parts come to together, in order
+abbrev pub joined : List PartSaid → PartSaid
+joined parts = record {
+  books = flat_map (λ part. part.books) parts;
+  calls = flat_map (λ part. part.calls) parts;
+  refusals = added (map (λ part. part.refusals) parts);
+}
 
 -- the books of the accounts of a part
 abbrev pub own_books : List ℕ → ℕ → List Closed → List Closed
@@ -104,10 +112,34 @@ pub record IsPlayedPart (ask : RunAsk) (setup : Setup) (firsts : List ℕ) (part
   pub calls : KeepsCalls ask.output (record { setup = setup; given = given; books = books }) kept.calls
   pub refused : kept.refusals ≡ refusals_in (all_heard heard)
 
+-- what the code keeps of books: themselves, or their lines, where they are printed
+abbrev pub KeepsBooks : RunOutput → List Closed → LinesSaid → List Closed → Type 0
+KeepsBooks output.Book books lines kept = kept ≡ books
+KeepsBooks (output.Calls clock) books lines kept = Unit {0}
+KeepsBooks _ books lines kept = AreLinesOf books lines
+
+-- what it keeps of a part, or of all
+pub record Keeps (output : RunOutput) (said : PartSaid) (part : Part) : Type 0 where
+  pub books : KeepsBooks output said.books part.lines part.books.items
+  pub calls : part.calls.items ≡ said.calls
+  pub refusals : part.refusals ≡ said.refusals
+
+-- the same of each part
+abbrev pub AreKept : RunOutput → List PartSaid → List Part → Type 0
+AreKept output [] [] = Unit {0}
+AreKept output (said ∷ rest) (part ∷ parts) = Keeps output said part × AreKept output rest parts
+AreKept output _ _ = ⊥
+
+-- a part with these rows was played, and this is kept of it
+pub record IsKeptPart (ask : RunAsk) (setup : Setup) (firsts : List ℕ) (part : ℕ) (rows : List ScriptRow) (kept : Part) : Type 0 where
+  pub said : PartSaid
+  pub is : IsPlayedPart ask setup firsts part rows said
+  pub keeps : Keeps ask.output said kept
+
 -- a part for each of these scripts
 pub record ArePlayed (ask : RunAsk) (setup : Setup) (firsts : List ℕ) (scripts : List (List ScriptRow)) (parts : List Part) : Type 0 where
   pub count : length parts ≡ length scripts
-  pub each : (part : ℕ) (d : Part) → part < length parts → IsPlayedPart ask setup firsts part (slice_index_or scripts part []) (part_said (slice_index_or parts part d))
+  pub each : (part : ℕ) (d : Part) → part < length parts → IsKeptPart ask setup firsts part (slice_index_or scripts part []) (slice_index_or parts part d)
 
 -- rows were played in parts
 pub record IsInParts (asked : ℕ) (ask : RunAsk) (setup : Setup) (rows : List ScriptRow) (text : List ℕ) (refusals : Refusals) : Type 0 where

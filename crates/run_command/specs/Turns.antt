@@ -1,7 +1,7 @@
 -- The parts of a run, one by one.
 use Rattle.std.specs.Prelude.{◌≡◌, ◌≤◌, ℕ, true, List, All, IfErr, IfOk}
 use Rattle.run_command.specs.Answers.{MayFail}
-use Rattle.run_command.specs.InParts.{IsPlayedPart, part_said}
+use Rattle.run_command.specs.InParts.{IsKeptPart}
 use Rattle.run_command.specs.declared.turns.Turn.{Turn}
 use Rattle.run_options.specs.declared.options.RunAsk.{RunAsk}
 use Rattle.run_texts.specs.Views.{are_in_order}
@@ -15,5 +15,5 @@ pub record IsInOrder (turn : Turn) : Type 0 where
 
 -- a part was played: this was kept of it, or it has a fault that such a run may have
 pub record HasPlayed (ask : RunAsk) (setup : Setup) (firsts : List ℕ) (part : ℕ) (before after : Turn) : Type 0 where
-  pub kept : IfOk after.played (λ kept. IsPlayedPart ask setup firsts part before.script.items (part_said kept))
+  pub kept : IfOk after.played (IsKeptPart ask setup firsts part before.script.items)
   pub fault : IfErr after.played (MayFail ask.workers)

@@ -1,17 +1,18 @@
 //! A run that is played in parts.
 
-ghost use Rattle.std.specs.Prelude.{◌≡◌, ◌≤◌, ◌<◌, ◌+◌, ◌^◌, ◌==◌, [], All, IfOk, IfErr, OnOk, length, map, string_bytes, true};
-ghost use Rattle.std.specs.List.{filter, flat_map};
+ghost use Rattle.std.specs.Prelude.{◌≡◌, ◌≤◌, ◌==◌, [], All, IfOk, IfErr, List, OnOk, string_bytes, true};
+ghost use Rattle.std.specs.List.{filter};
+ghost use Rattle.book_texts.specs.RunTexts.{AreLinesOf};
 ghost use Rattle.run_command.specs.Answers.{MayFail};
-ghost use Rattle.run_command.specs.InParts.{ArePlayed, IsInParts, IsMergedText, IsPartsText, IsPlayedPart, KeepsCalls, own_books, part_said};
-ghost use Rattle.run_command.specs.Refused.{added};
+ghost use Rattle.run_command.specs.InParts.{AreKept, IsInParts, IsKeptPart, IsMergedText, IsPartsText, Keeps, KeepsBooks, KeepsCalls, PartSaid, joined, own_books, with_part};
+ghost use Rattle.run_options.specs.declared.options.RunOutput.{RunOutput};
 ghost use Rattle.run_options.specs.Options.{ask_of};
 ghost use Rattle.run_texts.specs.Views.{are_in_order};
 
 use crate::playing::{Played, play};
 use crate::turns::play_all;
 use crate::{Ran, Refusals, RunError};
-use book_texts::{book_table, run_lines};
+use book_texts::{RunLines, book_table};
 use call_records::{CallRecord, call_table, records};
 use moment_texts::Clock;
 use run_options::{PartsAsk, RunOptions, RunOutput};
@@ -28,7 +29,9 @@ use tariff_core::LAST_MOMENT;
 /// What is kept of a part that was played, or of all.
 #[derive(Drop)]
 pub(crate) struct Part {
-    /// The books of its own accounts.
+    /// The lines of its own books, where lines are printed.
+    pub lines: RunLines,
+    /// Its own books, where these are printed.
     pub books: Vec<Book>,
     /// The records of its calls, where these are printed.
     pub calls: Vec<CallRecord>,
@@ -75,8 +78,8 @@ pub(crate) fn play_part<R: Wait + Threads + Sync>(
 ) -> Result<Part, RunError>
     requires in_range { All (λ row. row.at ≤ LAST_MOMENT) script.items }
     requires in_order { are_in_order 0 script.items ≡ true }
-    ensures part { IfOk result (λ part. IsPlayedPart
-        (ask_of options.now) setup.now firsts.now number script.items (part_said part)) }
+    ensures part { IfOk result (IsKeptPart
+        (ask_of options.now) setup.now firsts.now number script.items) }
     ensures fault { IfErr result (MayFail options.now.workers) }
 {
     let Played {
@@ -86,7 +89,9 @@ pub(crate) fn play_part<R: Wait + Threads + Sync>(
     let given = listener.player.given();
     let calls = kept_calls(alloc, options.output, setup, given, books.as_slice())?;
     keep_own(&mut books, firsts, number);
+    let (lines, books) = kept_books(alloc, options.output, books)?;
     Ok(Part {
+        lines,
         books,
         calls,
         refusals: listener.refusals,
@@ -120,31 +125,66 @@ fn keep_own(books: &mut Vec<Book>, firsts: &Firsts, number: usize)
     books.retain(|book| firsts.part_of(book.account()) == number);
 }
 
+/// What is printed of the books of a part: their lines, without their histories, or the books.
+fn kept_books(
+    alloc: Global,
+    output: RunOutput,
+    books: Vec<Book>,
+) -> Result<(RunLines, Vec<Book>), AllocError>
+    ensures { IfOk result (λ kept. KeepsBooks output books.items kept.0 kept.1.items) }
+{
+    match output {
+        RunOutput::Lines | RunOutput::Trace(_) => lines_alone(alloc, books),
+        RunOutput::Book => Ok((RunLines::new(alloc), books)),
+        RunOutput::Calls(_) => Ok((RunLines::new(alloc), Vec::new(alloc))),
+    }
+}
+
+/// The lines of books, and no books.
+fn lines_alone(alloc: Global, books: Vec<Book>) -> Result<(RunLines, Vec<Book>), AllocError>
+    ensures { IfOk result (λ kept. AreLinesOf books.items kept.0) }
+{
+    let mut lines = RunLines::new(alloc);
+    lines.add(alloc, books.as_slice())?;
+    Ok((lines, Vec::new(alloc)))
+}
+
 /// What all parts come to together, in order.
 fn join(alloc: Global, parts: Vec<Part>) -> Result<Part, AllocError>
-    ensures books { IfOk result (λ whole.
-        whole.books.items ≡ flat_map (λ part. part.books.items) parts.items) }
-    ensures calls { IfOk result (λ whole.
-        whole.calls.items ≡ flat_map (λ part. part.calls.items) parts.items) }
-    ensures refusals { IfOk result (λ whole.
-        whole.refusals ≡ added (map (λ part. part.refusals) parts.items)) }
+    ensures { IfOk result (λ whole. (output : RunOutput) (said : List PartSaid)
+        → AreKept output said parts.items → Keeps output (joined said) whole) }
 {
     let mut whole = Part {
+        lines: RunLines::new(alloc),
         books: Vec::new(alloc),
         calls: Vec::new(alloc),
         refusals: Refusals::none(),
     };
     for part in parts {
+        whole.add(part)?;
+    }
+    Ok(whole)
+}
+
+impl Part {
+    /// Puts what is kept of a later part behind this.
+    fn add(&mut self, more: Part) -> Result<(), AllocError>
+        ensures { OnOk result ((output : RunOutput) (said later : PartSaid)
+            → Keeps output said self.old → Keeps output later more
+            → Keeps output (with_part said later) self.new) }
+    {
         let Part {
+            lines,
             mut books,
             mut calls,
             refusals,
-        } = part;
-        whole.books.append(&mut books)?;
-        whole.calls.append(&mut calls)?;
-        whole.refusals.add(&refusals);
+        } = more;
+        self.lines.append(lines)?;
+        self.books.append(&mut books)?;
+        self.calls.append(&mut calls)?;
+        self.refusals.add(&refusals);
+        Ok(())
     }
-    Ok(whole)
 }
 
 /// The text of all parts.
@@ -154,12 +194,17 @@ fn print_joined(
     setup: &RunSetup,
     whole: Part,
 ) -> Result<String, AllocError>
-    ensures { IfOk result (λ text. IsPartsText
-        output setup.now.tariff whole.books.items whole.calls.items (string_bytes text)) }
+    ensures { IfOk result (λ text. (said : PartSaid) → Keeps output said whole
+        → IsPartsText output setup.now.tariff said.books said.calls (string_bytes text)) }
 {
-    let Part { books, calls, .. } = whole;
+    let Part {
+        lines,
+        books,
+        calls,
+        ..
+    } = whole;
     match output {
-        RunOutput::Lines | RunOutput::Trace(_) => run_lines(alloc, books.as_slice()),
+        RunOutput::Lines | RunOutput::Trace(_) => lines.write(),
         RunOutput::Book => book_table(alloc, books.as_slice(), setup.tariff().has_steps()),
         RunOutput::Calls(clock) => print_calls(alloc, clock, calls),
     }
