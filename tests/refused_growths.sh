@@ -15,6 +15,14 @@ commands='command/help command/price command/replay command/run command/run_book
     command/run_trace command/run_parts command/run_threads command/audit command/audit_long
     command/audit_altered command/audit_lines command/rate command/serve command/serve_log command/serve_again'
 
+# An input of two accounts, each with the call of examples/call.txt.
+two_calls() {
+    printf '%s\n' prefix,from,fee,rate 49,00:00,50,1000 %% kind,key,value account,7,1500 subscriber,491700001,7 \
+        account,8,1500 subscriber,491700002,8 %% moment,call,what,x,y
+    printf '%s\n' 0,1,start,491700001,4930 0,2,start,491700002,4930 100,1,answer,, 100,2,answer,, \
+        400,1,disconnect,1, 400,2,disconnect,1,
+}
+
 # The words of a command and its input, what it prints, and its status.
 words_of() {
     case $1 in
@@ -43,6 +51,7 @@ input_of() {
         command/help) echo /dev/null ;;
         command/price) echo examples/reports.csv ;;
         command/replay) echo examples/ops.csv ;;
+        command/run_threads) echo "$work/two_calls" ;;
         command/run*) echo examples/call.txt ;;
         command/audit | command/audit_long | command/audit_lines) echo "$work/book" ;;
         command/audit_altered) echo examples/altered_book.csv ;;
@@ -67,9 +76,15 @@ answer_of() {
             echo 'settled paid 550 available 450'
             echo 'returned paid 550 available 950'
             ;;
-        command/run | command/run_parts | command/run_threads | command/audit_lines)
+        command/run | command/run_parts | command/audit_lines)
             echo 'account 7 opening 1500 available 950 entries 3'
             echo 'call 1 account 7 paid 550 returned'
+            ;;
+        command/run_threads)
+            echo 'account 7 opening 1500 available 950 entries 3'
+            echo 'account 8 opening 1500 available 950 entries 3'
+            echo 'call 1 account 7 paid 550 returned'
+            echo 'call 2 account 8 paid 550 returned'
             ;;
         command/run_book)
             ungranted_of "$1"
@@ -119,11 +134,13 @@ status_of() {
     esac
 }
 
-# What a run prints where its account has no memory for the call's grant; nothing for the others.
+# What a run prints where an account has no memory for its call's grant; nothing for the others.
 ungranted_of() {
     case $1 in
-        command/run | command/run_parts | command/run_threads)
-            echo 'account 7 opening 1500 available 1500 entries 0'
+        command/run | command/run_parts) echo 'account 7 opening 1500 available 1500 entries 0' ;;
+        # Either account may have none: the number behind the name.
+        command/run_threads)
+            answer_of "$1" | sed "s/^account $2 .*/account $2 opening 1500 available 1500 entries 0/; /^call . account $2 /d"
             ;;
         command/run_book)
             echo 'account,seat,op,call,x1,x2,x3,x4,x5,x6,x7,reply,y1,y2,y3'
@@ -189,7 +206,8 @@ is_command_right() {
     fi
     # The run went on without the grant, and says so.
     if [ "$status" -eq 0 ] && [ "$(cat "$work/faults")" = 'prepaid: refused: 1 OutOfMemory' ]; then
-        [ "$refused" -gt 0 ] && [ -s "$work/ungranted" ] && cmp -s "$work/output" "$work/ungranted"
+        [ "$refused" -gt 0 ] && [ -s "$work/ungranted" ] || return
+        cmp -s "$work/output" "$work/ungranted" || cmp -s "$work/output" "$work/other_ungranted"
         return
     fi
     [ "$refused" -gt 0 ] && [ "$status" -eq 2 ] || return
@@ -256,7 +274,9 @@ try_all() {
     { echo log,1,600,50,50 && cat examples/live.txt; } > "$work/logged"
     sed '/^moment/q' examples/live.txt > "$work/head"
     answer_of "$name" > "$work/answer"
-    ungranted_of "$name" > "$work/ungranted"
+    ungranted_of "$name" 7 > "$work/ungranted"
+    ungranted_of "$name" 8 > "$work/other_ungranted"
+    two_calls > "$work/two_calls"
     for form in ONE FROM; do
         number=1
         idle=0
