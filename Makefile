@@ -42,12 +42,10 @@ play = $(or $(wildcard bin/prepaid),bin/prepaid-unproved) run < examples/evening
 run: $(if $(wildcard bin/prepaid),,quick)
 	@$(play)
 
-# Writes a report of this evening, out/report.html, from the tables in out/evening. Each table is of a run of its own:
-# with one worker all of them are the same.
+# Writes a report of this evening, out/report.html, from the tables of one run in out/evening.
 report: $(if $(wildcard bin/prepaid),,quick)
 	@mkdir -p out/evening
-	@$(play) --workers 1 > out/evening/lines.txt
-	@for table in book calls trace; do $(play) --workers 1 --$$table > out/evening/$$table.csv || exit; done
+	@$(play) --workers 1 --into out/evening
 	@examples/report.py --output out/report.html out/evening
 
 # Writes the picture of the README anew.
@@ -60,10 +58,10 @@ TREE = $(shell git rev-parse HEAD) $(if $(shell git status --porcelain),changed,
 # Looks whether each edit fits its file, compares the page of definitions with their comments, proves everything from
 # nothing, tries the edits that must fail, and runs the tests and the programs; then holds the words of the man page
 # and the completions against the formats, runs the commands of the pages as they are, makes packages and uses them,
-# compares reports with their tables and runs in parts with whole ones, drives the service over a pipe, compares what
-# is said of faults with a table, on a terminal too, cuts and kills a service with a log, refuses memory to each call
-# that takes any, and compares the program with its model. Once all has passed, out/passed.txt says so of the commit;
-# make expands TREE before the first line.
+# compares reports with their tables, runs in parts with whole ones and the files of a run with what runs print, drives
+# the service over a pipe, compares what is said of faults with a table, on a terminal too, cuts and kills a service
+# with a log, refuses memory to each call that takes any, and compares the program with its model. Once all has passed,
+# out/passed.txt says so of the commit; make expands TREE before the first line.
 test:
 	mkdir -p out
 	rm -f out/passed.txt
@@ -75,6 +73,7 @@ test:
 	tests/dist_test.py --program crates/prepaid/out/prepaid
 	tests/report_test.py --program crates/prepaid/out/prepaid
 	tests/divide_test.py --program crates/prepaid/out/prepaid
+	tests/into_test.py --program crates/prepaid/out/prepaid
 	tests/pipe_test.py --program crates/prepaid/out/prepaid
 	tests/explain_test.py --program crates/prepaid/out/prepaid
 	tests/serve_test.py --program crates/prepaid/out/prepaid

@@ -18,6 +18,9 @@ _prepaid()
     elif [[ $previous == --log ]]; then
         COMPREPLY=($(compgen -f -- "$current"))
         return
+    elif [[ $previous == --into ]]; then
+        COMPREPLY=($(compgen -d -- "$current"))
+        return
     elif [[ $previous == --* && $previous != --book && $previous != --calls && $previous != --trace && $previous != --lines && $previous != --clock && $previous != --long && $previous != --differing && $previous != --summary && $previous != --help && $previous != --version ]]; then
         # a number or a name comes next
         words=''
@@ -25,7 +28,7 @@ _prepaid()
         case ${given[1]} in
             price) words='--fee --before --after --free --first --step --help -h' ;;
             replay) words='--opening --limit --help -h' ;;
-            run) words='--workers --parts --threads --wanted --least --tssf --tccd --delay --default --book --calls --trace --clock --help -h' ;;
+            run) words='--workers --parts --threads --wanted --least --tssf --tccd --delay --default --book --calls --trace --clock --into --help -h' ;;
             audit) words='--long --rows --lines --help -h' ;;
             quote) words='--called --at --for --credit --clock --help -h' ;;
             rate) words='--called --answer --paid --time --end --before --after --differing --summary --help -h' ;;

@@ -3,7 +3,8 @@
 
 Each slip of a table is told by its line alone, and with `--explain` in front of the command by this line and the lines of
 the table behind it; the output stays empty. The same holds with CR LF at the end of each line, without an LF at the end of
-the input, and where the row is at the end of an input of 16 MB. On a pseudo-terminal a fault is explained without the word,
+the input, and where the row is at the end of an input of 16 MB. Behind the answer of a run a line says which calls no
+subscriber makes, with the word alone, and the output stays as it is. On a pseudo-terminal a fault is explained without the word,
 but not behind `--plain`, and a command says that it waits for its input.
 """
 import argparse
@@ -11,6 +12,7 @@ import os
 import pty
 import subprocess
 import sys
+import tempfile
 import threading
 
 ROOT = os.path.dirname(os.path.dirname(os.path.abspath(__file__)))
@@ -81,6 +83,7 @@ OTHERS = [
     ("run --wanted 99999999999", "", "input: Config\nwanted 99999999999 is above 864000\n"),
     ("run --tssf 864001", "", "input: Config\ntssf 864001 is above 864000\n"),
     ("serve --tccd 51", "", "input: Config\ntccd 51 is above least 50\n"),
+    ("run", "x" * (MAX_INPUT + 1), f"input: TooLong\nat most {MAX_INPUT} bytes; docs/SCALING.md has larger loads\n"),
     ("run --workers x", "", "arguments\nan option has a value that it doesn't take: see prepaid help COMMAND\n"),
     ("audti", "", "arguments\nerror: unrecognized subcommand 'audti'\n  tip: a similar subcommand exists: 'audit'\n"
      "Usage: prepaid [OPTIONS] <COMMAND>\nFor more information, try '--help'.\n"),
@@ -133,6 +136,50 @@ def slips(program):
     for words, text, said in OTHERS:
         if wrong := compare(program, words, text, said):
             return wrong
+    return None
+
+
+def calls(numbers, calling="491700009"):
+    """Rows of a script that start calls with these numbers."""
+    return "".join(f"20,{number},start,{calling},4930\n" for number in numbers)
+
+
+# Of answers of a run the rows of its script, and what is said behind them with `--explain`.
+STRANGERS = [
+    ("", ""),
+    (calls([20]), "1 call of a number that no subscriber has: 20\n"),
+    (calls([44, 20]) + calls([3], "491700001") + calls([31]), "3 calls of numbers that no subscriber has: 44, 20, 31\n"),
+    (calls(range(2, 12)), f"10 calls of numbers that no subscriber has: {', '.join(map(str, range(2, 12)))}\n"),
+    (calls(range(2, 15)), f"13 calls of numbers that no subscriber has: {', '.join(map(str, range(2, 12)))}, ..\n"),
+    (calls([2]) + "60,2,answer,,\n70,2,disconnect,1,\n", "1 call of a number that no subscriber has: 2\n"),
+    (calls([2], "49170000") + calls([18446744073709551615], "4917000010"),
+     "2 calls of numbers that no subscriber has: 2, 18446744073709551615\n"),
+    (calls([2]) + "60,,recharge,7,0\n", "prepaid: refused: 1 OutOfRange\n1 call of a number that no subscriber has: 2\n"),
+]
+
+
+def answers(program):
+    """What is said behind an answer: nothing without the word, and with it which calls no subscriber makes. The answer is the
+    same with the word and without."""
+    for rows, said in STRANGERS:
+        text = parts(script=rows)
+        refused = said[: said.index("\n") + 1] if said.startswith("prepaid") else ""
+        for words in ("run", "run --parts 1", "run --calls", "run --trace --workers 1"):
+            plain, explained = run(program, words, text), run(program, f"--explain {words}", text)
+            if plain[1:] != (refused, 0) or not plain[0] or explained != (plain[0], said, 0):
+                return f"{words} with {rows!r}: {plain} and {explained} in place of {said!r}"
+        with tempfile.TemporaryDirectory() as folder:
+            if (found := run(program, f"--explain run --into {folder}", text)) != ("", said, 0):
+                return f"run --into with {rows!r}: {found} in place of {said!r}"
+        if (found := on_terminal(program, "run", text)) != (said, run(program, "run", text)[0], 0):
+            return f"run on a terminal with {rows!r}: {found}"
+    audited = run(program, "--explain audit", run(program, "run --book", parts(script=calls([20])))[0])
+    if audited != ("account 7 yes\n", "", 0):
+        return f"an audit: {audited}"
+    for path, why in (("none", "No such file or directory (os error 2)"), ("/dev/null", "Not a directory")):
+        found = run(program, f"--explain run --into {path}", parts())
+        if found[0] or found[2] != 2 or not found[1].lower().startswith(f"prepaid: into: device\nthe files: {why.lower()}"):
+            return f"run --into {path}: {found}"
     return None
 
 
@@ -191,11 +238,11 @@ def main():
     parser = argparse.ArgumentParser(description=__doc__.split("\n")[0])
     parser.add_argument("--program", default=f"{ROOT}/bin/prepaid")
     program = os.path.abspath(parser.parse_args().program)
-    for name, trial in {"slips": slips, "terminals": terminals}.items():
+    for name, trial in {"slips": slips, "answers": answers, "terminals": terminals}.items():
         if wrong := trial(program):
             print(f"explain: {name}: {wrong}")
             return 1
-    print(f"explain: {len(SLIPS)} slips in 4 forms, {len(OTHERS)} others, and a terminal: as the pages say")
+    print(f"explain: {len(SLIPS)} slips in 4 forms, {len(OTHERS)} others, {len(STRANGERS)} answers, and a terminal: as the pages say")
     return 0
 
 

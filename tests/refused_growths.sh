@@ -12,7 +12,7 @@ cd "$(dirname "$0")/.."
 calls=crates/refused_growths/out/refused_growths
 prepaid=crates/prepaid/out/prepaid
 commands='command/help command/price command/replay command/run command/run_book command/run_calls
-    command/run_trace command/run_parts command/run_threads command/audit command/audit_long
+    command/run_trace command/run_parts command/run_threads command/run_into command/audit command/audit_long
     command/audit_altered command/audit_lines command/rate command/serve command/serve_log command/serve_again'
 
 # An input of two accounts, each with the call of examples/call.txt.
@@ -35,6 +35,7 @@ words_of() {
         command/run_trace) echo 'run --trace' ;;
         command/run_parts) echo 'run --parts 2' ;;
         command/run_threads) echo 'run --parts 2 --threads 2' ;;
+        command/run_into) echo "run --into $work/into" ;;
         command/audit_long) echo 'audit --long' ;;
         command/audit_altered) echo 'audit --rows' ;;
         command/audit_lines) echo 'audit --lines' ;;
@@ -180,6 +181,30 @@ begin_log() {
     [ "$1" != command/serve_again ] || cp "$work/logged" "$work/log"
 }
 
+# Makes a folder with the files of a run, each of which says what is given of it.
+make_folder() {
+    local table name
+    rm -rf "${work:?}/$1"
+    mkdir "$work/$1"
+    for table in lines.txt book.csv calls.csv trace.csv; do
+        case $table in lines.txt) name=command/run ;; *) name=command/run_${table%.csv} ;; esac
+        "$2" "$name" > "$work/$1/$table"
+    done
+}
+
+# What a folder holds before a try.
+old_of() {
+    echo "old $1"
+}
+
+# Whether a folder has the files of the run, or where that failed those that it had; and no others.
+is_folder_right() {
+    local kept=old
+    [ "$1" -ne 0 ] || kept=whole
+    [ "$1" -ne 0 ] || [ ! -s "$work/faults" ] || kept=without
+    diff -r "$work/into" "$work/$kept" > "$work/differ"
+}
+
 # Whether a file is a front of another.
 is_front_of() {
     head -c "$(stat -c %s "$1")" "$2" | cmp -s - "$1"
@@ -197,7 +222,10 @@ is_log_right() {
 # Whether a command has ended as it may with growths refused, and, where none was, with its answer.
 is_command_right() {
     local name=$1 refused=$2 status=$3
-    case $name in command/serve_*) is_log_right "$status" || return ;; esac
+    case $name in
+        command/serve_*) is_log_right "$status" || return ;;
+        command/run_into) is_folder_right "$status" || return ;;
+    esac
     if [ "$status" -eq "$(status_of "$name")" ] && [ ! -s "$work/faults" ]; then
         cmp -s "$work/output" "$work/answer" && return
         # The service says a refusal in its rows.
@@ -206,7 +234,7 @@ is_command_right() {
     fi
     # The run went on without the grant, and says so.
     if [ "$status" -eq 0 ] && [ "$(cat "$work/faults")" = 'prepaid: refused: 1 OutOfMemory' ]; then
-        [ "$refused" -gt 0 ] && [ -s "$work/ungranted" ] || return
+        [ "$refused" -gt 0 ] && { [ -s "$work/ungranted" ] || [ "$name" = command/run_into ]; } || return
         cmp -s "$work/output" "$work/ungranted" || cmp -s "$work/output" "$work/other_ungranted"
         return
     fi
@@ -243,6 +271,7 @@ try() {
     local status refused
     echo 0 > "$work/refused"
     begin_log "$name"
+    [ "$name" != command/run_into ] || make_folder into old_of
     case $name in
         command/*)
             # shellcheck disable=SC2046
@@ -277,6 +306,9 @@ try_all() {
     ungranted_of "$name" 7 > "$work/ungranted"
     ungranted_of "$name" 8 > "$work/other_ungranted"
     two_calls > "$work/two_calls"
+    make_folder old old_of
+    make_folder whole answer_of
+    make_folder without ungranted_of
     for form in ONE FROM; do
         number=1
         idle=0

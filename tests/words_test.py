@@ -101,7 +101,7 @@ def said_in_formats(text):
         for option, left, allowed, _ in tables[f"Option of `{name}`"]:
             option, *takes = option.strip("`").split()
             commands[name].add(option)
-            if takes and takes != ["FILE"]:
+            if takes and takes[0] not in ("FILE", "FOLDER"):
                 values[name, option] = allowed.replace("`", ""), left.strip("`") or None
     lines = {it: int(row[1]) for row in tables["Line"] if row[0] != "none" for it in fault_lines(row[0])}
     lines |= {f"prepaid: run: {it}": int(row[1]) for row in tables["Line"] for it in re.findall(r"`(\w+)` is a name too", row[2])}
@@ -162,7 +162,7 @@ def said_in_man(text):
         elif section == "COMMANDS":
             option, *takes = term.replace(",", "").split()
             commands[below] |= {it for it in term.replace(",", " ").split() if it.startswith("-")}
-            if takes and takes[0] not in ("NAME", "FILE") and not takes[0].startswith("-"):
+            if takes and takes[0] not in ("NAME", "FILE", "FOLDER") and not takes[0].startswith("-"):
                 allowed = re.search(r"Range: ([^.]*)\.", said)[1]
                 left = re.search(r"Left out: ([^.]*)\.", said)
                 values[below, option] = allowed, left and left[1]

@@ -29,6 +29,7 @@ refused_by words error (Ok (request.Version text)) among is = rw is at among
 refused_by words error (Ok (request.Price plan)) among is = absurd is
 refused_by words error (Ok (request.Replay account)) among is = absurd is
 refused_by words error (Ok (request.Run options)) among is = absurd is
+refused_by words error (Ok (request.RunInto options folder)) among is = absurd is
 refused_by words error (Ok (request.Audit size)) among is = absurd is
 refused_by words error (Ok (request.Quote ask)) among is = absurd is
 refused_by words error (Ok (request.Rate ask)) among is = absurd is
@@ -43,6 +44,7 @@ refused_for_memory words error (Ok (request.Version text)) memory is = let no : 
 refused_for_memory words error (Ok (request.Price plan)) memory is = absurd is
 refused_for_memory words error (Ok (request.Replay account)) memory is = absurd is
 refused_for_memory words error (Ok (request.Run options)) memory is = absurd is
+refused_for_memory words error (Ok (request.RunInto options folder)) memory is = absurd is
 refused_for_memory words error (Ok (request.Audit size)) memory is = absurd is
 refused_for_memory words error (Ok (request.Quote ask)) memory is = absurd is
 refused_for_memory words error (Ok (request.Rate ask)) memory is = absurd is
@@ -71,6 +73,7 @@ asked_by words command (Ok (request.Version text)) parsed command_is is = absurd
 asked_by words command (Ok (request.Price plan)) parsed command_is is = record { parsed = parsed; wish_is = sym (ap wish_in command_is) ∙ is }
 asked_by words command (Ok (request.Replay account)) parsed command_is is = record { parsed = parsed; wish_is = sym (ap wish_in command_is) ∙ is }
 asked_by words command (Ok (request.Run options)) parsed command_is is = record { parsed = parsed; wish_is = sym (ap wish_in command_is) ∙ is }
+asked_by words command (Ok (request.RunInto options folder)) parsed command_is is = record { parsed = parsed; wish_is = sym (ap wish_in command_is) ∙ is }
 asked_by words command (Ok (request.Audit size)) parsed command_is is = record { parsed = parsed; wish_is = sym (ap wish_in command_is) ∙ is }
 asked_by words command (Ok (request.Quote ask)) parsed command_is is = record { parsed = parsed; wish_is = sym (ap wish_in command_is) ∙ is }
 asked_by words command (Ok (request.Rate ask)) parsed command_is is = record { parsed = parsed; wish_is = sym (ap wish_in command_is) ∙ is }

@@ -16,7 +16,7 @@ use Rattle.command_words.specs.QuoteWishes.{wish_of}
 use Rattle.command_words.specs.QuoteWords.{quote_in}
 use Rattle.command_words.specs.RateWords.{rate_in}
 use Rattle.rating.specs.SaidOf.{wish_of as rate_wish_of}
-use Rattle.command_words.specs.Wishes.{Wish, Audits, Prices, Quotes, RatesRecords, Replays, Runs, Serves}
+use Rattle.command_words.specs.Wishes.{Wish, Audits, Prices, Quotes, RatesRecords, Replays, Runs, RunsInto, Serves}
 use Rattle.command_words.specs.declared.request.Request.{Request}
 use Rattle.command_words.specs.declared.request.Request.TheVariants as request
 use Rattle.command_words.specs.declared.fault.WordsFault.{WordsFault}
@@ -40,6 +40,7 @@ abbrev pub IsRequestOf : Result Wish WordsFault → Result Request WordsFault �
 IsRequestOf wish (Ok (request.Price plan)) = wish ≡ Ok (Prices (rates_of plan))
 IsRequestOf wish (Ok (request.Replay account)) = wish ≡ Ok (Replays account.opening account.limit)
 IsRequestOf wish (Ok (request.Run options)) = wish ≡ Ok (Runs (ask_of options))
+IsRequestOf wish (Ok (request.RunInto options folder)) = wish ≡ Ok (RunsInto (ask_of options) folder.now)
 IsRequestOf wish (Ok (request.Audit ask)) = wish ≡ Ok (Audits ask)
 IsRequestOf wish (Ok (request.Quote ask)) = wish ≡ Ok (Quotes (wish_of ask))
 IsRequestOf wish (Ok (request.Rate ask)) = wish ≡ Ok (RatesRecords (rate_wish_of ask))
@@ -86,6 +87,7 @@ IsRead words (Ok (request.Version text)) = AsksVersion words
 IsRead words (Ok (request.Price plan)) = AsksFor words (Prices (rates_of plan))
 IsRead words (Ok (request.Replay account)) = AsksFor words (Replays account.opening account.limit)
 IsRead words (Ok (request.Run options)) = AsksFor words (Runs (ask_of options))
+IsRead words (Ok (request.RunInto options folder)) = AsksFor words (RunsInto (ask_of options) folder.now)
 IsRead words (Ok (request.Audit ask)) = AsksFor words (Audits ask)
 IsRead words (Ok (request.Quote ask)) = AsksFor words (Quotes (wish_of ask))
 IsRead words (Ok (request.Rate ask)) = AsksFor words (RatesRecords (rate_wish_of ask))

@@ -49,9 +49,13 @@ other_rules = option_rule (codes "workers") ∷ option_rule (codes "parts") ∷ 
 abbrev pub output_rules : List Rule
 output_rules = flag_rule (codes "book") ∷ flag_rule (codes "calls") ∷ flag_rule (codes "trace") ∷ flag_rule (codes "clock") ∷ []
 
--- `run [--wanted N] [--least N] [--tssf N] [--tccd N] [--delay N] [--workers N] [--parts N] [--threads N] [--default N] [--book] [--calls] [--trace] [--clock]`
+-- what it prints, or the folder that all of it goes into
+abbrev pub with_outputs : App → App
+with_outputs app = with_rule (with_rules app output_rules) (option_rule (codes "into"))
+
+-- `run [--wanted N] [--least N] [--tssf N] [--tccd N] [--delay N] [--workers N] [--parts N] [--threads N] [--default N] [--book] [--calls] [--trace] [--clock] [--into N]`
 unfoldable pub run_app : App
-run_app = with_rules (with_rules (with_rules (with_rules (new_app (codes "run")) service_rules) switch_rules) other_rules) output_rules
+run_app = with_outputs (with_rules (with_rules (with_rules (new_app (codes "run")) service_rules) switch_rules) other_rules)
 
 -- `audit [--long] [--rows] [--lines]`
 unfoldable pub audit_app : App

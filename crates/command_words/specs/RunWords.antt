@@ -13,7 +13,7 @@ use Rattle.ssf_core.specs.declared.config.DefaultHandling.{DefaultHandling}
 use Rattle.ssf_core.specs.declared.config.DefaultHandling.TheVariants as handling
 use Rattle.table_core.specs.Decimals.{is_decimal}
 use Rattle.command_words.specs.Options.{clock_by, has_flag, optional_number_in}
-use Rattle.command_words.specs.Wishes.{Wish, Runs}
+use Rattle.command_words.specs.Wishes.{Wish, Runs, RunsInto}
 use Rattle.command_words.specs.declared.fault.WordsFault.{WordsFault}
 use Rattle.command_words.specs.declared.fault.WordsFault.TheVariants as fault
 
@@ -60,18 +60,19 @@ abbrev pub handling_in : List Row → Option DefaultHandling
 handling_in options = handling_of (first_of (codes "default") options)
 
 -- what is printed: the lines, where none is asked for of the table of books, the table of calls and the trace. Only one of these may be. Moments may be
--- printed as dates and times in the table of calls and in the trace alone
-abbrev pub output_of : Bool → Bool → Bool → Bool → Option RunOutput
-output_of false false false false = Some output.Lines
-output_of true false false false = Some output.Book
-output_of false true false dates = Some (output.Calls (clock_by dates))
-output_of false false true dates = Some (output.Trace (clock_by dates))
-output_of _ _ _ _ = None
+-- printed as dates and times in the table of calls and in the trace alone. Where all of them go into a folder, none of them is asked for, and the run is that of a trace
+abbrev pub output_of : Bool → Bool → Bool → Bool → Bool → Option RunOutput
+output_of false false false false false = Some output.Lines
+output_of false true false false false = Some output.Book
+output_of false false true false dates = Some (output.Calls (clock_by dates))
+output_of false false false true dates = Some (output.Trace (clock_by dates))
+output_of true false false false dates = Some (output.Trace (clock_by dates))
+output_of _ _ _ _ _ = None
 
--- what the options ask to print
+-- what the options ask to print, and whether it goes into a folder
 abbrev pub output_in : List Row → Option RunOutput
 output_in options =
-    output_of (has_flag options (codes "book")) (has_flag options (codes "calls")) (has_flag options (codes "trace")) (has_flag options (codes "clock"))
+    output_of (is_some (first_of (codes "into") options)) (has_flag options (codes "book")) (has_flag options (codes "calls")) (has_flag options (codes "trace")) (has_flag options (codes "clock"))
 
 -- what the options ask for, where each has a number or a word of its own
 unfoldable pub ask_in : List Row → Option RunAsk
@@ -91,11 +92,16 @@ ask_in options =
     (parts_in options workers output)) (output_in options)) (handling_in options)) (setting_in options (codes "delay") 2)) (setting_in options (codes "tccd") 50)) (setting_in options (codes "tssf") 100))
     (setting_in options (codes "least") 50)) (setting_in options (codes "wanted") 600)) (workers_in options)
 
+-- a run that is printed, or that goes into a folder
+abbrev pub run_wish : RunAsk → Option Text → Wish
+run_wish ask None = Runs ask
+run_wish ask (Some folder) = RunsInto ask folder
+
 -- the run that is asked for, its times judged
-abbrev pub judged : Option RunAsk → Result Wish WordsFault
-judged None = Err fault.Arguments
-judged (Some ask) = if is_config ask then Ok (Runs ask) else Err fault.Config
+abbrev pub judged : Option RunAsk → Option Text → Result Wish WordsFault
+judged None folder = Err fault.Arguments
+judged (Some ask) folder = if is_config ask then Ok (run_wish ask folder) else Err fault.Config
 
 -- what a run is asked for, judged
 abbrev pub run_in : List Row → Result Wish WordsFault
-run_in options = judged (ask_in options)
+run_in options = judged (ask_in options) (first_of (codes "into") options)

@@ -3,7 +3,7 @@
 ghost use Rattle.std.specs.Prelude.{◌≡◌, false, IfOk};
 ghost use Rattle.clap.specs.Words.{app_of, new_app, rule_of, with_rule};
 ghost use Rattle.clap.specs.declared.builder.command.Command.TheViews.{out-Command as fields_of};
-ghost use Rattle.command_words.specs.CommandLine.{audit_app, bare_app, end_rules, flag_rule, log_rules, name_rules, option_rule, other_rules, output_rules, price_app, program_app, question_rules, quote_app, rate_app, rate_rules, replay_app, required_rule, run_app, serve_app, service_rules, switch_rules, time_rules, unit_rules, with_rules};
+ghost use Rattle.command_words.specs.CommandLine.{audit_app, bare_app, end_rules, flag_rule, log_rules, name_rules, option_rule, other_rules, output_rules, price_app, program_app, question_rules, quote_app, rate_app, rate_rules, replay_app, required_rule, run_app, serve_app, service_rules, switch_rules, time_rules, unit_rules, with_outputs, with_rules};
 
 use crate::help;
 use clap::{Arg, ArgAction, Command};
@@ -100,7 +100,7 @@ fn run_command<'a>(alloc: Global) -> Result<Command<'a>, AllocError>
     let command = add_service_options(alloc, command)?;
     let command = add_switch_options(alloc, command)?;
     let command = add_other_options(alloc, command)?;
-    add_output_options(alloc, command)
+    add_outputs(alloc, command)
 }
 
 #[tactic(auto, unfolding(crate::specs::CommandLine::audit_app))]
@@ -303,24 +303,25 @@ fn add_output_options<'a>(alloc: Global, command: Command<'a>) -> Result<Command
         ≡ with_rules (app_of command.entry) output_rules) }
     ensures local { IfOk result (λ more. (fields_of more).has_globals ≡ false) }
 {
-    let command = add(
-        command,
-        flag(alloc, "book", "Prints the book, in place of the lines"),
-    )?;
-    let command = add(
-        command,
-        flag(alloc, "calls", "Prints the calls, in place of the lines"),
-    )?;
-    let command = add(
-        command,
-        flag(
-            alloc,
-            "trace",
-            "Prints what was said, in place of the lines",
-        ),
-    )?;
+    let book = "Prints the book, in place of the lines";
+    let command = add(command, flag(alloc, "book", book))?;
+    let calls = "Prints the calls, in place of the lines";
+    let command = add(command, flag(alloc, "calls", calls))?;
+    let trace = "Prints what was said, in place of the lines";
+    let command = add(command, flag(alloc, "trace", trace))?;
     let clock = "Prints the moments of calls or a trace as dates and times";
     add(command, flag(alloc, "clock", clock))
+}
+
+/// What is printed, or the folder that all of it goes into.
+fn add_outputs<'a>(alloc: Global, command: Command<'a>) -> Result<Command<'a>, AllocError>
+    requires { (fields_of command).has_globals ≡ false }
+    ensures app { IfOk result (λ more. app_of more ≡ with_outputs (app_of command.entry)) }
+    ensures local { IfOk result (λ more. (fields_of more).has_globals ≡ false) }
+{
+    let command = add_output_options(alloc, command)?;
+    let into = "Writes lines, book, calls and trace into files of this folder";
+    add(command, named(alloc, "into", "FOLDER", into))
 }
 
 /// A command, and what its help says that it does.

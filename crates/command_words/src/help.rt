@@ -93,9 +93,14 @@ Input, for example:
   400,1,disconnect,1,
 
 Exit status:
-  0  all of the answer was printed
+  0  all of the answer was printed, or written into its files
   1  the words or the input are refused
-  2  the run failed; without a line, the output failed
+  2  the run or a file failed; without a line, the output failed
+
+With --into FOLDER the files lines.txt, book.csv, calls.csv and trace.csv of a folder that is
+there get what the run prints without an option, with --book, with --calls and with --trace. All
+are of one run. They replace files of their names once all four are written; after a fault no
+file is half written.
 
 Behind the answer, with status 0, a line on standard error may say what accounts refused:
   prepaid: refused: 2 HistoryFull, 1 OutOfMemory
@@ -105,8 +110,9 @@ Behind the answer, with status 0, a line on standard error may say what accounts
 A fault is one line on standard error, and then nothing is printed:
   prepaid: arguments
       No options of run: mostly a file name (use < FILE), an option given twice, a unit such
-      as 60s, two of --book, --calls and --trace, or --clock without one of the last two, or
-      --parts beside --trace or more than one worker, or --threads without --parts
+      as 60s, two of --book, --calls, --trace and --into, or --clock without one of the last
+      three, or --parts beside --trace, --into or more than one worker, or --threads without
+      --parts
   prepaid: input: Config
       A time is out of the relation above
   prepaid: input: TooLong
@@ -117,6 +123,8 @@ A fault is one line on standard error, and then nothing is printed:
   prepaid: setup row N: KIND
   prepaid: script row N: KIND
       Rows count from 1, which is the header of that part; empty lines don't count
+  prepaid: into: Device
+      A file of FOLDER couldn't be written, or there is no such folder
   prepaid: run: Workers
       0 workers or more than 16
   prepaid: run: Mismatch, Channel, Thread, GateClosed, Device, OutOfMemory

@@ -22,8 +22,11 @@ pub enum Request<'a> {
     Price(Plan),
     /// The replies of an account to operations.
     Replay(Opening),
-    /// A run of a script.
+    /// A run of a script, which is printed.
     Run(RunOptions),
+    /// A run of a script, whose lines and tables go into the folder at this path. It is that of a
+    /// trace, whose clock is that of the calls too.
+    RunInto(RunOptions, &'a str),
     /// The audit of a table of books of this size at most.
     Audit(AuditAsk),
     /// What a call to a number costs.

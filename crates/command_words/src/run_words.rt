@@ -25,15 +25,16 @@ const MAX_THREADS: u64 = 64;
 
 /// The run that the options ask for. `Config` where a time is out of its range, however large;
 /// `Arguments` where an option has no number or word of its own.
-pub(crate) fn run_request<'a>(options: &ArgMatches<'_>) -> Result<Request<'a>, WordsFault>
+pub(crate) fn run_request<'a>(options: &ArgMatches<'a>) -> Result<Request<'a>, WordsFault>
     ensures { IsRequestOf (run_in (rows_of (found_of options.now))) result }
 {
     let Some(ask) = run_ask(options) else {
         return Err(WordsFault::Arguments);
     };
-    match RunOptions::new(ask) {
-        Some(options) => Ok(Request::Run(options)),
-        None => Err(WordsFault::Config),
+    match (RunOptions::new(ask), option_text(options, "into")) {
+        (Some(options), None) => Ok(Request::Run(options)),
+        (Some(options), Some(folder)) => Ok(Request::RunInto(options, folder)),
+        (None, _) => Err(WordsFault::Config),
     }
 }
 
@@ -146,7 +147,7 @@ fn handling(text: Option<&str>) -> Option<DefaultHandling>
 }
 
 /// What is to be printed; none where more than one of the books, the calls and the trace are asked
-/// for, or dates and times without the calls or the trace.
+/// for, or one of them and a folder, or dates and times without the calls, the trace or a folder.
 fn output(options: &ArgMatches<'_>) -> Option<RunOutput>
     ensures { result ≡ output_in (rows_of (found_of options.now)) }
 {
@@ -154,18 +155,20 @@ fn output(options: &ArgMatches<'_>) -> Option<RunOutput>
     let calls = has_flag(options, "calls");
     let trace = has_flag(options, "trace");
     let dates = has_flag(options, "clock");
-    output_of(book, calls, trace, dates)
+    let into = option_text(options, "into").is_some();
+    output_of(into, book, calls, trace, dates)
 }
 
 /// The same, by whether each is asked for.
-fn output_of(book: bool, calls: bool, trace: bool, dates: bool) -> Option<RunOutput>
-    ensures { result ≡ output_of book calls trace dates }
+fn output_of(into: bool, book: bool, calls: bool, trace: bool, dates: bool) -> Option<RunOutput>
+    ensures { result ≡ output_of into book calls trace dates }
 {
-    match (book, calls, trace, dates) {
-        (false, false, false, false) => Some(RunOutput::Lines),
-        (true, false, false, false) => Some(RunOutput::Book),
-        (false, true, false, _) => Some(RunOutput::Calls(clock_by(dates))),
-        (false, false, true, _) => Some(RunOutput::Trace(clock_by(dates))),
+    match (into, book, calls, trace, dates) {
+        (false, false, false, false, false) => Some(RunOutput::Lines),
+        (false, true, false, false, false) => Some(RunOutput::Book),
+        (false, false, true, false, _) => Some(RunOutput::Calls(clock_by(dates))),
+        (false, false, false, true, _) => Some(RunOutput::Trace(clock_by(dates))),
+        (true, false, false, false, _) => Some(RunOutput::Trace(clock_by(dates))),
         _ => None,
     }
 }

@@ -1,6 +1,6 @@
 -- An answer to a wish is an answer to the words that ask for it.
 use Rattle.std.proofs.Common.{◌≡◌, ℕ, Bool, true, false, List, Option, Some, None, Result, Ok, Err, ap, refl, ◌∙◌, subst, sym, inl, inr}
-use Rattle.std.specs.Prelude.{◌⊎◌, ⊤, IfErr, IfNone, IfSome, MatchResult, option_map, if◌then◌else◌, length, nat_lt}
+use Rattle.std.specs.Prelude.{◌⊎◌, ⊤, IfErr, IfNone, IfOk, IfSome, MatchResult, option_map, if◌then◌else◌, length, nat_lt}
 use Rattle.std.specs.Result.{result_map_both}
 use Rattle.book_texts.specs.Books.{Books, books_of}
 use Rattle.book_texts.specs.Sizes.{most_rows}
@@ -9,10 +9,11 @@ use Rattle.book_texts.specs.declared.size.BookSize.{BookSize}
 use Rattle.book_texts.specs.declared.size.BookSize.TheVariants as size
 use Rattle.command_words.specs.Arguments.{AsksFor, AsksHelp, AsksVersion, IsRead, explains}
 use Rattle.command_words.specs.QuoteWishes.{QuoteWish}
-use Rattle.command_words.specs.Wishes.{Wish, Audits, Prices, Quotes, Replays, Runs}
+use Rattle.command_words.specs.Wishes.{Wish, Audits, Prices, Quotes, Replays, Runs, RunsInto}
 use Rattle.command_words.specs.declared.fault.WordsFault.{WordsFault}
 use Rattle.command_words.specs.declared.fault.WordsFault.TheVariants as words_fault
 use Rattle.run_command.specs.Answers.{RunSaid}
+use Rattle.run_command.specs.Tables.{TablesSaid}
 use Rattle.run_command.specs.declared.error.RunError.{RunError}
 use Rattle.run_command.specs.declared.error.RunError.TheVariants as error
 use Rattle.run_options.specs.declared.options.RunAsk.{RunAsk}
@@ -26,14 +27,14 @@ use Rattle.table_core.specs.declared.fault.RowFault.{RowFault}
 use Rattle.tariff_core.specs.Bands.{Band}
 use Rattle.tariff_core.specs.Rates.{Rates}
 use Rattle.tariff_core.specs.Times.{Elapsed}
-use Rattle.prepaid_command.specs.Answers.{Answers, IsAnswer, IsAnswerTo, IsAuditOfTable, IsTold, IsToldAudit, IsToldQuote, IsToldRun, Written, price_of_input, replay_of_input}
-use Rattle.prepaid_command.specs.Explanations.{IsOfWords, IsSaidBy, IsSaidOf, has_parts}
+use Rattle.prepaid_command.specs.Answers.{Answers, IsAnswer, IsAnswerTo, IsAuditOfTable, IsFiledRun, IsTold, IsToldAudit, IsToldQuote, IsToldRun, Written, price_of_input, replay_of_input}
+use Rattle.prepaid_command.specs.Explanations.{IsAdded, IsOfWords, IsSaidBehind, IsSaidBy, IsSaidOf, has_parts, slip_of}
 use Rattle.prepaid_command.specs.Faults.{Gives, GivesOne, meaning_in, meaning_of_part, of_run, of_run_input, of_words}
 use Rattle.prepaid_command.specs.Input.{sized, sized_as}
 use Rattle.prepaid_command.specs.PriceLines.{price_lines}
 use Rattle.prepaid_command.specs.Reports.{reports_of}
 use Rattle.prepaid_command.specs.Replays.{replayed}
-use Rattle.prepaid_command.specs.Tellings.{Telling, plain, telling_of_run}
+use Rattle.prepaid_command.specs.Tellings.{Telling, plain, telling_of_files, telling_of_run}
 use Rattle.prepaid_command.specs.declared.fault.Fault.{Fault}
 use Rattle.prepaid_command.specs.declared.fault.Fault.TheVariants as fault
 use Rattle.prepaid_command.specs.declared.fault.Part.TheVariants as part
@@ -125,6 +126,7 @@ answers words wish input of_input (Err (fault.Tariff row)) asked is = record { w
 answers words wish input of_input (Err (fault.Table part row)) asked is = record { wish = wish; asked = asked; answered = is }
 answers words wish input of_input (Err (fault.Log why)) asked is = record { wish = wish; asked = asked; answered = is }
 answers words wish input of_input (Err (fault.LogRow row kind)) asked is = record { wish = wish; asked = asked; answered = is }
+answers words wish input of_input (Err fault.Into) asked is = record { wish = wish; asked = asked; answered = is }
 answers words wish input of_input (Err fault.Device) asked is = tt
 answers words wish input of_input (Err (fault.Run run.OutOfMemory)) asked is = tt
 answers words wish input of_input (Err (fault.Run run.Workers)) asked is = record { wish = wish; asked = asked; answered = is }
@@ -145,6 +147,7 @@ gives_one view (Err (fault.Tariff row)) meaning gives = gives
 gives_one view (Err (fault.Table part row)) meaning gives = gives
 gives_one view (Err (fault.Log why)) meaning gives = gives
 gives_one view (Err (fault.LogRow row kind)) meaning gives = gives
+gives_one view (Err fault.Into) meaning gives = gives
 gives_one view (Err fault.Device) meaning gives = tt
 gives_one view (Err (fault.Run run.OutOfMemory)) meaning gives = tt
 gives_one view (Err (fault.Run run.Workers)) meaning gives = gives
@@ -182,19 +185,54 @@ run_by ask (Err why) answer of_text is = rw is of_text
 pub run_of : (ask : RunAsk) (input : List ℕ) (answer : Result Telling Fault) → IsAnswerTo (Runs ask) input answer → IfErr answer IsOfInput
 run_of ask input answer is = run_by ask (sized input) answer (sized_of input) is
 
+filed_run_by : (made : Result TablesSaid RunError) (answer : Result Telling Fault)
+    → MatchResult made (λ tables. (answer ≡ Ok (telling_of_files tables)) ⊎ (answer ≡ Err fault.Into)) (λ why. answer ≡ Err (of_run why)) → IfErr answer IsOfInput
+filed_run_by (Ok tables) answer (inl is) = rw is tt
+filed_run_by (Ok tables) answer (inr is) = rw is tt
+filed_run_by (Err (error.Input why)) answer is = rw is (run_input_of why)
+filed_run_by (Err (error.Run why)) answer is = rw is tt
+
+filed_by : (ask : RunAsk) (text : Result (List ℕ) Fault) (answer : Result Telling Fault) → IfErr text IsOfInput
+    → MatchResult text (λ read. IsFiledRun ask read answer) (λ why. answer ≡ Err why) → IfErr answer IsOfInput
+filed_by ask (Ok text) answer of_text is = filed_run_by is.made answer is.told
+filed_by ask (Err why) answer of_text is = rw is of_text
+
+pub filed_of : (ask : RunAsk) (folder input : List ℕ) (answer : Result Telling Fault) → IsAnswerTo (RunsInto ask folder) input answer → IfErr answer IsOfInput
+filed_of ask folder input answer is = filed_by ask (sized input) answer (sized_of input) is
+
 -- ---- and is told
 
 -- what is said over an input that was kept is said over the input
 said_over : {V W X : Type 0} (words : List (List ℕ)) (items : V → List ℕ) (text_of : W → List ℕ) (view : X → Telling) (known : Option (List ℕ)) (kept : Option V) (more : Option W)
-    (answer : Result X Fault) (wish : Wish) → AsksFor words wish → IfSome known (λ text. IfSome kept (λ bytes. items bytes ≡ text)) → IfNone kept (more ≡ None)
+    (answer : Result X Fault) (wish : Wish) → AsksFor words wish → IfSome known (λ text. IfSome kept (λ bytes. items bytes ≡ text))
+    → IfNone kept (IfErr answer (λ why. IfSome more (λ m. slip_of (has_parts wish) why ≡ None)))
     → IfSome kept (λ bytes. IfErr answer (λ why. IfSome more (λ said. IsSaidOf (has_parts wish) (items bytes) why (text_of said))))
     → IfSome known (λ text. IfErr (result_map_both view (λ why. why) answer) (λ why. IfSome (option_map text_of more) (λ said. IsSaidBy words text why said)))
 said_over words items text_of view None kept more answer wish asked same none said = tt
 said_over words items text_of view (Some text) kept more (Ok x) wish asked same none said = tt
 said_over words items text_of view (Some text) kept None (Err why) wish asked same none said = tt
-said_over words items text_of view (Some text) None (Some m) (Err why) wish asked same none said = cc
+said_over words items text_of view (Some text) None (Some m) (Err why) wish asked same none said = inl (record { wish = wish; asked = asked; said = rw none tt })
 said_over words items text_of view (Some text) (Some bytes) (Some m) (Err why) wish asked same none said =
     inl (record { wish = wish; asked = asked; said = subst (λ (t : List ℕ). IsSaidOf (has_parts wish) t why (text_of m)) same said })
+
+-- nothing is said behind an answer of another command
+pub none_added : {W X : Type 0} (words : List (List ℕ)) (text_of : W → List ℕ) (view : X → Telling) (known : Option (List ℕ)) (more : Option W) (answer : Result X Fault)
+    → IfOk answer (λ x. more ≡ None) → IfSome known (λ text. IfOk (result_map_both view (λ why. why) answer) (λ telling. IfSome (option_map text_of more) (λ said. IsAdded words text said)))
+none_added words text_of view None more answer none = tt
+none_added words text_of view (Some text) more (Ok x) none = rw none tt
+none_added words text_of view (Some text) more (Err why) none = tt
+
+-- what is said behind an answer of a run, over an input that was kept, is said over the input
+pub run_added : {V W X : Type 0} (words : List (List ℕ)) (items : V → List ℕ) (text_of : W → List ℕ) (view : X → Telling) (known : Option (List ℕ)) (kept : Option V) (more : Option W)
+    (answer : Result X Fault) (wish : Wish) → AsksFor words wish → has_parts wish ≡ true → IfSome known (λ text. IfSome kept (λ bytes. items bytes ≡ text))
+    → IfNone kept (IfOk answer (λ x. more ≡ None)) → IfSome kept (λ bytes. IfOk answer (λ x. IfSome more (λ m. IsSaidBehind (items bytes) (text_of m))))
+    → IfSome known (λ text. IfOk (result_map_both view (λ why. why) answer) (λ telling. IfSome (option_map text_of more) (λ said. IsAdded words text said)))
+run_added words items text_of view None kept more answer wish asked run same none said = tt
+run_added words items text_of view (Some text) kept more (Err why) wish asked run same none said = tt
+run_added words items text_of view (Some text) None more (Ok x) wish asked run same none said = rw none tt
+run_added words items text_of view (Some text) (Some bytes) None (Ok x) wish asked run same none said = tt
+run_added words items text_of view (Some text) (Some bytes) (Some m) (Ok x) wish asked run same none said =
+    record { wish = wish; asked = asked; run = run; said = subst (λ (t : List ℕ). IsSaidBehind t (text_of m)) same said }
 
 none_said : {W : Type 0} (text_of : W → List ℕ) (more : Option W) → more ≡ None → option_map text_of more ≡ None
 none_said text_of more is = rw is refl
@@ -219,15 +257,18 @@ module _ {V W X : Type 0} (items : V → List ℕ) (text_of : W → List ℕ) (v
   -- an answer to a wish, or its fault and what is said of that
   pub wished : (wish : Wish) → ((input : List ℕ) (answer : Result Telling Fault) → IsAnswerTo wish input answer → IfErr answer IsOfInput) → AsksFor words wish
       → IfSome known (λ input. GivesOne (IsAnswerTo wish input) (result_map_both view (λ why. why) answer)) → told_answer ≡ answer → explaining ≡ explains words
-      → (explaining ≡ false → more ≡ None) → IfSome known (λ text. IfSome kept (λ bytes. items bytes ≡ text)) → IfNone kept (more ≡ None)
+      → (explaining ≡ false → more ≡ None) → IfSome known (λ text. IfSome kept (λ bytes. items bytes ≡ text))
+      → IfNone kept (IfErr answer (λ why. IfSome more (λ m. slip_of (has_parts wish) why ≡ None)))
       → IfSome kept (λ bytes. IfErr answer (λ why. IfSome more (λ said. IsSaidOf (has_parts wish) (items bytes) why (text_of said))))
+      → IfSome known (λ text. IfOk (result_map_both view (λ why. why) answer) (λ telling. IfSome (option_map text_of more) (λ said. IsAdded words text said)))
       → IsTold (option_map text_of more) (result_map_both view (λ why. why) told_answer) status old new → Answers words known status old new
-  wished wish of_input asked is same_answer explains_is only same none said told = record {
+  wished wish of_input asked is same_answer explains_is only same none said added told = record {
     answer = result_map_both view (λ why. why) answer;
     answered = answered_known words known wish of_input (result_map_both view (λ why. why) answer) asked is;
     more = option_map text_of more;
     only = λ off. none_said text_of more (only (explains_is ∙ off));
     said = said_over words items text_of view known kept more answer wish asked same none said;
+    added = added;
     told = subst (λ (a : Result X Fault). IsTold (option_map text_of more) (result_map_both view (λ why. why) a) status old new) same_answer told;
   }
 
@@ -245,20 +286,21 @@ module _ (words : List (List ℕ)) (status : ℕ) (old new : Written) where
   -- the help or the version
   pub helped : (known : Option (List ℕ)) (telling : Telling) (text : List ℕ) → AsksHelp words ⊎ AsksVersion words → telling ≡ plain text → IsTold None (Ok telling) status old new
       → Answers words known status old new
-  helped None telling text asked is told = record { answer = Ok telling; answered = tt; more = None; only = λ off. refl; said = tt; told = told }
+  helped None telling text asked is told = record { answer = Ok telling; answered = tt; more = None; only = λ off. refl; said = tt; added = tt; told = told }
   helped (Some input) telling text asked is told =
-      record { answer = Ok telling; answered = inl (asked, ap (λ t. t.passes) is); more = None; only = λ off. refl; said = tt; told = told }
+      record { answer = Ok telling; answered = inl (asked, ap (λ t. t.passes) is); more = None; only = λ off. refl; said = tt; added = tt; told = told }
 
   -- words that are refused, and what is said of them
   pub refused : (known more : Option (List ℕ)) (why : WordsFault) (fault : Fault) → IsRead words (Err why) → fault ≡ of_words why → (explains words ≡ false → more ≡ None)
       → (IfSome more (λ said. IsOfWords fault)) → IsTold more (Err fault) status old new → Answers words known status old new
-  refused None more why fault read is only of_words told = record { answer = Err fault; answered = tt; more = more; only = only; said = tt; told = told }
+  refused None more why fault read is only of_words told = record { answer = Err fault; answered = tt; more = more; only = only; said = tt; added = tt; told = told }
   refused (Some input) more why fault read is only of_words told = record {
     answer = Err fault;
     answered = subst (λ (w : Fault). IsAnswer words input (Err w)) (sym is) (refused_words words input why read);
     more = more;
     only = only;
     said = said_of_words words input fault more of_words;
+    added = tt;
     told = told;
   }
 
@@ -268,8 +310,9 @@ module _ {W X : Type 0} (text_of : W → List ℕ) (view : X → Telling) (words
   pub helped_plainly : (answer : X) (text : List ℕ) → AsksHelp words ⊎ AsksVersion words → view answer ≡ plain text → told_answer ≡ Ok answer → more ≡ None
       → IsTold (option_map text_of more) (result_map_both view (λ why. why) told_answer) status old new → Answers words known status old new
   helped_plainly answer text asked is answer_is none told =
-      helped words status old new known (view answer) text asked is
-      (subst (λ (a : Result X Fault). IsTold (option_map text_of more) (result_map_both view (λ why. why) a) status old new) answer_is told)
+      let said : IsTold (option_map text_of more) (Ok (view answer)) status old new =
+      subst (λ (a : Result X Fault). IsTold (option_map text_of more) (result_map_both view (λ why. why) a) status old new) answer_is told in
+      helped words status old new known (view answer) text asked is (subst (λ (m : Option W). IsTold (option_map text_of m) (Ok (view answer)) status old new) none said)
 
   pub refused_words_told : (explaining : Bool) (why : WordsFault) → IsRead words (Err why) → told_answer ≡ Err (of_words why) → explaining ≡ explains words
       → (explaining ≡ false → more ≡ None) → IfSome more (λ said. IsOfWords (of_words why))

@@ -46,6 +46,7 @@ run_fault (fault.Tariff row) meaning is = absurd is
 run_fault (fault.Table part row) meaning is = absurd is
 run_fault (fault.Log why) meaning is = absurd is
 run_fault (fault.LogRow row kind) meaning is = absurd is
+run_fault fault.Into meaning is = absurd is
 run_fault fault.Device meaning is = tt
 run_fault (fault.Run run.OutOfMemory) meaning is = tt
 run_fault (fault.Run run.Workers) meaning is = absurd is

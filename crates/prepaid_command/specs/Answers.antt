@@ -1,5 +1,5 @@
 -- What the program answers to words and an input.
-use Rattle.std.specs.Prelude.{◌≡◌, ◌⊎◌, ◌++◌, ℕ, true, List, [], MatchResult, Option, Some, None, Result, Ok, Err, ⊤, IfErr, IfSome, codes, false}
+use Rattle.std.specs.Prelude.{◌≡◌, ◌⊎◌, ◌++◌, ℕ, true, List, [], MatchResult, Option, Some, None, Result, Ok, Err, ⊤, IfErr, IfOk, IfSome, codes, false, unwrap_or}
 use Rattle.std.specs.Io.KnownBytes.{Appends, Keeps}
 use Rattle.std.specs.Result.{result_map_both}
 use Rattle.answer_command.specs.Inputs.{live_input_of}
@@ -11,9 +11,10 @@ use Rattle.book_texts.specs.Sizes.{most_rows}
 use Rattle.book_texts.specs.declared.size.AuditAsk.{AuditAsk}
 use Rattle.command_words.specs.Arguments.{AsksFor, AsksHelp, AsksInVain, AsksNothing, AsksVersion, explains}
 use Rattle.command_words.specs.QuoteWishes.{QuoteWish}
-use Rattle.command_words.specs.Wishes.{Wish, Audits, Prices, Quotes, RatesRecords, Replays, Runs, Serves}
+use Rattle.command_words.specs.Wishes.{Wish, Audits, Prices, Quotes, RatesRecords, Replays, Runs, RunsInto, Serves}
 use Rattle.command_words.specs.declared.fault.WordsFault.TheVariants as words_fault
 use Rattle.run_command.specs.Answers.{IsRunAnswer, RunSaid}
+use Rattle.run_command.specs.Tables.{IsTablesAnswer, TablesSaid}
 use Rattle.run_command.specs.declared.error.RunError.{RunError}
 use Rattle.run_options.specs.Logs.{LogWish}
 use Rattle.run_options.specs.declared.live.LiveAsk.{LiveAsk}
@@ -24,7 +25,7 @@ use Rattle.table_core.specs.Judging.{after}
 use Rattle.table_core.specs.Rows.{rows_of}
 use Rattle.tariff_core.specs.Bands.{Band}
 use Rattle.tariff_core.specs.Rates.{Rates}
-use Rattle.prepaid_command.specs.Explanations.{IsSaidBy}
+use Rattle.prepaid_command.specs.Explanations.{IsAdded, IsSaidBy}
 use Rattle.prepaid_command.specs.Faults.{line_of, meaning_in, meaning_of_part, of_rate, of_run, of_serve, status_of}
 use Rattle.prepaid_command.specs.Summaries.{status_of_rating, summary_of}
 use Rattle.rating.specs.Asks.{RateWish}
@@ -38,7 +39,7 @@ use Rattle.prepaid_command.specs.PriceLines.{price_lines}
 use Rattle.prepaid_command.specs.Quotes.{IsQuoteText}
 use Rattle.prepaid_command.specs.Replays.{replayed}
 use Rattle.prepaid_command.specs.Reports.{reports_of}
-use Rattle.prepaid_command.specs.Tellings.{Telling, plain, status_of_telling, telling_of_run}
+use Rattle.prepaid_command.specs.Tellings.{Telling, plain, status_of_telling, telling_of_files, telling_of_run}
 use Rattle.prepaid_command.specs.declared.fault.Fault.{Fault}
 use Rattle.prepaid_command.specs.declared.fault.Fault.TheVariants as fault
 use Rattle.prepaid_command.specs.declared.fault.Part.TheVariants as part
@@ -62,6 +63,16 @@ pub record IsToldRun (ask : RunAsk) (text : List ℕ) (answer : Result Telling F
 -- what `run` may make of an input. It isn't a function of that: the workers meet at the accounts in any order
 abbrev pub IsRunOfInput : RunAsk → List ℕ → Result Telling Fault → Type 0
 IsRunOfInput ask input answer = MatchResult (sized input) (λ text. IsToldRun ask text answer) (λ why. answer ≡ Err why)
+
+-- an answer of a run whose lines and tables go into files: nothing is printed once these are written, and a fault is told where they couldn't be; else the fault of the run is
+pub record IsFiledRun (ask : RunAsk) (text : List ℕ) (answer : Result Telling Fault) : Type 0 where
+  pub made : Result TablesSaid RunError
+  pub is_made : IsTablesAnswer ask text made
+  pub told : MatchResult made (λ tables. (answer ≡ Ok (telling_of_files tables)) ⊎ (answer ≡ Err fault.Into)) (λ why. answer ≡ Err (of_run why))
+
+-- what it may make of an input
+abbrev pub IsFiledRunOfInput : RunAsk → List ℕ → Result Telling Fault → Type 0
+IsFiledRunOfInput ask input answer = MatchResult (sized input) (λ text. IsFiledRun ask text answer) (λ why. answer ≡ Err why)
 
 -- the text of an audit, which passes where each account's history is legal
 abbrev pub telling_of_audit : Audited → Telling
@@ -98,6 +109,7 @@ abbrev pub IsAnswerTo : Wish → List ℕ → Result Telling Fault → Type 0
 IsAnswerTo (Prices plan) input answer = price_of_input plan input ≡ answer
 IsAnswerTo (Replays opening limit) input answer = replay_of_input opening limit input ≡ answer
 IsAnswerTo (Runs ask) input answer = IsRunOfInput ask input answer
+IsAnswerTo (RunsInto ask folder) input answer = IsFiledRunOfInput ask input answer
 IsAnswerTo (Audits ask) input answer = IsAuditOfInput ask input answer
 IsAnswerTo (Quotes wish) input answer = IsQuoteOfInput wish input answer
 IsAnswerTo (RatesRecords wish) input answer = ⊥
@@ -124,11 +136,11 @@ pub record Written : Type 0 where
   pub output : Option (List ℕ)
   pub faults : Option (List ℕ)
 
--- a text went to the output whole, at its status, and behind it the line about refusals to the error writer, or where that failed a front of it
-pub record IsPrinted (telling : Telling) (status : ℕ) (old new : Written) : Type 0 where
+-- a text went to the output whole, at its status, and behind it the line about refusals and what is said besides to the error writer, or where that failed a front of these
+pub record IsPrinted (telling : Telling) (more : List ℕ) (status : ℕ) (old new : Written) : Type 0 where
   pub status_is : status ≡ status_of_telling telling
   pub whole : Appends old.output new.output telling.text
-  pub line : AppendsFront old.faults new.faults telling.refused
+  pub line : AppendsFront old.faults new.faults (telling.refused ++ more)
 
 -- the output failed, at status 2: a front of the text went to it, and nothing to the error writer
 pub record IsCutOff (telling : Telling) (status : ℕ) (old new : Written) : Type 0 where
@@ -148,9 +160,9 @@ pub record IsReportedWith (why : Fault) (text : List ℕ) (status : ℕ) (old ne
   pub line : AppendsFront old.faults new.faults (line_of why ++ (codes "\n" ++ text))
   pub output : Keeps old.output new.output
 
--- an answer was told, or a fault and what is said of it
+-- an answer was told, or a fault, and what is said of it
 abbrev pub IsTold : Option (List ℕ) → Result Telling Fault → ℕ → Written → Written → Type 0
-IsTold more (Ok telling) status old new = IsPrinted telling status old new ⊎ IsCutOff telling status old new
+IsTold more (Ok telling) status old new = IsPrinted telling (unwrap_or more []) status old new ⊎ IsCutOff telling status old new
 IsTold None (Err why) status old new = IsReported why status old new
 IsTold (Some text) (Err why) status old new = IsReportedWith why text status old new
 
@@ -162,6 +174,8 @@ pub record Answers (words : List (List ℕ)) (input : Option (List ℕ)) (status
   pub more : Option (List ℕ)
   pub only : explains words ≡ false → more ≡ None
   pub said : IfSome input (λ text. IfErr answer (λ why. IfSome more (λ said. IsSaidBy words text why said)))
+  -- and behind an answer: nothing but of a run
+  pub added : IfSome input (λ text. IfOk answer (λ telling. IfSome more (λ said. IsAdded words text said)))
   pub told : IsTold more answer status old new
 
 -- ---- records that are rated as they come

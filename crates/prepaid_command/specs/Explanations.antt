@@ -1,10 +1,12 @@
 -- What is said of a fault behind its line.
-use Rattle.std.specs.Prelude.{◌⊎◌, Bool, true, false, List, ℕ, Option, Some, None, ⊤, IfSome, if◌then◌else◌}
+use Rattle.std.specs.Prelude.{◌≡◌, ◌⊎◌, Bool, true, false, List, ℕ, Option, Some, None, ⊤, IfSome, if◌then◌else◌}
 use Rattle.explanations.specs.Slips.{Explains}
 use Rattle.explanations.specs.declared.slip.Slip.{Slip}
 use Rattle.explanations.specs.declared.slip.Slip.TheVariants as slip
 use Rattle.command_words.specs.Arguments.{AsksFor}
-use Rattle.command_words.specs.Wishes.{Wish, Runs}
+use Rattle.command_words.specs.Wishes.{Wish, Runs, RunsInto}
+use Rattle.run_command.specs.Strangers.{AreStrangersOf}
+use Rattle.prepaid_command.specs.Strangers.{strangers_line}
 use Rattle.prepaid_command.specs.declared.fault.Fault.{Fault}
 use Rattle.prepaid_command.specs.declared.fault.Fault.TheVariants as fault
 use Rattle.prepaid_command.specs.declared.fault.Part.TheVariants as part
@@ -23,9 +25,16 @@ slip_of in_parts why = None
 abbrev pub IsSaidOf : Bool → List ℕ → Fault → List ℕ → Type 0
 IsSaidOf in_parts input why text = IfSome (slip_of in_parts why) (λ slip. Explains input slip text)
 
+-- a text is said of a run over an input, behind its answer: which calls no subscriber makes
+pub record IsSaidBehind (input text : List ℕ) : Type 0 where
+  pub calls : List ℕ
+  pub strangers : AreStrangersOf input calls
+  pub line : text ≡ strangers_line calls
+
 -- whether what is wished has an input of three parts
 abbrev pub has_parts : Wish → Bool
 has_parts (Runs ask) = true
+has_parts (RunsInto ask folder) = true
 has_parts wish = false
 
 -- the words have this wish, and a text is said of the fault over the input
@@ -33,6 +42,13 @@ pub record IsExplained (words : List (List ℕ)) (input : List ℕ) (why : Fault
   pub wish : Wish
   pub asked : AsksFor words wish
   pub said : IsSaidOf (has_parts wish) input why text
+
+-- the words wish a run over the input, and a text is said behind its answer
+pub record IsAdded (words : List (List ℕ)) (input text : List ℕ) : Type 0 where
+  pub wish : Wish
+  pub asked : AsksFor words wish
+  pub run : has_parts wish ≡ true
+  pub said : IsSaidBehind input text
 
 -- a fault of the words, of which `clap` says what it does
 abbrev pub IsOfWords : Fault → Type 0

@@ -1,6 +1,7 @@
 -- The faults of the program: their lines, their statuses, and how an answer meets its meaning.
-use Rattle.std.specs.Prelude.{◌≡◌, ℕ, List, ◌++◌, Option, Some, None, Result, Ok, Err, ⊤, codes}
+use Rattle.std.specs.Prelude.{◌≡◌, ℕ, List, ◌++◌, Option, Some, None, Result, Ok, Err, ⊤, codes, if◌then◌else◌}
 use Rattle.std.specs.Fmt.{decimal}
+use Rattle.std.specs.declared.io.ErrorKind.{ErrorKind}
 use Rattle.answer_command.specs.declared.error.ServeError.{ServeError}
 use Rattle.answer_command.specs.declared.error.ServeError.TheVariants as serve
 use Rattle.command_words.specs.declared.fault.WordsFault.{WordsFault}
@@ -24,6 +25,7 @@ use Rattle.table_core.specs.declared.fault.RowKind.TheVariants as kind
 use Rattle.table_core.specs.declared.fault.TableFault.{TableFault}
 use Rattle.table_core.specs.declared.fault.TableFault.TheVariants as table
 use Rattle.tariff_core.specs.TariffFaults.{text_of as tariff_text_of}
+use Rattle.prepaid_command.specs.Input.{is_out_of_memory}
 use Rattle.prepaid_command.specs.declared.fault.Fault.{Fault}
 use Rattle.prepaid_command.specs.declared.fault.Fault.TheVariants as fault
 use Rattle.prepaid_command.specs.declared.fault.Part.{Part}
@@ -49,6 +51,7 @@ line_of (fault.Tariff row) = codes "prepaid: tariff " ++ tariff_text_of row
 line_of (fault.Table part row) = codes "prepaid: " ++ (name_of_part part ++ (codes " " ++ text_of row))
 line_of (fault.Log why) = codes "prepaid: log: " ++ name_of_log why
 line_of (fault.LogRow row kind) = codes "prepaid: log row " ++ (decimal row ++ (codes ": " ++ name_of_line kind))
+line_of fault.Into = codes "prepaid: into: Device"
 line_of fault.Device = codes "prepaid: run: Device"
 line_of (fault.Run why) = codes "prepaid: run: " ++ name_of why
 
@@ -56,6 +59,7 @@ line_of (fault.Run why) = codes "prepaid: run: " ++ name_of why
 abbrev pub status_of : Fault → ℕ
 status_of (fault.Log why) = 2
 status_of (fault.LogRow row kind) = 2
+status_of fault.Into = 2
 status_of fault.Device = 2
 status_of (fault.Run why) = 2
 status_of _ = 1
@@ -102,6 +106,10 @@ abbrev pub of_log : LogFault → Fault
 of_log log.Other = fault.Log log.Other
 of_log log.Device = fault.Log log.Device
 of_log log.OutOfMemory = fault.Run run.OutOfMemory
+
+-- the fault of files that couldn't be written, with an error of this kind
+abbrev pub of_files : ErrorKind → Fault
+of_files why = if is_out_of_memory why then fault.Run run.OutOfMemory else fault.Into
 
 -- the fault of an input that isn't served to its end
 abbrev pub of_serve : ServeError → Option Fault

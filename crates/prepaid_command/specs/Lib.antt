@@ -3,6 +3,7 @@ pub mod AskingOf
 pub mod Asks
 pub mod Explanations
 pub mod Faults
+pub mod Files
 pub mod Input
 pub mod PriceLines
 pub mod Quotes
@@ -10,5 +11,6 @@ pub mod Refused
 pub mod ReplayLines
 pub mod Replays
 pub mod Reports
+pub mod Strangers
 pub mod Summaries
 pub mod Tellings

@@ -1,6 +1,7 @@
 -- What the program prints, and the status that goes with it.
 use Rattle.std.specs.Prelude.{ℕ, Bool, true, List, [], string_bytes, if◌then◌else◌}
 use Rattle.run_command.specs.Answers.{RunSaid}
+use Rattle.run_command.specs.Tables.{TablesSaid}
 use Rattle.prepaid_command.specs.Refused.{refused_line}
 use Rattle.prepaid_command.specs.declared.answer.Answer.{Answer}
 
@@ -17,6 +18,10 @@ plain text = record { text = text; passes = true; refused = [] }
 -- what a run says
 abbrev pub telling_of_run : RunSaid → Telling
 telling_of_run ran = record { text = ran.text; passes = true; refused = refused_line ran.refusals }
+
+-- what a run says whose lines and tables went into files
+abbrev pub telling_of_files : TablesSaid → Telling
+telling_of_files tables = record { text = []; passes = true; refused = refused_line tables.refusals }
 
 -- the status that goes with a text
 abbrev pub status_of_telling : Telling → ℕ

@@ -91,7 +91,7 @@ pub(crate) fn report_with<E: io::Write>(faults: &mut E, fault: Fault, more: &[u8
 
 /// Writes a text and another behind it, as far as the writer takes them.
 #[tactic(auto, using(crate::proofs::WriteLemmas::first_written))]
-fn write_both<E: io::Write>(faults: &mut E, first: &[u8], second: &[u8])
+pub(crate) fn write_both<E: io::Write>(faults: &mut E, first: &[u8], second: &[u8])
     ensures { AppendsFront (E.contents faults.old) (E.contents faults.new)
         (first.now ++ second.now) }
 {

@@ -1,6 +1,7 @@
 //! What a run of the program may have to refuse.
 
 ghost use Rattle.std.specs.Prelude.{◌≡◌, Some};
+ghost use Rattle.std.specs.IoError.{error_kind};
 ghost use Rattle.runs_core.specs.declared.run_fault.RunFault.TheVariants as run;
 ghost use Rattle.prepaid_command.specs.Faults.{line_of, name_of_part, of_run, of_words};
 ghost use Rattle.prepaid_command.specs.declared.fault.Fault.TheVariants as out;
@@ -14,8 +15,8 @@ use run_command::RunError;
 use run_texts::InputFault;
 use runs_core::RunFault;
 use std::alloc::{AllocError, AllocFailed};
-use std::error::Error;
-use std::fmt;
+use std::io::{Error, ErrorKind};
+use std::{error, fmt};
 use table_core::{RowFault, RowKind, TableFault};
 use tariff_core::TariffFault;
 
@@ -76,6 +77,8 @@ pub enum Fault {
     /// A line of the log of `serve` isn't accepted: its row, where the header in front of the lines
     /// is row 1, and what is wrong with it.
     LogRow(u64, LineKind),
+    /// The files of a run couldn't be written.
+    Into,
     /// Standard input failed.
     Device,
     /// A run failed; also where memory ran out anywhere.
@@ -83,15 +86,15 @@ pub enum Fault {
 }
 
 impl Fault {
-    ghost use Rattle.prepaid_command.specs.Faults.{in_part, no_header, of_log, of_rate, of_run_input, of_serve, status_of};
+    ghost use Rattle.prepaid_command.specs.Faults.{in_part, no_header, of_files, of_log, of_rate, of_run_input, of_serve, status_of};
 
-    /// The exit status: 1 for a fault of the words or the input, 2 where the run itself or its log
-    /// failed.
+    /// The exit status: 1 for a fault of the words or the input, 2 where the run itself, its log or
+    /// its files failed.
     pub fn status(self) -> u8
         ensures { result ≡ status_of self }
     {
         match self {
-            Fault::Log(_) | Fault::LogRow(_, _) | Fault::Device | Fault::Run(_) => 2,
+            Fault::Log(_) | Fault::LogRow(_, _) | Fault::Into | Fault::Device | Fault::Run(_) => 2,
             _ => 1,
         }
     }
@@ -148,6 +151,16 @@ impl Fault {
         }
     }
 
+    /// The fault of files that couldn't be written.
+    pub(crate) fn of_files(error: &Error) -> Fault
+        ensures { result ≡ of_files (error_kind error.now) }
+    {
+        match error.kind() {
+            ErrorKind::OutOfMemory => Fault::Run(RunFault::OutOfMemory),
+            _ => Fault::Into,
+        }
+    }
+
     /// The fault of a table whose header isn't the one that it must have.
     fn no_header(part: Part) -> Fault
         ensures { result ≡ no_header part }
@@ -186,13 +199,14 @@ impl fmt::Display for Fault {
             Fault::Table(part, fault) => write!(f, "prepaid: {part} {fault}"),
             Fault::Log(fault) => write!(f, "prepaid: log: {fault}"),
             Fault::LogRow(row, kind) => write!(f, "prepaid: log row {row}: {kind}"),
+            Fault::Into => f.write_str("prepaid: into: Device"),
             Fault::Device => f.write_str("prepaid: run: Device"),
             Fault::Run(fault) => write!(f, "prepaid: run: {fault}"),
         }
     }
 }
 
-impl Error for Fault {}
+impl error::Error for Fault {}
 
 impl From<WordsFault> for Fault {
     ghost from_gives = { λ why fault. fault ≡ of_words why };

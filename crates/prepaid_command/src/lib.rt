@@ -4,13 +4,16 @@
 mod answer;
 mod error_lines;
 mod fault;
+mod files;
 mod input;
 mod price_lines;
 mod program;
 mod quoting;
 mod rating_rows;
 mod replaying;
+mod running;
 mod serving;
+mod stranger_lines;
 mod tables;
 mod told;
 

@@ -1,32 +1,32 @@
 //! The program, from words and bytes to bytes.
 
-ghost use Rattle.std.specs.Prelude.{◌≡◌, ◌⊎◌, None, map, option_map, IfSome, string_bytes};
+ghost use Rattle.std.specs.Prelude.{◌≡◌, ◌⊎◌, ◌++◌, None, map, option_map, IfSome, string_bytes};
 ghost use Rattle.std.specs.Io.KnownBytes.{Keeps};
 ghost use Rattle.std.specs.Result.{result_map_both};
 ghost use Rattle.tariff_core.specs.RatesOf.{rates_of};
 ghost use Rattle.command_words.specs.QuoteWishes.{wish_of};
 ghost use Rattle.run_options.specs.Options.{ask_of};
-ghost use Rattle.prepaid_command.specs.Answers.{Answers, IsCutOff, IsPrinted, IsTold, IsAuditOfInput, IsAuditOfTable, IsQuoteOfInput, IsRunOfInput, RatesAsAsked, ServesAsAsked, price_of_input, replay_of_input};
+ghost use Rattle.prepaid_command.specs.Answers.{Answers, IsCutOff, IsPrinted, IsTold, IsAuditOfInput, IsAuditOfTable, IsQuoteOfInput, RatesAsAsked, ServesAsAsked, price_of_input, replay_of_input};
 ghost use Rattle.prepaid_command.specs.Faults.{Gives, GivesOne};
 ghost use Rattle.rating.specs.Fronts.{AppendsFront};
 ghost use Rattle.prepaid_command.specs.Refused.{refused_line};
 ghost use Rattle.prepaid_command.specs.Tellings.{telling_of};
 
 use crate::answer::Answer;
-use crate::error_lines::{refused_line, report, report_with};
+use crate::error_lines::{refused_line, report, report_with, write_both};
 use crate::fault::{Fault, Part};
 use crate::input::read_input;
 use crate::price_lines::{print_reports, read_reports};
 use crate::quoting::print_quote;
 use crate::rating_rows::rate_input;
 use crate::replaying::replay;
+use crate::running::{Folder, run_into_folder, run_script};
 use crate::serving::serve_messages;
 use crate::told::Told;
 use book_texts::{AuditAsk, BookSize, audit_books};
 use command_words::{Opening, QuoteAsk, Request, explains, read_words};
 use rating::write_text;
-use run_command::{Ran, Refusals, run};
-use run_options::RunOptions;
+use run_command::Refusals;
 use run_texts::read_tariff;
 use std::alloc::Global;
 use std::convert::AsStr;
@@ -98,7 +98,20 @@ where
             tell(
                 output,
                 faults,
-                Told::over(alloc, explains, true, &kept, answer),
+                Told::of_run(alloc, explains, &options, &kept, answer),
+            )
+        }
+        Ok(Request::RunInto(options, folder)) => {
+            let mut failed = None;
+            let into = Folder {
+                path: folder,
+                failed: &mut failed,
+            };
+            let answer = run_into_folder(rt, alloc, &options, into, input, &mut kept);
+            tell(
+                output,
+                faults,
+                Told::of_files(alloc, explains, &options, &kept, &failed, answer),
             )
         }
         Ok(Request::Audit(ask)) => {
@@ -125,7 +138,7 @@ where
     }
 }
 
-/// Prints an answer, or reports a fault with what is said of it, and gives the status.
+/// Prints an answer, or reports a fault, with what is said of it, and gives the status.
 fn tell<O: Write, E: Write>(output: &mut O, faults: &mut E, told: Told) -> u8
     ensures told { IsTold (option_map string_bytes told.more)
         (result_map_both telling_of (λ fault. fault) told.answer) result
@@ -134,7 +147,8 @@ fn tell<O: Write, E: Write>(output: &mut O, faults: &mut E, told: Told) -> u8
     ensures silent { result ≡ 1 → Keeps (O.contents output.old) (O.contents output.new) }
 {
     match (told.answer, told.more) {
-        (Ok(answer), _) => print(output, faults, &answer),
+        (Ok(answer), None) => print(output, faults, &answer, &[]),
+        (Ok(answer), Some(more)) => print(output, faults, &answer, more.as_bytes()),
         (Err(fault), None) => report(faults, fault),
         (Err(fault), Some(more)) => report_with(faults, fault, more.as_bytes()),
     }
@@ -182,35 +196,6 @@ fn replay_operations<I: Read + Drop>(
         Err(fault) => {
             *kept = Some(bytes);
             Err(Fault::in_part(Part::Ops, fault))
-        }
-    }
-}
-
-/// What is printed of a run of the script in the input.
-fn run_script<R: Wait + Threads + Sync, I: Read + Drop>(
-    rt: &R,
-    alloc: Global,
-    options: &RunOptions,
-    input: I,
-    kept: &mut Option<Vec<u8>>,
-) -> Result<Answer, Fault>
-    requires { kept.old ≡ None }
-    ensures kept { IfSome (I.remaining input) (λ text.
-        IfSome kept.new (λ bytes. bytes.items ≡ text)) }
-    ensures answer { IfSome (I.remaining input) (λ text.
-        GivesOne (IsRunOfInput (ask_of options.now) text)
-        (result_map_both telling_of (λ fault. fault) result)) }
-{
-    let bytes = read_input(alloc, input)?;
-    match run(rt, alloc, options, bytes.as_slice()) {
-        Ok(Ran { text, refusals }) => Ok(Answer {
-            text,
-            passes: true,
-            refusals,
-        }),
-        Err(error) => {
-            *kept = Some(bytes);
-            Err(Fault::from(error))
         }
     }
 }
@@ -280,9 +265,9 @@ fn quote_input<I: Read + Drop>(
 }
 
 /// The status of an answer: its own where the whole text went to the output, and then the line
-/// about refusals to the error writer; 2 where the output failed.
-fn print<O: Write, E: Write>(output: &mut O, faults: &mut E, answer: &Answer) -> u8
-    ensures told { IsPrinted (telling_of answer.now) result
+/// about refusals to the error writer, with what is said besides; 2 where the output failed.
+fn print<O: Write, E: Write>(output: &mut O, faults: &mut E, answer: &Answer, more: &[u8]) -> u8
+    ensures told { IsPrinted (telling_of answer.now) more.now result
         (record { output = O.contents output.old; faults = E.contents faults.old })
         (record { output = O.contents output.new; faults = E.contents faults.new })
         ⊎ IsCutOff (telling_of answer.now) result
@@ -290,19 +275,19 @@ fn print<O: Write, E: Write>(output: &mut O, faults: &mut E, answer: &Answer) ->
         (record { output = O.contents output.new; faults = E.contents faults.new }) }
 {
     if write_text(output, answer.text.as_bytes()) && output.flush().is_ok() {
-        tell_refusals(faults, &answer.refusals);
+        tell_refusals(faults, &answer.refusals, more);
         answer.status()
     } else {
         2
     }
 }
 
-/// Writes the line about refusals, where there are any.
-fn tell_refusals<E: Write>(faults: &mut E, refusals: &Refusals)
+/// Writes the line about refusals, where there are any, and what is said besides behind it.
+fn tell_refusals<E: Write>(faults: &mut E, refusals: &Refusals, more: &[u8])
     ensures { AppendsFront (E.contents faults.old) (E.contents faults.new)
-        (refused_line refusals.now) }
+        (refused_line refusals.now ++ more.now) }
 {
     if let Ok(line) = refused_line(refusals) {
-        write_text(faults, line.as_str().as_bytes());
+        write_both(faults, line.as_str().as_bytes(), more);
     }
 }

@@ -1,15 +1,20 @@
 //! An answer, or a fault and what is said of it.
 
-ghost use Rattle.std.specs.Prelude.{◌≡◌, false, Err, None, IfErr, IfNone, IfSome, string_bytes};
-ghost use Rattle.prepaid_command.specs.Explanations.{IsOfWords, IsSaidOf, slip_of};
+ghost use Rattle.std.specs.Prelude.{◌≡◌, false, true, Err, None, IfErr, IfNone, IfOk, IfSome, string_bytes};
+ghost use Rattle.prepaid_command.specs.Explanations.{IsOfWords, IsSaidBehind, IsSaidOf, slip_of};
 ghost use Rattle.prepaid_command.specs.Faults.{of_words};
 
 use crate::answer::Answer;
 use crate::fault::{Fault, Part};
+use crate::input::MAX_INPUT;
+use crate::stranger_lines::strangers_line;
 use command_words::{WordsFault, explain_words};
 use explanations::{Slip, explain, explain_dividers};
+use run_command::stranger_calls;
+use run_options::RunOptions;
 use std::alloc::{AllocError, Global};
 use std::convert::AsStr;
+use std::io::Error;
 
 /// What is told: an answer, or a fault, and what is said of that behind its line.
 #[derive(Drop)]
@@ -29,8 +34,8 @@ impl Told {
         Told { answer, more: None }
     }
 
-    /// An answer, or a fault of which is said what the input shows, if it was kept and this is
-    /// asked for. Where memory runs out for that, nothing is said.
+    /// An answer, or a fault of which is said what the input shows, if it was kept, and how long it
+    /// may be, where that is asked for. Where memory runs out for that, nothing is said.
     pub fn over(
         alloc: Global,
         explains: bool,
@@ -40,15 +45,76 @@ impl Told {
     ) -> Told
         ensures answer { result.answer ≡ answer }
         ensures only { explains ≡ false → result.more ≡ None }
-        ensures none { IfNone input.now (result.more ≡ None) }
+        ensures plain { IfOk answer (λ _. result.more ≡ None) }
+        ensures none { IfNone input.now (IfErr answer (λ why. IfSome result.more
+            (λ _. slip_of in_parts why ≡ None))) }
         ensures said { IfSome input.now (λ bytes. IfErr answer (λ why. IfSome result.more
             (λ more. IsSaidOf in_parts bytes.items why (string_bytes more)))) }
     {
         let more = match (&answer, input) {
             (Err(fault), Some(bytes)) if explains => said_of(alloc, in_parts, bytes, *fault),
+            (Err(Fault::TooLong), None) if explains => said_of_length(alloc).ok(),
             _ => None,
         };
         Told { answer, more }
+    }
+
+    /// What a run comes to: of its fault is said what the input shows, as `over` has it; and of an
+    /// answer which calls the run passed over, since no subscriber has their calling number.
+    pub fn of_run(
+        alloc: Global,
+        explains: bool,
+        options: &RunOptions,
+        input: &Option<Vec<u8>>,
+        answer: Result<Answer, Fault>,
+    ) -> Told
+        ensures answer { result.answer ≡ answer }
+        ensures only { explains ≡ false → result.more ≡ None }
+        ensures none { IfNone input.now (IfErr answer (λ why. IfSome result.more
+            (λ _. slip_of true why ≡ None))) }
+        ensures said { IfSome input.now (λ bytes. IfErr answer (λ why. IfSome result.more
+            (λ more. IsSaidOf true bytes.items why (string_bytes more)))) }
+        ensures unread { IfNone input.now (IfOk answer (λ _. result.more ≡ None)) }
+        ensures behind { IfSome input.now (λ bytes. IfOk answer (λ _. IfSome result.more
+            (λ more. IsSaidBehind bytes.items (string_bytes more)))) }
+    {
+        match (&answer, input) {
+            (Ok(_), Some(bytes)) if explains => {
+                let more = strangers_of(alloc, options, bytes);
+                Told { answer, more }
+            }
+            (Ok(_), _) => Told::plain(answer),
+            (Err(_), _) => Told::over(alloc, explains, true, input, answer),
+        }
+    }
+
+    /// The same of a run whose lines and tables go into files: where these couldn't be written, the
+    /// error is said.
+    pub fn of_files(
+        alloc: Global,
+        explains: bool,
+        options: &RunOptions,
+        input: &Option<Vec<u8>>,
+        failed: &Option<Error>,
+        answer: Result<Answer, Fault>,
+    ) -> Told
+        ensures answer { result.answer ≡ answer }
+        ensures only { explains ≡ false → result.more ≡ None }
+        ensures none { IfNone input.now (IfErr answer (λ why. IfSome result.more
+            (λ _. slip_of true why ≡ None))) }
+        ensures said { IfSome input.now (λ bytes. IfErr answer (λ why. IfSome result.more
+            (λ more. IsSaidOf true bytes.items why (string_bytes more)))) }
+        ensures unread { IfNone input.now (IfOk answer (λ _. result.more ≡ None)) }
+        ensures behind { IfSome input.now (λ bytes. IfOk answer (λ _. IfSome result.more
+            (λ more. IsSaidBehind bytes.items (string_bytes more)))) }
+    {
+        match (&answer, failed) {
+            (Err(Fault::Into), Some(error)) if explains => {
+                let more = said_of_files(alloc, error).ok();
+                Told { answer, more }
+            }
+            _ => Told::of_run(alloc, explains, options, input, answer),
+        }
     }
 
     /// The fault of words, and what is said of them where that is asked for: what `clap` says, or
@@ -95,6 +161,31 @@ fn full_lines(alloc: Global, said: &str) -> Result<String, AllocError> {
         }
     }
     Ok(text)
+}
+
+/// How long an input may be.
+fn said_of_length(alloc: Global) -> Result<String, AllocError> {
+    let mut text = String::new(alloc);
+    writeln!(
+        text,
+        "at most {MAX_INPUT} bytes; docs/SCALING.md has larger loads"
+    )?;
+    Ok(text)
+}
+
+/// Why files couldn't be written.
+fn said_of_files(alloc: Global, error: &Error) -> Result<String, AllocError> {
+    let mut text = String::new(alloc);
+    writeln!(text, "the files: {error}")?;
+    Ok(text)
+}
+
+/// What is said of the calls of an input that no subscriber makes; nothing where memory runs out.
+fn strangers_of(alloc: Global, options: &RunOptions, input: &Vec<u8>) -> Option<String>
+    ensures { IfSome result (λ more. IsSaidBehind input.now.items (string_bytes more)) }
+{
+    let calls = stranger_calls(alloc, options, input.as_slice()).ok()?;
+    strangers_line(alloc, calls.as_slice()).ok()
 }
 
 /// What is said of a fault over an input; nothing where memory runs out.
