@@ -1,6 +1,5 @@
 use Rattle.std.proofs.Common.{Global, inl, inr, refl, ℕ, string_bytes}
 use Rattle.std.specs.Prelude.{Vec, option_map}
-use Rattle.std.specs.Result.{result_map_both}
 use Rattle.tariff_core.specs.RatesOf.{rates_of}
 use Rattle.command_words.specs.Arguments.{AsksFor}
 use Rattle.command_words.specs.QuoteWishes.{wish_of}
