@@ -94,8 +94,8 @@ fn parts_of(
     count: Option<u64>,
     threads: Option<u64>,
 ) -> Option<Option<PartsAsk>>
-    requires count { unwrap_or count 0 ≤ 4294967295 }
-    requires threads { unwrap_or threads 1 ≤ 64 }
+    requires count { unwrap_or count 0 ≤ MAX_PARTS }
+    requires threads { unwrap_or threads 1 ≤ MAX_THREADS }
     ensures { result ≡ parts_of workers output count threads }
 {
     let Some(count) = count else {
