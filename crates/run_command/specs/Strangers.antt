@@ -15,7 +15,7 @@ stranger_of subscribers (Recharges account amount until) = []
 abbrev pub strangers_in : List (List ℕ × ℕ) → List ScriptEvent → List ℕ
 strangers_in subscribers script = flat_map (λ event. stranger_of subscribers event.what) script
 
--- those of an input
+-- these are the calls of an input whose calling number no subscriber has, in the order in which they start
 pub record AreStrangersOf (input calls : List ℕ) : Type 0 where
   pub said : RunInput
   pub read : input_of input ≡ Ok said

@@ -36,7 +36,7 @@ pub record TablesSaid : Type 0 where
   pub trace : List ℕ
   pub refusals : Refusals
 
--- what those of the code say
+-- what the texts and the refusals of the code say
 abbrev pub tables_said : RunTables → TablesSaid
 tables_said tables = record {
   lines = string_bytes tables.lines;
