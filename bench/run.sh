@@ -1,8 +1,8 @@
 #!/usr/bin/env bash
-# The processor time and the memory of `run` with 1, 2 and 4 workers, beside a plain program that does
-# the same in one thread without proofs: all in one run, in turn. 1,000 accounts have 1,000, 10,000 and
-# 100,000 calls, each of 20 s to 3 minutes: ten new calls a second (dense), or one every 4 seconds
-# (sparse), where a round mostly has less than one post.
+# The processor time and the memory of `run` with 1, 2 and 4 workers, and in 16 parts by 1 and 4 threads,
+# beside a plain program that does the same in one thread without proofs: all in one run, in turn. 1,000
+# accounts have 1,000, 10,000 and 100,000 calls, each of 20 s to 3 minutes: ten new calls a second
+# (dense), or one every 4 seconds (sparse), where a round mostly has less than one post.
 set -eu
 cd "$(dirname "$0")/.."
 work=$(mktemp -d)
@@ -38,6 +38,7 @@ for gap in 1 40; do
         [ "$calls" = 100000 ] && turns=3 || turns=10
         echo "run of $calls calls, $kind:"
         bench/beside.py "$turns" "$work/input" bin/prepaid run --workers 1 -- bin/prepaid run --workers 2 \
-            -- bin/prepaid run --workers 4 -- "$work/plain"
+            -- bin/prepaid run --workers 4 -- bin/prepaid run --parts 16 -- bin/prepaid run --parts 16 --threads 4 \
+            -- "$work/plain"
     done
 done
