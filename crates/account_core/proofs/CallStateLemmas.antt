@@ -8,10 +8,10 @@ use Rattle.tariff_core.specs.Price.{price_at}
 use Rattle.tariff_core.specs.Rates.{Rates}
 use Rattle.tariff_core.specs.Times.{Elapsed}
 use Rattle.account_core.specs.Known.{CallFacts, paid_of, price_under, taken_of, taken_under}
-use Rattle.account_core.specs.Sound.{IsHeld, IsSound, IsSoundUnder}
+use Rattle.account_core.specs.Sound.{IsGrantedCall, IsSound, IsSoundUnder}
 
 -- the price of its times is at most its top
-pub price_within : CeilingIsNotPassed → (plan : Rates) (call : CallFacts) → IsHeld plan call → price_at plan call.times ≤ call.top
+pub price_within : CeilingIsNotPassed → (plan : Rates) (call : CallFacts) → IsGrantedCall plan call → price_at plan call.times ≤ call.top
 price_within not_passed plan call held = omega (arith, not_passed plan held.base held.units call.times held.comes, held.top_is)
 
 paid_by_case : (forfeited returned : Bool) (price top : ℕ) → price ≤ top

@@ -7,19 +7,19 @@ use Rattle.std.proofs.lemmas.List.{length-append, length-reverse, map-append, re
 use Rattle.tariff_core.specs.Rates.{Rates}
 use Rattle.tariff_core.specs.Times.{Elapsed}
 use Rattle.tariff_core.specs.declared.times.TimeInfo.{TimeInfo}
-use Rattle.account_core.specs.Answers.{IsAnswered, answer, inadmissible, misplaced, settle_verdict, shown_by, accepted_times, units_offered, verdict}
+use Rattle.account_core.specs.Answers.{IsAnswered, answer, inadmissible, misplaced, settle_verdict, shown_by, accepted_times, units_offered, bare_reply}
 use Rattle.account_core.specs.Asked.{Asked, Credits, IsCredit, IsOfCall, Reserves, Returns, Settles, call_of, is_in_range}
 use Rattle.account_core.specs.Available.{available, credited, credits, taken_by_all}
-use Rattle.account_core.specs.CallStates.{Renews, state_of}
+use Rattle.account_core.specs.CallStates.{Renews, call_state_of}
 use Rattle.account_core.specs.Events.{EntryData, asked_of, entry_data}
 use Rattle.account_core.specs.Expiry.{last_moment_after}
 use Rattle.account_core.specs.Kept.{TellsEach, known_of}
-use Rattle.account_core.specs.Known.{Deed, Ends, CallFacts, Rests, deed_of, is_open, known, known_after, known_asked, paid_of}
+use Rattle.account_core.specs.Known.{EntryDeed, Ends, CallFacts, Rests, deed_of, is_open, known, known_after, known_asked, paid_of}
 use Rattle.account_core.specs.Ledger.{Ledger, answer_of, event_by, refusal_of}
 use Rattle.account_core.specs.Places.{needed, needed_by, or_else, over_limit, owed, owed_to, refusal, refusal_for}
-use Rattle.account_core.specs.Sound.{AnswersFit, HasRoom, IsSoundPast}
+use Rattle.account_core.specs.Sound.{AnswersFit, GrantsWithinDay, IsSoundPast}
 use Rattle.account_core.specs.Tallied.{IsTallied, tally_of}
-use Rattle.account_core.specs.Tellers.{IsAnsweredBy, IsTellerOf, entered}
+use Rattle.account_core.specs.Tellers.{IsAnsweredByTeller, IsTellerOf, entered}
 use Rattle.account_core.specs.declared.tally.Tally.{Tally}
 use Rattle.account_core.specs.declared.account.Teller.{Teller}
 use Rattle.account_core.specs.declared.entry.Entry.{Entry}
@@ -112,7 +112,7 @@ owes_return known call paid = owes_end known.plan known.returned known.awaits
 
 -- an answer's entry and what is owed after it take the places that were owed and needed
 pub owes : (opening : ℕ) (until : Option ℕ) (h : List EntryData) (asked : Asked)
-    → 1 + owed_to (known_after (known (call_of asked) h) (deed_of asked (verdict opening until h asked))) ≤ owed_to (known (call_of asked) h) + needed h asked
+    → 1 + owed_to (known_after (known (call_of asked) h) (deed_of asked (bare_reply opening until h asked))) ≤ owed_to (known (call_of asked) h) + needed h asked
 owes opening until h (Credits amount moment) = omega arith
 owes opening until h (Reserves call plan wanted least at) =
     owes_reserve _ (known call h) (units_offered (available opening h) (known call h) plan wanted) _ call plan wanted least at
@@ -135,7 +135,7 @@ owed_at_most h call = at_most_all owed_to nothing_owed h call
 -- what is owed after an answered entry
 pub owed_after : (opening : ℕ) (until : Option ℕ) (h : List EntryData) (event : EntryData) → IsAnswered opening until h event → 1 + owed (event ∷ h) ≤ owed h + needed h event.asked
 owed_after opening until h event answered =
-    let P : Deed → Type 0 = λ d. 1 + owed_to (known_after (known (its_call event) h) d) ≤ owed_to (known (its_call event) h) + needed h event.asked in
+    let P : EntryDeed → Type 0 = λ d. 1 + owed_to (known_after (known (its_call event) h) d) ≤ owed_to (known (its_call event) h) + needed h event.asked in
     let call_owes = subst P (sym (answered_deed opening until h event answered)) (owes opening until h event.asked) in
     omega (arith, owed_moves h event, call_owes)
 
@@ -143,13 +143,13 @@ owed_after opening until h event answered =
 
 tells_by : (here : Bool) (old new : CallStates) (h : List EntryData) (event : EntryData) (state : CallState) (call : ℕ) → (its_call event == call) ≡ here
     → Renews old new (its_call event) state → TellsEach old h → known_of state ≡ known_after (known (its_call event) h) (its_deed event)
-    → known_of (state_of new call) ≡ known call (event ∷ h)
+    → known_of (call_state_of new call) ≡ known call (event ∷ h)
 tells_by true old new h event state call is renews tells known_is =
     let P : ℕ → Type 0 = λ c. known_of state ≡ known c (event ∷ h) in
-    let now : state_of new call ≡ state = renews call ∙ ap (λ b. if b then state else state_of old call) is in
+    let now : call_state_of new call ≡ state = renews call ∙ ap (λ b. if b then state else call_state_of old call) is in
     ap known_of now ∙ subst P (eqb-true (its_call event) call is) (known_is ∙ sym (known_here h event))
 tells_by false old new h event state call is renews tells known_is =
-    let now : state_of new call ≡ state_of old call = renews call ∙ ap (λ b. if b then state else state_of old call) is in
+    let now : call_state_of new call ≡ call_state_of old call = renews call ∙ ap (λ b. if b then state else call_state_of old call) is in
     ap known_of now ∙ (tells call ∙ sym (known_apart h event call is))
 
 -- the states after that of an entry's call is renewed
@@ -202,7 +202,7 @@ places_after ledger event answered =
     let longer : owed (reverse (ledger.history ++ event ∷ [])) ≡ owed (event ∷ reverse ledger.history) = ap owed (past_entered ledger.history event) in
     omega (arith, longer, length-append ledger.history (event ∷ []), owed_after ledger.opening ledger.until (reverse ledger.history) event answered)
 
-pub teller_entered : (ledger : Ledger) (old new : Teller) (entry : Entry) → IsAnsweredBy ledger old entry
+pub teller_entered : (ledger : Ledger) (old new : Teller) (entry : Entry) → IsAnsweredByTeller ledger old entry
     → IsEntered (reverse ledger.history) (entry_data entry) old new → IsTellerOf (entered ledger (entry_data entry)) new
 teller_entered ledger old new entry is more =
     let h = reverse ledger.history in
@@ -295,10 +295,10 @@ module _ (opening : ℕ) (until : Option ℕ) (limit : ℕ) (h : List EntryData)
   pub needs_known : needed_by before event.asked ≡ needed h event.asked
   needs_known = ap (λ k. needed_by k event.asked) before_its
 
-  pub room_known : AnswersFit opening until h → HasRoom before (its_deed event)
+  pub room_known : AnswersFit opening until h → GrantsWithinDay before (its_deed event)
   room_known fitting =
-      let P : Deed → Type 0 = λ d. HasRoom (known (its_call event) h) d in
-      let K : CallFacts → Type 0 = λ k. HasRoom k (its_deed event) in
+      let P : EntryDeed → Type 0 = λ d. GrantsWithinDay (known (its_call event) h) d in
+      let K : CallFacts → Type 0 = λ k. GrantsWithinDay k (its_deed event) in
       subst K (sym before_its) (subst P (sym (answered_deed opening until h event answered_here)) (fitting event.asked (admitted limit h event.asked open_yet).0).room)
 
   pub owed_enough : (places : ℕ) → places ≡ owed h → owed_to before ≤ places

@@ -5,14 +5,14 @@ use Rattle.tariff_core.specs.Ceiling.{ceiling_of}
 use Rattle.tariff_core.specs.Rates.{Rates}
 use Rattle.tariff_core.specs.Times.{Elapsed}
 use Rattle.tariff_core.specs.declared.times.TimeInfo.{TimeInfo}
-use Rattle.account_core.specs.Answers.{accepted_times, answer, inadmissible, settle_verdict, showing, shown_by, units_offered, verdict}
+use Rattle.account_core.specs.Answers.{accepted_times, answer, inadmissible, settle_verdict, showing, shown_by, units_offered, bare_reply}
 use Rattle.account_core.specs.Asked.{Asked, Credits, Reserves, Returns, Settles, call_of}
 use Rattle.account_core.specs.Available.{available, credited, credits, taken_by_all}
 use Rattle.account_core.specs.Events.{EntryData}
 use Rattle.account_core.specs.Expiry.{is_past, last_moment}
-use Rattle.account_core.specs.Known.{Deed, Ends, Forfeits, Grants, CallFacts, Reports, Rests, deed, deed_of, is_open, known, known_after, paid_of, plan_in_force, price_under, taken_of}
+use Rattle.account_core.specs.Known.{EntryDeed, Ends, Forfeits, Grants, CallFacts, Reports, Rests, deed, deed_of, is_open, known, known_after, paid_of, plan_in_force, price_under, taken_of}
 use Rattle.account_core.specs.Replies.{credit_reply, reply_for, reserve_reply, return_reply, settle_reply}
-use Rattle.account_core.specs.Sound.{AnswersFit, HasRoom, IsFitting, IsSoundPast}
+use Rattle.account_core.specs.Sound.{AnswersFit, GrantsWithinDay, IsFitting, IsSoundPast}
 use Rattle.account_core.specs.declared.entry.Reply.{Reply}
 use Rattle.account_core.specs.declared.entry.Reply.TheVariants as reply
 use Rattle.account_core.specs.declared.fault.AccountFault.TheVariants as fault
@@ -22,7 +22,7 @@ use Rattle.account_core.proofs.Soundness.{IsAllowed, taken_ended, taken_granted,
 use Rattle.account_core.specs.TariffLaws.{TariffLaws}
 use Rattle.account_core.proofs.Verdicts.{in_place, none_else, none_if, verdict_allowed}
 
-room_allowed : (credit : ℕ) (call : CallFacts) (deed : Deed) → IsAllowed credit call deed → HasRoom call deed
+room_allowed : (credit : ℕ) (call : CallFacts) (deed : EntryDeed) → IsAllowed credit call deed → GrantsWithinDay call deed
 room_allowed credit call (Grants plan units) grant = grant.within_day
 room_allowed credit call (Reports info) report = tt
 room_allowed credit call Forfeits is = tt
@@ -32,7 +32,7 @@ room_allowed credit call Rests rests = tt
 pub answers_fit : (laws : TariffLaws) (opening : ℕ) (until : Option ℕ) (h : List EntryData) → IsSoundPast opening h → AnswersFit opening until h
 answers_fit laws opening until h sound asked is =
     let call : CallFacts = known (call_of asked) h in
-    let done : Deed = deed_of asked (verdict opening until h asked) in
+    let done : EntryDeed = deed_of asked (bare_reply opening until h asked) in
     let allowed : IsAllowed (available opening h) call done = verdict_allowed laws opening until h asked (sound.each (call_of asked)) is in
     record {
       room = room_allowed (available opening h) call done allowed;
@@ -107,7 +107,7 @@ module _ (opening : ℕ) (until : Option ℕ) (h : List EntryData) (sound : IsSo
       ap (reply.Granted units last) is
 
   pub reserve_answer : (c : ℕ) (plan : Rates) (wanted least at : ℕ) → (known c h).returned ≡ false
-      → IsFitting (available opening h) (known c h) (deed_of (Reserves c plan wanted least at) (verdict opening until h (Reserves c plan wanted least at)))
+      → IsFitting (available opening h) (known c h) (deed_of (Reserves c plan wanted least at) (bare_reply opening until h (Reserves c plan wanted least at)))
       → answer opening until h (Reserves c plan wanted least at)
       ≡ reserve_reply (available opening h) (known c h) plan wanted least (is_past (last_moment until h) at) (units_offered (available opening h) (known c h) plan wanted)
   unfolding answer
@@ -130,13 +130,13 @@ module _ (opening : ℕ) (until : Option ℕ) (h : List EntryData) (sound : IsSo
       ap (reply.Settled (price_under (known c h).plan times)) is
 
   pub settle_answer : (c number : ℕ) (info : TimeInfo) → is_open (known c h) ≡ true
-      → IsFitting (available opening h) (known c h) (deed_of (Settles c number info) (verdict opening until h (Settles c number info)))
+      → IsFitting (available opening h) (known c h) (deed_of (Settles c number info) (bare_reply opening until h (Settles c number info)))
       → answer opening until h (Settles c number info) ≡ settle_reply (available opening h) (known c h) (accepted_times (known c h) info)
   unfolding answer
   settle_answer c number info open_yet fitting = settle_by (accepted_times (known c h) info) c number info open_yet fitting.covered
 
   pub return_answer : (c : ℕ) → is_open (known c h) ≡ true
-      → IsFitting (available opening h) (known c h) (deed_of (Returns c) (verdict opening until h (Returns c)))
+      → IsFitting (available opening h) (known c h) (deed_of (Returns c) (bare_reply opening until h (Returns c)))
       → answer opening until h (Returns c) ≡ return_reply (available opening h) (known c h)
   unfolding answer
   return_answer c open_yet fitting =
@@ -182,7 +182,7 @@ available_showing opening h seat credit asked told = refl
 pub answer_shows : (opening : ℕ) (until : Option ℕ) (h : List EntryData) (event : EntryData) → event.reply ≡ answer opening until h event.asked → shown_by event.reply ≡ available opening (event ∷ h)
 unfolding answer
 answer_shows opening until h event is =
-    let told : Reply = verdict opening until h event.asked in
+    let told : Reply = bare_reply opening until h event.asked in
     let credit : ℕ = available opening (record { seat = 0; asked = event.asked; reply = told } ∷ h) in
     let P : Reply → Type 0 = λ r. shown_by r ≡ available opening (record { seat = event.seat; asked = event.asked; reply = r } ∷ h) in
     subst P (sym is) (shown_by_showing told credit ∙ sym (available_showing opening h event.seat credit event.asked told))

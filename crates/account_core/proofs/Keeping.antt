@@ -12,7 +12,7 @@ use Rattle.account_core.specs.Events.{EntryData, asked_of, entry_data}
 use Rattle.account_core.specs.Kept.{known_of}
 use Rattle.account_core.specs.Ledger.{Ledger, answer_of, event_by}
 use Rattle.account_core.specs.Places.{needed, needed_by, owed}
-use Rattle.account_core.specs.Tellers.{Admits, IsKept, IsTellerOf, entered}
+use Rattle.account_core.specs.Tellers.{Admits, IsKeptTeller, IsTellerOf, entered}
 use Rattle.account_core.specs.declared.admitted.Admitted.{Admitted}
 use Rattle.account_core.specs.declared.account.Account.TheInside.{Inside}
 use Rattle.account_core.specs.declared.entry.Entry.{Entry}
@@ -26,13 +26,13 @@ shown a = record { opening = a.opening; until = a.until; limit = a.teller.limit;
 
 pub kept_new : (opening : ℕ) (until : Option ℕ) (limit : ℕ) (entries : Vec Entry Global) (teller : Teller) → entries.items ≡ []
     → IsTellerOf (record { opening = opening; until = until; limit = limit; history = [] }) teller
-    → IsKept (record { opening = opening; until = until; limit = teller.limit; history = map entry_data entries.items }) teller (vec_capacity entries)
+    → IsKeptTeller (record { opening = opening; until = until; limit = teller.limit; history = map entry_data entries.items }) teller (vec_capacity entries)
 kept_new opening until limit entries teller none is =
     let P : List Entry → Type 0 = λ items. IsTellerOf (record { opening = opening; until = until; limit = teller.limit; history = map entry_data items }) teller in
     let L : ℕ → Type 0 = λ n. IsTellerOf (record { opening = opening; until = until; limit = n; history = [] }) teller in
     record { teller_is = subst P (sym none) (subst L (sym is.limit_is) is); room = omega (arith, is.counted, is.owed_are, nothing_owed_yet) }
 
-module _ (a : Inside) (ledger : Ledger) (view_is : shown a ≡ ledger) (kept : IsKept (shown a) a.teller (vec_capacity a.entries)) where
+module _ (a : Inside) (ledger : Ledger) (view_is : shown a ≡ ledger) (kept : IsKeptTeller (shown a) a.teller (vec_capacity a.entries)) where
   pub teller_of : IsTellerOf ledger a.teller
   teller_of = let P : Ledger → Type 0 = λ l. IsTellerOf l a.teller in subst P view_is kept.teller_is
 
@@ -62,7 +62,7 @@ module _ (a : Inside) (ledger : Ledger) (view_is : shown a ≡ ledger) (kept : I
         )
 
   pub kept_entered : (entry : Entry) (items : List Entry) (new : Teller) (capacity : ℕ) → items ≡ a.entries.items ++ entry ∷ [] → IsTellerOf (entered (shown a) (entry_data entry)) new
-      → new.entries + new.owed ≤ capacity → IsKept (record { opening = a.opening; until = a.until; limit = new.limit; history = map entry_data items }) new capacity
+      → new.entries + new.owed ≤ capacity → IsKeptTeller (record { opening = a.opening; until = a.until; limit = new.limit; history = map entry_data items }) new capacity
   kept_entered entry items new capacity items_are is room =
       let P : List EntryData → Type 0 = λ history. IsTellerOf (record { opening = a.opening; until = a.until; limit = new.limit; history = history }) new in
       let L : ℕ → Type 0 = λ n. IsTellerOf (record { opening = a.opening; until = a.until; limit = n; history = map entry_data a.entries.items ++ entry_data entry ∷ [] }) new in

@@ -15,7 +15,7 @@ use Rattle.account_core.specs.Known.{CallFacts, deed, known, known_after, plan_i
 use Rattle.account_core.specs.Laws.{AnswersAreKindly}
 use Rattle.account_core.specs.Ledger.{Ledger, answer_of, event_by, refusal_of}
 use Rattle.account_core.specs.Sound.{IsSound}
-use Rattle.account_core.specs.Standing.{IsKindly, FitsCall, Moves}
+use Rattle.account_core.specs.Standing.{IsKindly, FitsCall, MovesCall}
 use Rattle.account_core.specs.TariffLaws.{TariffLaws}
 use Rattle.account_core.specs.declared.entry.Reply.{Reply}
 use Rattle.account_core.specs.declared.entry.Reply.TheVariants as reply
@@ -104,7 +104,7 @@ pub account_moves : AnswersAreKindly → (before later : Ledger) (seat call : �
     → IfOk result (λ told. told ≡ answer_of before asked)
     → IfOk result (λ told. later ≡ record before { history = before.history ++ event_by seat asked told ∷ [] })
     → OnOk result (refusal_of before asked ≡ None) → OnErr result (later ≡ before)
-    → Moves call (known call (reverse before.history)) asked result (Some (known call (reverse later.history)))
+    → MovesCall call (known call (reverse before.history)) asked result (Some (known call (reverse later.history)))
 account_moves kind before later seat call asked (Err fault) small legal answered entered open_yet kept =
     ap (λ l. Some (known call (reverse l.history))) kept
 account_moves kind before later seat call asked (Ok told) small legal answered entered open_yet kept =

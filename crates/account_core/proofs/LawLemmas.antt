@@ -7,11 +7,11 @@ use Rattle.tariff_core.specs.Rates.{Rates}
 use Rattle.tariff_core.specs.Reading.{times_read}
 use Rattle.tariff_core.specs.Times.{Elapsed}
 use Rattle.tariff_core.specs.declared.times.TimeInfo.{TimeInfo}
-use Rattle.account_core.specs.Answers.{IsAnswered, IsLegalPast, accepted_times, settle_verdict, verdict}
+use Rattle.account_core.specs.Answers.{IsAnswered, IsLegalPast, accepted_times, settle_verdict, bare_reply}
 use Rattle.account_core.specs.Asked.{Asked, Credits, Reserves, Returns, Settles, call_of}
 use Rattle.account_core.specs.Available.{available, credited}
 use Rattle.account_core.specs.Events.{EntryData}
-use Rattle.account_core.specs.Known.{Deed, Ends, Forfeits, Grants, CallFacts, Reports, Rests, deed_of, is_open, known, known_after, paid_of, taken_of}
+use Rattle.account_core.specs.Known.{EntryDeed, Ends, Forfeits, Grants, CallFacts, Reports, Rests, deed_of, is_open, known, known_after, paid_of, taken_of}
 use Rattle.account_core.specs.Laws.{AreReported, ClosedCallsPayTheTariff, IsSettle, NoBalanceIsNegative, Reporting, SettlesKeepTheCredit, TimesAreReported, last_report, report_after, paid_at_return, paid_after}
 use Rattle.account_core.specs.TariffLaws.{TariffLaws}
 use Rattle.account_core.specs.declared.entry.Reply.{Reply}
@@ -44,7 +44,7 @@ ended_yet : (call : CallFacts) → is_open call ≡ true → call.returned ≡ t
 ended_yet call is ended = let yet = (open_parts call.plan call.returned is).1 in cc
 
 -- a call that is returned told what it has paid
-told_by : (credit : ℕ) (call : CallFacts) (before : Option ℕ) (deed : Deed) → IsAllowed credit call deed → (call.returned ≡ true → before ≡ Some (paid_of call))
+told_by : (credit : ℕ) (call : CallFacts) (before : Option ℕ) (deed : EntryDeed) → IsAllowed credit call deed → (call.returned ≡ true → before ≡ Some (paid_of call))
     → (known_after call deed).returned ≡ true → paid_after before deed ≡ Some (paid_of (known_after call deed))
 told_by credit call before (Grants plan units) grant known_told ended = let yet = grant.unreturned in cc
 told_by credit call before (Reports info) report known_told ended = absurd (ended_yet call report.open_yet ended)
@@ -99,11 +99,11 @@ reserve_times call c plan wanted least at reply = (refl, refl)
 -- what an answered entry does to the times of its call is what its report states
 reported_by : (opening : ℕ) (until : Option ℕ) (h : List EntryData) (asked : Asked) (before : Option Reporting)
     → ((known (call_of asked) h).forfeited ≡ false → AreReported before (known (call_of asked) h).times)
-    → (known_after (known (call_of asked) h) (deed_of asked (verdict opening until h asked))).forfeited ≡ false
-    → AreReported (report_after before (known (call_of asked) h).times asked) (known_after (known (call_of asked) h) (deed_of asked (verdict opening until h asked))).times
+    → (known_after (known (call_of asked) h) (deed_of asked (bare_reply opening until h asked))).forfeited ≡ false
+    → AreReported (report_after before (known (call_of asked) h).times asked) (known_after (known (call_of asked) h) (deed_of asked (bare_reply opening until h asked))).times
 reported_by opening until h (Credits amount moment) before known_told lawful = known_told lawful
 reported_by opening until h (Reserves c plan wanted least at) before known_told lawful =
-    let (times, forfeited) = reserve_times (known c h) c plan wanted least at (verdict opening until h (Reserves c plan wanted least at)) in
+    let (times, forfeited) = reserve_times (known c h) c plan wanted least at (bare_reply opening until h (Reserves c plan wanted least at)) in
     rw times (known_told (sym forfeited ∙ lawful))
 reported_by opening until h (Settles c number info) before known_told lawful =
     settle_reported (known c h) c number info (accepted_times (known c h) info) refl lawful

@@ -8,14 +8,14 @@ use Rattle.tariff_core.specs.Rates.{Rates}
 use Rattle.account_core.specs.Asked.{call_of}
 use Rattle.account_core.specs.Available.{begins_call, calls, is_grant}
 use Rattle.account_core.specs.Events.{EntryData}
-use Rattle.account_core.specs.Known.{Deed, Ends, Forfeits, Grants, CallFacts, Reports, Rests, deed, deed_of, known, known_after}
+use Rattle.account_core.specs.Known.{EntryDeed, Ends, Forfeits, Grants, CallFacts, Reports, Rests, deed, deed_of, known, known_after}
 use Rattle.account_core.proofs.Sums.{at_most_sum, sum_absent, sum_once, times_in}
 
 -- the call of an entry, and what the entry does to it
 abbrev pub its_call : EntryData → ℕ
 its_call event = call_of event.asked
 
-abbrev pub its_deed : EntryData → Deed
+abbrev pub its_deed : EntryData → EntryDeed
 its_deed event = deed_of event.asked event.reply
 
 pub deed_here : (event : EntryData) → deed (its_call event) event ≡ its_deed event
@@ -49,7 +49,7 @@ some_once : (plan : Option Rates) (n : ℕ) → n ≡ (if is_some plan then 1 el
 some_once None n is = omega (arith, is)
 some_once (Some plan) n is = is
 
-once_here : (d : Deed) (call : CallFacts) (n : ℕ) → n ≡ is_begun call → count_begun true (is_grant d && not (is_some call.plan)) n ≡ is_begun (known_after call d)
+once_here : (d : EntryDeed) (call : CallFacts) (n : ℕ) → n ≡ is_begun call → count_begun true (is_grant d && not (is_some call.plan)) n ≡ is_begun (known_after call d)
 unfolding count_begun is_begun
 once_here (Grants plan units) call n is = some_once call.plan n is
 once_here (Reports info) call n is = is
@@ -100,7 +100,7 @@ none_is : (plan : Option Rates) → is_some plan ≡ false → plan ≡ None
 none_is None is = refl
 none_is (Some plan) is = cc
 
-still_none : (call : CallFacts) (d : Deed) → is_grant d ≡ false → is_some call.plan ≡ false → (known_after call d).plan ≡ None
+still_none : (call : CallFacts) (d : EntryDeed) → is_grant d ≡ false → is_some call.plan ≡ false → (known_after call d).plan ≡ None
 still_none call (Grants plan units) rests none = cc
 still_none call (Reports info) rests none = none_is call.plan none
 still_none call Forfeits rests none = none_is call.plan none

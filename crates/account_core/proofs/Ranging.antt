@@ -6,12 +6,12 @@ use Rattle.std.proofs.lemmas.List.Elements.{All-append, All-cons, All-nil, All-s
 use Rattle.tariff_core.specs.Rates.{Rates}
 use Rattle.tariff_core.specs.Times.{Elapsed}
 use Rattle.tariff_core.specs.declared.times.TimeInfo.{TimeInfo}
-use Rattle.account_core.specs.Answers.{IsLegalPast, accepted_times, answer, inadmissible, settle_verdict, showing, shown_by, units_offered, verdict}
+use Rattle.account_core.specs.Answers.{IsLegalPast, accepted_times, answer, inadmissible, settle_verdict, showing, shown_by, units_offered, bare_reply}
 use Rattle.account_core.specs.Asked.{Asked, Credits, Reserves, Returns, Settles}
 use Rattle.account_core.specs.Available.{available, credits, taken_by_all}
 use Rattle.account_core.specs.Events.{EntryData}
 use Rattle.account_core.specs.Known.{CallFacts, Reports, is_open, known, known_after, paid_of, plan_in_force, price_under, taken_of}
-use Rattle.account_core.specs.Laws.{EntriesAreInRange, IsInRange, IsReplyInRange}
+use Rattle.account_core.specs.Laws.{EntriesAreInRange, EntryIsInRange, IsReplyInRange}
 use Rattle.account_core.specs.Sound.{IsSound, IsSoundPast}
 use Rattle.account_core.specs.TariffLaws.{TariffLaws}
 use Rattle.account_core.specs.declared.entry.Reply.{Reply}
@@ -76,7 +76,7 @@ module _ (laws : TariffLaws) where
   settle_in_range call info (Some times) sound open_yet held is = (omega (arith, held, settled_within call info times sound open_yet is), omega arith)
 
   verdict_in_range : (opening : ℕ) (until : Option ℕ) (h : List EntryData) (asked : Asked) → IsSoundPast opening h → inadmissible h asked ≡ None
-      → IsReplyInRange (verdict opening until h asked)
+      → IsReplyInRange (bare_reply opening until h asked)
   verdict_in_range opening until h (Credits amount moment) sound is = credit_in_range (nat_le (opening + credits h + amount) 1000000000000000)
   verdict_in_range opening until h (Reserves call plan wanted least at) sound is =
       reserve_in_range _ _ (units_offered (available opening h) (known call h) plan wanted)
@@ -93,10 +93,10 @@ module _ (laws : TariffLaws) where
   -- ---- an entry, and all of them
 
   entry_in_range : (opening : ℕ) (until : Option ℕ) (h : List EntryData) (event : EntryData) → opening ≤ 1000000000000000 → IsLegalPast opening until (event ∷ h)
-      → IsInRange event
+      → EntryIsInRange event
   unfolding answer
   entry_in_range opening until h event small legal =
-      let told : Reply = verdict opening until h event.asked in
+      let told : Reply = bare_reply opening until h event.asked in
       let credit : ℕ = available opening (record { seat = 0; asked = event.asked; reply = told } ∷ h) in
       let shown : shown_by event.reply ≡ available opening (event ∷ h) = answer_shows opening until h event legal.1.answered in
       let capped = available_capped opening (event ∷ h) (legal_is_sound laws opening until (event ∷ h) small legal).capped in
@@ -108,13 +108,13 @@ module _ (laws : TariffLaws) where
             (omega (arith, shown, capped));
       }
 
-  past_in_range : (opening : ℕ) (until : Option ℕ) (h : List EntryData) → opening ≤ 1000000000000000 → IsLegalPast opening until h → All IsInRange (reverse h)
-  past_in_range opening until [] small legal = All-nil IsInRange
+  past_in_range : (opening : ℕ) (until : Option ℕ) (h : List EntryData) → opening ≤ 1000000000000000 → IsLegalPast opening until h → All EntryIsInRange (reverse h)
+  past_in_range opening until [] small legal = All-nil EntryIsInRange
   past_in_range opening until (event ∷ h) small legal =
-      All-same IsInRange (reverse (event ∷ h)) (reverse h ++ event ∷ []) (reverse-append (event ∷ []) h)
-      (All-append IsInRange (reverse h) (event ∷ []) (past_in_range opening until h small legal.0)
-      (All-cons IsInRange event [] (entry_in_range opening until h event small legal) (All-nil IsInRange)))
+      All-same EntryIsInRange (reverse (event ∷ h)) (reverse h ++ event ∷ []) (reverse-append (event ∷ []) h)
+      (All-append EntryIsInRange (reverse h) (event ∷ []) (past_in_range opening until h small legal.0)
+      (All-cons EntryIsInRange event [] (entry_in_range opening until h event small legal) (All-nil EntryIsInRange)))
 
   pub in_range : EntriesAreInRange
   in_range opening until history small legal =
-      All-same IsInRange history (reverse (reverse history)) (sym (reverse-reverse history)) (past_in_range opening until (reverse history) small legal)
+      All-same EntryIsInRange history (reverse (reverse history)) (sym (reverse-reverse history)) (past_in_range opening until (reverse history) small legal)

@@ -2,7 +2,7 @@
 use Rattle.std.proofs.Common.{◌≡◌, ℕ, ◌+◌, ◌-◌, ◌≤◌, Bool, true, false, None, Option, List, [], ◌∷◌, refl, ap, ◌∙◌, arith, subst}
 use Rattle.std.specs.Prelude.{◌==◌}
 use Rattle.std.proofs.lemmas.Bool.{eqb-true}
-use Rattle.account_core.specs.Answers.{IsAnswered, IsLegalPast, answer, verdict}
+use Rattle.account_core.specs.Answers.{IsAnswered, IsLegalPast, answer, bare_reply}
 use Rattle.account_core.specs.Available.{available, credited, credits, taken_by_all}
 use Rattle.account_core.specs.Events.{EntryData}
 use Rattle.account_core.specs.Known.{CallFacts, deed_of, known, known_after, taken_of}
@@ -23,13 +23,13 @@ unfolding taken_by_all
 taken_moves h event = sum_moves taken_of nothing_taken h event
 
 -- an answer, but for what it shows
-pub answered_deed : (opening : ℕ) (until : Option ℕ) (h : List EntryData) (event : EntryData) → IsAnswered opening until h event → its_deed event ≡ deed_of event.asked (verdict opening until h event.asked)
+pub answered_deed : (opening : ℕ) (until : Option ℕ) (h : List EntryData) (event : EntryData) → IsAnswered opening until h event → its_deed event ≡ deed_of event.asked (bare_reply opening until h event.asked)
 unfolding answer
-answered_deed opening until h event answered = ap (deed_of event.asked) answered.answered ∙ deed_showing event.asked (verdict opening until h event.asked) _
+answered_deed opening until h event answered = ap (deed_of event.asked) answered.answered ∙ deed_showing event.asked (bare_reply opening until h event.asked) _
 
-pub answered_credit : (opening : ℕ) (until : Option ℕ) (h : List EntryData) (event : EntryData) → IsAnswered opening until h event → credited event.asked event.reply ≡ credited event.asked (verdict opening until h event.asked)
+pub answered_credit : (opening : ℕ) (until : Option ℕ) (h : List EntryData) (event : EntryData) → IsAnswered opening until h event → credited event.asked event.reply ≡ credited event.asked (bare_reply opening until h event.asked)
 unfolding answer
-answered_credit opening until h event answered = ap (credited event.asked) answered.answered ∙ credited_showing event.asked (verdict opening until h event.asked) _
+answered_credit opening until h event answered = ap (credited event.asked) answered.answered ∙ credited_showing event.asked (bare_reply opening until h event.asked) _
 
 covered_more : (funds taken taken' t t' more credit : ℕ) → taken ≤ funds → credit ≡ funds - taken → taken' + t ≡ taken + t' → t' ≤ credit + t → taken' ≤ funds + more
 covered_more funds taken taken' t t' more credit covered is moves within = omega arith
@@ -57,7 +57,7 @@ module _ (laws : TariffLaws) where
   sound_more opening until h event sound answered =
       let c : ℕ = its_call event in
       let within = takes_within laws (available opening h) (known c h) (its_deed event) (sound.each c) (entry_allowed opening until h event (sound.each c) answered) in
-      let added : credited event.asked event.reply ≡ credited event.asked (verdict opening until h event.asked) = answered_credit opening until h event answered in
+      let added : credited event.asked event.reply ≡ credited event.asked (bare_reply opening until h event.asked) = answered_credit opening until h event answered in
       record {
         each = λ call. each_by _ opening until h event call refl sound.each answered;
         covered = omega (

@@ -9,8 +9,8 @@ use Rattle.tariff_core.specs.Reading.{times_read}
 use Rattle.tariff_core.specs.Times.{Elapsed}
 use Rattle.tariff_core.specs.declared.times.TimeInfo.{TimeInfo}
 use Rattle.account_core.specs.Answers.{accepted_times, lawful_times}
-use Rattle.account_core.specs.Known.{Deed, Ends, Forfeits, Grants, CallFacts, Reports, Rests, is_open, known_after, paid_of, plan_in_force, taken_of, taken_under}
-use Rattle.account_core.specs.Sound.{IsHeld, IsSound, IsSoundUnder}
+use Rattle.account_core.specs.Known.{EntryDeed, Ends, Forfeits, Grants, CallFacts, Reports, Rests, is_open, known_after, paid_of, plan_in_force, taken_of, taken_under}
+use Rattle.account_core.specs.Sound.{IsGrantedCall, IsSound, IsSoundUnder}
 use Rattle.account_core.proofs.CallStateLemmas.{paid_within}
 use Rattle.account_core.specs.TariffLaws.{TariffLaws}
 
@@ -30,7 +30,7 @@ pub record IsEnd (call : CallFacts) (paid : ℕ) : Type 0 where
   pub open_yet : is_open call ≡ true
   pub paid_is : paid ≡ paid_of call
 
-abbrev pub IsAllowed : ℕ → CallFacts → Deed → Type 0
+abbrev pub IsAllowed : ℕ → CallFacts → EntryDeed → Type 0
 IsAllowed credit call (Grants plan units) = IsGrant credit call plan units
 IsAllowed credit call (Reports info) = IsReport call info
 IsAllowed credit call Forfeits = is_open call ≡ true
@@ -106,7 +106,7 @@ accepted call info times is = accepted_if call.forfeited call info times refl is
 
 -- ---- a call stays sound
 
-pub under : (plan : Option Rates) (call later : CallFacts) → (plan ≡ None → ⊥) → ((p : Rates) → plan ≡ Some p → IsHeld p call → IsHeld p later)
+pub under : (plan : Option Rates) (call later : CallFacts) → (plan ≡ None → ⊥) → ((p : Rates) → plan ≡ Some p → IsGrantedCall p call → IsGrantedCall p later)
     → IsSoundUnder plan call → IsSoundUnder plan later
 under None call later begun held sound = absurd (begun refl)
 under (Some plan) call later begun held sound = held plan refl sound
@@ -126,7 +126,7 @@ module _ (laws : TariffLaws) where
   stands call offered sound = stands_under call.plan call offered sound
 
   held_granted : (credit : ℕ) (call : CallFacts) (plan : Rates) (units : ℕ) → IsSound call → IsGrant credit call plan units
-      → IsHeld (plan_in_force call plan) (known_after call (Grants plan units))
+      → IsGrantedCall (plan_in_force call plan) (known_after call (Grants plan units))
   held_granted credit call plan units sound grant = record {
     base = call.times;
     units = units;
@@ -136,8 +136,8 @@ module _ (laws : TariffLaws) where
     within_day = grant.within_day;
   }
 
-  held_reported : (call : CallFacts) (info : TimeInfo) (times : Elapsed) → IsAccepted call info times → (p : Rates) → call.plan ≡ Some p → IsHeld p call
-      → IsHeld p (known_after call (Reports info))
+  held_reported : (call : CallFacts) (info : TimeInfo) (times : Elapsed) → IsAccepted call info times → (p : Rates) → call.plan ≡ Some p → IsGrantedCall p call
+      → IsGrantedCall p (known_after call (Reports info))
   held_reported call info times report p plan_is held =
       let same : report.plan ≡ p = cc in
       let P : Rates → Type 0 = λ plan. is_lawful plan call.times times call.granted ≡ true in
@@ -155,7 +155,7 @@ module _ (laws : TariffLaws) where
       }
 
   -- whatever an answered entry does
-  pub sound_after : (credit : ℕ) (call : CallFacts) (deed : Deed) → IsSound call → IsAllowed credit call deed → IsSound (known_after call deed)
+  pub sound_after : (credit : ℕ) (call : CallFacts) (deed : EntryDeed) → IsSound call → IsAllowed credit call deed → IsSound (known_after call deed)
   sound_after credit call (Grants plan units) sound grant = held_granted credit call plan units sound grant
   sound_after credit call (Reports info) sound report =
       under call.plan call (known_after call (Reports info)) (open_parts call.plan call.returned report.open_yet).0
@@ -183,7 +183,7 @@ module _ (laws : TariffLaws) where
   sound_after credit call Rests sound rests = sound
 
   -- and it takes no more than there is
-  pub takes_within : (credit : ℕ) (call : CallFacts) (deed : Deed) → IsSound call → IsAllowed credit call deed
+  pub takes_within : (credit : ℕ) (call : CallFacts) (deed : EntryDeed) → IsSound call → IsAllowed credit call deed
       → taken_of (known_after call deed) ≤ credit + taken_of call
   takes_within credit call (Grants plan units) sound grant = rw (taken_granted call plan units grant.unreturned) grant.covered
   takes_within credit call (Reports info) sound report =

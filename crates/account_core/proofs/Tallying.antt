@@ -4,14 +4,14 @@ use Rattle.std.specs.Prelude.{◌≢◌, Err, Ok, Result}
 use Rattle.account_core.specs.Answers.{IsAnswered, answer, inadmissible, inadmissible_for, shown_by}
 use Rattle.account_core.specs.Available.{credited}
 use Rattle.account_core.specs.Events.{EntryData}
-use Rattle.account_core.specs.CallStates.{Renews, state_of}
+use Rattle.account_core.specs.CallStates.{Renews, call_state_of}
 use Rattle.account_core.specs.Expiry.{last_moment_after}
 use Rattle.account_core.specs.Kept.{TellsEach, known_of}
 use Rattle.account_core.specs.Known.{CallFacts, known, known_after, taken_of}
 use Rattle.account_core.specs.Replies.{reply_for}
-use Rattle.account_core.specs.Sound.{HasRoom, LegalPastsAreSound, SoundPastsAnswer}
+use Rattle.account_core.specs.Sound.{GrantsWithinDay, LegalPastsAreSound, SoundPastsAnswer}
 use Rattle.account_core.specs.Tallied.{IsTallied, IsToldOf, tally_of}
-use Rattle.account_core.specs.Wrong.{IsWrong, told_by as told_of}
+use Rattle.account_core.specs.Wrong.{IsWrong, reply_or_fault as told_of}
 use Rattle.account_core.specs.declared.entry.Reply.{Reply}
 use Rattle.account_core.specs.declared.fault.AccountFault.{AccountFault}
 use Rattle.account_core.specs.declared.call_states.CallStates.{CallStates}
@@ -25,7 +25,7 @@ use Rattle.account_core.proofs.Moves.{its_call, its_deed, known_here}
 use Rattle.account_core.proofs.Walking.{room_walk}
 
 pub tallied_new : (opening : ℕ) (until : Option ℕ) (calls : CallStates) → opening ≤ 1000000000000000
-    → ((call : ℕ) → state_of calls call ≡ Fresh) → IsTallied opening until [] (tally_of calls opening opening until)
+    → ((call : ℕ) → call_state_of calls call ≡ Fresh) → IsTallied opening until [] (tally_of calls opening opening until)
 tallied_new opening until calls small none = record {
   small = small;
   legal = tt;
@@ -76,7 +76,7 @@ module _ (opening : ℕ) (until : Option ℕ) (h : List EntryData) (event : Entr
         differs = λ same. other (ap (reply_in reply) same);
       }
 
-  pub told_room : LegalPastsAreSound → SoundPastsAnswer → IsAnswered opening until h event → HasRoom call (its_deed event)
+  pub told_room : LegalPastsAreSound → SoundPastsAnswer → IsAnswered opening until h event → GrantsWithinDay call (its_deed event)
   told_room sounds fits answered = room_walk sounds fits opening until h told.small told.legal event answered call (its_call event) told.call_is refl
 
   pub told_after : known_after call (its_deed event) ≡ known (its_call event) (event ∷ h)
@@ -86,7 +86,7 @@ module _ (opening : ℕ) (until : Option ℕ) (h : List EntryData) (event : Entr
 
 module _ (opening : ℕ) (until : Option ℕ) (h : List EntryData) (calls : CallStates) (funds credit : ℕ) (last : Option ℕ) (event : EntryData)
     (tallied : IsTallied opening until h (tally_of calls funds credit last)) where
-  pub told_by : (state : CallState) → state ≡ state_of calls (its_call event) → IsToldOf opening until h event (known_of state) funds credit last
+  pub told_by : (state : CallState) → state ≡ call_state_of calls (its_call event) → IsToldOf opening until h event (known_of state) funds credit last
   told_by state is = record {
     small = tallied.small;
     legal = tallied.legal;

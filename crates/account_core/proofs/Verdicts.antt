@@ -5,7 +5,7 @@ use Rattle.std.proofs.lemmas.Bool.Decides.{nat_tests}
 use Rattle.tariff_core.specs.Rates.{Rates}
 use Rattle.tariff_core.specs.Times.{Elapsed}
 use Rattle.tariff_core.specs.declared.times.TimeInfo.{TimeInfo}
-use Rattle.account_core.specs.Answers.{accepted_times, inadmissible, misplaced, settle_verdict, showing, units_offered, verdict}
+use Rattle.account_core.specs.Answers.{accepted_times, inadmissible, misplaced, settle_verdict, showing, units_offered, bare_reply}
 use Rattle.account_core.specs.Asked.{Asked, Credits, Reserves, Returns, Settles, call_of, is_in_range}
 use Rattle.account_core.specs.Available.{available, credited, credits}
 use Rattle.account_core.specs.Events.{EntryData}
@@ -72,7 +72,7 @@ fits_capped funds amount capped = grind (arith, nat_tests)
 
 -- the credits stay within the largest money
 pub credited_capped : (opening : ℕ) (until : Option ℕ) (h : List EntryData) (asked : Asked) → opening + credits h ≤ 1000000000000000
-    → opening + credits h + credited asked (verdict opening until h asked) ≤ 1000000000000000
+    → opening + credits h + credited asked (bare_reply opening until h asked) ≤ 1000000000000000
 credited_capped opening until h (Credits amount moment) capped =
     rw (credited_if (nat_le (opening + credits h + amount) 1000000000000000) amount moment) (fits_capped (opening + credits h) amount capped)
 credited_capped opening until h (Reserves call plan wanted least at) capped = omega (arith, capped)
@@ -109,7 +109,7 @@ module _ (laws : TariffLaws) where
 
   -- an admissible operation's answer does what is allowed
   pub verdict_allowed : (opening : ℕ) (until : Option ℕ) (h : List EntryData) (asked : Asked) → IsSound (known (call_of asked) h) → inadmissible h asked ≡ None
-      → IsAllowed (available opening h) (known (call_of asked) h) (deed_of asked (verdict opening until h asked))
+      → IsAllowed (available opening h) (known (call_of asked) h) (deed_of asked (bare_reply opening until h asked))
   verdict_allowed opening until h (Credits amount moment) sound is = tt
   verdict_allowed opening until h (Reserves call plan wanted least at) sound is =
       reserve_allowed _ (available opening h) (known call h) call plan wanted least at (is_past (last_moment until h) at) sound

@@ -4,8 +4,8 @@ use Rattle.std.specs.Prelude.{map, reverse}
 use Rattle.std.proofs.Math.Seq.{take-suc}
 use Rattle.account_core.specs.Answers.{IsAnswered, IsLegalPast}
 use Rattle.account_core.specs.Events.{EntryData, entry_data}
-use Rattle.account_core.specs.Known.{Deed, CallFacts, known}
-use Rattle.account_core.specs.Sound.{HasRoom, LegalPastsAreSound, SoundPastsAnswer}
+use Rattle.account_core.specs.Known.{EntryDeed, CallFacts, known}
+use Rattle.account_core.specs.Sound.{GrantsWithinDay, LegalPastsAreSound, SoundPastsAnswer}
 use Rattle.account_core.specs.declared.entry.Entry.{Entry}
 use Rattle.account_core.proofs.Entering.{past_pushed}
 use Rattle.account_core.proofs.Moves.{its_call, its_deed}
@@ -21,9 +21,9 @@ past_more xs i e within is =
     ap (λ ys. reverse (map entry_data ys)) taken ∙ past_pushed (take i xs) e
 
 pub room_walk : LegalPastsAreSound → SoundPastsAnswer → (opening : ℕ) (until : Option ℕ) (h : List EntryData) → opening ≤ 1000000000000000 → IsLegalPast opening until h
-    → (event : EntryData) → IsAnswered opening until h event → (call : CallFacts) (c : ℕ) → call ≡ known c h → its_call event ≡ c → HasRoom call (its_deed event)
+    → (event : EntryData) → IsAnswered opening until h event → (call : CallFacts) (c : ℕ) → call ≡ known c h → its_call event ≡ c → GrantsWithinDay call (its_deed event)
 room_walk sounds fits opening until h small legal event answered call c is here =
     let fitting = fits opening until h (sounds opening until h small legal) event.asked answered.admissible in
-    let D : Deed → Type 0 = λ d. HasRoom (known (its_call event) h) d in
-    let K : CallFacts → Type 0 = λ k. HasRoom k (its_deed event) in
+    let D : EntryDeed → Type 0 = λ d. GrantsWithinDay (known (its_call event) h) d in
+    let K : CallFacts → Type 0 = λ k. GrantsWithinDay k (its_deed event) in
     subst K (ap (λ n. known n h) here ∙ sym is) (subst D (sym (answered_deed opening until h event answered)) fitting.room)

@@ -61,12 +61,12 @@ settle_verdict known (Some times) = reply.Settled (price_under known.plan times)
 settle_verdict known None = reply.Forfeit known.top 0
 
 -- the reply to an operation, with 0 in place of what is available
-abbrev pub verdict : ℕ → Option ℕ → List EntryData → Asked → Reply
-verdict opening until h (Credits amount moment) = credit_verdict (opening + credits h) amount
-verdict opening until h (Reserves call plan wanted least at) =
+abbrev pub bare_reply : ℕ → Option ℕ → List EntryData → Asked → Reply
+bare_reply opening until h (Credits amount moment) = credit_verdict (opening + credits h) amount
+bare_reply opening until h (Reserves call plan wanted least at) =
     reserve_verdict (units_offered (available opening h) (known call h) plan wanted) wanted least (known call h).forfeited (is_past (last_moment until h) at)
-verdict opening until h (Settles call number info) = settle_verdict (known call h) (accepted_times (known call h) info)
-verdict opening until h (Returns call) = reply.Returned (paid_of (known call h)) 0
+bare_reply opening until h (Settles call number info) = settle_verdict (known call h) (accepted_times (known call h) info)
+bare_reply opening until h (Returns call) = reply.Returned (paid_of (known call h)) 0
 
 -- a reply that shows another credit
 abbrev pub showing : ℕ → Reply → Reply
@@ -91,7 +91,7 @@ shown_by (reply.Returned paid available) = available
 -- the reply to an operation: it shows what is available after the entry, whoever asked
 unfoldable pub answer : ℕ → Option ℕ → List EntryData → Asked → Reply
 answer opening until h asked =
-    showing (available opening (record { seat = 0; asked = asked; reply = verdict opening until h asked } ∷ h)) (verdict opening until h asked)
+    showing (available opening (record { seat = 0; asked = asked; reply = bare_reply opening until h asked } ∷ h)) (bare_reply opening until h asked)
 
 -- an entry whose operation was admissible and got the answer
 pub record IsAnswered (opening : ℕ) (until : Option ℕ) (h : List EntryData) (event : EntryData) : Type 0 where

@@ -2,7 +2,7 @@
 use Rattle.std.specs.Prelude.{◌+◌, ◌-◌, ◌&&◌, ℕ, Bool, true, false, List, [], ◌∷◌, if◌then◌else◌, not, is_some, sum_by}
 use Rattle.account_core.specs.Asked.{Asked, Credits, call_of}
 use Rattle.account_core.specs.Events.{EntryData}
-use Rattle.account_core.specs.Known.{Deed, Grants, deed_of, known, taken_of}
+use Rattle.account_core.specs.Known.{EntryDeed, Grants, deed_of, known, taken_of}
 use Rattle.account_core.specs.declared.entry.Reply.{Reply}
 use Rattle.account_core.specs.declared.entry.Reply.TheVariants as reply
 
@@ -17,7 +17,7 @@ credits [] = 0
 credits (event ∷ h) = credits h + credited event.asked event.reply
 
 -- an entry that grants time
-abbrev pub is_grant : Deed → Bool
+abbrev pub is_grant : EntryDeed → Bool
 is_grant (Grants plan units) = true
 is_grant deed = false
 

@@ -8,13 +8,13 @@ use Rattle.account_core.specs.declared.call_state.CallState.{CallState}
 use Rattle.account_core.specs.declared.call_state.CallState.TheVariants.{Fresh}
 
 -- the state of a call, which is fresh where none is kept
-abbrev pub state_of : CallStates → ℕ → CallState
-state_of calls call = unwrap_or (lookup (is_at (nat_cmp call)) calls.calls) Fresh
+abbrev pub call_state_of : CallStates → ℕ → CallState
+call_state_of calls call = unwrap_or (lookup (is_at (nat_cmp call)) calls.calls) Fresh
 
 -- a call has this state now, and each other call the one that it had
 abbrev pub Renews : CallStates → CallStates → ℕ → CallState → Type 0
-Renews old new call state = (other : ℕ) → state_of new other ≡ (if call == other then state else state_of old other)
+Renews old new call state = (other : ℕ) → call_state_of new other ≡ (if call == other then state else call_state_of old other)
 
 -- each call has the state that it had
 abbrev pub AreSame : CallStates → CallStates → Type 0
-AreSame old new = (call : ℕ) → state_of new call ≡ state_of old call
+AreSame old new = (call : ℕ) → call_state_of new call ≡ call_state_of old call

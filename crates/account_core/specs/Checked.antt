@@ -18,20 +18,20 @@ IsHeardOf opening until h (Legal tally) = IsTallied opening until h tally.value
 IsHeardOf opening until h Illegal = IsLegalPast opening until h → ⊥
 
 -- a count of entries in 64 bits
-abbrev pub counted : ℕ → ℕ
-counted entries = min entries 18446744073709551615
+abbrev pub entries_counted : ℕ → ℕ
+entries_counted entries = min entries 18446744073709551615
 
 -- the check is that of this history, from this opening with its last moment
 pub record IsCheckOf (opening : ℕ) (until : Option ℕ) (h : List EntryData) (check : HistoryCheck) : Type 0 where
   pub heard : IsHeardOf opening until h check.heard
   pub opening_is : check.opening ≡ opening
-  pub entries_are : check.entries ≡ counted (length h)
+  pub entries_are : check.entries ≡ entries_counted (length h)
 
 -- what an account of this opening has come to by this history
 pub record IsSumOf (opening : ℕ) (h : List EntryData) (sum : AccountSum) : Type 0 where
   pub opening_is : sum.opening ≡ opening
   pub available_is : sum.available ≡ available opening h
-  pub entries_are : sum.entries ≡ counted (length h)
+  pub entries_are : sum.entries ≡ entries_counted (length h)
   pub calls_are : AreSums h sum.calls.items
 
 -- the same where the history is legal, and none where it isn't
@@ -40,10 +40,10 @@ SumsUp opening until h None = IsLegalPast opening until h → ⊥
 SumsUp opening until h (Some sum) = IsLegalPast opening until h × IsSumOf opening h sum
 
 -- there is a tally, or no need of one
-abbrev pub HasHeard : Heard → Type 0
-HasHeard (Nothing alloc last) = ⊥
-HasHeard other = Unit {0}
+abbrev pub HasTally : Heard → Type 0
+HasTally (Nothing alloc last) = ⊥
+HasTally other = Unit {0}
 
 -- a check has heard its opening
-abbrev pub HasBegun : HistoryCheck → Type 0
-HasBegun check = HasHeard check.heard
+abbrev pub HasOpening : HistoryCheck → Type 0
+HasOpening check = HasTally check.heard

@@ -4,10 +4,10 @@ use Rattle.account_core.specs.declared.fault.AccountFault.{AccountFault}
 use Rattle.account_core.specs.declared.fault.AccountFault.TheVariants as fault
 
 -- the name of a fault
-abbrev pub name_of : AccountFault → List ℕ
-name_of fault.OutOfMemory = codes "OutOfMemory"
-name_of fault.HistoryFull = codes "HistoryFull"
-name_of fault.NotOpen = codes "NotOpen"
-name_of fault.CallUsed = codes "CallUsed"
-name_of fault.OutOfRange = codes "OutOfRange"
-name_of fault.GateClosed = codes "GateClosed"
+abbrev pub account_fault_name : AccountFault → List ℕ
+account_fault_name fault.OutOfMemory = codes "OutOfMemory"
+account_fault_name fault.HistoryFull = codes "HistoryFull"
+account_fault_name fault.NotOpen = codes "NotOpen"
+account_fault_name fault.CallUsed = codes "CallUsed"
+account_fault_name fault.OutOfRange = codes "OutOfRange"
+account_fault_name fault.GateClosed = codes "GateClosed"

@@ -1,6 +1,6 @@
 -- What an account keeps beside its entries.
 use Rattle.std.specs.Prelude.{◌≡◌, ℕ, List, Bool, Some, false, true}
-use Rattle.account_core.specs.CallStates.{state_of}
+use Rattle.account_core.specs.CallStates.{call_state_of}
 use Rattle.account_core.specs.Events.{EntryData}
 use Rattle.account_core.specs.KeptPlans.{rates_kept}
 use Rattle.account_core.specs.Known.{CallFacts, known, nothing_known}
@@ -10,8 +10,8 @@ use Rattle.account_core.specs.declared.call_state.CallState.TheVariants.{Fresh, 
 use Rattle.account_core.specs.declared.held_call.HeldCall.{HeldCall}
 
 -- what is known of a call that was granted something, by whether it was returned and whether it awaits a report
-abbrev pub held_of : HeldCall → Bool → Bool → CallFacts
-held_of held returned awaits = record {
+abbrev pub facts_of_held : HeldCall → Bool → Bool → CallFacts
+facts_of_held held returned awaits = record {
   plan = Some (rates_kept held.plan);
   times = held.times;
   granted = held.granted;
@@ -24,10 +24,10 @@ held_of held returned awaits = record {
 -- what a state says of its call
 abbrev pub known_of : CallState → CallFacts
 known_of Fresh = nothing_known
-known_of (Granted held) = held_of held false true
-known_of (Reported held) = held_of held false false
-known_of (Over held) = held_of held true false
+known_of (Granted held) = facts_of_held held false true
+known_of (Reported held) = facts_of_held held false false
+known_of (Over held) = facts_of_held held true false
 
 -- each call has the state that the history says
 abbrev pub TellsEach : CallStates → List EntryData → Type 0
-TellsEach calls h = (call : ℕ) → known_of (state_of calls call) ≡ known call h
+TellsEach calls h = (call : ℕ) → known_of (call_state_of calls call) ≡ known call h

@@ -12,15 +12,15 @@ use Rattle.account_core.specs.declared.entry.Reply.{Reply}
 use Rattle.account_core.specs.declared.entry.Reply.TheVariants as reply
 
 -- what an entry does to its call
-pub data Deed : Type 0 where
-  Grants : (plan : Rates) (units : ℕ) → Deed
-  Reports : (info : TimeInfo) → Deed
-  Forfeits : Deed
-  Ends : (paid : ℕ) → Deed
-  Rests : Deed
+pub data EntryDeed : Type 0 where
+  Grants : (plan : Rates) (units : ℕ) → EntryDeed
+  Reports : (info : TimeInfo) → EntryDeed
+  Forfeits : EntryDeed
+  Ends : (paid : ℕ) → EntryDeed
+  Rests : EntryDeed
 
 -- by what was asked and answered. A Credit, and a Reserve that is denied, change no call
-abbrev pub deed_of : Asked → Reply → Deed
+abbrev pub deed_of : Asked → Reply → EntryDeed
 deed_of (Reserves call plan wanted least at) (reply.Granted units last available) = Grants plan units
 deed_of (Settles call number info) (reply.Settled paid available) = Reports info
 deed_of (Settles call number info) (reply.Forfeit paid available) = Forfeits
@@ -28,7 +28,7 @@ deed_of (Returns call) (reply.Returned paid available) = Ends paid
 deed_of asked answer = Rests
 
 -- what an entry does to this call
-unfoldable pub deed : ℕ → EntryData → Deed
+unfoldable pub deed : ℕ → EntryData → EntryDeed
 deed call event = if call_of event.asked == call then deed_of event.asked event.reply else Rests
 
 -- the plan of a call's first grant; its times, which its last accepted report states; the time granted in all, which is its times at its last grant and the units of that
@@ -51,7 +51,7 @@ abbrev pub plan_in_force : CallFacts → Rates → Rates
 plan_in_force known plan = unwrap_or known.plan plan
 
 -- what is known of a call after an entry of it
-abbrev pub known_after : CallFacts → Deed → CallFacts
+abbrev pub known_after : CallFacts → EntryDeed → CallFacts
 known_after known (Grants plan units) = record {
   plan = Some (plan_in_force known plan);
   times = known.times;

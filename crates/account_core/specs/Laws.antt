@@ -10,7 +10,7 @@ use Rattle.account_core.specs.Asked.{Asked, Settles, call_of, is_in_range}
 use Rattle.account_core.specs.Available.{available, credits, taken_by_all}
 use Rattle.account_core.specs.Events.{EntryData}
 use Rattle.account_core.specs.Expiry.{GrantsBy, LeavesLastMoment, last_moment}
-use Rattle.account_core.specs.Known.{Deed, Ends, deed, known}
+use Rattle.account_core.specs.Known.{EntryDeed, Ends, deed, known}
 use Rattle.account_core.specs.Standing.{IsKindly}
 use Rattle.account_core.specs.declared.entry.Reply.{Reply}
 use Rattle.account_core.specs.declared.entry.Reply.TheVariants as reply
@@ -23,7 +23,7 @@ NoBalanceIsNegative = (opening : ℕ) (until : Option ℕ) (history later : List
     → taken_by_all (reverse history) ≤ opening + credits (reverse history)
 
 -- what the Returned of a call told that it paid in all
-abbrev pub paid_after : Option ℕ → Deed → Option ℕ
+abbrev pub paid_after : Option ℕ → EntryDeed → Option ℕ
 paid_after before (Ends paid) = Some paid
 paid_after before other = before
 
@@ -99,10 +99,10 @@ IsReplyInRange (reply.Forfeit paid available) = (paid ≤ MAX_MONEY) × (availab
 IsReplyInRange (reply.Returned paid available) = (paid ≤ MAX_MONEY) × (available ≤ MAX_MONEY)
 
 -- what was asked and what was answered are in range
-pub record IsInRange (event : EntryData) : Type 0 where
+pub record EntryIsInRange (event : EntryData) : Type 0 where
   pub asked : is_in_range event.asked ≡ true
   pub reply : IsReplyInRange event.reply
 
 -- every entry of a legal history is
 abbrev pub EntriesAreInRange : Type 0
-EntriesAreInRange = (opening : ℕ) (until : Option ℕ) (history : List EntryData) → opening ≤ MAX_MONEY → IsLegal opening until history → All IsInRange history
+EntriesAreInRange = (opening : ℕ) (until : Option ℕ) (history : List EntryData) → opening ≤ MAX_MONEY → IsLegal opening until history → All EntryIsInRange history

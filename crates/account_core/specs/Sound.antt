@@ -3,16 +3,16 @@ use Rattle.std.specs.Prelude.{◌≡◌, ◌+◌, ◌≤◌, ℕ, true, Option, 
 use Rattle.tariff_core.specs.Ceiling.{ceiling_of, may_come}
 use Rattle.tariff_core.specs.Rates.{Rates}
 use Rattle.tariff_core.specs.Times.{Elapsed}
-use Rattle.account_core.specs.Answers.{IsLegalPast, inadmissible, verdict}
+use Rattle.account_core.specs.Answers.{IsLegalPast, inadmissible, bare_reply}
 use Rattle.account_core.specs.Asked.{Asked, call_of}
 use Rattle.account_core.specs.Available.{available, credits, taken_by_all}
 use Rattle.account_core.specs.Events.{EntryData}
-use Rattle.account_core.specs.Known.{Deed, Grants, CallFacts, deed_of, known, known_after, nothing_known, taken_of}
+use Rattle.account_core.specs.Known.{EntryDeed, Grants, CallFacts, deed_of, known, known_after, nothing_known, taken_of}
 use Rattle.tariff_core.specs.declared.plan.TheConstants.{MAX_MONEY}
 use Rattle.tariff_core.specs.declared.times.TheConstants.{DAY}
 
 -- a call that was granted something: its times may have come from those at its last grant, within a day, and its top is the ceiling of that grant
-pub record IsHeld (plan : Rates) (call : CallFacts) : Type 0 where
+pub record IsGrantedCall (plan : Rates) (call : CallFacts) : Type 0 where
   pub base : Elapsed
   pub units : ℕ
   pub granted_is : call.granted ≡ base.before + base.after + units
@@ -23,7 +23,7 @@ pub record IsHeld (plan : Rates) (call : CallFacts) : Type 0 where
 -- a call is sound by its plan, and knows nothing without one
 abbrev pub IsSoundUnder : Option Rates → CallFacts → Type 0
 IsSoundUnder None call = call ≡ nothing_known
-IsSoundUnder (Some plan) call = IsHeld plan call
+IsSoundUnder (Some plan) call = IsGrantedCall plan call
 
 -- nothing is known of a call before its first grant, and it is held afterwards
 abbrev pub IsSound : CallFacts → Type 0
@@ -40,19 +40,19 @@ abbrev pub LegalPastsAreSound : Type 0
 LegalPastsAreSound = (opening : ℕ) (until : Option ℕ) (h : List EntryData) → opening ≤ MAX_MONEY → IsLegalPast opening until h → IsSoundPast opening h
 
 -- a grant goes no further than a day
-abbrev pub HasRoom : CallFacts → Deed → Type 0
-HasRoom call (Grants plan units) = call.times.before + call.times.after + units ≤ DAY
-HasRoom call deed = Unit {0}
+abbrev pub GrantsWithinDay : CallFacts → EntryDeed → Type 0
+GrantsWithinDay call (Grants plan units) = call.times.before + call.times.after + units ≤ DAY
+GrantsWithinDay call deed = Unit {0}
 
 -- what an answer does goes no further than a day, and takes no more than there is
-pub record IsFitting (credit : ℕ) (call : CallFacts) (deed : Deed) : Type 0 where
-  pub room : HasRoom call deed
+pub record IsFitting (credit : ℕ) (call : CallFacts) (deed : EntryDeed) : Type 0 where
+  pub room : GrantsWithinDay call deed
   pub covered : taken_of (known_after call deed) ≤ credit + taken_of call
 
 -- the answers to admissible operations do so
 abbrev pub AnswersFit : ℕ → Option ℕ → List EntryData → Type 0
 AnswersFit opening until h = (asked : Asked) → inadmissible h asked ≡ None
-    → IsFitting (available opening h) (known (call_of asked) h) (deed_of asked (verdict opening until h asked))
+    → IsFitting (available opening h) (known (call_of asked) h) (deed_of asked (bare_reply opening until h asked))
 
 -- after a sound history the answers fit
 abbrev pub SoundPastsAnswer : Type 0

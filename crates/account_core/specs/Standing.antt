@@ -30,7 +30,7 @@ abbrev pub IsKindly : ℕ → CallFacts → Asked → Reply → Type 0
 IsKindly call known asked answer = IsOfCall call asked → (misplaced known asked ≡ None) × FitsCall known asked answer
 
 -- what is known of a call before an operation and after it: a refusal changes nothing, a reply what its entry would
-abbrev pub Moves : ℕ → CallFacts → Asked → Result Reply AccountFault → Option CallFacts → Type 0
-Moves call before asked (Err fault) after = after ≡ Some before
-Moves call before asked (Ok answer) after =
+abbrev pub MovesCall : ℕ → CallFacts → Asked → Result Reply AccountFault → Option CallFacts → Type 0
+MovesCall call before asked (Err fault) after = after ≡ Some before
+MovesCall call before asked (Ok answer) after =
     (after ≡ Some (known_after before (deed call (event_by 0 asked answer)))) × IsKindly call before asked answer

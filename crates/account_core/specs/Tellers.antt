@@ -27,12 +27,12 @@ pub record Admits (ledger : Ledger) (teller : Teller) (admitted : Admitted) : Ty
   pub admitted_is : IsAdmitted ledger admitted
 
 -- the teller stands for this ledger, which admits the operation of the entry and answers it so
-pub record IsAnsweredBy (ledger : Ledger) (teller : Teller) (entry : Entry) : Type 0 where
+pub record IsAnsweredByTeller (ledger : Ledger) (teller : Teller) (entry : Entry) : Type 0 where
   pub teller_is : IsTellerOf ledger teller
   pub allowed : refusal_of ledger (asked_of entry.op) ≡ None
   pub answered : entry.reply ≡ answer_of ledger (asked_of entry.op)
 
 -- the teller stands for this ledger, and there is room in memory for the entries and for the places that are owed
-pub record IsKept (ledger : Ledger) (teller : Teller) (capacity : ℕ) : Type 0 where
+pub record IsKeptTeller (ledger : Ledger) (teller : Teller) (capacity : ℕ) : Type 0 where
   pub teller_is : IsTellerOf ledger teller
   pub room : teller.entries + teller.owed ≤ capacity

@@ -11,7 +11,7 @@ ghost use Rattle.account_core.specs.Known.{known, known_asked, paid_if_granted};
 ghost use Rattle.account_core.specs.Ledger.{IsRefusal, Ledger, answer_of, event_by, refusal_of};
 ghost use Rattle.account_core.specs.Places.{IsClosing, needed_by};
 ghost use Rattle.account_core.specs.Sums.{AreSums};
-ghost use Rattle.account_core.specs.Tellers.{Admits, IsAnsweredBy, IsTellerOf, entered};
+ghost use Rattle.account_core.specs.Tellers.{Admits, IsAnsweredByTeller, IsTellerOf, entered};
 
 use crate::call_state::{CallState, judge, reply};
 use crate::tally::Tally;
@@ -39,7 +39,7 @@ impl Model for Account {
     ghost use Rattle.std.specs.Vec.{vec_capacity};
     ghost use Rattle.account_core.specs.Events.{entry_data};
     ghost use Rattle.account_core.specs.Ledger.{Ledger};
-    ghost use Rattle.account_core.specs.Tellers.{IsKept};
+    ghost use Rattle.account_core.specs.Tellers.{IsKeptTeller};
 
     ghost Value = { Ledger };
 
@@ -50,7 +50,7 @@ impl Model for Account {
       history = map entry_data a.entries.items;
     } };
 
-    ghost invariant = { λ a. IsKept (record {
+    ghost invariant = { λ a. IsKeptTeller (record {
       opening = a.opening;
       until = a.until;
       limit = a.teller.limit;
@@ -359,8 +359,8 @@ impl Teller {
     #[inline(always)]
     fn keep_credit(&mut self, entry: &Entry)
         requires credit { IsCredit (asked_of entry.now.op) }
-        requires of { (ledger : Ledger) × IsAnsweredBy ledger self.old entry.now }
-        ensures { (ledger : Ledger) → IsAnsweredBy ledger self.old entry.now →
+        requires of { (ledger : Ledger) × IsAnsweredByTeller ledger self.old entry.now }
+        ensures { (ledger : Ledger) → IsAnsweredByTeller ledger self.old entry.now →
             IsTellerOf (entered ledger (entry_data entry.now)) self.new }
     {
         laws::legal_pasts_are_sound();
@@ -372,14 +372,14 @@ impl Teller {
     #[inline(always)]
     fn keep_call(&mut self, call: u64, entry: Entry, before: CallState) -> Result<(), AllocError>
         requires of_call { IsOfCall call (asked_of entry.op) }
-        requires of { (ledger : Ledger) × IsAnsweredBy ledger self.old entry ×
+        requires of { (ledger : Ledger) × IsAnsweredByTeller ledger self.old entry ×
             (known_of before ≡ known call (reverse ledger.history)) }
-        ensures ok { OnOk result ((ledger : Ledger) → IsAnsweredBy ledger self.old entry →
+        ensures ok { OnOk result ((ledger : Ledger) → IsAnsweredByTeller ledger self.old entry →
             known_of before ≡ known call (reverse ledger.history) →
             IsTellerOf (entered ledger (entry_data entry)) self.new) }
         ensures kept { OnErr result ((ledger : Ledger) → IsTellerOf ledger self.old →
             IsTellerOf ledger self.new) }
-        ensures closing { (ledger : Ledger) → IsAnsweredBy ledger self.old entry →
+        ensures closing { (ledger : Ledger) → IsAnsweredByTeller ledger self.old entry →
             IsClosing (reverse ledger.history) (asked_of entry.op) → IsOk result }
     {
         laws::legal_pasts_are_sound();

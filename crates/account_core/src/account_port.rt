@@ -3,7 +3,7 @@
 ghost use Rattle.std.specs.Prelude.{◌≡◌, ◌≢◌, ◌++◌, ◌∷◌, [], IfSome, ℕ, None, Option, Some, reverse, IfOk, IfErr, IsOk, OnErr, OnOk};
 ghost use Rattle.account_core.specs.Events.{asked_of};
 ghost use Rattle.account_core.specs.Known.{CallFacts, known};
-ghost use Rattle.account_core.specs.Standing.{Moves};
+ghost use Rattle.account_core.specs.Standing.{MovesCall};
 ghost use Rattle.account_core.specs.Ledger.{IsRefusal, answer_of, event_by, refusal_of};
 ghost use Rattle.account_core.specs.Places.{IsClosing};
 
@@ -22,7 +22,7 @@ pub trait Port {
     /// Asks the account, and gives its reply or its refusal.
     fn ask(&mut self, op: Op) -> Result<Reply, AccountFault>
         ensures moves { (call : ℕ) → IfSome (state self.old call)
-            (λ before. Moves call before (asked_of op) result (state self.new call)) };
+            (λ before. MovesCall call before (asked_of op) result (state self.new call)) };
 }
 
 /// An account with the number of the seat that asks it. Nobody else asks it, so that it states
@@ -62,7 +62,7 @@ impl Port for AccountPort {
         ensures ungated { result ≢ Err AccountFault.GateClosed }
         ensures closing { IsClosing (reverse self.old.account.history) (asked_of op) → IsOk result }
         ensures seat { self.new.seat ≡ self.old.seat }
-        ensures moves { (call : ℕ) → Moves call (known call (reverse self.old.account.history))
+        ensures moves { (call : ℕ) → MovesCall call (known call (reverse self.old.account.history))
             (asked_of op) result
             (Some (known call (reverse self.new.account.history))) }
     {

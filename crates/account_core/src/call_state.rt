@@ -8,7 +8,7 @@ ghost use Rattle.account_core.specs.Kept.{known_of};
 ghost use Rattle.account_core.specs.Known.{deed_of, is_open, known_after, paid_if_granted, paid_of, plan_in_force, taken_of, Ends, Forfeits, Grants, Reports};
 ghost use Rattle.account_core.specs.Places.{needed_by, owed_to, refusal_for};
 ghost use Rattle.account_core.specs.Replies.{reserve_reply, return_reply, settle_reply, credit_reply, reply_for};
-ghost use Rattle.account_core.specs.Sound.{HasRoom, IsSound};
+ghost use Rattle.account_core.specs.Sound.{GrantsWithinDay, IsSound};
 ghost use Rattle.account_core.specs.Asked.{is_in_range};
 ghost use Rattle.account_core.specs.Expiry.{is_past};
 ghost use Rattle.tariff_core.specs.RatesOf.{rates_of};
@@ -157,7 +157,7 @@ impl CallState {
     pub fn after(self, op: Op, reply: Reply) -> CallState
         requires sound { IsSound (known_of self) }
         requires placed { misplaced (known_of self) (asked_of op) ≡ None }
-        requires room { HasRoom (known_of self) (deed_of (asked_of op) reply) }
+        requires room { GrantsWithinDay (known_of self) (deed_of (asked_of op) reply) }
         ensures { known_of result ≡ known_after (known_of self) (deed_of (asked_of op) reply) }
     {
         match (op, reply) {

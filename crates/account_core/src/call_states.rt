@@ -20,12 +20,12 @@ pub(crate) struct CallStates {
 }
 
 impl CallStates {
-    ghost use Rattle.account_core.specs.CallStates.{AreSame, Renews, state_of};
+    ghost use Rattle.account_core.specs.CallStates.{AreSame, Renews, call_state_of};
     ghost use Rattle.account_core.specs.Kept.{TellsEach};
 
     /// Those of no calls.
     pub fn new(alloc: Global) -> CallStates
-        ensures { (call : ℕ) → state_of result call ≡ CallState.Fresh }
+        ensures { (call : ℕ) → call_state_of result call ≡ CallState.Fresh }
     {
         CallStates {
             calls: RisingMap::new(alloc),
@@ -35,7 +35,7 @@ impl CallStates {
     /// What is known of a call.
     #[inline(always)]
     pub fn state(&self, call: u64) -> CallState
-        ensures { result ≡ state_of self.now call }
+        ensures { result ≡ call_state_of self.now call }
     {
         self.calls.get(call).copied().unwrap_or(CallState::Fresh)
     }
@@ -46,7 +46,7 @@ impl CallStates {
     pub fn renew(&mut self, call: u64, state: CallState) -> Result<(), AllocError>
         ensures renewed { OnOk result (Renews self.old self.new call state) }
         ensures kept { OnErr result (AreSame self.old self.new) }
-        ensures fresh { OnErr result (state_of self.old call ≡ CallState.Fresh) }
+        ensures fresh { OnErr result (call_state_of self.old call ≡ CallState.Fresh) }
     {
         if state.is_fresh() && self.state(call).is_fresh() {
             return Ok(());

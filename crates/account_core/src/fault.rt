@@ -1,7 +1,7 @@
 //! Why an account refuses an operation.
 
 ghost use Rattle.std.specs.Prelude.{◌≡◌, Some};
-ghost use Rattle.account_core.specs.Faults.{name_of};
+ghost use Rattle.account_core.specs.Faults.{account_fault_name};
 ghost use Rattle.account_core.specs.declared.fault.AccountFault.TheVariants as out;
 
 use std::alloc::{AllocError, AllocFailed};
@@ -30,7 +30,7 @@ pub enum AccountFault {
 }
 
 impl fmt::Display for AccountFault {
-    ghost output = { λ fault. Some (name_of fault) };
+    ghost output = { λ fault. Some (account_fault_name fault) };
 
     fn fmt<W: fmt::Write>(&self, f: &mut fmt::Formatter<W>) -> fmt::Result {
         match self {

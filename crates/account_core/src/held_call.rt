@@ -2,7 +2,7 @@
 
 ghost use Rattle.std.specs.Prelude.{◌≡◌, ◌+◌, ◌≤◌, Bool, Some, false, unwrap_or};
 ghost use Rattle.account_core.specs.Answers.{accepted_times};
-ghost use Rattle.account_core.specs.Kept.{held_of};
+ghost use Rattle.account_core.specs.Kept.{facts_of_held};
 ghost use Rattle.account_core.specs.KeptPlans.{rates_kept};
 ghost use Rattle.account_core.specs.Known.{paid_of, price_under};
 ghost use Rattle.account_core.specs.Replies.{settle_reply};
@@ -39,7 +39,7 @@ impl HeldCall {
 
     /// What the call has paid so far.
     pub fn paid(&self) -> u64
-        ensures { result ≡ paid_of (held_of self.now false false) }
+        ensures { result ≡ paid_of (facts_of_held self.now false false) }
     {
         if self.forfeited {
             self.top
@@ -52,7 +52,7 @@ impl HeldCall {
     #[tactic(auto, unfolding(crate::specs::Answers::accepted_times))]
     pub fn accept(&self, info: TimeInfo) -> Option<Times>
         ensures { (returned awaits : Bool)
-            → result ≡ accepted_times (held_of self.now returned awaits) info }
+            → result ≡ accepted_times (facts_of_held self.now returned awaits) info }
     {
         if self.forfeited {
             return None;
@@ -68,8 +68,8 @@ impl HeldCall {
     /// The reply to a Settle.
     pub fn settle(&self, info: TimeInfo, available: u64) -> Reply
         ensures { (returned awaits : Bool)
-            → result ≡ settle_reply available (held_of self.now returned awaits)
-            (accepted_times (held_of self.now returned awaits) info) }
+            → result ≡ settle_reply available (facts_of_held self.now returned awaits)
+            (accepted_times (facts_of_held self.now returned awaits) info) }
     {
         match self.accept(info) {
             Some(times) => Reply::Settled {
@@ -97,7 +97,7 @@ impl HeldCall {
 
     /// The price of times under the call's plan.
     fn price_of(&self, times: Times) -> u64
-        ensures { result ≡ price_under (held_of self.now false false).plan times }
+        ensures { result ≡ price_under (facts_of_held self.now false false).plan times }
     {
         price(&self.rates(), times.before(), times.after())
     }

@@ -5,7 +5,7 @@ ghost use Rattle.std.specs.Bool.{Decides};
 ghost use Rattle.account_core.specs.Answers.{IsAnswered, IsLegal, IsLegalPast};
 ghost use Rattle.account_core.specs.Events.{entry_data, EntryData, asked_of};
 ghost use Rattle.account_core.specs.Asked.{call_of};
-ghost use Rattle.account_core.specs.Checked.{HasBegun, IsCheckOf, SumsUp};
+ghost use Rattle.account_core.specs.Checked.{HasOpening, IsCheckOf, SumsUp};
 ghost use Rattle.account_core.specs.Known.{known, nothing_known};
 ghost use Rattle.account_core.specs.Wrong.{IsWrong};
 
@@ -150,7 +150,7 @@ impl HistoryCheck {
     /// Takes one entry more, where there is a tally, or no need of one.
     #[inline(always)]
     fn judge(&mut self, entry: Entry) -> Result<Option<Told>, AllocError>
-        requires begun { HasBegun self.old }
+        requires begun { HasOpening self.old }
         requires of { (opening : ℕ) × (until : Option ℕ) × (h : List EntryData)
             × IsCheckOf opening until h self.old }
         ensures heard { OnOk result ((opening : ℕ) (until : Option ℕ) (h : List EntryData) →
@@ -188,7 +188,7 @@ impl HistoryCheck {
             × IsCheckOf opening until h self.old }
         ensures same { (opening : ℕ) (until : Option ℕ) (h : List EntryData) →
             IsCheckOf opening until h self.old → IsCheckOf opening until h self.new }
-        ensures begun { OnOk result (HasBegun self.new) }
+        ensures begun { OnOk result (HasOpening self.new) }
         ensures empty { OnErr result ((opening : ℕ) (until : Option ℕ) (h : List EntryData) →
             IsCheckOf opening until h self.old → h ≡ []) }
     {

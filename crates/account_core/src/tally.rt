@@ -4,7 +4,7 @@ ghost use Rattle.std.specs.Prelude.{◌≡◌, ◌+◌, ◌≤◌, ◌∷◌, []
 ghost use Rattle.account_core.specs.Answers.{IsAnswered, shown_by};
 ghost use Rattle.account_core.specs.Asked.{call_of};
 ghost use Rattle.account_core.specs.Available.{credited};
-ghost use Rattle.account_core.specs.CallStates.{AreSame, state_of};
+ghost use Rattle.account_core.specs.CallStates.{AreSame, call_state_of};
 ghost use Rattle.account_core.specs.Events.{entry_data, EntryData, asked_of};
 ghost use Rattle.account_core.specs.Expiry.{last_moment_after};
 ghost use Rattle.account_core.specs.Kept.{TellsEach, known_of};
@@ -118,7 +118,7 @@ fn renew_state(
         → IsTallied opening until h (tally_of calls.old funds available last_moment)
         → IsWrong opening until h (entry_data entry) right)) }
     ensures kept { OnErr result (AreSame calls.old calls.new) }
-    ensures fresh { OnErr result (state_of calls.old (call_of (asked_of entry.op))
+    ensures fresh { OnErr result (call_state_of calls.old (call_of (asked_of entry.op))
         ≡ CallState.Fresh) }
 {
     let call = entry.op.call();

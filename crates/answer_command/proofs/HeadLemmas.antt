@@ -2,22 +2,22 @@
 use Rattle.std.proofs.Common.{◌≡◌, ℕ, true, false, List, Option, Some, Result, Ok, Err, refl}
 use Rattle.std.specs.Prelude.{IfSome}
 use Rattle.run_texts.specs.FirstParts.{Divides, first_part}
-use Rattle.run_texts.specs.InputFaults.{Refuses as RefusesInput}
-use Rattle.run_texts.specs.Inputs.{tariff_in, told}
-use Rattle.run_texts.specs.Setups.{Setup, setup_of}
+use Rattle.run_texts.specs.InputFaults.{RefusesInput as RefusesInput}
+use Rattle.run_texts.specs.Inputs.{tariff_in, as_input_fault}
+use Rattle.run_texts.specs.Setups.{TableSetup, table_setup_of}
 use Rattle.run_texts.specs.declared.input_fault.InputFault.{InputFault}
 use Rattle.run_texts.specs.declared.input_fault.InputFault.TheVariants as input
-use Rattle.table_core.specs.Judging.{after}
+use Rattle.table_core.specs.Judging.{and_then}
 use Rattle.table_core.specs.Rows.{rows_of}
 use Rattle.tariff_core.specs.Bands.{Band}
-use Rattle.answer_command.specs.Heads.{Refuses, TakesHeader}
+use Rattle.answer_command.specs.Heads.{RefusesService, TakesHeader}
 use Rattle.answer_command.specs.Inputs.{live_input_of, told_live}
 use Rattle.answer_command.specs.declared.error.ServeError.{ServeError}
 use Rattle.answer_command.specs.declared.error.ServeError.TheVariants as error
 
 -- a part that is refused
 refused_told : {X Y : Type 0} (why : InputFault) (meaning : Result X InputFault) (next : X → Result Y ServeError) → RefusesInput why meaning
-    → Refuses (error.Input why) (after (told_live meaning) next)
+    → RefusesService (error.Input why) (and_then (told_live meaning) next)
 refused_told input.Parts meaning next is = rw is refl
 refused_told input.TooLong meaning next is = rw is refl
 refused_told (input.Tariff row) meaning next is = rw is refl
@@ -27,12 +27,12 @@ refused_told input.Device meaning next is = tt
 refused_told input.OutOfMemory meaning next is = tt
 
 -- the first part is refused
-pub no_first : (text : List ℕ) (left : Option (List ℕ)) (why : InputFault) → Divides text left (Err why) → Refuses (error.Input why) (live_input_of text)
+pub no_first : (text : List ℕ) (left : Option (List ℕ)) (why : InputFault) → Divides text left (Err why) → RefusesService (error.Input why) (live_input_of text)
 no_first text left why is = refused_told why (first_part text) _ is
 
 -- the second one
 pub no_second : (text first : List ℕ) (mid left : Option (List ℕ)) (why : InputFault) → Divides text mid (Ok first) → IfSome mid (λ rest. Divides rest left (Err why))
-    → Refuses (error.Input why) (live_input_of text)
+    → RefusesService (error.Input why) (live_input_of text)
 no_second text first mid left why one two =
     let (rest, mid_is, is) = one in
     let refused = rw mid_is at two in
@@ -54,21 +54,21 @@ both_parts text first second mid left one two =
     record { rest = rest; behind = behind; known = left_is; one = is; two = is_too }
 
 pub no_tariff : (text first second : List ℕ) (left : Option (List ℕ)) (why : InputFault) → HasParts text first second left → RefusesInput why (tariff_in first)
-    → Refuses (error.Input why) (live_input_of text)
+    → RefusesService (error.Input why) (live_input_of text)
 no_tariff text first second left why has is = rw (has.one, has.two) (refused_told why (tariff_in first) _ is)
 
 pub no_setup : (text first second : List ℕ) (left : Option (List ℕ)) (tariff : List Band) (why : InputFault) → HasParts text first second left → tariff_in first ≡ Ok tariff
-    → RefusesInput why (told input.Setup (setup_of (rows_of second))) → Refuses (error.Input why) (live_input_of text)
-no_setup text first second left tariff why has is refused = rw (has.one, has.two, is) (refused_told why (told input.Setup (setup_of (rows_of second))) _ refused)
+    → RefusesInput why (as_input_fault input.Setup (table_setup_of (rows_of second))) → RefusesService (error.Input why) (live_input_of text)
+no_setup text first second left tariff why has is refused = rw (has.one, has.two, is) (refused_told why (as_input_fault input.Setup (table_setup_of (rows_of second))) _ refused)
 
-pub no_header : (text first second : List ℕ) (left new : Option (List ℕ)) (tariff : List Band) (setup : Setup) → HasParts text first second left → tariff_in first ≡ Ok tariff
-    → told input.Setup (setup_of (rows_of second)) ≡ Ok setup → IfSome left (λ behind. TakesHeader behind new false) → live_input_of text ≡ Err error.Header
+pub no_header : (text first second : List ℕ) (left new : Option (List ℕ)) (tariff : List Band) (setup : TableSetup) → HasParts text first second left → tariff_in first ≡ Ok tariff
+    → as_input_fault input.Setup (table_setup_of (rows_of second)) ≡ Ok setup → IfSome left (λ behind. TakesHeader behind new false) → live_input_of text ≡ Err error.Header
 no_header text first second left new tariff setup has is is_too takes =
     let refused = rw has.known at takes in
     rw (has.one, has.two, is, is_too, refused) refl
 
-pub with_header : (text first second : List ℕ) (left new : Option (List ℕ)) (tariff : List Band) (setup : Setup) → HasParts text first second left → tariff_in first ≡ Ok tariff
-    → told input.Setup (setup_of (rows_of second)) ≡ Ok setup → IfSome left (λ behind. TakesHeader behind new true)
+pub with_header : (text first second : List ℕ) (left new : Option (List ℕ)) (tariff : List Band) (setup : TableSetup) → HasParts text first second left → tariff_in first ≡ Ok tariff
+    → as_input_fault input.Setup (table_setup_of (rows_of second)) ≡ Ok setup → IfSome left (λ behind. TakesHeader behind new true)
     → (rows : List ℕ) × (new ≡ Some rows) × (live_input_of text ≡ Ok (record { tariff = tariff; setup = setup; rows = rows }))
 with_header text first second left new tariff setup has is is_too takes =
     let (rows, new_is, behind_is) = rw has.known at takes in

@@ -9,7 +9,7 @@ use Rattle.std.proofs.Math.Seq.{take-append-add}
 use Rattle.live_answers.proofs.Growing.{grow_twice}
 use Rattle.call_records.specs.Records.{Run}
 use Rattle.live_answers.specs.Live.{heard_in, replayed_text}
-use Rattle.live_answers.specs.Runs.{Answers, IsAnswered, Prints}
+use Rattle.live_answers.specs.Runs.{AnswersLines, IsLiveRunTo, PrintsText}
 use Rattle.live_answers.specs.declared.replay.Replay.{Replay}
 use Rattle.live_answers.specs.declared.stage.LiveFault.{LiveFault}
 use Rattle.live_answers.specs.declared.stage.LiveFault.TheVariants as fault
@@ -18,16 +18,16 @@ use Rattle.run_options.specs.Logs.{LogWish}
 use Rattle.run_options.specs.declared.live.LiveAsk.{LiveAsk}
 use Rattle.run_options.specs.declared.live.LiveOutput.{LiveOutput}
 use Rattle.run_texts.specs.declared.input_fault.InputFault.TheVariants as input
-use Rattle.run_trace.specs.Tables.{header}
+use Rattle.run_trace.specs.Tables.{trace_header}
 use Rattle.run_values.specs.Setups.{Setup}
 use Rattle.run_values.specs.declared.post.Body.{Body}
 use Rattle.runs_core.specs.declared.run_fault.RunFault.TheVariants as run
 use Rattle.shared_account.specs.Closed.{Closed}
 use Rattle.answer_command.specs.Ends.{IsCutAt, IsCutEnd, IsEndOf, is_cut_off}
-use Rattle.answer_command.specs.Heads.{IsOfHead, IsOfLog, IsOfRun, Refuses}
+use Rattle.answer_command.specs.Heads.{IsOfHead, IsOfLog, IsOfRun, RefusesService}
 use Rattle.answer_command.specs.Inputs.{LiveInput}
 use Rattle.answer_command.specs.Replays.{IsReplayOf}
-use Rattle.answer_command.specs.Serves.{EndsBy, IsPrinted, IsServed, IsSetupOf, LosesLog, ServesBy, ServesInput}
+use Rattle.answer_command.specs.Serves.{EndsServing, IsServedWhole, AreRowsServed, IsLiveSetupOf, LosesLog, ServesBy, ServesInput}
 use Rattle.answer_command.specs.declared.error.ServeError.{ServeError}
 use Rattle.answer_command.specs.declared.error.ServeError.TheVariants as error
 
@@ -51,16 +51,16 @@ front_before a b xs ys (count, front) = by_size (cases_lt count (length xs))
 module _ (setup : Setup) (replay : Replay) (rows : List ℕ) where
   -- a run of the rows has come to this, and was printed so far
   pub record HasServed (why : Option LiveFault) (old new : Option (List ℕ)) (given : List (ℕ × Body)) (books : List Closed) : Type 0 where
-    pub served : IsServed setup rows why
+    pub served : AreRowsServed setup rows why
     pub given_is : served.given ≡ given
     pub books_are : served.books ≡ books
-    pub prints : Prints why old new (replayed_text replay served.answers (take served.count (heard_in rows)))
+    pub prints : PrintsText why old new (replayed_text replay served.answers (take served.count (heard_in rows)))
 
   -- what a run of the rows has come to
   pub served_by : (known : Option (List ℕ)) (why : Option LiveFault) (b c lo ln : Option (List ℕ)) (given : List (ℕ × Body)) (books : List Closed)
-      → known ≡ Some rows → IsAnswered setup replay known b c lo ln given books why → HasServed why b c given books
+      → known ≡ Some rows → IsLiveRunTo setup replay known b c lo ln given books why → HasServed why b c given books
   served_by known why b c lo ln given books known_is is =
-      let lines : Answers replay why (heard_in rows) is.answers given b c lo ln = rw known_is at is.lines in
+      let lines : AnswersLines replay why (heard_in rows) is.answers given b c lo ln = rw known_is at is.lines in
       record {
         served = record {
           count = lines.count;
@@ -77,7 +77,7 @@ module _ (setup : Setup) (replay : Replay) (rows : List ℕ) where
       }
 
   -- all of them was printed
-  pub rows_whole : (why : Option LiveFault) (a b : Option (List ℕ)) (text : List ℕ) → is_cut_off why ≡ false → Prints why a b text → Appends a b text
+  pub rows_whole : (why : Option LiveFault) (a b : Option (List ℕ)) (text : List ℕ) → is_cut_off why ≡ false → PrintsText why a b text → Appends a b text
   rows_whole None a b text isnt prints = prints
   rows_whole (Some fault.Input) a b text isnt prints = prints
   rows_whole (Some fault.Output) a b text isnt prints = cc
@@ -87,28 +87,28 @@ module _ (setup : Setup) (replay : Replay) (rows : List ℕ) where
 
 module _ (output : LiveOutput) (setup : Setup) (replay : Replay) (rows : List ℕ) where
   -- the output failed in the header
-  pub header_cut : (a b : Option (List ℕ)) (answer : Result (Unit {0}) ServeError) (why : ServeError) → IsErrAnd answer (λ met. met ≡ why) → IsCutAt a b header why
-      → EndsBy output setup replay rows a b answer
+  pub header_cut : (a b : Option (List ℕ)) (answer : Result (Unit {0}) ServeError) (why : ServeError) → IsErrAnd answer (λ met. met ≡ why) → IsCutAt a b trace_header why
+      → EndsServing output setup replay rows a b answer
   header_cut a b (Ok done) why met cut = absurd met
   header_cut a b (Err told) why met cut = rw (met, cut.0) (inl cut.1)
 
   -- or in the rows
-  pub rows_cut : (why : Option LiveFault) (a b c : Option (List ℕ)) (given : List (ℕ × Body)) (books : List Closed) → is_cut_off why ≡ true → Appends a b header
-      → HasServed setup replay rows why b c given books → EndsBy output setup replay rows a c (Err (error.Live fault.Output))
+  pub rows_cut : (why : Option LiveFault) (a b c : Option (List ℕ)) (given : List (ℕ × Body)) (books : List Closed) → is_cut_off why ≡ true → Appends a b trace_header
+      → HasServed setup replay rows why b c given books → EndsServing output setup replay rows a c (Err (error.Live fault.Output))
   rows_cut None a b c given books is first has = cc
   rows_cut (Some fault.Input) a b c given books is first has = cc
   rows_cut (Some fault.Log) a b c given books is first has = cc
-  rows_cut (Some fault.Output) a b c given books is first has = inr (inl (record { served = has.served; front = front_behind a b c header _ first has.prints }))
+  rows_cut (Some fault.Output) a b c given books is first has = inr (inl (record { served = has.served; front = front_behind a b c trace_header _ first has.prints }))
 
-  module _ (why : Option LiveFault) (a b c d : Option (List ℕ)) (given : List (ℕ × Body)) (books : List Closed) (isnt : is_cut_off why ≡ false) (first : Appends a b header) (has : HasServed setup replay rows why b c given books) where
+  module _ (why : Option LiveFault) (a b c d : Option (List ℕ)) (given : List (ℕ × Body)) (books : List Closed) (isnt : is_cut_off why ≡ false) (first : Appends a b trace_header) (has : HasServed setup replay rows why b c given books) where
     -- or in the end
-    end_part : (met : ServeError) → IsCutEnd output (record { setup = setup; given = given; books = books }) c d met → EndsBy output setup replay rows a d (Err met)
+    end_part : (met : ServeError) → IsCutEnd output (record { setup = setup; given = given; books = books }) c d met → EndsServing output setup replay rows a d (Err met)
     end_part (error.Live fault.Output) (end, is_end, front) = inr (inr (record {
       fault = why;
       served = has.served;
       end = end;
       is_end = rw (has.given_is, has.books_are) is_end;
-      front = front_behind a c d _ end (grow_twice a b c header _ first (rows_whole setup replay rows why b c _ isnt has.prints)) front;
+      front = front_behind a c d _ end (grow_twice a b c trace_header _ first (rows_whole setup replay rows why b c _ isnt has.prints)) front;
     }))
     end_part (error.Live fault.Input) cut = absurd cut
     end_part (error.Live fault.Log) cut = absurd cut
@@ -124,27 +124,27 @@ module _ (output : LiveOutput) (setup : Setup) (replay : Replay) (rows : List �
     end_part (error.LogRow row kind) cut = absurd cut
 
     pub end_cut : (answer : Result (Unit {0}) ServeError) (met : ServeError) → IsErrAnd answer (λ told. told ≡ met)
-        → IsCutEnd output (record { setup = setup; given = given; books = books }) c d met → EndsBy output setup replay rows a d answer
+        → IsCutEnd output (record { setup = setup; given = given; books = books }) c d met → EndsServing output setup replay rows a d answer
     end_cut (Ok done) met told cut = absurd told
     end_cut (Err same) met told cut = rw told (end_part met cut)
 
     -- all was printed
-    pub all_printed : (end : List ℕ) × IsEndOf output (record { setup = setup; given = given; books = books }) end × Appends c d end → IsPrinted output setup replay rows why a d
+    pub all_printed : (end : List ℕ) × IsEndOf output (record { setup = setup; given = given; books = books }) end × Appends c d end → IsServedWhole output setup replay rows why a d
     all_printed (end, is_end, last) = record {
       served = has.served;
       end = end;
       is_end = rw (has.given_is, has.books_are) is_end;
-      whole = grow_twice a c d _ end (grow_twice a b c header _ first (rows_whole setup replay rows why b c _ isnt has.prints)) last;
+      whole = grow_twice a c d _ end (grow_twice a b c trace_header _ first (rows_whole setup replay rows why b c _ isnt has.prints)) last;
     }
 
-  pub ends_whole : (why : Option LiveFault) (a d : Option (List ℕ)) (done : Unit {0}) → why ≡ None → IsPrinted output setup replay rows why a d → EndsBy output setup replay rows a d (Ok done)
+  pub ends_whole : (why : Option LiveFault) (a d : Option (List ℕ)) (done : Unit {0}) → why ≡ None → IsServedWhole output setup replay rows why a d → EndsServing output setup replay rows a d (Ok done)
   ends_whole None a d done is printed = printed
   ends_whole (Some why) a d done is printed = cc
 
-  pub ends_at : (why : Option LiveFault) (met : LiveFault) (a d : Option (List ℕ)) → why ≡ Some met → is_cut_off why ≡ false → IsPrinted output setup replay rows why a d
-      → EndsBy output setup replay rows a d (Err (error.Live met))
-  ends_at why fault.Input a d is isnt printed = subst (λ w. IsPrinted output setup replay rows w a d) is printed
-  ends_at why fault.Log a d is isnt printed = subst (λ w. IsPrinted output setup replay rows w a d) is printed
+  pub ends_at : (why : Option LiveFault) (met : LiveFault) (a d : Option (List ℕ)) → why ≡ Some met → is_cut_off why ≡ false → IsServedWhole output setup replay rows why a d
+      → EndsServing output setup replay rows a d (Err (error.Live met))
+  ends_at why fault.Input a d is isnt printed = subst (λ w. IsServedWhole output setup replay rows w a d) is printed
+  ends_at why fault.Log a d is isnt printed = subst (λ w. IsServedWhole output setup replay rows w a d) is printed
   ends_at why fault.Output a d is isnt printed = let no : is_cut_off (Some fault.Output) ≡ false = ap is_cut_off (sym is) ∙ isnt in cc
 
 -- ---- the end
@@ -183,7 +183,7 @@ table_cut output ran a b c divider table (Err why) first cut is_end = rw cut.0 (
 
 module _ (ask : LiveAsk) (log : Option LogWish) (meaning : Result LiveInput ServeError) where
   -- its head is refused
-  pub refused : (known : Option (List ℕ)) (why : ServeError) → IsOfHead why → Refuses why meaning → ServesBy ask log meaning known known (Err why)
+  pub refused : (known : Option (List ℕ)) (why : ServeError) → IsOfHead why → RefusesService why meaning → ServesBy ask log meaning known known (Err why)
   refused known (error.Input input.Parts) of is = (is, Keeps-refl known)
   refused known (error.Input input.TooLong) of is = (is, Keeps-refl known)
   refused known (error.Input (input.Tariff row)) of is = (is, Keeps-refl known)
@@ -213,14 +213,14 @@ module _ (ask : LiveAsk) (log : Option LogWish) (meaning : Result LiveInput Serv
 
   -- its rows are served
   pub serves : (said : LiveInput) (setup : Setup) (lines : List ℕ) (replay : Replay) (old new : Option (List ℕ)) (result : Result (Unit {0}) ServeError)
-      → meaning ≡ Ok said → IsSetupOf ask said setup → IsReplayOf log lines replay → EndsBy ask.output setup replay (lines ++ said.rows) old new result
+      → meaning ≡ Ok said → IsLiveSetupOf ask said setup → IsReplayOf log lines replay → EndsServing ask.output setup replay (lines ++ said.rows) old new result
       → ServesBy ask log meaning old new result
   serves said setup lines replay old new result is of hears ends = by_result result ends
     where
-      served : (result : Result (Unit {0}) ServeError) → EndsBy ask.output setup replay (lines ++ said.rows) old new result → ServesInput ask log meaning old new result
+      served : (result : Result (Unit {0}) ServeError) → EndsServing ask.output setup replay (lines ++ said.rows) old new result → ServesInput ask log meaning old new result
       served result ends = record { input = said; is_input = is; setup = setup; of_input = of; lines = lines; replay = replay; hears = hears; ends = ends }
 
-      by_result : (result : Result (Unit {0}) ServeError) → EndsBy ask.output setup replay (lines ++ said.rows) old new result → ServesBy ask log meaning old new result
+      by_result : (result : Result (Unit {0}) ServeError) → EndsServing ask.output setup replay (lines ++ said.rows) old new result → ServesBy ask log meaning old new result
       by_result (Ok done) ends = served (Ok done) ends
       by_result (Err (error.Live why)) ends = served (Err (error.Live why)) ends
       by_result (Err (error.Run run.OutOfMemory)) ends = tt

@@ -1,7 +1,7 @@
 -- How the head of an input is read, and what a fault says of the output.
 use Rattle.std.specs.Prelude.{◌≡◌, ℕ, Bool, true, false, List, Option, Some, Result, Ok, Err, ⊤}
 use Rattle.std.specs.Io.KnownBytes.{Keeps}
-use Rattle.live_answers.specs.Runs.{MayEnd}
+use Rattle.live_answers.specs.Runs.{MayEndLive}
 use Rattle.live_answers.specs.declared.checking.ReplayFault.{ReplayFault}
 use Rattle.live_answers.specs.declared.checking.ReplayFault.TheVariants as replay
 use Rattle.live_log.specs.declared.fault.LogFault.TheVariants as log
@@ -13,16 +13,16 @@ use Rattle.answer_command.specs.declared.error.ServeError.TheVariants as error
 use Rattle.answer_command.specs.declared.head.Head.{Head}
 
 -- a fault is the one that is meant; a failed reader and memory that runs out may come at any
-abbrev pub Refuses : {X : Type 0} → ServeError → Result X ServeError → Type 0
-Refuses (error.Input input.Device) meaning = ⊤
-Refuses (error.Input input.OutOfMemory) meaning = ⊤
-Refuses why meaning = meaning ≡ Err why
+abbrev pub RefusesService : {X : Type 0} → ServeError → Result X ServeError → Type 0
+RefusesService (error.Input input.Device) meaning = ⊤
+RefusesService (error.Input input.OutOfMemory) meaning = ⊤
+RefusesService why meaning = meaning ≡ Err why
 
 -- the head was read of a text, and its rows are left
 abbrev pub ReadsHead : List ℕ → Option (List ℕ) → Result Head ServeError → Type 0
 ReadsHead text left (Ok head) =
     (rows : List ℕ) × (left ≡ Some rows) × (live_input_of text ≡ Ok (record { tariff = head.tariff; setup = setup_in head.directory; rows = rows }))
-ReadsHead text left (Err why) = Refuses why (live_input_of text)
+ReadsHead text left (Err why) = RefusesService why (live_input_of text)
 
 -- the header was taken of a text, and the rows are left; or it isn't there
 abbrev pub TakesHeader : List ℕ → Option (List ℕ) → Bool → Type 0
@@ -54,16 +54,16 @@ IsOfRun error.Header = ⊥
 IsOfRun (error.Log why) = ⊥
 IsOfRun (error.LogRow row kind) = ⊥
 IsOfRun (error.Live why) = ⊤
-IsOfRun (error.Run why) = MayEnd why
+IsOfRun (error.Run why) = MayEndLive why
 
 -- at any input: a fault of what is in front of the rows, and one of the log before its lines are heard, comes before anything is written
-abbrev pub IsSilent : Option (List ℕ) → Option (List ℕ) → ServeError → Type 0
-IsSilent old new (error.Input why) = Keeps old new
-IsSilent old new error.Header = Keeps old new
-IsSilent old new (error.Log why) = Keeps old new
-IsSilent old new (error.LogRow row kind) = Keeps old new
-IsSilent old new (error.Live why) = ⊤
-IsSilent old new (error.Run why) = ⊤
+abbrev pub IsServingSilent : Option (List ℕ) → Option (List ℕ) → ServeError → Type 0
+IsServingSilent old new (error.Input why) = Keeps old new
+IsServingSilent old new error.Header = Keeps old new
+IsServingSilent old new (error.Log why) = Keeps old new
+IsServingSilent old new (error.LogRow row kind) = Keeps old new
+IsServingSilent old new (error.Live why) = ⊤
+IsServingSilent old new (error.Run why) = ⊤
 
 -- what is wrong with the lines of a log, as a fault of `serve`
 abbrev pub of_replay : ReplayFault → ServeError

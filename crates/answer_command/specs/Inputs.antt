@@ -3,11 +3,11 @@ use Rattle.std.specs.Prelude.{◌||◌, ℕ, Bool, List, Result, Ok, Err, codes,
 use Rattle.std.specs.Io.BufRead.{drop_through, take_through}
 use Rattle.std.specs.Str.{bytes_eq}
 use Rattle.run_texts.specs.FirstParts.{first_part}
-use Rattle.run_texts.specs.Inputs.{tariff_in, told}
-use Rattle.run_texts.specs.Setups.{Setup, setup_of}
+use Rattle.run_texts.specs.Inputs.{tariff_in, as_input_fault}
+use Rattle.run_texts.specs.Setups.{TableSetup, table_setup_of}
 use Rattle.run_texts.specs.declared.input_fault.InputFault.{InputFault}
 use Rattle.run_texts.specs.declared.input_fault.InputFault.TheVariants as input
-use Rattle.table_core.specs.Judging.{after}
+use Rattle.table_core.specs.Judging.{and_then}
 use Rattle.table_core.specs.Rows.{rows_of}
 use Rattle.tariff_core.specs.Bands.{Band}
 use Rattle.answer_command.specs.declared.error.ServeError.{ServeError}
@@ -16,18 +16,18 @@ use Rattle.answer_command.specs.declared.error.ServeError.TheVariants as error
 -- the tariff, the accounts and subscribers, and the text of the rows
 pub record LiveInput : Type 0 where
   pub tariff : List Band
-  pub setup : Setup
+  pub setup : TableSetup
   pub rows : List ℕ
 
 -- whether a line is the header of message rows: exactly that, ended by LF, CR LF or the end of the text
-abbrev pub is_header : List ℕ → Bool
-is_header line =
+abbrev pub is_message_header : List ℕ → Bool
+is_message_header line =
     bytes_eq line (codes "moment,number,call,from,what,x1,x2,x3,x4\n") || bytes_eq line (codes "moment,number,call,from,what,x1,x2,x3,x4\r\n")
     || bytes_eq line (codes "moment,number,call,from,what,x1,x2,x3,x4")
 
 -- the rows behind the header, with which a text begins
 abbrev pub behind_header : List ℕ → Result (List ℕ) ServeError
-behind_header text = if is_header (take_through 10 text) then Ok (drop_through 10 text) else Err error.Header
+behind_header text = if is_message_header (take_through 10 text) then Ok (drop_through 10 text) else Err error.Header
 
 -- what a part says, its fault told as one of `serve`
 abbrev pub told_live : {X : Type 0} → Result X InputFault → Result X ServeError
@@ -37,9 +37,9 @@ told_live (Err why) = Err (error.Input why)
 -- what an input says before its rows: its dividers are judged first, then the tariff, the setup and the header
 abbrev pub live_input_of : List ℕ → Result LiveInput ServeError
 live_input_of text =
-    after (told_live (first_part text)) (λ one.
-    after (told_live (first_part one.rest)) (λ two.
-    after (told_live (tariff_in one.part)) (λ tariff.
-    after (told_live (told input.Setup (setup_of (rows_of two.part)))) (λ setup.
-    after (behind_header two.rest) (λ rows.
+    and_then (told_live (first_part text)) (λ one.
+    and_then (told_live (first_part one.rest)) (λ two.
+    and_then (told_live (tariff_in one.part)) (λ tariff.
+    and_then (told_live (as_input_fault input.Setup (table_setup_of (rows_of two.part)))) (λ setup.
+    and_then (behind_header two.rest) (λ rows.
     Ok (record { tariff = tariff; setup = setup; rows = rows }))))))

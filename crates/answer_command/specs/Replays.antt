@@ -11,7 +11,7 @@ quiet_of None messages = messages
 quiet_of (Some first) messages = min first messages
 
 -- the lines of a log are messages, each of which is accepted, and so they are heard again
-pub record Hears (again : Option ℕ) (lines : List ℕ) (replay : Replay) : Type 0 where
+pub record HearsLog (again : Option ℕ) (lines : List ℕ) (replay : Replay) : Type 0 where
   pub checked : IsChecked (heard_in lines) (Ok replay.messages)
   pub quiet : replay.quiet ≡ quiet_of again replay.messages
 
@@ -22,4 +22,4 @@ no_replay = record { messages = 0; quiet = 0 }
 -- what a run hears before its input: the lines of its log, if it keeps one
 abbrev pub IsReplayOf : Option LogWish → List ℕ → Replay → Type 0
 IsReplayOf None lines replay = (lines ≡ []) × (replay ≡ no_replay)
-IsReplayOf (Some log) lines replay = Hears log.again lines replay
+IsReplayOf (Some log) lines replay = HearsLog log.again lines replay

@@ -3,7 +3,7 @@ use Rattle.std.specs.Prelude.{◌≡◌, ◌⊎◌, ◌≤◌, ◌++◌, ℕ, Li
 use Rattle.std.specs.Io.KnownBytes.{Appends, Keeps}
 use Rattle.account_core.specs.declared.limits.TheConstants.{MAX_LIMIT}
 use Rattle.live_answers.specs.Live.{given_of, heard_in, item_view, replayed_text}
-use Rattle.live_answers.specs.Runs.{MayEnd}
+use Rattle.live_answers.specs.Runs.{MayEndLive}
 use Rattle.live_answers.specs.declared.replay.Replay.{Replay}
 use Rattle.live_answers.specs.declared.stage.LiveFault.{LiveFault}
 use Rattle.live_answers.specs.declared.stage.LiveFault.TheVariants as fault
@@ -13,7 +13,7 @@ use Rattle.run_options.specs.declared.live.LiveAsk.{LiveAsk}
 use Rattle.run_options.specs.declared.live.LiveOutput.{LiveOutput}
 use Rattle.run_texts.specs.Views.{with_digits}
 use Rattle.run_texts.specs.declared.input_fault.InputFault.TheVariants as input
-use Rattle.run_trace.specs.Tables.{header}
+use Rattle.run_trace.specs.Tables.{trace_header}
 use Rattle.run_values.specs.Setups.{Setup}
 use Rattle.run_values.specs.declared.post.Answer.{Answer}
 use Rattle.run_values.specs.declared.post.Body.{Body}
@@ -28,7 +28,7 @@ use Rattle.answer_command.specs.declared.error.ServeError.{ServeError}
 use Rattle.answer_command.specs.declared.error.ServeError.TheVariants as error
 
 -- what a run is set up with: the accounts, the subscribers and the tariff of the input, and a service that asks for as much as was asked for
-pub record IsSetupOf (ask : LiveAsk) (said : LiveInput) (setup : Setup) : Type 0 where
+pub record IsLiveSetupOf (ask : LiveAsk) (said : LiveInput) (setup : Setup) : Type 0 where
   pub accounts : setup.accounts ≡ said.setup.accounts
   pub subscribers : with_digits setup.subscribers ≡ said.setup.subscribers
   pub tariff : setup.tariff ≡ said.tariff
@@ -38,7 +38,7 @@ pub record IsSetupOf (ask : LiveAsk) (said : LiveInput) (setup : Setup) : Type 0
   pub limit : setup.limit ≡ MAX_LIMIT
 
 -- rows were served, up to a fault if one has ended the run
-pub record IsServed (setup : Setup) (rows : List ℕ) (fault : Option LiveFault) : Type 0 where
+pub record AreRowsServed (setup : Setup) (rows : List ℕ) (fault : Option LiveFault) : Type 0 where
   -- so many lines were taken in: all, where no fault ended the run
   pub count : ℕ
   pub whole : fault ≡ None → length (heard_in rows) ≤ count
@@ -52,48 +52,48 @@ pub record IsServed (setup : Setup) (rows : List ℕ) (fault : Option LiveFault)
 
 -- what is printed of these lines of rows, where these are the answers: the header of a trace, each accepted message with its answer, but for those that are heard again in silence, and of each line that isn't accepted what is wrong with it
 abbrev pub printed : Replay → List ℕ → List Answer → ℕ → List ℕ
-printed replay rows answers count = header ++ replayed_text replay answers (take count (heard_in rows))
+printed replay rows answers count = trace_header ++ replayed_text replay answers (take count (heard_in rows))
 
 -- all was printed, and the end behind it
-pub record IsPrinted (output : LiveOutput) (setup : Setup) (replay : Replay) (rows : List ℕ) (fault : Option LiveFault) (old new : Option (List ℕ)) : Type 0 where
-  pub served : IsServed setup rows fault
+pub record IsServedWhole (output : LiveOutput) (setup : Setup) (replay : Replay) (rows : List ℕ) (fault : Option LiveFault) (old new : Option (List ℕ)) : Type 0 where
+  pub served : AreRowsServed setup rows fault
   pub end : List ℕ
   pub is_end : IsEndOf output (record { setup = setup; given = served.given; books = served.books }) end
   pub whole : Appends old new (printed replay rows served.answers served.count ++ end)
 
 -- the output failed in the rows
 pub record IsCutInRows (setup : Setup) (replay : Replay) (rows : List ℕ) (old new : Option (List ℕ)) : Type 0 where
-  pub served : IsServed setup rows (Some fault.Output)
+  pub served : AreRowsServed setup rows (Some fault.Output)
   pub front : AppendsFront old new (printed replay rows served.answers served.count)
 
 -- or in the end
 pub record IsCutInEnd (output : LiveOutput) (setup : Setup) (replay : Replay) (rows : List ℕ) (old new : Option (List ℕ)) : Type 0 where
   pub fault : Option LiveFault
-  pub served : IsServed setup rows fault
+  pub served : AreRowsServed setup rows fault
   pub end : List ℕ
   pub is_end : IsEndOf output (record { setup = setup; given = served.given; books = served.books }) end
   pub front : AppendsFront old new (printed replay rows served.answers served.count ++ end)
 
 -- how the service ends over these rows: all is printed, also where the input or the log failed; a front, where the output failed, be it in the header. Of a run that has no books nothing is known but why
-abbrev pub EndsBy : LiveOutput → Setup → Replay → List ℕ → Option (List ℕ) → Option (List ℕ) → Result (Unit {0}) ServeError → Type 0
-EndsBy output setup replay rows old new (Ok done) = IsPrinted output setup replay rows None old new
-EndsBy output setup replay rows old new (Err (error.Live fault.Input)) = IsPrinted output setup replay rows (Some fault.Input) old new
-EndsBy output setup replay rows old new (Err (error.Live fault.Log)) = IsPrinted output setup replay rows (Some fault.Log) old new
-EndsBy output setup replay rows old new (Err (error.Live fault.Output)) =
-    AppendsFront old new header ⊎ IsCutInRows setup replay rows old new ⊎ IsCutInEnd output setup replay rows old new
-EndsBy output setup replay rows old new (Err (error.Run why)) = MayEnd why
-EndsBy output setup replay rows old new (Err why) = ⊥
+abbrev pub EndsServing : LiveOutput → Setup → Replay → List ℕ → Option (List ℕ) → Option (List ℕ) → Result (Unit {0}) ServeError → Type 0
+EndsServing output setup replay rows old new (Ok done) = IsServedWhole output setup replay rows None old new
+EndsServing output setup replay rows old new (Err (error.Live fault.Input)) = IsServedWhole output setup replay rows (Some fault.Input) old new
+EndsServing output setup replay rows old new (Err (error.Live fault.Log)) = IsServedWhole output setup replay rows (Some fault.Log) old new
+EndsServing output setup replay rows old new (Err (error.Live fault.Output)) =
+    AppendsFront old new trace_header ⊎ IsCutInRows setup replay rows old new ⊎ IsCutInEnd output setup replay rows old new
+EndsServing output setup replay rows old new (Err (error.Run why)) = MayEndLive why
+EndsServing output setup replay rows old new (Err why) = ⊥
 
 -- an input that has no fault was served, behind the lines of its log
 pub record ServesInput (ask : LiveAsk) (log : Option LogWish) (meaning : Result LiveInput ServeError) (old new : Option (List ℕ)) (result : Result (Unit {0}) ServeError) : Type 0 where
   pub input : LiveInput
   pub is_input : meaning ≡ Ok input
   pub setup : Setup
-  pub of_input : IsSetupOf ask input setup
+  pub of_input : IsLiveSetupOf ask input setup
   pub lines : List ℕ
   pub replay : Replay
   pub hears : IsReplayOf log lines replay
-  pub ends : EndsBy ask.output setup replay (lines ++ input.rows) old new result
+  pub ends : EndsServing ask.output setup replay (lines ++ input.rows) old new result
 
 -- an input that has no fault isn't served, since its log can't be used
 pub record LosesLog (log : Option LogWish) (meaning : Result LiveInput ServeError) (old new : Option (List ℕ)) : Type 0 where

@@ -1,9 +1,9 @@
 //! What is in front of the message rows of an input: a tariff, a setup and the header.
 
 ghost use Rattle.std.specs.Prelude.{◌≡◌, IfErr, IfOk, IfSome};
-ghost use Rattle.run_texts.specs.FirstParts.{MayAlwaysCome};
-ghost use Rattle.run_values.specs.Setups.{IsWithin};
-ghost use Rattle.answer_command.specs.Inputs.{is_header};
+ghost use Rattle.run_texts.specs.FirstParts.{InputFaultMayAlwaysCome};
+ghost use Rattle.run_values.specs.Setups.{ListingIsWithin};
+ghost use Rattle.answer_command.specs.Inputs.{is_message_header};
 ghost use Rattle.answer_command.specs.Heads.{IsOfHead, ReadsHead, TakesHeader};
 
 use crate::ServeError;
@@ -30,7 +30,7 @@ pub(crate) struct Head {
 pub(crate) fn read_head<I: Read>(alloc: Global, input: &mut I) -> Result<Head, ServeError>
     ensures reads { IfSome (I.remaining input.old)
         (λ text. ReadsHead text (I.remaining input.new) result) }
-    ensures within { IfOk result (λ head. IsWithin head.directory) }
+    ensures within { IfOk result (λ head. ListingIsWithin head.directory) }
     ensures fault { IfErr result IsOfHead }
 {
     let tariff = read_part(alloc, input)?;
@@ -48,7 +48,7 @@ pub(crate) fn read_head<I: Read>(alloc: Global, input: &mut I) -> Result<Head, S
 fn take_header<I: Read>(alloc: Global, input: &mut I) -> Result<bool, InputFault>
     ensures takes { IfOk result (λ is. IfSome (I.remaining input.old)
         (λ text. TakesHeader text (I.remaining input.new) is)) }
-    ensures fault { IfErr result MayAlwaysCome }
+    ensures fault { IfErr result InputFaultMayAlwaysCome }
 {
     match read_line(alloc, input, MAX_HEADER)? {
         Some(line) => Ok(is_header(line.as_slice())),
@@ -58,7 +58,7 @@ fn take_header<I: Read>(alloc: Global, input: &mut I) -> Result<bool, InputFault
 
 /// Whether a line is the header of message rows.
 fn is_header(line: &[u8]) -> bool
-    ensures { result ≡ is_header line.now }
+    ensures { result ≡ is_message_header line.now }
 {
     line == b"moment,number,call,from,what,x1,x2,x3,x4\n".as_slice()
         || line == b"moment,number,call,from,what,x1,x2,x3,x4\r\n".as_slice()

@@ -1,7 +1,7 @@
 //! A reader that records what is read.
 
 ghost use Rattle.std.specs.Prelude.{◌≡◌};
-ghost use Rattle.answer_command.specs.Recordings.{input_of};
+ghost use Rattle.answer_command.specs.Recordings.{recorded_input};
 
 use std::alloc::Global;
 use std::io::{self, Read};
@@ -16,7 +16,7 @@ pub(crate) struct Recording<I> {
 impl<I> Recording<I> {
     /// A reader of which nothing is read yet.
     pub(crate) fn new(alloc: Global, input: I) -> Recording<I>
-        ensures { input_of result ≡ input }
+        ensures { recorded_input result ≡ input }
     {
         Recording {
             input,
@@ -26,14 +26,14 @@ impl<I> Recording<I> {
 
     /// The reader, and all that was read of it.
     pub(crate) fn into_parts(self) -> (I, Vec<u8>)
-        ensures { result.0 ≡ input_of self }
+        ensures { result.0 ≡ recorded_input self }
     {
         (self.input, self.text)
     }
 }
 
 impl<I: Read> Read for Recording<I> {
-    ghost remaining = { λ recording. I.remaining (input_of recording) };
+    ghost remaining = { λ recording. I.remaining (recorded_input recording) };
 
     fn read(&mut self, buf: &mut [u8]) -> io::Result<usize> {
         let end = self.text.len();

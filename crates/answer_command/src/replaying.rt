@@ -2,7 +2,7 @@
 
 ghost use Rattle.std.specs.Prelude.{◌≡◌, IfErr, IfOk};
 ghost use Rattle.answer_command.specs.Heads.{IsOfLog};
-ghost use Rattle.answer_command.specs.Replays.{Hears, quiet_of};
+ghost use Rattle.answer_command.specs.Replays.{HearsLog, quiet_of};
 
 use crate::ServeError;
 use live_answers::{Replay, check_replay};
@@ -27,7 +27,7 @@ pub(crate) fn replay_of(
     lines: &[u8],
     again: Option<u64>,
 ) -> Result<Replay, ServeError>
-    ensures hears { IfOk result (Hears again lines.now) }
+    ensures hears { IfOk result (HearsLog again lines.now) }
     ensures fault { IfErr result IsOfLog }
 {
     let messages = check_replay(alloc, lines)?;

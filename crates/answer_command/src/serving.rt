@@ -3,9 +3,9 @@
 ghost use Rattle.std.specs.Prelude.{◌≡◌, IfErr, IfOk, IfSome, OnOk, ℕ, List, option_map, string_bytes};
 ghost use Rattle.std.specs.Io.KnownBytes.{Appends};
 ghost use Rattle.answer_command.specs.Ends.{IsCutAt, IsCutEnd, IsEndOf, end_with, is_cut_off};
-ghost use Rattle.answer_command.specs.Heads.{IsOfRun, IsSilent};
+ghost use Rattle.answer_command.specs.Heads.{IsOfRun, IsServingSilent};
 ghost use Rattle.answer_command.specs.Inputs.{live_input_of};
-ghost use Rattle.answer_command.specs.Serves.{EndsBy, ServesBy};
+ghost use Rattle.answer_command.specs.Serves.{EndsServing, ServesBy};
 ghost use Rattle.run_options.specs.Logs.{log_wish_of};
 ghost use Rattle.run_options.specs.Options.{live_ask_of};
 
@@ -55,7 +55,7 @@ pub fn serve_input<R: Wait + Threads + Sync + Files<File = File>, I: BufRead + D
         ServesBy (live_ask_of options.now) (option_map log_wish_of log.entry) (live_input_of text)
         (O.contents output.old) (O.contents output.new) result) }
     ensures silent { IfErr result
-        (IsSilent (O.contents output.old) (O.contents output.new)) }
+        (IsServingSilent (O.contents output.old) (O.contents output.new)) }
 {
     let mut input = Recording::new(alloc, input);
     let Head { tariff, directory } = read_head(alloc, &mut input)?;
@@ -89,7 +89,7 @@ fn serve_rows<R: Wait + Threads + Sync, I: BufRead + Drop, L: Write + Drop, O: W
     rows: Rows<I, L>,
     output: &mut O,
 ) -> Result<(), ServeError>
-    ensures ends { IfSome (I.remaining rows.input) (λ text. EndsBy end setup.now rows.replay text
+    ensures ends { IfSome (I.remaining rows.input) (λ text. EndsServing end setup.now rows.replay text
         (O.contents output.old) (O.contents output.new) result) }
     ensures fault { IfErr result IsOfRun }
 {

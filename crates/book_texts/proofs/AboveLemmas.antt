@@ -2,7 +2,7 @@
 use Rattle.std.proofs.Common.{◌≡◌, ℕ, ◌+◌, true, List, [], ◌∷◌, ◌++◌, length, Option, Some, None, Result, Ok, Err, refl, sym, ap, subst, ◌∙◌, arith}
 use Rattle.std.proofs.lemmas.List.{append_assoc, length-append}
 use Rattle.csv.specs.Records.{fields_of}
-use Rattle.table_core.specs.Reading.{HasRows, IsNextRow, Opens, Steps}
+use Rattle.table_core.specs.Reading.{HasRows, IsNextRow, Opens, StepsRow}
 use Rattle.table_core.specs.Rows.{Fields, rows_of}
 use Rattle.table_core.specs.Tables.{TableForm, own_fault, rows_from, table_of, then_rows, unless_own, which_header}
 use Rattle.table_core.specs.declared.fault.RowKind.{RowKind}
@@ -61,7 +61,7 @@ module _ {S K F : Type 0} (form : TableForm S K F) where
         record { first = first; rows = []; left = left; rows_are = rows_are; has = has; which = which; wide = wide; number = number; is = refl }
 
     -- a row further
-    pub next_above : (before after : Table R) (read now : S) (text : List ℕ) → before.limit ≡ form.limit → IsNextRow before after → Steps remaining before after (Ok true)
+    pub next_above : (before after : Table R) (read now : S) (text : List ℕ) → before.limit ≡ form.limit → IsNextRow before after → StepsRow remaining before after (Ok true)
         → form.judge before.header read (fields_of after.rows.row) ≡ Ok now → (above : IsAbove before read text)
         → (next : IsAbove after now text) × (next.first ≡ above.first) × (next.rows ≡ above.rows ++ fields_of after.rows.row ∷ [])
     next_above before after read now text limit next steps judged above =

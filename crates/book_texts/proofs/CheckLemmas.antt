@@ -14,9 +14,9 @@ use Rattle.account_core.specs.Wrong.{IsWrong}
 use Rattle.account_core.specs.declared.entry.Reply.{Reply}
 use Rattle.account_core.specs.declared.fault.AccountFault.{AccountFault}
 use Rattle.account_core.specs.declared.history_check.HistoryCheck.{HistoryCheck}
-use Rattle.table_core.specs.Faults.{Refuses}
-use Rattle.table_core.specs.Judging.{after as after_row}
-use Rattle.table_core.specs.Reading.{IsNextRow, Opens as OpensTable, Steps}
+use Rattle.table_core.specs.Faults.{RefusesTable}
+use Rattle.table_core.specs.Judging.{and_then as after_row}
+use Rattle.table_core.specs.Reading.{IsNextRow, Opens as OpensTable, StepsRow}
 use Rattle.table_core.specs.Rows.{Fields, rows_of}
 use Rattle.table_core.specs.Tables.{width_at}
 use Rattle.table_core.specs.declared.fault.RowFault.{RowFault}
@@ -25,10 +25,10 @@ use Rattle.table_core.specs.declared.fault.TableFault.{TableFault}
 use Rattle.table_core.specs.declared.table.Table.{Table}
 use Rattle.table_core.proofs.Known.{map_known}
 use Rattle.entry_rows.specs.Versions.{version_at}
-use Rattle.book_texts.specs.Audits.{AreVerdicts, GivesAuditOf, IsSaidOf}
-use Rattle.book_texts.specs.BookRows.{Enters, HasColumns, Opens, Said, columns_in, said_in}
-use Rattle.book_texts.specs.Books.{Books, Told, books_form, books_headers, books_of, entered, judged, opened, row_at, told_of, with_entry, with_opening}
-use Rattle.book_texts.specs.Checks.{AreChecks, AreNoted, AreRight, Comes, GivesChecks, HaveChecks, HearsBy, IsOrdered, IsRight, ListComes, Notes, audited_by, entries_of, verdicts_of, wrong_of}
+use Rattle.book_texts.specs.Audits.{AreVerdicts, GivesAuditOf, IsSaidOfBooks}
+use Rattle.book_texts.specs.BookRows.{Enters, HasBookColumns, Opens, RowSaid, columns_in, row_said_in}
+use Rattle.book_texts.specs.Books.{Books, Told, books_form, books_headers, books_of, entered_in_books, judged_books, opened, row_at, account_so_far, books_with_entry, with_opening}
+use Rattle.book_texts.specs.Checks.{AreChecks, AreNoted, HaveVerdicts, Comes, GivesChecks, HaveChecks, HearsBy, IsOrdered, HasItsVerdict, ListComes, NotesEntry, audited_by, checks_by_account, verdicts_of, wrong_of}
 use Rattle.book_texts.specs.declared.account_checks.AccountChecks.{AccountChecks}
 use Rattle.book_texts.specs.declared.audit.Audit.{Audit}
 use Rattle.book_texts.specs.declared.audit.Checked.{Checked}
@@ -130,7 +130,7 @@ row_refused before (Ok next) checks kind never = absurd never
 row_refused before (Err why) checks kind is = ap (λ k. Err k) (sym is.0)
 
 -- where the checks of a list or a map are those after a row, and they are in order
-pub list_comes : (before : Books) (refused : Option RowKind) (meaning : Result Books RowKind) (checks : AccountChecks) → ListComes before refused meaning (entries_of checks) → IsOrdered checks
+pub list_comes : (before : Books) (refused : Option RowKind) (meaning : Result Books RowKind) (checks : AccountChecks) → ListComes before refused meaning (checks_by_account checks) → IsOrdered checks
     → Comes before refused meaning checks
 list_comes before None (Ok books) checks are ordered = (are, ordered)
 list_comes before None (Err why) checks are ordered = are
@@ -139,7 +139,7 @@ list_comes before (Some kind) (Err why) checks are ordered = (are.0, (are.1, ord
 
 -- a row that is as wide as its header has the columns of the header's version
 pub has_columns : (header : ℕ) (fields : Fields) → header < length books_headers → length fields ≡ width_at books_headers header
-    → HasColumns (version_at header) fields
+    → HasBookColumns (version_at header) fields
 has_columns zero fields one wide = ((omega (arith, wide), λ later. absurd (later refl), λ later. absurd (later refl), λ four. cc), omega (arith, wide))
 has_columns (suc zero) fields one wide = ((omega (arith, wide), λ two. omega (arith, wide), λ later other. absurd (other refl), λ four. cc), omega (arith, wide))
 has_columns (suc (suc zero)) fields one wide = ((omega (arith, wide), λ two. omega (arith, wide), λ later other. omega (arith, wide), λ four. cc), omega (arith, wide))
@@ -149,7 +149,7 @@ has_columns (suc (suc (suc (suc header)))) fields one wide = absurd (omega (arit
 
 -- a fault that the table's reader passes on is that of the meaning
 pub fault_told : (most : ℕ) (known : Option (List ℕ)) (answer : Result Checked TableFault) (why : TableFault) (P : List ℕ → Type 0) (meaning : List ℕ → Result Books RowFault)
-    → IsErrAnd answer (λ met. met ≡ why) → IfSome known P → ((text : List ℕ) → P text → Refuses why (meaning text))
+    → IsErrAnd answer (λ met. met ≡ why) → IfSome known P → ((text : List ℕ) → P text → RefusesTable why (meaning text))
     → IfSome known (λ text. GivesChecks most (rows_of text) answer (meaning text))
 fault_told most known (Ok checked) why P meaning met holds so = absurd met
 fault_told most known (Err other) why P meaning met holds so = map_known known P _ holds (λ text at. rw met (so text at))
@@ -168,9 +168,9 @@ module _ {R : Type 0} (most : ℕ) (remaining : R → Option (List ℕ)) where
   -- each account has its verdict by the rows so far
   abbrev pub AreRightSoFar : Table R → Books → List (ℕ × WrongRow) → List ℕ → Type 0
   AreRightSoFar table books wrongs text =
-      (above : IsAbove (books_form most) remaining table books text) × AreRight most (above.first ∷ above.rows) books wrongs
+      (above : IsAbove (books_form most) remaining table books text) × HaveVerdicts most (above.first ∷ above.rows) books wrongs
 
-  none_wrong : (rows : List Fields) → AreRight most rows [] []
+  none_wrong : (rows : List Fields) → HaveVerdicts most rows [] []
   none_wrong rows = λ account. refl
 
   pub right_at_first : (table : Table R) (known : Option (List ℕ)) → table.number ≡ 1 → IfSome known (λ text. OpensTable remaining books_headers (Ok table) (rows_of text))
@@ -180,24 +180,24 @@ module _ {R : Type 0} (most : ℕ) (remaining : R → Option (List ℕ)) where
       let above = at_first (books_form most) remaining table text number opened in (above, none_wrong (above.first ∷ above.rows)))
 
   module _ (number : ℕ) (rows : List Fields) (more : Fields) (books next : Books) (before after : List (ℕ × WrongRow)) (number_is : number ≡ length rows + 1)
-      (so_far : books_of most rows ≡ Ok books) (now : books_of most (rows ++ more ∷ []) ≡ Ok next) (are : AreRight most rows books before) where
-    opens_so : (account opening : ℕ) (until : Option ℕ) (found : Option Told) → told_of account books ≡ found → opened account opening until books found ≡ Ok next → after ≡ before
-        → AreRight most (rows ++ more ∷ []) next after
+      (so_far : books_of most rows ≡ Ok books) (now : books_of most (rows ++ more ∷ []) ≡ Ok next) (are : HaveVerdicts most rows books before) where
+    opens_so : (account opening : ℕ) (until : Option ℕ) (found : Option Told) → account_so_far account books ≡ found → opened account opening until books found ≡ Ok next → after ≡ before
+        → HaveVerdicts most (rows ++ more ∷ []) next after
     opens_so account opening until None none is same =
         let with : with_opening account opening until books ≡ next = cc in
         rw (← with, same) (opening_right most rows more account opening until books before none are)
     opens_so account opening until (Some told) found is same = cc
 
-    enters_so : (account : ℕ) (event : EntryData) (found : Option Told) → told_of account books ≡ found → entered account event books found ≡ Ok next
-        → ((told : Told) → told_of account books ≡ Some told → Notes number account told event before after) → AreRight most (rows ++ more ∷ []) next after
+    enters_so : (account : ℕ) (event : EntryData) (found : Option Told) → account_so_far account books ≡ found → entered_in_books account event books found ≡ Ok next
+        → ((told : Told) → account_so_far account books ≡ Some told → NotesEntry number account told event before after) → HaveVerdicts most (rows ++ more ∷ []) next after
     enters_so account event None none is noted = cc
     enters_so account event (Some told) found is noted =
-        let with : with_entry account told event books ≡ next = cc in
+        let with : books_with_entry account told event books ≡ next = cc in
         rw (← with) (entry_right most rows more account books told event found number before after number_is so_far (rw (← with) at now) (noted told found) are)
 
-    pub right_next : (said : Result Said RowKind) → after_row said (judged books) ≡ Ok next → AreNoted number books said before after → AreRight most (rows ++ more ∷ []) next after
-    right_next (Ok (Opens account opening until)) is noted = opens_so account opening until (told_of account books) refl is noted
-    right_next (Ok (Enters account event)) is noted = enters_so account event (told_of account books) refl is noted
+    pub right_next : (said : Result RowSaid RowKind) → after_row said (judged_books books) ≡ Ok next → AreNoted number books said before after → HaveVerdicts most (rows ++ more ∷ []) next after
+    right_next (Ok (Opens account opening until)) is noted = opens_so account opening until (account_so_far account books) refl is noted
+    right_next (Ok (Enters account event)) is noted = enters_so account event (account_so_far account books) refl is noted
     right_next (Err why) is noted = cc
 
 both_known : {X : Type 0} (known : Option X) (P Q : X → Type 0) → IfSome known P → IfSome known Q → IfSome known (λ x. P x × Q x)
@@ -206,9 +206,9 @@ both_known (Some x) P Q one other = (one, other)
 
 module _ {R : Type 0} (most : ℕ) (remaining : R → Option (List ℕ)) (known : Option (List ℕ)) (table after : Table R) (books next : Books) where
   -- the same after a row
-  pub right_so_far : (wrongs now : List (ℕ × WrongRow)) → table.limit ≡ most → IsNextRow table after → Steps remaining table after (Ok true)
+  pub right_so_far : (wrongs now : List (ℕ × WrongRow)) → table.limit ≡ most → IsNextRow table after → StepsRow remaining table after (Ok true)
       → row_at (version_at table.header) books (fields_of after.rows.row) ≡ Ok next
-      → AreNoted after.number books (said_in (columns_in (version_at table.header) (fields_of after.rows.row))) wrongs now
+      → AreNoted after.number books (row_said_in (columns_in (version_at table.header) (fields_of after.rows.row))) wrongs now
       → IfSome known (AreRightSoFar most remaining table books wrongs) → IfSome known (AreRightSoFar most remaining after next now)
   unfolding row_at
   right_so_far wrongs now limit moves steps is noted right = map_known known _ _ right (λ text (above, are).
@@ -217,13 +217,13 @@ module _ {R : Type 0} (most : ℕ) (remaining : R → Option (List ℕ)) (known 
       let so_far = above_is (books_form most) remaining table books text above in
       let whole : books_of most ((above.first ∷ above.rows) ++ fields ∷ []) ≡ Ok next = rw (first_is, rows_are) at (above_is (books_form most) remaining after next text further) in
       let held = right_next most remaining after.number (above.first ∷ above.rows) fields books next wrongs now
-      (omega (arith, moves.number, above.number)) so_far whole are (said_in (columns_in (version_at table.header) fields)) is noted in
-      let A : List Fields → Type 0 = λ rows. AreRight most rows next now in
+      (omega (arith, moves.number, above.number)) so_far whole are (row_said_in (columns_in (version_at table.header) fields)) is noted in
+      let A : List Fields → Type 0 = λ rows. HaveVerdicts most rows next now in
       (further, rw (first_is, rows_are) held))
 
   -- where no row is left, the checks are those of the table's books
   pub checks_given : (checks : List (ℕ × HistoryCheck)) (wrongs : List (ℕ × WrongRow)) (checked : Checked) → IfSome known (λ text. books_of most (rows_of text) ≡ Ok books)
-      → Steps remaining table after (Ok false) → checked.checks.items ≡ checks → AreChecks books checks → IfSome known (AreRightSoFar most remaining table books wrongs)
+      → StepsRow remaining table after (Ok false) → checked.checks.items ≡ checks → AreChecks books checks → IfSome known (AreRightSoFar most remaining table books wrongs)
       → checked.wrongs ≡ wrongs → IfSome known (λ text. GivesChecks most (rows_of text) (Ok checked) (books_of most (rows_of text)))
   checks_given checks wrongs checked whole steps same are right kept = map_known known _ _ (both_known known _ _ whole right) (λ text (is, (above, holds)).
       let none = steps above.left above.has in
@@ -233,19 +233,19 @@ module _ {R : Type 0} (most : ℕ) (remaining : R → Option (List ℕ)) (known 
 -- ---- the verdicts
 
 pub verdicts_right : (most : ℕ) (rows : List Fields) (all books : Books) (checks : List (ℕ × HistoryCheck)) (wrongs : List (ℕ × WrongRow)) → AreFoundIn all books → AreChecks books checks
-    → AreRight most rows all wrongs → AreVerdicts most rows books (verdicts_of checks wrongs)
+    → HaveVerdicts most rows all wrongs → AreVerdicts most rows books (verdicts_of checks wrongs)
 verdicts_right most rows all [] [] wrongs found are right = tt
 verdicts_right most rows all [] (check ∷ checks) wrongs found are right = absurd are
 verdicts_right most rows all (book ∷ books) [] wrongs found are right = absurd are
 verdicts_right most rows all (book ∷ books) (check ∷ checks) wrongs found are right =
-    let R : Option Told → Type 0 = λ told. IsRight most rows book.0 told (wrong_of book.0 wrongs) in
+    let R : Option Told → Type 0 = λ told. HasItsVerdict most rows book.0 told (wrong_of book.0 wrongs) in
     ((are.0.0, rw are.0.0 (subst R found.0 (right book.0))), verdicts_right most rows all books checks wrongs found.1 are.1 right)
 
 -- what is said of a table's checks, where the verdicts on its books are those of the checks
 abbrev pub SaysOf : ℕ → Bool → Bool → List Fields → Checked → Audit → Type 0
 SaysOf most lines shown rows checked audit =
     (books : Books) → AreChecks books checked.checks.items → AreVerdicts most rows books (verdicts_of checked.checks.items checked.wrongs)
-    → IsSaidOf lines shown books (verdicts_of checked.checks.items checked.wrongs) (audited_by audit)
+    → IsSaidOfBooks lines shown books (verdicts_of checked.checks.items checked.wrongs) (audited_by audit)
 
 -- from the checks of a table's books to an audit of them
 pub audit_said : (most : ℕ) (lines shown : Bool) (rows : List Fields) (checked : Checked) (audit : Audit) (meaning : Result Books RowFault) → books_of most rows ≡ meaning

@@ -10,13 +10,13 @@ use Rattle.account_core.specs.declared.call_sum.CallSum.{CallSum}
 use Rattle.shared_account.specs.Closed.{Closed}
 use Rattle.book_texts.proofs.CallLemmas.{calls_more}
 use Rattle.book_texts.proofs.TextLemmas.{next_item}
-use Rattle.book_texts.specs.RunTexts.{AreLinesOf, LinesSaid, account_line, account_text, line_in, line_of, lines_of}
+use Rattle.book_texts.specs.RunTexts.{AreLinesOf, LinesSaid, account_line, account_text, line_in, call_line_of, call_lines_of}
 use Rattle.book_texts.specs.declared.lines.CallLine.{CallLine}
 
 -- the lines of one more book, from its summary
 one_more : (before : List Closed) (book : Closed) (old new : LinesSaid) (account opening credit entries : ℕ) (sums : List CallSum)
     → account ≡ book.account → opening ≡ book.opening → credit ≡ available book.opening (reverse book.history) → entries ≡ length book.history → AreSums (reverse book.history) sums
-    → new.accounts ≡ old.accounts ++ account_text account opening credit entries → new.calls ≡ old.calls ++ map (line_of account) sums → AreLinesOf before old → AreLinesOf (before ++ book ∷ []) new
+    → new.accounts ≡ old.accounts ++ account_text account opening credit entries → new.calls ≡ old.calls ++ map (call_line_of account) sums → AreLinesOf before old → AreLinesOf (before ++ book ∷ []) new
 one_more before book old new account opening credit entries sums number opened left count are texts calls so_far = record {
   accounts = rw (texts, number, opened, left, count, so_far.accounts, flat_map-append account_line before (book ∷ []), append-nil (account_line book)) refl;
   calls = λ call. rw (calls, number) (calls_more before book old.calls sums are so_far.calls call);
@@ -25,7 +25,7 @@ one_more before book old new account opening credit entries sums number opened l
 -- the same of the next book of a list
 pub next_lines : (before books : List Closed) (i : ℕ) (book : Closed) (old new : LinesSaid) (account opening credit entries : ℕ) (sums : List CallSum) → i < length books → book ≡ get_or books i book
     → account ≡ book.account → opening ≡ book.opening → credit ≡ available book.opening (reverse book.history) → entries ≡ length book.history → AreSums (reverse book.history) sums
-    → new.accounts ≡ old.accounts ++ account_text account opening credit entries → new.calls ≡ old.calls ++ map (line_of account) sums
+    → new.accounts ≡ old.accounts ++ account_text account opening credit entries → new.calls ≡ old.calls ++ map (call_line_of account) sums
     → AreLinesOf (before ++ take i books) old → AreLinesOf (before ++ take (i + 1) books) new
 next_lines before books i book old new account opening credit entries sums within is number opened left count are texts calls so_far =
     let Are : List Closed → Type 0 = λ b. AreLinesOf b new in

@@ -4,7 +4,7 @@ use Rattle.std.proofs.lemmas.Bool.Decides.{nat_tests}
 use Rattle.std.specs.List.{flat_map}
 use Rattle.std.specs.List.Sorted.{IsNonDecreasingBy}
 use Rattle.book_texts.specs.Laws.{BooksHaveOneText}
-use Rattle.book_texts.specs.RunTexts.{account_line, call_line, lines_of}
+use Rattle.book_texts.specs.RunTexts.{account_line, call_line, call_lines_of}
 use Rattle.book_texts.specs.declared.lines.CallLine.{CallLine}
 
 abbrev AreFrom : ℕ → List CallLine → Type 0
@@ -30,7 +30,7 @@ rise (line ∷ lines) rising = (
 is_other : (call first later : ℕ) → call < first → first ≤ later → later == call ≡ false
 is_other call first later below above = grind (arith, nat_tests)
 
-none_from : (call first : ℕ) (lines : List CallLine) → call < first → AreFrom first lines → lines_of call lines ≡ []
+none_from : (call first : ℕ) (lines : List CallLine) → call < first → AreFrom first lines → call_lines_of call lines ≡ []
 none_from call first [] below above = refl
 none_from call first (line ∷ lines) below above =
     rw (is_other call first line.sum.call below above.0) (none_from call first lines below above.1)
@@ -39,11 +39,11 @@ is_itself : (call : ℕ) → call == call ≡ true
 is_itself call = grind (arith, nat_tests)
 
 -- the first line is among the lines of its call
-not_none : (line : CallLine) (lines : List CallLine) → lines_of line.sum.call (line ∷ lines) ≡ [] → ⊥
+not_none : (line : CallLine) (lines : List CallLine) → call_lines_of line.sum.call (line ∷ lines) ≡ [] → ⊥
 not_none line lines none = let shown = rw (is_itself line.sum.call) at none in cc
 
 not_before : (line : CallLine) (lines : List CallLine) (other : CallLine) (others : List CallLine) → AreFrom other.sum.call others
-    → lines_of line.sum.call (line ∷ lines) ≡ lines_of line.sum.call (other ∷ others) → line.sum.call < other.sum.call → ⊥
+    → call_lines_of line.sum.call (line ∷ lines) ≡ call_lines_of line.sum.call (other ∷ others) → line.sum.call < other.sum.call → ⊥
 not_before line lines other others above same below =
     not_none line lines (same ∙ none_from line.sum.call other.sum.call (other ∷ others) below (omega arith, above))
 
@@ -62,7 +62,7 @@ tails false true line other lines others alike same = cc
 tails false false line other lines others alike same = same
 
 same_lines : (lines others : List CallLine) → Rise lines → Rise others
-    → ((call : ℕ) → lines_of call lines ≡ lines_of call others) → lines ≡ others
+    → ((call : ℕ) → call_lines_of call lines ≡ call_lines_of call others) → lines ≡ others
 same_lines [] [] rising others_rising same = refl
 same_lines [] (other ∷ others) rising others_rising same = absurd (not_none other others (sym (same other.sum.call)))
 same_lines (line ∷ lines) [] rising others_rising same = absurd (not_none line lines (same line.sum.call))

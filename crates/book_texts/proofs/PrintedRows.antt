@@ -11,7 +11,7 @@ use Rattle.account_core.specs.Events.{EntryData}
 use Rattle.account_core.specs.Laws.{IsReplyInRange}
 use Rattle.account_core.specs.declared.entry.Reply.{Reply}
 use Rattle.account_core.specs.declared.entry.Reply.TheVariants as reply
-use Rattle.entry_rows.specs.Columns.{Answer, Operation, answer_of, in_fourth, no_answer, number_or_empty, opening_of, operation_of}
+use Rattle.entry_rows.specs.Columns.{Answer, Operation, reply_fields, in_fourth, no_answer, number_or_empty, opening_columns, operation_of}
 use Rattle.entry_rows.specs.declared.version.Version.{Version}
 use Rattle.entry_rows.specs.declared.version.Version.TheVariants as version
 use Rattle.entry_rows.specs.Fits.{FitsAsked, FitsEvent, IsInterval, IsMoment, IsRate}
@@ -19,7 +19,7 @@ use Rattle.shared_account.specs.Closed.{Closed}
 use Rattle.table_core.specs.Printed.{DecimalsArePlain, IsPlain, IsPlainRow, line_of, lines_of}
 use Rattle.table_core.specs.Rows.{Fields}
 use Rattle.tariff_core.specs.declared.times.TimeInfo.TheVariants as info
-use Rattle.book_texts.specs.BookTexts.{book_rows, book_text, entry_row, header, row}
+use Rattle.book_texts.specs.BookTexts.{book_rows, book_text, entry_row, book_header, book_row}
 use Rattle.book_texts.specs.Books.{fourth_header, third_header}
 use Rattle.book_texts.specs.Printable.{FitsBook}
 
@@ -35,10 +35,10 @@ row_fields account seat o a =
     account ∷ seat ∷ o.op ∷ o.call ∷ o.x1 ∷ o.x2 ∷ o.x3 ∷ o.x4 ∷ o.x5 ∷ o.x6 ∷ o.x7 ∷ steps_fields o.version o.x8 o.x9 (a.reply ∷ a.y1 ∷ a.y2 ∷ a.y3 ∷ [])
 
 abbrev pub entry_fields : Version → ℕ → EntryData → Fields
-entry_fields version account event = row_fields (decimal account) (decimal event.seat) (operation_of version event.asked) (answer_of event.reply)
+entry_fields version account event = row_fields (decimal account) (decimal event.seat) (operation_of version event.asked) (reply_fields event.reply)
 
 abbrev pub opening_fields : Version → Closed → Fields
-opening_fields version book = row_fields (decimal book.account) [] (opening_of version book.opening book.until) no_answer
+opening_fields version book = row_fields (decimal book.account) [] (opening_columns version book.opening book.until) no_answer
 
 abbrev pub book_fields : Version → Closed → List Fields
 book_fields version book = opening_fields version book ∷ map (entry_fields version book.account) book.history
@@ -52,10 +52,10 @@ table_fields version books = header_fields version ∷ flat_map (book_fields ver
 
 -- ---- lines
 
-row_line : (account : ℕ) (seat : List ℕ) (o : Operation) (a : Answer) → row account seat o a ≡ line_of (row_fields (decimal account) seat o a)
+row_line : (account : ℕ) (seat : List ℕ) (o : Operation) (a : Answer) → book_row account seat o a ≡ line_of (row_fields (decimal account) seat o a)
 row_line account seat o a = by o.version refl
   where
-    by : (version : Version) → o.version ≡ version → row account seat o a ≡ line_of (row_fields (decimal account) seat o a)
+    by : (version : Version) → o.version ≡ version → book_row account seat o a ≡ line_of (row_fields (decimal account) seat o a)
     by version.One is = rw is (simp append_assoc)
     by version.Two is = rw is (simp append_assoc)
     by version.Three is = rw is (simp append_assoc)
@@ -65,18 +65,18 @@ entry_lines : (version : Version) (account : ℕ) (history : List EntryData)
     → flat_map (entry_row version account) history ≡ flat_map line_of (map (entry_fields version account) history)
 entry_lines version account [] = refl
 entry_lines version account (event ∷ history) =
-    rw (row_line account (decimal event.seat) (operation_of version event.asked) (answer_of event.reply), entry_lines version account history) refl
+    rw (row_line account (decimal event.seat) (operation_of version event.asked) (reply_fields event.reply), entry_lines version account history) refl
 
 book_lines : (version : Version) (book : Closed) → book_rows version book ≡ flat_map line_of (book_fields version book)
 book_lines version book =
-    rw (row_line book.account [] (opening_of version book.opening book.until) no_answer, entry_lines version book.account book.history) refl
+    rw (row_line book.account [] (opening_columns version book.opening book.until) no_answer, entry_lines version book.account book.history) refl
 
 all_lines : (version : Version) (books : List Closed) → flat_map (book_rows version) books ≡ flat_map line_of (flat_map (book_fields version) books)
 all_lines version [] = refl
 all_lines version (book ∷ books) =
     rw (book_lines version book, all_lines version books) (sym (flat_map-append line_of (book_fields version book) (flat_map (book_fields version) books)))
 
-header_line : (version : Version) → header version ≡ line_of (header_fields version)
+header_line : (version : Version) → book_header version ≡ line_of (header_fields version)
 header_line version.One = refl
 header_line version.Two = refl
 header_line version.Three = refl
@@ -207,7 +207,7 @@ module _ (plain : DecimalsArePlain) where
   }
   operation_plain version (Returns call) fits = record { op = refl; call = plain call (omega (arith, fits)); x1 = refl; x2 = refl; x3 = refl; x4 = refl; x5 = refl; x6 = refl; x7 = refl; x8 = refl; x9 = refl }
 
-  answer_plain : (answer : Reply) → IsReplyInRange answer → IsPlainAnswer (answer_of answer)
+  answer_plain : (answer : Reply) → IsReplyInRange answer → IsPlainAnswer (reply_fields answer)
   answer_plain (reply.Credited available) fits = record { reply = refl; y1 = refl; y2 = refl; y3 = plain available (omega (arith, fits)) }
   answer_plain (reply.CreditOver available) fits = record { reply = refl; y1 = refl; y2 = refl; y3 = plain available (omega (arith, fits)) }
   answer_plain (reply.Granted units true available) fits =
@@ -236,7 +236,7 @@ module _ (plain : DecimalsArePlain) where
 
   opening_plain : (version : Version) (book : Closed) → FitsBook book → IsPlainRow (opening_fields version book)
   opening_plain version book fits =
-      row_plain _ [] (opening_of version book.opening book.until) no_answer (plain book.account (omega (arith, fits.account))) refl
+      row_plain _ [] (opening_columns version book.opening book.until) no_answer (plain book.account (omega (arith, fits.account))) refl
       (record {
         op = refl;
         call = refl;

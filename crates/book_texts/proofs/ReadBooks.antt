@@ -14,12 +14,12 @@ use Rattle.std.proofs.lemmas.Fmt.{decimal_nonempty}
 use Rattle.std.proofs.lemmas.List.Elements.{All-head, All-tail}
 use Rattle.account_core.specs.Answers.{IsLegal}
 use Rattle.account_core.specs.Asked.{Asked, Credits, Reserves, Returns, Settles}
-use Rattle.account_core.specs.Checked.{counted}
+use Rattle.account_core.specs.Checked.{entries_counted}
 use Rattle.account_core.specs.Events.{EntryData}
-use Rattle.entry_rows.specs.Column.{is_empty, moment_of, money_of, number_of, optional_moment_of, seat_of}
-use Rattle.entry_rows.specs.Columns.{Answer, Operation, answer_of, no_answer, number_or_empty, opening_of, operation_at, operation_of}
+use Rattle.entry_rows.specs.Column.{is_empty_column, moment_column, money_of, number_column, optional_moment_of, seat_of}
+use Rattle.entry_rows.specs.Columns.{Answer, Operation, reply_fields, no_answer, number_or_empty, opening_columns, operation_at, operation_of}
 use Rattle.entry_rows.specs.Fits.{FitsEvent, IsMoment, IsMoney}
-use Rattle.entry_rows.specs.Laws.{OperationsAreRead, Prints, RepliesAreRead}
+use Rattle.entry_rows.specs.Laws.{OperationsAreRead, PrintsWhole, RepliesAreRead}
 use Rattle.entry_rows.specs.Versions.{version_at}
 use Rattle.entry_rows.specs.declared.version.Version.{Version}
 use Rattle.entry_rows.specs.declared.version.Version.TheVariants as version
@@ -31,12 +31,12 @@ use Rattle.table_core.proofs.TableLemmas.{no_fault}
 use Rattle.table_core.specs.declared.fault.RowFault.{RowFault}
 use Rattle.tariff_core.specs.Rates.{are_steps}
 use Rattle.tariff_core.specs.declared.times.TimeInfo.TheVariants as info
-use Rattle.book_texts.specs.Audits.{AreVerdicts, IsAuditOf, IsSummedUp, Verdict, all_sum_lines, audited, passed}
-use Rattle.book_texts.specs.BookRows.{Enters, Opens, account_of, columns_in, entry_in, opening_in, said_in}
+use Rattle.book_texts.specs.Audits.{AreVerdicts, IsAuditOf, IsSummedUp, AccountVerdict, all_sum_lines, audited, passed_books}
+use Rattle.book_texts.specs.BookRows.{Enters, Opens, book_account_in, columns_in, entry_in, opening_in, row_said_in}
 use Rattle.book_texts.specs.BookTexts.{asks_steps, book_text, history_has_steps, version_of}
 use Rattle.book_texts.specs.Books.{Books, Told, books_form, row_at}
 use Rattle.book_texts.specs.Laws.{BooksAreRead, PrintedBooksHaveTheirLines, PrintedBooksPass}
-use Rattle.book_texts.specs.Printable.{ArePrintable, FitsBook, row_count, told_by}
+use Rattle.book_texts.specs.Printable.{ArePrintable, FitsBook, row_count, account_of_book}
 use Rattle.book_texts.specs.RunTexts.{account_line, call_line, line_in}
 use Rattle.book_texts.proofs.PrintedRows.{book_fields, entry_fields, opening_fields, row_fields, table_fields, table_plain, text_lines, unmarked}
 
@@ -77,10 +77,10 @@ abbrev pub AreAbove : List Closed → Books → Type 0
 AreAbove books front = AllByRecursion (λ book. IsAbove book.account front) books
 
 all_above : (first : Closed) (books : List Closed) (front : Books) → AreAbove books front → AllByRecursion (λ account. nat_cmp first.account account ≡ order.Less) (map (λ book. book.account) books)
-    → AreAbove books (front ++ told_by first ∷ [])
+    → AreAbove books (front ++ account_of_book first ∷ [])
 all_above first [] front above rising = tt
 all_above first (book ∷ books) front above rising =
-    (above_more book.account front (told_by first) above.0 (later_is_above first.account book.account rising.0), all_above first books front above.1 rising.1)
+    (above_more book.account front (account_of_book first) above.0 (later_is_above first.account book.account rising.0), all_above first books front above.1 rising.1)
 
 none_before : (books : List Closed) → AreAbove books []
 none_before [] = tt
@@ -88,7 +88,7 @@ none_before (book ∷ books) = (tt, none_before books)
 
 -- ---- rows
 
-not_empty : (number : ℕ) → number < 2 ^ 64 → is_empty (decimal number) ≡ false
+not_empty : (number : ℕ) → number < 2 ^ 64 → is_empty_column (decimal number) ≡ false
 not_empty number small = let some : 0 < length (decimal number) = decimal_nonempty number small in grind (arith, nat_tests)
 
 not_opening : (version : Version) (asked : Asked) → bytes_eq (operation_of version asked).op (codes "opening") ≡ false
@@ -162,7 +162,7 @@ one_row version printed most number books next fields rest width within is =
 no_steps : (first step : ℕ) → are_steps first step ≡ false → (first ≡ 0) × (step ≡ 1)
 no_steps first step none = (grind (arith, nat_tests), grind (arith, nat_tests))
 
-whole : (asked : Asked) → asks_steps asked ≡ false → Prints version.Three asked
+whole : (asked : Asked) → asks_steps asked ≡ false → PrintsWhole version.Three asked
 whole (Credits amount until) none = tt
 whole (Reserves call plan wanted least at) none = no_steps plan.first plan.step none
 whole (Settles call number info) none = tt
@@ -174,7 +174,7 @@ or_parts false b none = (refl, none)
 
 -- each operation of a history is printed whole
 abbrev PrintsAll : Version → List EntryData → Type 0
-PrintsAll version history = AllByRecursion (λ event. Prints version event.asked) history
+PrintsAll version history = AllByRecursion (λ event. PrintsWhole version event.asked) history
 
 history_whole : (history : List EntryData) → history_has_steps history ≡ false → PrintsAll version.Three history
 history_whole [] none = tt
@@ -212,10 +212,10 @@ chosen steps books = by (steps || list_any (λ book. history_has_steps book.hist
     by false is = record { printed = tt; prints = books_whole books (or_parts steps _ is).1 }
 
 module _ (reads : DecimalsAreRead) (operations : OperationsAreRead) (replies : RepliesAreRead) where
-  number_read : (most number : ℕ) → most < 2 ^ 64 → number ≤ most → number_of most (decimal number) ≡ Ok number
+  number_read : (most number : ℕ) → most < 2 ^ 64 → number ≤ most → number_column most (decimal number) ≡ Ok number
   number_read most number small within = rw (reads most number small within) refl
 
-  account_read : (account : ℕ) → account ≤ 4294967295 → account_of (decimal account) ≡ Ok account
+  account_read : (account : ℕ) → account ≤ 4294967295 → book_account_in (decimal account) ≡ Ok account
   account_read account small = number_read 4294967295 account (omega arith) small
 
   seat_read : (seat : ℕ) → seat ≤ 15 → seat_of (decimal seat) ≡ Ok seat
@@ -224,7 +224,7 @@ module _ (reads : DecimalsAreRead) (operations : OperationsAreRead) (replies : R
   money_read : (money : ℕ) → IsMoney money → money_of (decimal money) ≡ Ok money
   money_read money small = number_read 1000000000000000 money (omega arith) small
 
-  moment_read : (moment : ℕ) → IsMoment moment → moment_of (decimal moment) ≡ Ok moment
+  moment_read : (moment : ℕ) → IsMoment moment → moment_column (decimal moment) ≡ Ok moment
   moment_read moment small = number_read 2000000000000 moment (omega arith) small
 
   optional_moment_read : (moment : Option ℕ) → IfSome moment IsMoment → optional_moment_of (number_or_empty moment) ≡ Ok moment
@@ -232,7 +232,7 @@ module _ (reads : DecimalsAreRead) (operations : OperationsAreRead) (replies : R
   optional_moment_read (Some moment) fits = rw (not_empty moment (omega (arith, fits)), moment_read moment fits) refl
 
   opening_said : (version : Version) → IsPrinted version → (book : Closed) → FitsBook book
-      → said_in (columns_in version (opening_fields version book)) ≡ Ok (Opens book.account book.opening book.until)
+      → row_said_in (columns_in version (opening_fields version book)) ≡ Ok (Opens book.account book.opening book.until)
   unfolding opening_in
   opening_said version.One printed book fits = absurd printed
   opening_said version.Two printed book fits = absurd printed
@@ -241,8 +241,8 @@ module _ (reads : DecimalsAreRead) (operations : OperationsAreRead) (replies : R
   opening_said version.Four printed book fits =
       rw (account_read book.account fits.account, money_read book.opening fits.opening, optional_moment_read book.until fits.until) refl
 
-  entry_said : (version : Version) → IsPrinted version → (account : ℕ) (event : EntryData) → account ≤ 4294967295 → FitsEvent event → Prints version event.asked
-      → said_in (columns_in version (entry_fields version account event)) ≡ Ok (Enters account event)
+  entry_said : (version : Version) → IsPrinted version → (account : ℕ) (event : EntryData) → account ≤ 4294967295 → FitsEvent event → PrintsWhole version event.asked
+      → row_said_in (columns_in version (entry_fields version account event)) ≡ Ok (Enters account event)
   unfolding entry_in
   entry_said version.One printed account event small fits prints = absurd printed
   entry_said version.Two printed account event small fits prints = absurd printed
@@ -250,7 +250,7 @@ module _ (reads : DecimalsAreRead) (operations : OperationsAreRead) (replies : R
       let asked = operations version.Three event.asked fits.asked prints in
       let reply = replies event.reply fits.reply in
       rw (
-        same_operation version.Three tt (decimal account) (decimal event.seat) event.asked (answer_of event.reply),
+        same_operation version.Three tt (decimal account) (decimal event.seat) event.asked (reply_fields event.reply),
         own_version version.Three event.asked,
         not_opening version.Three event.asked,
         asked.known,
@@ -266,7 +266,7 @@ module _ (reads : DecimalsAreRead) (operations : OperationsAreRead) (replies : R
       let asked = operations version.Four event.asked fits.asked prints in
       let reply = replies event.reply fits.reply in
       rw (
-        same_operation version.Four tt (decimal account) (decimal event.seat) event.asked (answer_of event.reply),
+        same_operation version.Four tt (decimal account) (decimal event.seat) event.asked (reply_fields event.reply),
         own_version version.Four event.asked,
         not_opening version.Four event.asked,
         asked.known,
@@ -286,7 +286,7 @@ module _ (reads : DecimalsAreRead) (operations : OperationsAreRead) (replies : R
     opening_at book front fits above = rw (opening_said version printed book fits, not_told book.account front above, opened_last book.account front _ above) refl
 
     entry_at : (account opening : ℕ) (until : Option ℕ) (before : List EntryData) (event : EntryData) (front : Books) → account ≤ 4294967295 → FitsEvent event
-        → Prints version event.asked → IsAbove account front
+        → PrintsWhole version event.asked → IsAbove account front
         → row_at version (front ++ (account, record { opening = opening; until = until; history = before }) ∷ []) (entry_fields version account event)
         ≡ Ok (front ++ (account, record { opening = opening; until = until; history = before ++ event ∷ [] }) ∷ [])
     unfolding row_at
@@ -305,30 +305,30 @@ module _ (reads : DecimalsAreRead) (operations : OperationsAreRead) (replies : R
         ≡ from most (number + length history) (front ++ (account, record { opening = opening; until = until; history = before ++ history }) ∷ []) rest
     entries_from most account opening until front small above [] before number rest fit prints room = rw (add-zero number, append-nil before) refl
     entries_from most account opening until front small above (event ∷ history) before number rest fit prints room =
-        let counted : (number + 1) + length history ≡ number + length (event ∷ history) = omega arith in
+        let entries_counted : (number + 1) + length history ≡ number + length (event ∷ history) = omega arith in
         let more = entries_from most account opening until front small above history (before ++ event ∷ []) (number + 1) rest (All-tail FitsEvent event history fit) prints.1 (omega arith) in
         one_row version printed most number _ _ (entry_fields version account event) (map (entry_fields version account) history ++ rest)
-        (wide version (decimal account) (decimal event.seat) (operation_of version event.asked) (answer_of event.reply) (own_version version event.asked)) (omega arith)
+        (wide version (decimal account) (decimal event.seat) (operation_of version event.asked) (reply_fields event.reply) (own_version version event.asked)) (omega arith)
         (entry_at account opening until before event front small (All-head FitsEvent event history fit) prints.0 above)
-        ∙ rw (counted, append_assoc before (event ∷ []) history) at more
+        ∙ rw (entries_counted, append_assoc before (event ∷ []) history) at more
 
     books_from : (most : ℕ) (books : List Closed) (front : Books) (number : ℕ) → AreAbove books front → IsStrictlySortedBy nat_cmp (map (λ book. book.account) books)
         → All FitsBook books → PrintsBooks version books → number + row_count books ≤ most + 2
-        → from most number front (flat_map (book_fields version) books) ≡ Ok (front ++ map told_by books)
+        → from most number front (flat_map (book_fields version) books) ≡ Ok (front ++ map account_of_book books)
     unfolding IsStrictlySortedBy rows_from
     books_from most [] front number above rising fit prints room = rw (append-nil front) refl
     books_from most (book ∷ books) front number above rising fit prints room =
         let fits : FitsBook book = All-head FitsBook book books fit in
         let rest = flat_map (book_fields version) books in
         let opened = one_row version printed most number front _ (opening_fields version book) (map (entry_fields version book.account) book.history ++ rest)
-        (wide version (decimal book.account) [] (opening_of version book.opening book.until) no_answer refl) (omega arith) (opening_at book front fits above.0) in
+        (wide version (decimal book.account) [] (opening_columns version book.opening book.until) no_answer refl) (omega arith) (opening_at book front fits above.0) in
         let entered = entries_from most book.account book.opening book.until front fits.account above.0 book.history [] (number + 1) rest fits.history prints.0 (omega arith) in
-        let others = books_from most books (front ++ told_by book ∷ []) ((number + 1) + length book.history) (all_above book books front above.1 rising.0) rising.1
+        let others = books_from most books (front ++ account_of_book book ∷ []) ((number + 1) + length book.history) (all_above book books front above.1 rising.0) rising.1
         (All-tail FitsBook book books fit) prints.1 (omega arith) in
-        opened ∙ entered ∙ rw (append_assoc front (told_by book ∷ []) (map told_by books)) at others
+        opened ∙ entered ∙ rw (append_assoc front (account_of_book book ∷ []) (map account_of_book books)) at others
 
   table_read : (version : Version) → IsPrinted version → (most : ℕ) (books : List Closed) → ArePrintable most books → PrintsBooks version books
-      → table_of (books_form most) (table_fields version books) ≡ Ok (map told_by books)
+      → table_of (books_form most) (table_fields version books) ≡ Ok (map account_of_book books)
   unfolding table_of
   table_read version.One printed most books are prints = absurd printed
   table_read version.Two printed most books are prints = absurd printed
@@ -345,8 +345,8 @@ module _ (reads : DecimalsAreRead) (operations : OperationsAreRead) (replies : R
 
     -- ---- verdicts
 
-    each_passes : (most : ℕ) (rows : List Fields) (books : List Closed) (verdicts : List Verdict) → All (λ book. IsLegal book.opening book.until book.history) books
-        → AreVerdicts most rows (map told_by books) verdicts → verdicts ≡ map (λ book. (book.account, None)) books
+    each_passes : (most : ℕ) (rows : List Fields) (books : List Closed) (verdicts : List AccountVerdict) → All (λ book. IsLegal book.opening book.until book.history) books
+        → AreVerdicts most rows (map account_of_book books) verdicts → verdicts ≡ map (λ book. (book.account, None)) books
     each_passes most rows [] [] legal are = refl
     each_passes most rows [] (verdict ∷ verdicts) legal are = absurd are
     each_passes most rows (book ∷ books) [] legal are = absurd are
@@ -360,13 +360,13 @@ module _ (reads : DecimalsAreRead) (operations : OperationsAreRead) (replies : R
     pub books_pass : PrintedBooksPass
     books_pass most steps shown books audit are legal gives =
         let rows = rows_of (book_text (version_of steps books) books) in
-        let is_audit : IsAuditOf most false shown rows (map told_by books) audit = rw (books_read most steps books are) at gives in
+        let is_audit : IsAuditOf most false shown rows (map account_of_book books) audit = rw (books_read most steps books are) at gives in
         is_audit.said ∙ ap (audited shown) (each_passes most rows books is_audit.verdicts legal is_audit.are)
 
     -- ---- their lines
 
     -- the verdicts on books that are all legal
-    abbrev yes_of : List Closed → List Verdict
+    abbrev yes_of : List Closed → List AccountVerdict
     yes_of books = map (λ book. (book.account, None)) books
 
     all_yes : (books : List Closed) → list_all (λ verdict. is_none verdict.1) (yes_of books) ≡ true
@@ -374,22 +374,22 @@ module _ (reads : DecimalsAreRead) (operations : OperationsAreRead) (replies : R
     all_yes (book ∷ books) = all_yes books
 
     each_line : (most : ℕ) (shown : Bool) (books : List Closed) → most ≤ 18446744073709551615 → row_count books ≤ most
-        → all_sum_lines shown (map told_by books) (yes_of books) ≡ flat_map account_line books
+        → all_sum_lines shown (map account_of_book books) (yes_of books) ≡ flat_map account_line books
     each_line most shown [] small few = refl
     each_line most shown (book ∷ books) small few =
-        let count : counted (length book.history) ≡ length book.history = omega (arith, small, few) in
+        let count : entries_counted (length book.history) ≡ length book.history = omega (arith, small, few) in
         rw (count, each_line most shown books small (omega (arith, few))) refl
 
-    each_call : (call : ℕ) (books : List Closed) → filter_map (line_in call) (passed (map told_by books) (yes_of books)) ≡ filter_map (line_in call) books
+    each_call : (call : ℕ) (books : List Closed) → filter_map (line_in call) (passed_books (map account_of_book books) (yes_of books)) ≡ filter_map (line_in call) books
     each_call call [] = refl
     each_call call (book ∷ books) = ap (cons_option (line_in call book)) (each_call call books)
 
     pub books_have_lines : PrintedBooksHaveTheirLines
     books_have_lines most steps shown books audit small are legal gives =
         let rows = rows_of (book_text (version_of steps books) books) in
-        let is_audit : IsAuditOf most true shown rows (map told_by books) audit = rw (books_read most steps books are) at gives in
+        let is_audit : IsAuditOf most true shown rows (map account_of_book books) audit = rw (books_read most steps books are) at gives in
         let yes = each_passes most rows books is_audit.verdicts legal is_audit.are in
-        let sums : IsSummedUp shown (map told_by books) (yes_of books) audit = rw yes at is_audit.said in (
+        let sums : IsSummedUp shown (map account_of_book books) (yes_of books) audit = rw yes at is_audit.said in (
           sums.passes ∙ all_yes books,
           record {
             lines = sums.calls;

@@ -8,20 +8,20 @@ use Rattle.account_core.specs.Events.{EntryData}
 use Rattle.account_core.specs.declared.account_sum.AccountSum.{AccountSum}
 use Rattle.account_core.specs.declared.history_check.HistoryCheck.{HistoryCheck}
 use Rattle.table_core.specs.Rows.{Fields}
-use Rattle.book_texts.specs.Audits.{AreVerdicts, IsVerdict, Verdict, all_sum_lines, book_by, counted_line, passed, sum_lines, verdict_lines}
+use Rattle.book_texts.specs.Audits.{AreVerdicts, IsVerdict, AccountVerdict, all_sum_lines, book_by, summed_line, passed_books, sum_lines, verdict_lines}
 use Rattle.book_texts.specs.Books.{Books, Told}
 use Rattle.book_texts.specs.Checks.{AreChecks, IsCheck, verdicts_of, wrong_of}
-use Rattle.book_texts.specs.RunTexts.{account_text, line_in, line_of, lines_of}
+use Rattle.book_texts.specs.RunTexts.{account_text, line_in, call_line_of, call_lines_of}
 use Rattle.book_texts.specs.declared.lines.CallLine.{CallLine}
 use Rattle.book_texts.specs.declared.wrong_row.WrongRow.{WrongRow}
 use Rattle.book_texts.proofs.CallLemmas.{calls_more}
 
 -- the verdict of an account with a check
-abbrev pub verdict_of : List (ℕ × WrongRow) → ℕ × HistoryCheck → Verdict
+abbrev pub verdict_of : List (ℕ × WrongRow) → ℕ × HistoryCheck → AccountVerdict
 verdict_of wrongs check = (check.0, wrong_of check.0 wrongs)
 
 -- all that is right is yes
-abbrev pub all_pass : List Verdict → Bool
+abbrev pub all_pass : List AccountVerdict → Bool
 all_pass verdicts = list_all (λ verdict. is_none verdict.1) verdicts
 
 cond_append : {X : Type 0} (is : Bool) (x : X) (front rest : List X) → cond is (x ∷ (front ++ rest)) (front ++ rest) ≡ cond is (x ∷ front) front ++ rest
@@ -47,8 +47,8 @@ pub record IsNext (shown : Bool) (most : ℕ) (rows : List Fields) (books : Book
   pub is_verdict : IsVerdict most rows book (verdict_of wrongs check)
   pub lines : all_sum_lines shown (take (suc i) books) (verdicts_of (take (suc i) checks) wrongs)
       ≡ all_sum_lines shown (take i books) (verdicts_of (take i checks) wrongs) ++ sum_lines shown book (verdict_of wrongs check)
-  pub passed_are : passed (take (suc i) books) (verdicts_of (take (suc i) checks) wrongs)
-      ≡ passed (take i books) (verdicts_of (take i checks) wrongs) ++ passed (book ∷ []) (verdict_of wrongs check ∷ [])
+  pub passed_are : passed_books (take (suc i) books) (verdicts_of (take (suc i) checks) wrongs)
+      ≡ passed_books (take i books) (verdicts_of (take i checks) wrongs) ++ passed_books (book ∷ []) (verdict_of wrongs check ∷ [])
   pub passes : all_pass (verdicts_of (take (suc i) checks) wrongs) ≡ all_pass (verdicts_of (take i checks) wrongs) && is_none (wrong_of check.0 wrongs)
 
 pub next_is : (shown : Bool) (most : ℕ) (rows : List Fields) (wrongs : List (ℕ × WrongRow)) (check : ℕ × HistoryCheck) (books : Books) (checks : List (ℕ × HistoryCheck)) (i : ℕ)
@@ -79,9 +79,9 @@ next_is shown most rows wrongs check (book ∷ books) (first ∷ checks) (suc i)
 -- ---- one account more
 
 -- these are the lines of the accounts, their calls, and whether each of them passes
-pub record AreSaid (shown : Bool) (books : Books) (verdicts : List Verdict) (text : List ℕ) (calls : List CallLine) (passes : Bool) : Type 0 where
+pub record AreSaid (shown : Bool) (books : Books) (verdicts : List AccountVerdict) (text : List ℕ) (calls : List CallLine) (passes : Bool) : Type 0 where
   pub lines : text ≡ all_sum_lines shown books verdicts
-  pub calls_are : (call : ℕ) → lines_of call calls ≡ filter_map (line_in call) (passed books verdicts)
+  pub calls_are : (call : ℕ) → call_lines_of call calls ≡ filter_map (line_in call) (passed_books books verdicts)
   pub passes_are : passes ≡ all_pass verdicts
 
 -- a check sums up whatever history it is of
@@ -101,7 +101,7 @@ module _ (shown : Bool) (most : ℕ) (rows : List Fields) (book : ℕ × Told) (
   a_wrong None verdict illegal = absurd (illegal verdict.1)
 
   sum_line : (sum : AccountSum) → SumsUp book.1.opening book.1.until (reverse book.1.history) (Some sum)
-      → account_text check.0 sum.opening sum.available sum.entries ≡ counted_line (book_by book)
+      → account_text check.0 sum.opening sum.available sum.entries ≡ summed_line (book_by book)
   sum_line sum (legal, is) = rw (is_check.0, is.opening_is, is.available_is, is.entries_are, length-reverse book.1.history) refl
 
 module _ (shown : Bool) (most : ℕ) (rows : List Fields) (books : Books) (checks : List (ℕ × HistoryCheck)) (wrongs : List (ℕ × WrongRow)) (i : ℕ) (check : ℕ × HistoryCheck)
@@ -115,7 +115,7 @@ module _ (shown : Bool) (most : ℕ) (rows : List Fields) (books : Books) (check
   still_passes = rw (so_far.passes_are, not_so pass (is_some wrong) pass_is, wrong_is) (sym next.passes)
 
   pub sum_more : (sum : AccountSum) → Sums check.1 (Some sum)
-      → Next (text ++ account_text check.0 sum.opening sum.available sum.entries) (calls ++ map (line_of check.0) sum.calls.items)
+      → Next (text ++ account_text check.0 sum.opening sum.available sum.entries) (calls ++ map (call_line_of check.0) sum.calls.items)
   sum_more sum sums =
       let told = next.book.1 in
       let said = sums told.opening told.until (reverse told.history) next.is_check.1 in
@@ -123,7 +123,7 @@ module _ (shown : Bool) (most : ℕ) (rows : List Fields) (books : Books) (check
       record {
         lines = rw (so_far.lines, sum_line shown most rows next.book check next.is_check sum said, next.lines, none) refl;
         calls_are = λ call. rw (next.passed_are, none, next.is_check.0)
-            (calls_more (passed (take i books) (verdicts_of (take i checks) wrongs)) (book_by next.book) calls sum.calls.items said.1.calls_are so_far.calls_are call);
+            (calls_more (passed_books (take i books) (verdicts_of (take i checks) wrongs)) (book_by next.book) calls sum.calls.items said.1.calls_are so_far.calls_are call);
         passes_are = still_passes;
       }
 
@@ -134,7 +134,7 @@ module _ (shown : Bool) (most : ℕ) (rows : List Fields) (books : Books) (check
       let some = a_wrong shown most rows next.book check next.is_check (wrong_of check.0 wrongs) next.is_verdict said in
       record {
         lines = rw (so_far.lines, wrong_is, next.lines, some) refl;
-        calls_are = λ call. rw (next.passed_are, some, append-nil (passed (take i books) (verdicts_of (take i checks) wrongs))) (so_far.calls_are call);
+        calls_are = λ call. rw (next.passed_are, some, append-nil (passed_books (take i books) (verdicts_of (take i checks) wrongs))) (so_far.calls_are call);
         passes_are = still_passes;
       }
 

@@ -12,8 +12,8 @@ use Rattle.entry_rows.specs.Versions.{version_at}
 use Rattle.table_core.specs.Rows.{Fields}
 use Rattle.table_core.specs.declared.fault.RowKind.{RowKind}
 use Rattle.table_core.proofs.TableLemmas.{table_keeps}
-use Rattle.book_texts.specs.BookRows.{Enters, Opens, Said, columns_in, said_in}
-use Rattle.book_texts.specs.Books.{Books, Told, books_form, books_of, row_at, judged, entered, opened, told_of, with_entry, with_opening}
+use Rattle.book_texts.specs.BookRows.{Enters, Opens, RowSaid, columns_in, row_said_in}
+use Rattle.book_texts.specs.Books.{Books, Told, books_form, books_of, row_at, judged_books, entered_in_books, opened, account_so_far, books_with_entry, with_opening}
 
 -- ---- one account is set
 
@@ -35,7 +35,7 @@ module _ (account : ℕ) (told : Told) (other : ℕ) where
   other_key key apart same = grind (arith, nat_tests)
 
   pub told_set : (books : Books) → IsSome (lookup (is_at (nat_cmp account)) books)
-      → lookup (is_at (nat_cmp other)) (set_value (is_at (nat_cmp account)) books told) ≡ (if other == account then Some told else told_of other books)
+      → lookup (is_at (nat_cmp other)) (set_value (is_at (nat_cmp account)) books told) ≡ (if other == account then Some told else account_so_far other books)
   told_set [] there = let never : false ≡ true = there in cc
   told_set ((key, was) ∷ books) there =
       set_at (is_at (nat_cmp account) key) (is_at (nat_cmp other) key) (other == account) key was books _ (one_key key) (other_key key) refl
@@ -87,19 +87,19 @@ opened_ascends account opening until books next None is ascend =
     let same : with_opening account opening until books ≡ next = cc in rw (← same) (inserted account _ 0 books (omega arith) ascend)
 opened_ascends account opening until books next (Some told) is ascend = cc
 
-entered_ascends : (account : ℕ) (event : EntryData) (books next : Books) (found : Option Told) → entered account event books found ≡ Ok next → Ascend 0 books → Ascend 0 next
+entered_ascends : (account : ℕ) (event : EntryData) (books next : Books) (found : Option Told) → entered_in_books account event books found ≡ Ok next → Ascend 0 books → Ascend 0 next
 entered_ascends account event books next None is ascend = cc
 entered_ascends account event books next (Some told) is ascend =
-    let same : with_entry account told event books ≡ next = cc in rw (← same) (set_ascends account _ 0 books ascend)
+    let same : books_with_entry account told event books ≡ next = cc in rw (← same) (set_ascends account _ 0 books ascend)
 
-judged_ascends : (books next : Books) (said : Result Said RowKind) → Rattle.table_core.specs.Judging.after said (judged books) ≡ Ok next → Ascend 0 books → Ascend 0 next
-judged_ascends books next (Ok (Opens account opening until)) is ascend = opened_ascends account opening until books next (told_of account books) is ascend
-judged_ascends books next (Ok (Enters account event)) is ascend = entered_ascends account event books next (told_of account books) is ascend
+judged_ascends : (books next : Books) (said : Result RowSaid RowKind) → Rattle.table_core.specs.Judging.after said (judged_books books) ≡ Ok next → Ascend 0 books → Ascend 0 next
+judged_ascends books next (Ok (Opens account opening until)) is ascend = opened_ascends account opening until books next (account_so_far account books) is ascend
+judged_ascends books next (Ok (Enters account event)) is ascend = entered_ascends account event books next (account_so_far account books) is ascend
 judged_ascends books next (Err why) is ascend = cc
 
 row_ascends : (header : ℕ) (books next : Books) (fields : Fields) → row_at (version_at header) books fields ≡ Ok next → Ascend 0 books → Ascend 0 next
 unfolding row_at
-row_ascends header books next fields is ascend = judged_ascends books next (said_in (columns_in (version_at header) fields)) is ascend
+row_ascends header books next fields is ascend = judged_ascends books next (row_said_in (columns_in (version_at header) fields)) is ascend
 
 pub books_ascend : (most : ℕ) (rows : List Fields) (books : Books) → books_of most rows ≡ Ok books → Ascend 0 books
 books_ascend most rows books is = table_keeps (books_form most) (Ascend 0) row_ascends rows books tt is
@@ -115,7 +115,7 @@ at_itself number = grind (arith, nat_tests)
 -- each book is found in all of them
 abbrev pub AreFoundIn : Books → Books → Type 0
 AreFoundIn all [] = Unit {0}
-AreFoundIn all (book ∷ books) = (told_of book.0 all ≡ Some book.1) × AreFoundIn all books
+AreFoundIn all (book ∷ books) = (account_so_far book.0 all ≡ Some book.1) × AreFoundIn all books
 
 found_later : (least key : ℕ) (was : Told) (books some : Books) → key + 1 ≤ least → Ascend least some → AreFoundIn books some → AreFoundIn ((key, was) ∷ books) some
 found_later least key was books [] above ascend found = tt

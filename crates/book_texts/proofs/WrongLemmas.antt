@@ -5,14 +5,14 @@ use Rattle.std.proofs.lemmas.List.{append_assoc, reverse-append}
 use Rattle.std.specs.Prelude.{◌==◌, if◌then◌else◌}
 use Rattle.account_core.specs.Answers.{IsAnswered, IsLegal, IsLegalPast, answer}
 use Rattle.account_core.specs.Events.{EntryData}
-use Rattle.account_core.specs.Wrong.{IsWrong, told as told_after, told_by}
+use Rattle.account_core.specs.Wrong.{IsWrong, response as told_after, reply_or_fault}
 use Rattle.account_core.specs.declared.entry.Reply.{Reply}
 use Rattle.account_core.specs.declared.fault.AccountFault.{AccountFault}
 use Rattle.table_core.specs.Rows.{Fields}
 use Rattle.rising_map.proofs.RisingLemmas.{looked_up_at}
 use Rattle.book_texts.specs.Audits.{HasVerdict}
-use Rattle.book_texts.specs.Books.{Books, Told, books_of, told_of, with_entry, with_opening}
-use Rattle.book_texts.specs.Checks.{AreRight, IsRight, Notes, wrong_of}
+use Rattle.book_texts.specs.Books.{Books, Told, books_of, account_so_far, books_with_entry, with_opening}
+use Rattle.book_texts.specs.Checks.{HaveVerdicts, HasItsVerdict, NotesEntry, wrong_of}
 use Rattle.book_texts.specs.Wrongs.{IsWrongRow}
 use Rattle.book_texts.specs.declared.wrong_row.WrongRow.{WrongRow}
 use Rattle.book_texts.proofs.ToldLemmas.{told_set}
@@ -34,7 +34,7 @@ module _ (told : Told) (event : EntryData) where
 
   told_right : IsAnswered told.opening told.until (reverse told.history) event → told_after told.opening told.until (reverse told.history) event.asked ≡ Ok event.reply
   told_right answered =
-      ap (λ refused. told_by refused (answer told.opening told.until (reverse told.history) event.asked)) answered.admissible ∙ ap Ok (sym answered.answered)
+      ap (λ refused. reply_or_fault refused (answer told.opening told.until (reverse told.history) event.asked)) answered.admissible ∙ ap Ok (sym answered.answered)
 
   not_legal : (right : Result Reply AccountFault) → IsWrong told.opening told.until (reverse told.history) event right
       → IsLegal told.opening told.until (told.history ++ event ∷ []) → ⊥
@@ -63,13 +63,13 @@ module _ (most : ℕ) (rows : List Fields) (more : Fields) where
   verdict_kept account told None legal = legal
   verdict_kept account told (Some wrong) (not, row) = (not, row_kept account wrong row)
 
-  right_kept : (account : ℕ) (told : Option Told) (wrong : Option WrongRow) → IsRight most rows account told wrong → IsRight most (rows ++ more ∷ []) account told wrong
+  right_kept : (account : ℕ) (told : Option Told) (wrong : Option WrongRow) → HasItsVerdict most rows account told wrong → HasItsVerdict most (rows ++ more ∷ []) account told wrong
   right_kept account None wrong none = none
   right_kept account (Some told) wrong has = verdict_kept account told wrong has
 
   -- an account that opens has no wrong row
-  opens_right : (account : ℕ) (found : Option Told) (wrong : Option WrongRow) (told : Told) → told.history ≡ [] → found ≡ None → IsRight most rows account found wrong
-      → IsRight most (rows ++ more ∷ []) account (Some told) wrong
+  opens_right : (account : ℕ) (found : Option Told) (wrong : Option WrongRow) (told : Told) → told.history ≡ [] → found ≡ None → HasItsVerdict most rows account found wrong
+      → HasItsVerdict most (rows ++ more ∷ []) account (Some told) wrong
   opens_right account None wrong told empty none is = rw (is, empty) tt
   opens_right account (Some other) wrong told empty none is = cc
 
@@ -77,21 +77,21 @@ module _ (most : ℕ) (rows : List Fields) (more : Fields) where
   same_number one other same = grind (arith, nat_tests)
 
   opened_at : (same : Bool) (account other : ℕ) (told : Told) (found : Option Told) (wrong : Option WrongRow) → told.history ≡ [] → (same ≡ true → found ≡ None)
-      → IsRight most rows other found wrong → IsRight most (rows ++ more ∷ []) other (if same then Some told else found) wrong
+      → HasItsVerdict most rows other found wrong → HasItsVerdict most (rows ++ more ∷ []) other (if same then Some told else found) wrong
   opened_at true account other told found wrong empty none is = opens_right other found wrong told empty (none refl) is
   opened_at false account other told found wrong empty none is = right_kept other found wrong is
 
-  pub opening_right : (account opening : ℕ) (until : Option ℕ) (books : Books) (wrongs : List (ℕ × WrongRow)) → told_of account books ≡ None → AreRight most rows books wrongs
-      → AreRight most (rows ++ more ∷ []) (with_opening account opening until books) wrongs
+  pub opening_right : (account opening : ℕ) (until : Option ℕ) (books : Books) (wrongs : List (ℕ × WrongRow)) → account_so_far account books ≡ None → HaveVerdicts most rows books wrongs
+      → HaveVerdicts most (rows ++ more ∷ []) (with_opening account opening until books) wrongs
   opening_right account opening until books wrongs none are = λ other.
       let told : Told = record { opening = opening; until = until; history = [] } in
       rw (looked_up_at account told other books)
-      (opened_at (other == account) account other told (told_of other books) (wrong_of other wrongs) refl
+      (opened_at (other == account) account other told (account_so_far other books) (wrong_of other wrongs) refl
       (λ same. rw (same_number other account same) none) (are other))
 
   -- ---- an entry
 
-  module _ (account : ℕ) (books : Books) (told : Told) (event : EntryData) (found : told_of account books ≡ Some told) where
+  module _ (account : ℕ) (books : Books) (told : Told) (event : EntryData) (found : account_so_far account books ≡ Some told) where
     entered_legal : (wrong : Option WrongRow) → (IsLegal told.opening told.until told.history → IsAnswered told.opening told.until (reverse told.history) event)
         → HasVerdict most rows account told wrong → HasVerdict most (rows ++ more ∷ []) account (with_event told event) wrong
     entered_legal None answers legal = still_legal told event legal (answers legal)
@@ -99,24 +99,24 @@ module _ (most : ℕ) (rows : List Fields) (more : Fields) where
 
     entered_at : (same : Bool) (other : ℕ) (wrong : Option WrongRow) → (same ≡ true → other ≡ account)
         → (IsLegal told.opening told.until told.history → IsAnswered told.opening told.until (reverse told.history) event)
-        → IsRight most rows other (told_of other books) wrong
-        → IsRight most (rows ++ more ∷ []) other (if same then Some (with_event told event) else told_of other books) wrong
+        → HasItsVerdict most rows other (account_so_far other books) wrong
+        → HasItsVerdict most (rows ++ more ∷ []) other (if same then Some (with_event told event) else account_so_far other books) wrong
     entered_at true other wrong one answers is =
-        let H : Option Told → Type 0 = λ t. IsRight most rows account t wrong in
+        let H : Option Told → Type 0 = λ t. HasItsVerdict most rows account t wrong in
         let here = subst H found (rw (one refl) at is) in
         rw (one refl) (entered_legal wrong answers here)
-    entered_at false other wrong one answers is = right_kept other (told_of other books) wrong is
+    entered_at false other wrong one answers is = right_kept other (account_so_far other books) wrong is
 
     noted_at : (same : Bool) (other : ℕ) (old : Option WrongRow) (wrong : WrongRow) → (same ≡ true → other ≡ account)
         → HasVerdict most (rows ++ more ∷ []) account (with_event told event) (Some wrong)
-        → IsRight most rows other (told_of other books) old
-        → IsRight most (rows ++ more ∷ []) other (if same then Some (with_event told event) else told_of other books) (if same then Some wrong else old)
+        → HasItsVerdict most rows other (account_so_far other books) old
+        → HasItsVerdict most (rows ++ more ∷ []) other (if same then Some (with_event told event) else account_so_far other books) (if same then Some wrong else old)
     noted_at true other old wrong one has is = rw (one refl) has
-    noted_at false other old wrong one has is = right_kept other (told_of other books) old is
+    noted_at false other old wrong one has is = right_kept other (account_so_far other books) old is
 
     pub entry_right : (number : ℕ) (before after : List (ℕ × WrongRow)) → number ≡ length rows + 1 → books_of most rows ≡ Ok books
-        → books_of most (rows ++ more ∷ []) ≡ Ok (with_entry account told event books) → Notes number account told event before after → AreRight most rows books before
-        → AreRight most (rows ++ more ∷ []) (with_entry account told event books) after
+        → books_of most (rows ++ more ∷ []) ≡ Ok (books_with_entry account told event books) → NotesEntry number account told event before after → HaveVerdicts most rows books before
+        → HaveVerdicts most (rows ++ more ∷ []) (books_with_entry account told event books) after
     entry_right number before after number_is so_far now (inl (answers, same)) are = λ other.
         rw (told_set account (with_event told event) other books (rw found refl), same)
         (entered_at (other == account) other (wrong_of other before) (same_number other account) answers (are other))

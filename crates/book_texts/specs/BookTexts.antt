@@ -6,34 +6,34 @@ use Rattle.account_core.specs.Asked.{Asked, Reserves}
 use Rattle.account_core.specs.Events.{EntryData}
 use Rattle.tariff_core.specs.Rates.{has_steps}
 use Rattle.shared_account.specs.Closed.{Closed}
-use Rattle.entry_rows.specs.Columns.{Answer, Operation, answer_of, answer_text, field, no_answer, opening_of, operation_of, operation_text}
+use Rattle.entry_rows.specs.Columns.{Answer, Operation, reply_fields, answer_text, field, no_answer, opening_columns, operation_of, operation_text}
 use Rattle.entry_rows.specs.declared.version.Version.{Version}
 use Rattle.entry_rows.specs.declared.version.Version.TheVariants as version
 
 -- a row: the account's number, the seat, what was asked and what was answered
-abbrev pub row : ℕ → List ℕ → Operation → Answer → List ℕ
-row account seat operation answer = field (decimal account) (field seat (operation_text operation ++ answer_text answer))
+abbrev pub book_row : ℕ → List ℕ → Operation → Answer → List ℕ
+book_row account seat operation answer = field (decimal account) (field seat (operation_text operation ++ answer_text answer))
 
 -- the row that opens an account
 abbrev pub opening_row : Version → Closed → List ℕ
-opening_row version book = row book.account [] (opening_of version book.opening book.until) no_answer
+opening_row version book = book_row book.account [] (opening_columns version book.opening book.until) no_answer
 
 -- the row of an entry
 abbrev pub entry_row : Version → ℕ → EntryData → List ℕ
-entry_row version account event = row account (decimal event.seat) (operation_of version event.asked) (answer_of event.reply)
+entry_row version account event = book_row account (decimal event.seat) (operation_of version event.asked) (reply_fields event.reply)
 
 -- the opening of a book, and its entries
 abbrev pub book_rows : Version → Closed → List ℕ
 book_rows version book = opening_row version book ++ flat_map (entry_row version book.account) book.history
 
 -- the header of a table of books
-abbrev pub header : Version → List ℕ
-header version.Four = codes "account,seat,op,call,x1,x2,x3,x4,x5,x6,x7,x8,x9,reply,y1,y2,y3\n"
-header version = codes "account,seat,op,call,x1,x2,x3,x4,x5,x6,x7,reply,y1,y2,y3\n"
+abbrev pub book_header : Version → List ℕ
+book_header version.Four = codes "account,seat,op,call,x1,x2,x3,x4,x5,x6,x7,x8,x9,reply,y1,y2,y3\n"
+book_header version = codes "account,seat,op,call,x1,x2,x3,x4,x5,x6,x7,reply,y1,y2,y3\n"
 
 -- the table of books in version 3 or 4: a header, and the rows of each book in order
 unfoldable pub book_text : Version → List Closed → List ℕ
-book_text version books = header version ++ flat_map (book_rows version) books
+book_text version books = book_header version ++ flat_map (book_rows version) books
 
 -- whether an operation bills in steps: a Reserve whose plan does
 abbrev pub asks_steps : Asked → Bool

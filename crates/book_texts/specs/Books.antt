@@ -6,12 +6,12 @@ use Rattle.std.specs.Ordering.{nat_cmp}
 use Rattle.account_core.specs.Events.{EntryData}
 use Rattle.entry_rows.specs.Versions.{version_at}
 use Rattle.entry_rows.specs.declared.version.Version.{Version}
-use Rattle.table_core.specs.Judging.{after}
+use Rattle.table_core.specs.Judging.{and_then}
 use Rattle.table_core.specs.Tables.{TableForm, table_form, table_of}
 use Rattle.table_core.specs.declared.fault.RowFault.{RowFault}
 use Rattle.table_core.specs.declared.fault.RowKind.{RowKind}
 use Rattle.table_core.specs.declared.fault.RowKind.TheVariants as kind
-use Rattle.book_texts.specs.BookRows.{Enters, Opens, Said, columns_in, said_in}
+use Rattle.book_texts.specs.BookRows.{Enters, Opens, RowSaid, columns_in, row_said_in}
 
 -- the opening credit of an account, its last moment, if it has one, and its entries, oldest first
 pub record Told : Type 0 where
@@ -24,16 +24,16 @@ abbrev pub Books : Type 0
 Books = List (ℕ × Told)
 
 -- what was told of an account so far
-abbrev pub told_of : ℕ → Books → Option Told
-told_of account books = lookup (is_at (nat_cmp account)) books
+abbrev pub account_so_far : ℕ → Books → Option Told
+account_so_far account books = lookup (is_at (nat_cmp account)) books
 
 -- the books with one account more
 abbrev pub with_opening : ℕ → ℕ → Option ℕ → Books → Books
 with_opening account opening until books = insert_entry nat_cmp books account (record { opening = opening; until = until; history = [] })
 
 -- the books with one entry more of an account
-abbrev pub with_entry : ℕ → Told → EntryData → Books → Books
-with_entry account told event books = set_value (is_at (nat_cmp account)) books (record told { history = told.history ++ event ∷ [] })
+abbrev pub books_with_entry : ℕ → Told → EntryData → Books → Books
+books_with_entry account told event books = set_value (is_at (nat_cmp account)) books (record told { history = told.history ++ event ∷ [] })
 
 -- an account opens once
 abbrev pub opened : ℕ → ℕ → Option ℕ → Books → Option Told → Result Books RowKind
@@ -41,22 +41,22 @@ opened account opening until books None = Ok (with_opening account opening until
 opened account opening until books (Some told) = Err kind.Repeated
 
 -- and has entries after that
-abbrev pub entered : ℕ → EntryData → Books → Option Told → Result Books RowKind
-entered account event books None = Err kind.Unknown
-entered account event books (Some told) = Ok (with_entry account told event books)
+abbrev pub entered_in_books : ℕ → EntryData → Books → Option Told → Result Books RowKind
+entered_in_books account event books None = Err kind.Unknown
+entered_in_books account event books (Some told) = Ok (books_with_entry account told event books)
 
 -- the books after a row that says this
-abbrev pub judged : Books → Said → Result Books RowKind
-judged books (Opens account opening until) = opened account opening until books (told_of account books)
-judged books (Enters account event) = entered account event books (told_of account books)
+abbrev pub judged_books : Books → RowSaid → Result Books RowKind
+judged_books books (Opens account opening until) = opened account opening until books (account_so_far account books)
+judged_books books (Enters account event) = entered_in_books account event books (account_so_far account books)
 
 -- the books after a row of a table of this version
 unfoldable pub row_at : Version → Books → List (List ℕ) → Result Books RowKind
-row_at version books fields = after (said_in (columns_in version fields)) (judged books)
+row_at version books fields = and_then (row_said_in (columns_in version fields)) (judged_books books)
 
 -- `account,seat,op,call,x1,x2,x3,x4,x5,reply,y1,y2,y3`: version 1
-abbrev pub first_header : List (List ℕ)
-first_header =
+abbrev pub first_book_header : List (List ℕ)
+first_book_header =
     codes "account" ∷ codes "seat" ∷ codes "op" ∷ codes "call" ∷ codes "x1" ∷ codes "x2" ∷ codes "x3" ∷ codes "x4" ∷ codes "x5"
     ∷ codes "reply" ∷ codes "y1" ∷ codes "y2" ∷ codes "y3" ∷ []
 
@@ -80,7 +80,7 @@ fourth_header =
 
 -- the headers of all versions, the oldest first
 abbrev pub books_headers : List (List (List ℕ))
-books_headers = first_header ∷ second_header ∷ third_header ∷ fourth_header ∷ []
+books_headers = first_book_header ∷ second_header ∷ third_header ∷ fourth_header ∷ []
 
 -- at most so many rows; each says something of an account
 abbrev pub books_form : ℕ → TableForm Books RowKind RowFault

@@ -12,14 +12,14 @@ use Rattle.account_core.specs.declared.entry.Reply.{Reply}
 use Rattle.account_core.specs.declared.fault.AccountFault.{AccountFault}
 use Rattle.account_core.specs.declared.history_check.HistoryCheck.{HistoryCheck}
 use Rattle.rising_map.specs.Rising.{AreRising}
-use Rattle.table_core.specs.Faults.{Refuses}
+use Rattle.table_core.specs.Faults.{RefusesTable}
 use Rattle.table_core.specs.Rows.{Fields}
 use Rattle.table_core.specs.declared.fault.RowFault.{RowFault}
 use Rattle.table_core.specs.declared.fault.RowKind.{RowKind}
 use Rattle.table_core.specs.declared.fault.TableFault.{TableFault}
-use Rattle.book_texts.specs.Audits.{Audited, HasVerdict, Verdict}
-use Rattle.book_texts.specs.BookRows.{Enters, Said}
-use Rattle.book_texts.specs.Books.{Books, Told, told_of}
+use Rattle.book_texts.specs.Audits.{Audited, HasVerdict, AccountVerdict}
+use Rattle.book_texts.specs.BookRows.{Enters, RowSaid}
+use Rattle.book_texts.specs.Books.{Books, Told, account_so_far}
 use Rattle.book_texts.specs.declared.account_checks.AccountChecks.{AccountChecks}
 use Rattle.book_texts.specs.declared.account_checks.AccountChecks.TheVariants.{Rising, Mixed}
 use Rattle.book_texts.specs.declared.audit.Audit.{Audit}
@@ -35,9 +35,9 @@ abbrev pub AreChecks : Books → List (ℕ × HistoryCheck) → Type 0
 AreChecks books checks = AllZip IsCheck books checks
 
 -- each account with its check, by rising number
-abbrev pub entries_of : AccountChecks → List (ℕ × HistoryCheck)
-entries_of (Rising list) = list.items
-entries_of (Mixed map) = map.entries
+abbrev pub checks_by_account : AccountChecks → List (ℕ × HistoryCheck)
+checks_by_account (Rising list) = list.items
+checks_by_account (Mixed map) = map.entries
 
 -- the accounts of a list rise; a map keeps its order itself
 abbrev pub IsOrdered : AccountChecks → Type 0
@@ -46,7 +46,7 @@ IsOrdered (Mixed map) = ⊤
 
 -- each account has its check, in order
 abbrev pub HaveChecks : Books → AccountChecks → Type 0
-HaveChecks books checks = AreChecks books (entries_of checks) × IsOrdered checks
+HaveChecks books checks = AreChecks books (checks_by_account checks) × IsOrdered checks
 
 -- a row is refused where its meaning is that fault, and the checks are still those of the books before it; else they are those of the books after it
 abbrev pub ListComes : Books → Option RowKind → Result Books RowKind → List (ℕ × HistoryCheck) → Type 0
@@ -80,41 +80,41 @@ abbrev pub wrong_of : ℕ → List (ℕ × WrongRow) → Option WrongRow
 wrong_of account wrongs = lookup (is_at (nat_cmp account)) wrongs
 
 -- what is told of an account, if it is open, has its verdict by the rows so far
-abbrev pub IsRight : ℕ → List Fields → ℕ → Option Told → Option WrongRow → Type 0
-IsRight most rows account None wrong = wrong ≡ None
-IsRight most rows account (Some told) wrong = HasVerdict most rows account told wrong
+abbrev pub HasItsVerdict : ℕ → List Fields → ℕ → Option Told → Option WrongRow → Type 0
+HasItsVerdict most rows account None wrong = wrong ≡ None
+HasItsVerdict most rows account (Some told) wrong = HasVerdict most rows account told wrong
 
 -- each account has its verdict by these rows
-abbrev pub AreRight : ℕ → List Fields → Books → List (ℕ × WrongRow) → Type 0
-AreRight most rows books wrongs = (account : ℕ) → IsRight most rows account (told_of account books) (wrong_of account wrongs)
+abbrev pub HaveVerdicts : ℕ → List Fields → Books → List (ℕ × WrongRow) → Type 0
+HaveVerdicts most rows books wrongs = (account : ℕ) → HasItsVerdict most rows account (account_so_far account books) (wrong_of account wrongs)
 
 -- an entry of an account in the row of a number adds itself to the wrong rows, where it is the first that is wrong
-abbrev pub Notes : ℕ → ℕ → Told → EntryData → List (ℕ × WrongRow) → List (ℕ × WrongRow) → Type 0
-Notes number account told event before after =
+abbrev pub NotesEntry : ℕ → ℕ → Told → EntryData → List (ℕ × WrongRow) → List (ℕ × WrongRow) → Type 0
+NotesEntry number account told event before after =
     ((IsLegal told.opening told.until told.history → IsAnswered told.opening told.until (reverse told.history) event) × (after ≡ before))
     ⊎ ((wrong : WrongRow) × (wrong.row ≡ number) × (entry_data wrong.entry ≡ event) × HearsBy told event (Some wrong.right) × (after ≡ insert_entry nat_cmp before account wrong))
 
 -- what a row says is noted so: an opening adds nothing
-abbrev pub AreNoted : ℕ → Books → Result Said RowKind → List (ℕ × WrongRow) → List (ℕ × WrongRow) → Type 0
-AreNoted number books (Ok (Enters account event)) before after = (told : Told) → told_of account books ≡ Some told → Notes number account told event before after
+abbrev pub AreNoted : ℕ → Books → Result RowSaid RowKind → List (ℕ × WrongRow) → List (ℕ × WrongRow) → Type 0
+AreNoted number books (Ok (Enters account event)) before after = (told : Told) → account_so_far account books ≡ Some told → NotesEntry number account told event before after
 AreNoted number books said before after = after ≡ before
 
 -- ---- all of a table
 
 -- the verdict on each account that has a check
-abbrev pub verdicts_of : List (ℕ × HistoryCheck) → List (ℕ × WrongRow) → List Verdict
+abbrev pub verdicts_of : List (ℕ × HistoryCheck) → List (ℕ × WrongRow) → List AccountVerdict
 verdicts_of checks wrongs = map (λ check. (check.0, wrong_of check.0 wrongs)) checks
 
 -- the checks and the wrong rows are those of the table's books
-pub record AreOf (most : ℕ) (rows : List Fields) (books : Books) (checked : Checked) : Type 0 where
+pub record AreChecksOf (most : ℕ) (rows : List Fields) (books : Books) (checked : Checked) : Type 0 where
   pub checks : AreChecks books checked.checks.items
-  pub wrongs : AreRight most rows books checked.wrongs
+  pub wrongs : HaveVerdicts most rows books checked.wrongs
 
 -- an answer is the checks of the table's books, or the table's fault
 abbrev pub GivesChecks : ℕ → List Fields → Result Checked TableFault → Result Books RowFault → Type 0
-GivesChecks most rows (Ok checked) (Ok books) = AreOf most rows books checked
+GivesChecks most rows (Ok checked) (Ok books) = AreChecksOf most rows books checked
 GivesChecks most rows (Ok checked) (Err why) = ⊥
-GivesChecks most rows (Err fault) meaning = Refuses fault meaning
+GivesChecks most rows (Err fault) meaning = RefusesTable fault meaning
 
 -- what an audit of the code says
 abbrev pub audited_by : Audit → Audited

@@ -7,7 +7,7 @@ use Rattle.table_core.specs.Rows.{rows_of}
 use Rattle.book_texts.specs.Audits.{Audited, GivesAudit, audited}
 use Rattle.book_texts.specs.BookTexts.{book_text, version_of}
 use Rattle.book_texts.specs.Books.{books_of}
-use Rattle.book_texts.specs.Printable.{ArePrintable, told_by}
+use Rattle.book_texts.specs.Printable.{ArePrintable, account_of_book}
 use Rattle.book_texts.specs.RunTexts.{IsRunText}
 
 -- of books there is no more than one text
@@ -17,7 +17,7 @@ BooksHaveOneText = (books : List Closed) (one other : List ℕ) → IsRunText bo
 -- the table that is printed of books is read back to the opening and the history of each
 abbrev pub BooksAreRead : Type 0
 BooksAreRead =
-    (most : ℕ) (steps : Bool) (books : List Closed) → ArePrintable most books → books_of most (rows_of (book_text (version_of steps books) books)) ≡ Ok (map told_by books)
+    (most : ℕ) (steps : Bool) (books : List Closed) → ArePrintable most books → books_of most (rows_of (book_text (version_of steps books) books)) ≡ Ok (map account_of_book books)
 
 -- where their histories are legal, an audit of that table says yes for each
 abbrev pub PrintedBooksPass : Type 0

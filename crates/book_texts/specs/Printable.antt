@@ -26,5 +26,5 @@ pub record ArePrintable (most : ℕ) (books : List Closed) : Type 0 where
   pub room : row_count books ≤ most
 
 -- what is told of the account of a book
-abbrev pub told_by : Closed → ℕ × Told
-told_by book = (book.account, record { opening = book.opening; until = book.until; history = book.history })
+abbrev pub account_of_book : Closed → ℕ × Told
+account_of_book book = (book.account, record { opening = book.opening; until = book.until; history = book.history })

@@ -4,8 +4,8 @@ ghost use Rattle.std.specs.Prelude.{◌≡◌, ◌≤◌, ℕ, Option, [], IfOk,
 ghost use Rattle.std.specs.Result.{result_err};
 ghost use Rattle.account_core.specs.Checked.{IsCheckOf};
 ghost use Rattle.account_core.specs.Events.{entry_data};
-ghost use Rattle.book_texts.specs.Books.{Books, entered, opened, told_of};
-ghost use Rattle.book_texts.specs.Checks.{AreChecks, Comes, HaveChecks, IsHeard, ListComes, entries_of};
+ghost use Rattle.book_texts.specs.Books.{Books, entered_in_books, opened, account_so_far};
+ghost use Rattle.book_texts.specs.Checks.{AreChecks, Comes, HaveChecks, IsHeard, ListComes, checks_by_account};
 ghost use Rattle.rising_map.specs.Rising.{AreRising};
 
 use account_core::{AccountFault, Entry, HistoryCheck, Reply};
@@ -49,7 +49,7 @@ impl AccountChecks {
         requires small { opening ≤ MAX_MONEY }
         requires have { (books : Books) × HaveChecks books self.old }
         ensures { IfOk result (λ refused. (books : Books) → HaveChecks books self.old
-            → Comes books refused (opened account opening until books (told_of account books))
+            → Comes books refused (opened account opening until books (account_so_far account books))
             self.new) }
     {
         let account = u64::from(account);
@@ -75,10 +75,10 @@ impl AccountChecks {
     pub fn enter(&mut self, account: u32, entry: Entry) -> Result<Heard, AllocError>
         requires { (books : Books) × HaveChecks books self.old }
         ensures comes { IfOk result (λ heard. (books : Books) → HaveChecks books self.old
-            → Comes books (result_err heard) (entered account (entry_data entry) books
-            (told_of account books)) self.new) }
+            → Comes books (result_err heard) (entered_in_books account (entry_data entry) books
+            (account_so_far account books)) self.new) }
         ensures heard { IfOk result (λ heard. (books : Books) → HaveChecks books self.old
-            → IsHeard (told_of account books) (entry_data entry) heard) }
+            → IsHeard (account_so_far account books) (entry_data entry) heard) }
     {
         let account = u64::from(account);
         match self {
@@ -89,7 +89,7 @@ impl AccountChecks {
 
     /// Each account with its check, by rising number.
     pub fn into_list(self, alloc: Global) -> Result<Vec<(u64, HistoryCheck)>, AllocError>
-        ensures { IfOk result (λ list. list.items ≡ entries_of self) }
+        ensures { IfOk result (λ list. list.items ≡ checks_by_account self) }
     {
         match self {
             AccountChecks::Rising(list) => Ok(list),
@@ -108,10 +108,10 @@ fn enter_list(
     requires rising { AreRising list.old.items }
     requires are { (books : Books) × AreChecks books list.old.items }
     ensures comes { IfOk result (λ heard. (books : Books) → AreChecks books list.old.items
-        → ListComes books (result_err heard) (entered account (entry_data entry) books
-        (told_of account books)) list.new.items) }
+        → ListComes books (result_err heard) (entered_in_books account (entry_data entry) books
+        (account_so_far account books)) list.new.items) }
     ensures heard { IfOk result (λ heard. (books : Books) → AreChecks books list.old.items
-        → IsHeard (told_of account books) (entry_data entry) heard) }
+        → IsHeard (account_so_far account books) (entry_data entry) heard) }
     ensures rising { OnOk result (AreRising list.new.items) }
 {
     let Some(place) = place_of(list.as_slice(), account) else {
@@ -128,10 +128,10 @@ fn enter_map(
 ) -> Result<Heard, AllocError>
     requires { (books : Books) × AreChecks books map.old.entries }
     ensures comes { IfOk result (λ heard. (books : Books) → AreChecks books map.old.entries
-        → ListComes books (result_err heard) (entered account (entry_data entry) books
-        (told_of account books)) map.new.entries) }
+        → ListComes books (result_err heard) (entered_in_books account (entry_data entry) books
+        (account_so_far account books)) map.new.entries) }
     ensures heard { IfOk result (λ heard. (books : Books) → AreChecks books map.old.entries
-        → IsHeard (told_of account books) (entry_data entry) heard) }
+        → IsHeard (account_so_far account books) (entry_data entry) heard) }
 {
     let Some(check) = map.get_mut(&account) else {
         return Ok(Err(RowKind::Unknown));
@@ -147,7 +147,7 @@ fn open_in(
 ) -> Result<Option<RowKind>, AllocError>
     ensures { IfOk result (λ refused. (books : Books) (opening : ℕ) (until : Option ℕ)
         → AreChecks books map.old.entries → IsCheckOf opening until [] check
-        → ListComes books refused (opened account opening until books (told_of account books))
+        → ListComes books refused (opened account opening until books (account_so_far account books))
         map.new.entries) }
 {
     if map.contains_key(&account) {

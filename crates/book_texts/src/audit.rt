@@ -3,11 +3,11 @@
 ghost use Rattle.std.specs.Prelude.{◌≡◌, ◌++◌, ℕ, List, IfOk, IfSome, Ok, OnOk, map, string_bytes};
 ghost use Rattle.std.specs.Result.{result_map_both};
 ghost use Rattle.account_core.specs.Events.{entry_data};
-ghost use Rattle.book_texts.specs.Audits.{AreVerdicts, GivesAudit, IsSummedUp, audited, verdict_lines, word_of};
-ghost use Rattle.book_texts.specs.BookRows.{Enters, HasColumns, columns_in, said_in};
-ghost use Rattle.book_texts.specs.Books.{Books, books_of, entered, row_at, told_of};
+ghost use Rattle.book_texts.specs.Audits.{AreVerdicts, GivesAudit, IsSummedUp, audited, verdict_lines, yes_or_no};
+ghost use Rattle.book_texts.specs.BookRows.{Enters, HasBookColumns, columns_in, row_said_in};
+ghost use Rattle.book_texts.specs.Books.{Books, books_of, entered_in_books, row_at, account_so_far};
 ghost use Rattle.book_texts.specs.Checks.{AreChecks, AreNoted, Comes, GivesChecks, HaveChecks, audited_by, verdicts_of};
-ghost use Rattle.book_texts.specs.RunTexts.{account_text, line_of};
+ghost use Rattle.book_texts.specs.RunTexts.{account_text, call_line_of};
 ghost use Rattle.book_texts.specs.Sizes.{most_rows};
 ghost use Rattle.csv.specs.Records.{fields_of};
 ghost use Rattle.table_core.specs.Rows.{Fields, rows_of};
@@ -98,7 +98,7 @@ fn write_sum(
     ensures line { OnOk result (string_bytes lines.new ≡ string_bytes lines.old
         ++ account_text account sum.now.opening sum.now.available sum.now.entries) }
     ensures calls { OnOk result (calls.new.items
-        ≡ calls.old.items ++ map (line_of account) sum.now.calls.items) }
+        ≡ calls.old.items ++ map (call_line_of account) sum.now.calls.items) }
 {
     write_account(lines, account, sum.opening, sum.available, sum.entries)?;
     add_calls(calls, account, sum.calls.as_slice())
@@ -139,7 +139,7 @@ fn write_verdict(
 }
 
 fn word(legal: bool) -> &'static str
-    ensures { result.now ≡ word_of legal }
+    ensures { result.now ≡ yes_or_no legal }
 {
     if legal { "yes" } else { "no" }
 }
@@ -214,12 +214,12 @@ fn take_row(
     version: Version,
     number: u32,
 ) -> Result<Option<RowKind>, AllocError>
-    requires fields { HasColumns version (fields_of row.now) }
+    requires fields { HasBookColumns version (fields_of row.now) }
     requires have { (books : Books) × HaveChecks books checks.old }
     ensures comes { IfOk result (λ refused. (books : Books) → HaveChecks books checks.old
         → Comes books refused (row_at version books (fields_of row.now)) checks.new) }
     ensures noted { IfOk result (λ refused. (books : Books) → HaveChecks books checks.old
-        → AreNoted number books (said_in (columns_in version (fields_of row.now)))
+        → AreNoted number books (row_said_in (columns_in version (fields_of row.now)))
         wrongs.old wrongs.new) }
 {
     match read_row(row, version) {
@@ -245,7 +245,7 @@ fn enter(
 ) -> Result<Option<RowKind>, AllocError>
     requires { (books : Books) × HaveChecks books checks.old }
     ensures comes { IfOk result (λ refused. (books : Books) → HaveChecks books checks.old
-        → Comes books refused (entered account (entry_data entry) books (told_of account books))
+        → Comes books refused (entered_in_books account (entry_data entry) books (account_so_far account books))
         checks.new) }
     ensures noted { IfOk result (λ refused. (books : Books) → HaveChecks books checks.old
         → AreNoted number books (Ok (Enters account (entry_data entry))) wrongs.old wrongs.new) }

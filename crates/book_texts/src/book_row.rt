@@ -5,8 +5,8 @@ ghost use Rattle.std.specs.Result.{result_map_both};
 ghost use Rattle.csv.specs.Records.{fields_of};
 ghost use Rattle.table_core.specs.Fields.{field_in};
 ghost use Rattle.entry_rows.specs.Columns.{answer_at};
-ghost use Rattle.book_texts.specs.BookRows.{HasColumns, account_of, columns_in, entry_in, is_no_answer, is_opening_blank, opening_in, reply_place, said_in};
-ghost use Rattle.book_texts.specs.SaidOf.{IsAffordable, said_of};
+ghost use Rattle.book_texts.specs.BookRows.{HasBookColumns, book_account_in, columns_in, entry_in, is_no_answer, is_opening_blank, opening_in, reply_place, row_said_in};
+ghost use Rattle.book_texts.specs.SaidOf.{IsAffordable, row_said_of};
 
 use account_core::Entry;
 use csv::ByteRecord;
@@ -49,9 +49,9 @@ pub(crate) enum BookRow {
 
 /// What a row of a table of this version says, wherever it is.
 pub(crate) fn read_row(row: &ByteRecord, version: Version) -> Result<BookRow, RowKind>
-    requires { HasColumns version (fields_of row.now) }
-    ensures says { result_map_both said_of (λ kind. kind) result
-        ≡ said_in (columns_in version (fields_of row.now)) }
+    requires { HasBookColumns version (fields_of row.now) }
+    ensures says { result_map_both row_said_of (λ kind. kind) result
+        ≡ row_said_in (columns_in version (fields_of row.now)) }
     ensures affordable { IfOk result IsAffordable }
 {
     if is_word(row, OP, "opening") {
@@ -63,8 +63,8 @@ pub(crate) fn read_row(row: &ByteRecord, version: Version) -> Result<BookRow, Ro
 
 #[tactic(auto, unfolding(crate::specs::BookRows::opening_in))]
 fn read_opening(row: &ByteRecord, version: Version) -> Result<BookRow, RowKind>
-    requires { HasColumns version (fields_of row.now) }
-    ensures says { result_map_both said_of (λ kind. kind) result
+    requires { HasBookColumns version (fields_of row.now) }
+    ensures says { result_map_both row_said_of (λ kind. kind) result
         ≡ opening_in (columns_in version (fields_of row.now)) }
     ensures affordable { IfOk result IsAffordable }
 {
@@ -83,8 +83,8 @@ fn read_opening(row: &ByteRecord, version: Version) -> Result<BookRow, RowKind>
 
 #[tactic(auto, unfolding(crate::specs::BookRows::entry_in))]
 fn read_entry(row: &ByteRecord, version: Version) -> Result<BookRow, RowKind>
-    requires { HasColumns version (fields_of row.now) }
-    ensures says { result_map_both said_of (λ kind. kind) result
+    requires { HasBookColumns version (fields_of row.now) }
+    ensures says { result_map_both row_said_of (λ kind. kind) result
         ≡ entry_in (columns_in version (fields_of row.now)) }
     ensures affordable { IfOk result IsAffordable }
 {
@@ -104,7 +104,7 @@ fn read_entry(row: &ByteRecord, version: Version) -> Result<BookRow, RowKind>
 
 fn read_account(row: &ByteRecord) -> Result<u32, RowKind>
     requires { 0 < length (fields_of row.now) }
-    ensures { result ≡ account_of (field_in (fields_of row.now) 0) }
+    ensures { result ≡ book_account_in (field_in (fields_of row.now) 0) }
 {
     let account = number(row, ACCOUNT, u64::from(u32::MAX))?;
     Ok(account as u32)
@@ -112,7 +112,7 @@ fn read_account(row: &ByteRecord) -> Result<u32, RowKind>
 
 /// Whether all but the account, the word, the credit and its last moment is empty.
 fn is_opening_blank(row: &ByteRecord, version: Version) -> bool
-    requires { HasColumns version (fields_of row.now) }
+    requires { HasBookColumns version (fields_of row.now) }
     ensures { result ≡ is_opening_blank (columns_in version (fields_of row.now)) }
 {
     is_blank(row, SEAT)

@@ -2,7 +2,7 @@
 
 ghost use Rattle.std.specs.Prelude.{◌≡◌, ◌++◌, ◌∷◌, [], OnOk, IfOk, List, string_bytes, map};
 ghost use Rattle.std.specs.List.{flat_map};
-ghost use Rattle.book_texts.specs.RunTexts.{AreLinesOf, AreOrdered, IsRunText, account_text, call_line, word_of, line_of};
+ghost use Rattle.book_texts.specs.RunTexts.{AreLinesOf, AreOrdered, IsRunText, account_text, call_line, fate_word, call_line_of};
 ghost use Rattle.shared_account.specs.Closed.{Closed};
 ghost use Rattle.book_texts.specs.declared.lines.CallLine.{CallLine};
 
@@ -70,7 +70,7 @@ impl RunLines {
         ensures accounts { OnOk result (self.new.accounts ≡ self.old.accounts
             ++ account_text of.account of.opening of.available of.entries) }
         ensures calls { OnOk result (self.new.calls
-            ≡ self.old.calls ++ map (line_of of.account) of.calls.items) }
+            ≡ self.old.calls ++ map (call_line_of of.account) of.calls.items) }
     {
         let (account, entries) = (u64::from(of.account), of.entries as u64);
         let text = &mut self.accounts;
@@ -152,7 +152,7 @@ fn write_call(text: &mut String, line: &CallLine) -> Result<(), AllocError>
 
 /// The word for what has become of a call.
 fn word(fate: Fate) -> &'static str
-    ensures { result.now ≡ word_of fate }
+    ensures { result.now ≡ fate_word fate }
 {
     match fate {
         Fate::Holding => "holding",
@@ -176,7 +176,7 @@ pub(crate) fn add_calls(
     account: u64,
     sums: &[CallSum],
 ) -> Result<(), AllocError>
-    ensures { OnOk result (lines.new.items ≡ lines.old.items ++ map (line_of account) sums.now) }
+    ensures { OnOk result (lines.new.items ≡ lines.old.items ++ map (call_line_of account) sums.now) }
 {
     for sum in sums {
         lines.push(CallLine { account, sum: *sum })?;

@@ -3,7 +3,7 @@
 ghost use Rattle.std.specs.Prelude.{◌≡◌, ◌++◌, All, OnOk, IfOk, string_bytes};
 ghost use Rattle.std.specs.List.{list_any};
 ghost use Rattle.account_core.specs.Events.{asked_of, entry_data};
-ghost use Rattle.book_texts.specs.BookTexts.{asks_steps, book_rows, book_text, entry_row, header, history_has_steps, version_of};
+ghost use Rattle.book_texts.specs.BookTexts.{asks_steps, book_rows, book_text, entry_row, book_header, history_has_steps, version_of};
 ghost use Rattle.book_texts.specs.Typed.{IsTyped, IsTypedAsked};
 
 use crate::laws;
@@ -79,7 +79,7 @@ fn print_books(alloc: Global, books: &[Book], version: Version) -> Result<String
 
 /// Adds the header.
 fn write_header(text: &mut String, version: Version) -> Result<(), AllocError>
-    ensures { OnOk result (string_bytes text.new ≡ string_bytes text.old ++ header version) }
+    ensures { OnOk result (string_bytes text.new ≡ string_bytes text.old ++ book_header version) }
 {
     match version {
         Version::One | Version::Two | Version::Three => writeln!(

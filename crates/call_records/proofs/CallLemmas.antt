@@ -12,7 +12,7 @@ use Rattle.cap_values.specs.declared.message.SsfMsg.TheVariants as message
 use Rattle.cap_values.specs.declared.message.SsfMsg.{SsfMsg}
 use Rattle.run_values.specs.declared.post.Body.{Body}
 use Rattle.run_values.specs.declared.post.Body.TheVariants as body
-use Rattle.call_records.specs.Calls.{end_by, first_told, report_by, reports_of, start_by, start_of, told_by}
+use Rattle.call_records.specs.Calls.{end_by, first_told, report_by, call_reports_of, start_by, start_of, message_of_call}
 use Rattle.call_records.specs.declared.reports.CallReports.{CallReports}
 
 -- the first of three is that of the first two, or the third
@@ -26,11 +26,11 @@ or_none (Some x) = refl
 
 -- what is first told with one post more
 pub told_more : {X : Type 0} (call : ℕ) (tell : ℕ → SsfMsg → Option X) (given : List (ℕ × Body)) (post : ℕ × Body)
-    → first_told call tell (given ++ post ∷ []) ≡ option_or (first_told call tell given) (told_by call (tell post.0) post.1)
-told_more call tell [] post = or_none (told_by call (tell post.0) post.1)
+    → first_told call tell (given ++ post ∷ []) ≡ option_or (first_told call tell given) (message_of_call call (tell post.0) post.1)
+told_more call tell [] post = or_none (message_of_call call (tell post.0) post.1)
 told_more call tell (first ∷ given) post =
-    ap (λ later. option_or (told_by call (tell first.0) first.1) later) (told_more call tell given post)
-    ∙ either (told_by call (tell first.0) first.1) (first_told call tell given) (told_by call (tell post.0) post.1)
+    ap (λ later. option_or (message_of_call call (tell first.0) first.1) later) (told_more call tell given post)
+    ∙ either (message_of_call call (tell first.0) first.1) (first_told call tell given) (message_of_call call (tell post.0) post.1)
 
 -- what is known, or what is told now
 abbrev pub known_or : Option ℕ → Option ℕ → Option ℕ
@@ -61,7 +61,7 @@ reports_with reports tells = record {
 
 module _ (call : ℕ) (given : List (ℕ × Body)) (post : ℕ × Body) where
   abbrev tells : (ℕ → SsfMsg → Option ℕ) → Option ℕ
-  tells tell = told_by call (tell post.0) post.1
+  tells tell = message_of_call call (tell post.0) post.1
 
   moment_more : (tell : ℕ → SsfMsg → Option ℕ) → first_told call tell (given ++ post ∷ []) ≡ known_or (first_told call tell given) (tells tell)
   moment_more tell = told_more call tell given post ∙ is_known_or (first_told call tell given) (tells tell)
@@ -69,7 +69,7 @@ module _ (call : ℕ) (given : List (ℕ × Body)) (post : ℕ × Body) where
   mark_more : (tell : ℕ → SsfMsg → Option ℕ) → is_some (first_told call tell (given ++ post ∷ [])) ≡ is_some (tells tell) || is_some (first_told call tell given)
   mark_more tell = ap is_some (told_more call tell given post) ∙ is_told (first_told call tell given) (tells tell)
 
-  pub reports_more : reports_of call (given ++ post ∷ []) ≡ reports_with (reports_of call given) tells
+  pub reports_more : call_reports_of call (given ++ post ∷ []) ≡ reports_with (call_reports_of call given) tells
   reports_more = λ i. record {
     answer = moment_more (report_by event.Answer) i;
     end = moment_more end_by i;
@@ -85,44 +85,44 @@ itself call = grind (arith, nat_tests)
 
 -- a message of the call itself
 pub own_more : (call : ℕ) (given : List (ℕ × Body)) (at : ℕ) (msg : SsfMsg)
-    → reports_of call (given ++ (at, body.Ssf call msg) ∷ []) ≡ reports_with (reports_of call given) (λ tell. tell at msg)
+    → call_reports_of call (given ++ (at, body.Ssf call msg) ∷ []) ≡ reports_with (call_reports_of call given) (λ tell. tell at msg)
 own_more call given at msg =
     reports_more call given (at, body.Ssf call msg)
-    ∙ ap (λ own. reports_with (reports_of call given) (λ tell. if own then tell at msg else None)) (itself call)
+    ∙ ap (λ own. reports_with (call_reports_of call given) (λ tell. if own then tell at msg else None)) (itself call)
 
 -- one of another call
 pub other_more : (call other : ℕ) (given : List (ℕ × Body)) (at : ℕ) (msg : SsfMsg) → call == other ≡ false
-    → reports_of other (given ++ (at, body.Ssf call msg) ∷ []) ≡ reports_of other given
+    → call_reports_of other (given ++ (at, body.Ssf call msg) ∷ []) ≡ call_reports_of other given
 other_more call other given at msg differs =
     reports_more other given (at, body.Ssf call msg)
-    ∙ ap (λ own. reports_with (reports_of other given) (λ tell. if own then tell at msg else None)) differs
+    ∙ ap (λ own. reports_with (call_reports_of other given) (λ tell. if own then tell at msg else None)) differs
 
 pub same_call : (call other : ℕ) → call == other ≡ true → call ≡ other
 same_call call other same = grind (arith, nat_tests)
 
 -- what is kept of each call, after one of them has other reports
 pub reports_kept : (call other : ℕ) (given : List (ℕ × Body)) (at : ℕ) (msg : SsfMsg) (after was : CallReports) (own : Bool) → call == other ≡ own
-    → after ≡ reports_of call (given ++ (at, body.Ssf call msg) ∷ []) → was ≡ reports_of other given
-    → (if own then after else was) ≡ reports_of other (given ++ (at, body.Ssf call msg) ∷ [])
+    → after ≡ call_reports_of call (given ++ (at, body.Ssf call msg) ∷ []) → was ≡ call_reports_of other given
+    → (if own then after else was) ≡ call_reports_of other (given ++ (at, body.Ssf call msg) ∷ [])
 reports_kept call other given at msg after was true same are had =
-    are ∙ ap (λ c. reports_of c (given ++ (at, body.Ssf call msg) ∷ [])) (same_call call other same)
+    are ∙ ap (λ c. call_reports_of c (given ++ (at, body.Ssf call msg) ∷ [])) (same_call call other same)
 reports_kept call other given at msg after was false differs are had = had ∙ sym (other_more call other given at msg differs)
 
 -- a post that starts no call
-pub no_start : (call : ℕ) (given : List (ℕ × Body)) (post : ℕ × Body) → told_by call (start_by post.0) post.1 ≡ None
+pub no_start : (call : ℕ) (given : List (ℕ × Body)) (post : ℕ × Body) → message_of_call call (start_by post.0) post.1 ≡ None
     → start_of call given ≡ start_of call (given ++ post ∷ [])
 no_start call given post none =
     sym (told_more call start_by given post ∙ ap (λ s. option_or (start_of call given) s) none ∙ or_none (start_of call given))
 
 -- the reports of a call after a message more of it
-pub message_kept : (call : ℕ) (given : List (ℕ × Body)) (at : ℕ) (msg : SsfMsg) (reports : CallReports) → reports ≡ reports_of call given
-    → reports_with reports (λ tell. tell at msg) ≡ reports_of call (given ++ (at, body.Ssf call msg) ∷ [])
+pub message_kept : (call : ℕ) (given : List (ℕ × Body)) (at : ℕ) (msg : SsfMsg) (reports : CallReports) → reports ≡ call_reports_of call given
+    → reports_with reports (λ tell. tell at msg) ≡ call_reports_of call (given ++ (at, body.Ssf call msg) ∷ [])
 message_kept call given at msg reports are =
     ap (λ known. reports_with known (λ tell. tell at msg)) are ∙ sym (own_more call given at msg)
 
 -- the reports of a call after an event more
-pub event_kept : (call : ℕ) (given : List (ℕ × Body)) (at : ℕ) (event : Event) (leg : Option Leg) (mode : Mode) (reports : CallReports) → reports ≡ reports_of call given
-    → reports_with reports (λ tell. tell at (message.EventReport event leg mode)) ≡ reports_of call (given ++ (at, body.Ssf call (message.EventReport event leg mode)) ∷ [])
+pub event_kept : (call : ℕ) (given : List (ℕ × Body)) (at : ℕ) (event : Event) (leg : Option Leg) (mode : Mode) (reports : CallReports) → reports ≡ call_reports_of call given
+    → reports_with reports (λ tell. tell at (message.EventReport event leg mode)) ≡ call_reports_of call (given ++ (at, body.Ssf call (message.EventReport event leg mode)) ∷ [])
 event_kept call given at event leg mode reports are = message_kept call given at (message.EventReport event leg mode) reports are
 
 -- the next item of a list

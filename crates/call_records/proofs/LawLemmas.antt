@@ -4,9 +4,9 @@ use Rattle.std.specs.Option.{option_map}
 use Rattle.std.specs.Prelude.{◌⊎◌, if◌then◌else◌, is_none, is_some, unwrap_or}
 use Rattle.account_core.specs.Known.{CallFacts, known, paid_under}
 use Rattle.tariff_core.specs.Rates.{Rates}
-use Rattle.call_records.specs.Calls.{parties_of, reports_of, start_of}
+use Rattle.call_records.specs.Calls.{parties_of, call_reports_of, start_of}
 use Rattle.call_records.specs.Laws.{UnservedCallsPayNothing, is_unserved}
-use Rattle.call_records.specs.Records.{IsPrefixOf, IsRecord, Run, ended_by, granted_outcome}
+use Rattle.call_records.specs.Records.{IsPrefixOf, IsRecord, Run, outcome_of_end, granted_outcome}
 use Rattle.call_records.specs.Standings.{past_of, standing_of}
 use Rattle.call_records.specs.declared.call_record.CallRecord.{CallRecord}
 use Rattle.call_records.specs.declared.outcome.Outcome.{Outcome}
@@ -31,11 +31,11 @@ ended_served false false false false true cut = refl
 ended_served false false false false false true = refl
 ended_served false false false false false false = refl
 
-over_served : (reports : CallReports) (standing : Standing) → is_unserved (ended_by reports standing) ≡ false
+over_served : (reports : CallReports) (standing : Standing) → is_unserved (outcome_of_end reports standing) ≡ false
 over_served reports standing = ended_served reports.busy reports.no_answer reports.route_failed reports.abandoned reports.disconnected standing.cut
 
 granted_by : (forfeited : Bool) (end : Option ℕ) (reports : CallReports) (standing : Standing)
-    → is_unserved (if forfeited then outcome.Forfeit else if is_none end then outcome.Open else ended_by reports standing) ≡ false
+    → is_unserved (if forfeited then outcome.Forfeit else if is_none end then outcome.Open else outcome_of_end reports standing) ≡ false
 granted_by true end reports standing = refl
 granted_by false None reports standing = refl
 granted_by false (Some at) reports standing = over_served reports standing
@@ -63,7 +63,7 @@ pub unserved_pay_nothing : UnservedCallsPayNothing
 unserved_pay_nothing run call record_is unserved =
     let from = record_is.from in
     let standing = standing_of call.call (past_of call.account run.books) in
-    let reports = reports_of call.call run.given in
+    let reports = call_reports_of call.call run.given in
     from.paid ∙ elim (unserved_by call.account (is_some call.prefix) standing.granted standing.denied reports standing refl refl (sym (ap is_unserved from.outcome_is) ∙ unserved)) [
       | inl none ↦ ap (λ a. (standing_of call.call (past_of a run.books)).paid) none
       | inr new ↦ none_paid (known call.call (past_of call.account run.books)).plan (known call.call (past_of call.account run.books)) new
@@ -87,7 +87,7 @@ ended_routed false false false false false true = refl
 ended_routed false false false false false false = refl
 
 granted_routed : (forfeited : Bool) (end : Option ℕ) (reports : CallReports) (standing : Standing)
-    → is_unrouted (if forfeited then outcome.Forfeit else if is_none end then outcome.Open else ended_by reports standing) ≡ false
+    → is_unrouted (if forfeited then outcome.Forfeit else if is_none end then outcome.Open else outcome_of_end reports standing) ≡ false
 granted_routed true end reports standing = refl
 granted_routed false None reports standing = refl
 granted_routed false (Some at) reports standing = ended_routed reports.busy reports.no_answer reports.route_failed reports.abandoned reports.disconnected standing.cut
@@ -110,7 +110,7 @@ pub unrouted_has_none : (run : Run) (call : CallRecord) (record_is : IsRecord ru
 unrouted_has_none run call record_is unrouted =
     let from = record_is.from in
     let standing : Standing = standing_of call.call (past_of call.account run.books) in
-    let reports : CallReports = reports_of call.call run.given in
+    let reports : CallReports = call_reports_of call.call run.given in
     no_prefix_by run.setup.tariff (digits_of record_is.start.called) (λ prefix. prefix.items) call.prefix
     (no_route_by call.account (is_some call.prefix) standing.granted standing.denied reports standing (sym (ap is_unrouted from.outcome_is) ∙ ap is_unrouted unrouted))
     from.prefix

@@ -13,14 +13,14 @@ use Rattle.call_records.specs.declared.reports.CallReports.{CallReports}
 use Rattle.call_records.specs.declared.starts.Start.{Start}
 
 -- what a post says, if it is a message of this call
-abbrev pub told_by : {X : Type 0} → ℕ → (SsfMsg → Option X) → Body → Option X
-told_by call tell (body.Ssf other msg) = if other == call then tell msg else None
-told_by call tell (body.Recharge account amount until) = None
+abbrev pub message_of_call : {X : Type 0} → ℕ → (SsfMsg → Option X) → Body → Option X
+message_of_call call tell (body.Ssf other msg) = if other == call then tell msg else None
+message_of_call call tell (body.Recharge account amount until) = None
 
 -- what the first message of a call says that says anything, at its moment
 abbrev pub first_told : {X : Type 0} → ℕ → (ℕ → SsfMsg → Option X) → List (ℕ × Body) → Option X
 first_told call tell [] = None
-first_told call tell (post ∷ posts) = option_or (told_by call (tell post.0) post.1) (first_told call tell posts)
+first_told call tell (post ∷ posts) = option_or (message_of_call call (tell post.0) post.1) (first_told call tell posts)
 
 -- an InitialDp starts its call
 abbrev pub start_by : ℕ → SsfMsg → Option Start
@@ -54,8 +54,8 @@ abbrev pub is_reported : Event → ℕ → List (ℕ × Body) → Bool
 is_reported event call given = is_some (reported_at event call given)
 
 -- what was reported of a call, and when it was answered and ended
-abbrev pub reports_of : ℕ → List (ℕ × Body) → CallReports
-reports_of call given = record {
+abbrev pub call_reports_of : ℕ → List (ℕ × Body) → CallReports
+call_reports_of call given = record {
   answer = reported_at event.Answer call given;
   end = first_told call end_by given;
   busy = is_reported event.CalledPartyBusy call given;

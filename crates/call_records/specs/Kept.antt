@@ -8,7 +8,7 @@ use Rattle.account_core.specs.Events.{EntryData}
 use Rattle.account_core.specs.Known.{known, paid_if_granted}
 use Rattle.run_values.specs.declared.post.Body.{Body}
 use Rattle.shared_account.specs.Closed.{Closed}
-use Rattle.call_records.specs.Calls.{reports_of, start_of}
+use Rattle.call_records.specs.Calls.{call_reports_of, start_of}
 use Rattle.call_records.specs.Standings.{book_of, is_denied, is_denied_later, last_grant}
 use Rattle.call_records.specs.declared.accounts.AccountCalls.{AccountCalls}
 use Rattle.call_records.specs.declared.marks.CallMarks.{CallMarks}
@@ -21,11 +21,11 @@ HaveStarts starts given = (call : ℕ) → tree.get nat_cmp starts call ≡ star
 
 -- of a call that isn't in the map nothing was reported
 abbrev pub reports_in : List (ℕ × CallReports) → ℕ → CallReports
-reports_in reports call = unwrap_or (lookup (is_at (nat_cmp call)) reports) (reports_of call [])
+reports_in reports call = unwrap_or (lookup (is_at (nat_cmp call)) reports) (call_reports_of call [])
 
 -- the map has what was reported of each call
 abbrev pub HaveReports : List (ℕ × CallReports) → List (ℕ × Body) → Type 0
-HaveReports reports given = (call : ℕ) → reports_in reports call ≡ reports_of call given
+HaveReports reports given = (call : ℕ) → reports_in reports call ≡ call_reports_of call given
 
 -- what a history says of a call, but for what it has paid
 abbrev pub marks_of : ℕ → List EntryData → CallMarks

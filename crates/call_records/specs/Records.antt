@@ -10,7 +10,7 @@ use Rattle.run_values.specs.declared.post.Body.{Body}
 use Rattle.shared_account.specs.Closed.{Closed}
 use Rattle.tariff_core.specs.Bands.{Band}
 use Rattle.tariff_core.specs.Routes.{HasNoRoute, IsPrefixFor}
-use Rattle.call_records.specs.Calls.{reports_of, start_of}
+use Rattle.call_records.specs.Calls.{call_reports_of, start_of}
 use Rattle.call_records.specs.Standings.{past_of, standing_of}
 use Rattle.call_records.specs.declared.outcome.Outcome.{Outcome}
 use Rattle.call_records.specs.declared.outcome.Outcome.TheVariants as outcome
@@ -26,8 +26,8 @@ pub record Run : Type 0 where
   pub books : List Closed
 
 -- a call that the switch has ended: by what it has reported first of these, else by its credit, else by a timer, the service, or before its orders came
-abbrev pub ended_by : CallReports → Standing → Outcome
-ended_by reports standing =
+abbrev pub outcome_of_end : CallReports → Standing → Outcome
+outcome_of_end reports standing =
     if reports.busy then outcome.Busy
     else if reports.no_answer then outcome.NoAnswer
     else if reports.route_failed then outcome.RouteFail
@@ -41,7 +41,7 @@ abbrev pub granted_outcome : CallReports → Standing → Outcome
 granted_outcome reports standing =
     if standing.forfeited then outcome.Forfeit
     else if is_none reports.end then outcome.Open
-    else ended_by reports standing
+    else outcome_of_end reports standing
 
 -- what became of a call that has this account, this prefix, these reports and this standing with its account
 abbrev pub outcome_of : Option ℕ → Bool → CallReports → Standing → Outcome
@@ -66,11 +66,11 @@ pub record IsRecordFrom (run : Run) (start : Start) (call : CallRecord) : Type 0
   pub start_is : call.start ≡ start.at
   pub account : call.account ≡ account_of start.calling run.setup.subscribers
   pub prefix : IsPrefixOf run.setup.tariff (digits_of start.called) (prefix_of call)
-  pub answer : call.answer ≡ (reports_of call.call run.given).answer
-  pub end : call.end ≡ (reports_of call.call run.given).end
+  pub answer : call.answer ≡ (call_reports_of call.call run.given).answer
+  pub end : call.end ≡ (call_reports_of call.call run.given).end
   pub times : call.times ≡ (standing_of call.call (past_of call.account run.books)).times
   pub paid : call.paid ≡ (standing_of call.call (past_of call.account run.books)).paid
-  pub outcome_is : call.outcome ≡ outcome_of call.account (is_some call.prefix) (reports_of call.call run.given) (standing_of call.call (past_of call.account run.books))
+  pub outcome_is : call.outcome ≡ outcome_of call.account (is_some call.prefix) (call_reports_of call.call run.given) (standing_of call.call (past_of call.account run.books))
 
 -- the record of a call of the run
 pub record IsRecord (run : Run) (call : CallRecord) : Type 0 where

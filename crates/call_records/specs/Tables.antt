@@ -13,20 +13,20 @@ use Rattle.call_records.specs.declared.outcome.Outcome.TheVariants as outcome
 use Rattle.call_records.specs.declared.call_record.CallRecord.{CallRecord}
 
 -- the word for what became of a call
-abbrev pub word_of : Outcome → List ℕ
-word_of outcome.Unknown = codes "unknown"
-word_of outcome.NoRoute = codes "noroute"
-word_of outcome.Denied = codes "denied"
-word_of outcome.Refused = codes "refused"
-word_of outcome.Forfeit = codes "forfeit"
-word_of outcome.Open = codes "open"
-word_of outcome.Busy = codes "busy"
-word_of outcome.NoAnswer = codes "noanswer"
-word_of outcome.RouteFail = codes "routefail"
-word_of outcome.Abandoned = codes "abandoned"
-word_of outcome.Ended = codes "ended"
-word_of outcome.Cut = codes "cut"
-word_of outcome.Released = codes "released"
+abbrev pub outcome_word : Outcome → List ℕ
+outcome_word outcome.Unknown = codes "unknown"
+outcome_word outcome.NoRoute = codes "noroute"
+outcome_word outcome.Denied = codes "denied"
+outcome_word outcome.Refused = codes "refused"
+outcome_word outcome.Forfeit = codes "forfeit"
+outcome_word outcome.Open = codes "open"
+outcome_word outcome.Busy = codes "busy"
+outcome_word outcome.NoAnswer = codes "noanswer"
+outcome_word outcome.RouteFail = codes "routefail"
+outcome_word outcome.Abandoned = codes "abandoned"
+outcome_word outcome.Ended = codes "ended"
+outcome_word outcome.Cut = codes "cut"
+outcome_word outcome.Released = codes "released"
 
 -- the moments and the numbers of a row, each with a comma behind it
 abbrev pub moments_text : Clock → CallRecord → List ℕ
@@ -38,15 +38,15 @@ moments_text clock call =
 abbrev pub record_row : Clock → CallRecord → List ℕ
 record_row clock call =
     field (decimal call.call) (field (digits_of call.calling) (field (digits_of call.called)
-    (field (number_or_empty call.account) (field (digits_text (unwrap_or (prefix_of call) [])) (moments_text clock call ++ (word_of call.outcome ++ codes "\n"))))))
+    (field (number_or_empty call.account) (field (digits_text (unwrap_or (prefix_of call) [])) (moments_text clock call ++ (outcome_word call.outcome ++ codes "\n"))))))
 
 -- the header of the table
-abbrev pub header : List ℕ
-header = codes "call,calling,called,account,prefix,start,answer,end,before,after,paid,outcome\n"
+abbrev pub call_header : List ℕ
+call_header = codes "call,calling,called,account,prefix,start,answer,end,before,after,paid,outcome\n"
 
 -- the table of calls: a header, and a row of each record in order
 abbrev pub call_text : Clock → List CallRecord → List ℕ
-call_text clock calls = header ++ flat_map (record_row clock) calls
+call_text clock calls = call_header ++ flat_map (record_row clock) calls
 
 -- the table of the calls of a run, with its moments as a clock prints them
 pub record IsCallText (clock : Clock) (run : Run) (text : List ℕ) : Type 0 where

@@ -1,7 +1,7 @@
 //! What became of a call.
 
 ghost use Rattle.std.specs.Prelude.{◌≡◌};
-ghost use Rattle.call_records.specs.Records.{ended_by, granted_outcome, outcome_of};
+ghost use Rattle.call_records.specs.Records.{outcome_of_end, granted_outcome, outcome_of};
 
 use crate::reports::CallReports;
 use crate::standing::Standing;
@@ -76,7 +76,7 @@ impl Outcome {
 
     /// That of one that the switch has ended.
     fn of_ended(reports: &CallReports, standing: &Standing) -> Outcome
-        ensures { result ≡ ended_by reports.now standing.now }
+        ensures { result ≡ outcome_of_end reports.now standing.now }
     {
         if reports.busy {
             Outcome::Busy

@@ -4,7 +4,7 @@ ghost use Rattle.std.specs.Prelude.{◌≡◌, IfOk};
 ghost use Rattle.std.specs.Option.{option_map};
 ghost use Rattle.cap_values.specs.NumberDigits.{digits_of};
 ghost use Rattle.run_values.specs.Setups.{account_of};
-ghost use Rattle.call_records.specs.Calls.{reports_of};
+ghost use Rattle.call_records.specs.Calls.{call_reports_of};
 ghost use Rattle.call_records.specs.Kept.{HaveAccounts, HaveReports, HaveStarts};
 ghost use Rattle.call_records.specs.Records.{AreRecords, IsPrefixOf, IsRecordFrom, Run};
 ghost use Rattle.call_records.specs.Standings.{past_of, standing_of};
@@ -78,7 +78,7 @@ fn record_call(
     ensures call { IfOk result (λ made. made.call ≡ call) }
     ensures from { IfOk result (λ made. (run : Run) → run.setup ≡ setup.now
         → account ≡ account_of start.calling setup.now.subscribers
-        → reports.now ≡ reports_of call run.given
+        → reports.now ≡ call_reports_of call run.given
         → standing.now ≡ standing_of call (past_of account run.books)
         → IsRecordFrom run start made) }
 {

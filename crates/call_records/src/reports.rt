@@ -4,7 +4,7 @@ ghost use Rattle.std.specs.Prelude.{◌≡◌, ◌==◌, if◌then◌else◌, �
 ghost use Rattle.cap_values.specs.declared.leg.Leg.{Leg};
 ghost use Rattle.cap_values.specs.declared.mode.Mode.{Mode};
 ghost use Rattle.cap_values.specs.declared.message.SsfMsg.TheVariants as message;
-ghost use Rattle.call_records.specs.Calls.{reports_of};
+ghost use Rattle.call_records.specs.Calls.{call_reports_of};
 ghost use Rattle.call_records.specs.Kept.{HaveReports, reports_in};
 ghost use Rattle.run_values.specs.declared.post.Body.{Body};
 ghost use Rattle.run_values.specs.declared.post.Body.TheVariants as body;
@@ -47,8 +47,8 @@ impl CallReports {
 
     /// The same after one message more of the call.
     fn after(self, at: u64, message: SsfMsg) -> CallReports
-        ensures { (call : ℕ) (given : List (ℕ × Body)) → self ≡ reports_of call given
-            → result ≡ reports_of call (given ++ (at, body.Ssf call message) ∷ []) }
+        ensures { (call : ℕ) (given : List (ℕ × Body)) → self ≡ call_reports_of call given
+            → result ≡ call_reports_of call (given ++ (at, body.Ssf call message) ∷ []) }
     {
         match message {
             SsfMsg::EventReport { event, .. } => self.with_event(at, event),
@@ -63,7 +63,7 @@ impl CallReports {
     /// The same after one event more.
     fn with_event(self, at: u64, event: Event) -> CallReports
         ensures { (call : ℕ) (given : List (ℕ × Body)) (leg : Option Leg) (mode : Mode)
-            → self ≡ reports_of call given → result ≡ reports_of call
+            → self ≡ call_reports_of call given → result ≡ call_reports_of call
             (given ++ (at, body.Ssf call (message.EventReport event leg mode)) ∷ []) }
     {
         match event {

@@ -2,7 +2,7 @@
 
 ghost use Rattle.std.specs.Prelude.{◌≡◌, ◌++◌, [], IfOk, OnOk, string_bytes, unwrap_or};
 ghost use Rattle.call_records.specs.Records.{prefix_of};
-ghost use Rattle.call_records.specs.Tables.{call_text, moments_text, record_row, word_of};
+ghost use Rattle.call_records.specs.Tables.{call_text, moments_text, record_row, outcome_word};
 ghost use Rattle.table_core.specs.Decimals.{digits_text};
 
 use crate::{CallRecord, Outcome};
@@ -69,7 +69,7 @@ fn write_moments(text: &mut String, clock: Clock, call: &CallRecord) -> Result<(
 
 /// The word for what became of a call.
 fn word(outcome: Outcome) -> &'static str
-    ensures { result.now ≡ word_of outcome }
+    ensures { result.now ≡ outcome_word outcome }
 {
     match outcome {
         Outcome::Unknown => "unknown",

@@ -2,7 +2,7 @@
 use Rattle.std.proofs.Common.{◌≡◌, ◌<◌, ◌≤◌, ◌+◌, ℕ, List, [], ◌∷◌, Option, Some, None, Result, Ok, Err, length, get_or, drop, sym, ap, ◌∙◌, refl, add-one, drop-cons, arith}
 use Rattle.std.proofs.Math.Seq.{drop-length}
 use Rattle.std.specs.Option.{option_or}
-use Rattle.cap_values.specs.Armings.{asked_at, first_fault, fault_or, fault_of, mode_for, point_of}
+use Rattle.cap_values.specs.Armings.{mode_asked_at, first_fault, fault_or, arming_fault, mode_for, point_of}
 use Rattle.cap_values.specs.Arms.{arm_at, arms_of}
 use Rattle.cap_values.specs.declared.arming.Arming.{Arming}
 use Rattle.cap_values.specs.declared.arming.Point.{Point}
@@ -29,7 +29,7 @@ refused_fault armings i d fault lt named so_far =
     sym (so_far ∙ ap first_fault (at_place armings i d lt) ∙ ap (λ q. fault_or q (first_fault (drop (i + 1) armings))) named)
 
 -- where armings were given, the first fault among them counts
-pub given_fault : (armings : List Arming) → 0 < length armings → fault_of armings ≡ first_fault armings
+pub given_fault : (armings : List Arming) → 0 < length armings → arming_fault armings ≡ first_fault armings
 given_fault [] given = absurd (omega arith)
 given_fault (arming ∷ armings) given = refl
 
@@ -39,7 +39,7 @@ option_or-assoc (Some m) y z = refl
 
 -- an arming that was taken has its mode at its point
 pub taken_modes : (armings : List Arming) (i : ℕ) (d : Arming) (p : Point) (arms arms' : Arms) → i < length armings → point_of (get_or armings i d) ≡ Ok p
-    → ((q : Point) → arm_at arms' q ≡ option_or (asked_at q (Ok p) (get_or armings i d).mode) (arm_at arms q))
+    → ((q : Point) → arm_at arms' q ≡ option_or (mode_asked_at q (Ok p) (get_or armings i d).mode) (arm_at arms q))
     → ((q : Point) → mode_for q armings ≡ option_or (mode_for q (drop i armings)) (arm_at arms q))
     → (q : Point) → mode_for q armings ≡ option_or (mode_for q (drop (i + 1) armings)) (arm_at arms' q)
 taken_modes armings i d p arms arms' lt named armed so_far q =
@@ -47,8 +47,8 @@ taken_modes armings i d p arms arms' lt named armed so_far q =
     let mode = (get_or armings i d).mode in
     so_far q
     ∙ ap (λ l. option_or (mode_for q l) (arm_at arms q)) (at_place armings i d lt)
-    ∙ ap (λ n. option_or (option_or later (asked_at q n mode)) (arm_at arms q)) named
-    ∙ option_or-assoc later (asked_at q (Ok p) mode) (arm_at arms q)
+    ∙ ap (λ n. option_or (option_or later (mode_asked_at q n mode)) (arm_at arms q)) named
+    ∙ option_or-assoc later (mode_asked_at q (Ok p) mode) (arm_at arms q)
     ∙ ap (option_or later) (sym (armed q))
 
 -- once all armings are taken, none is left

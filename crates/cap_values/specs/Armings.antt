@@ -49,14 +49,14 @@ is_same point.Abandon point.Abandon = true
 is_same _ _ = false
 
 -- the mode that an arming asks for at a point, if any
-abbrev pub asked_at : Point → Result Point ValueFault → Mode → Option Mode
-asked_at p (Ok named) mode = if is_same p named then Some mode else None
-asked_at p (Err fault) mode = None
+abbrev pub mode_asked_at : Point → Result Point ValueFault → Mode → Option Mode
+mode_asked_at p (Ok named) mode = if is_same p named then Some mode else None
+mode_asked_at p (Err fault) mode = None
 
 -- the mode of a point after all armings: that of the last one which names it, or none
 abbrev pub mode_for : Point → List Arming → Option Mode
 mode_for p [] = None
-mode_for p (arming ∷ armings) = option_or (mode_for p armings) (asked_at p (point_of arming) arming.mode)
+mode_for p (arming ∷ armings) = option_or (mode_for p armings) (mode_asked_at p (point_of arming) arming.mode)
 
 -- the fault of an arming, or else of those after it
 abbrev pub fault_or : Result Point ValueFault → Option ValueFault → Option ValueFault
@@ -69,6 +69,6 @@ first_fault [] = None
 first_fault (arming ∷ armings) = fault_or (point_of arming) (first_fault armings)
 
 -- why armings are refused: none was given, or else the first fault among them
-abbrev pub fault_of : List Arming → Option ValueFault
-fault_of [] = Some MissingParameter
-fault_of (arming ∷ armings) = first_fault (arming ∷ armings)
+abbrev pub arming_fault : List Arming → Option ValueFault
+arming_fault [] = Some MissingParameter
+arming_fault (arming ∷ armings) = first_fault (arming ∷ armings)

@@ -3,7 +3,7 @@
 ghost use Rattle.std.specs.Prelude.{◌≡◌, IfOk};
 ghost use Rattle.std.specs.Option.{option_or};
 ghost use Rattle.std.specs.Result.{result_err};
-ghost use Rattle.cap_values.specs.Armings.{asked_at, disconnected, fault_of, point_of, uninterrupted};
+ghost use Rattle.cap_values.specs.Armings.{mode_asked_at, disconnected, arming_fault, point_of, uninterrupted};
 ghost use Rattle.cap_values.specs.Arms.{arm_at, arms_of};
 ghost use Rattle.cap_values.specs.declared.arming.Point.{Point as APoint};
 
@@ -38,7 +38,7 @@ impl Arms {
     /// last mode. An empty list is `MissingParameter`; else the first arming with a fault counts,
     /// and of it event, leg and mode in this order.
     pub fn new(armings: &[Arming]) -> Result<Arms, ValueFault>
-        ensures fault { result_err result ≡ fault_of armings.now }
+        ensures fault { result_err result ≡ arming_fault armings.now }
         ensures value { IfOk result (λ arms. arms ≡ arms_of armings.now) }
     {
         if armings.is_empty() {
@@ -70,7 +70,7 @@ impl Arms {
     /// Watches a point in a mode.
     fn arm(&mut self, point: Point, mode: Mode)
         ensures { (p : APoint) → arm_at self.new p
-            ≡ option_or (asked_at p (Ok point) mode) (arm_at self.old p) }
+            ≡ option_or (mode_asked_at p (Ok point) mode) (arm_at self.old p) }
     {
         match point {
             Point::RouteSelectFailure => self.route_select_failure = Some(mode),

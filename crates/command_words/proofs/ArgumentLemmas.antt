@@ -8,18 +8,18 @@ use Rattle.clap.specs.declared.parser.matches.ArgMatches.TheViews.{out-SubComman
 use Rattle.clap.specs.declared.parser.matches.Found.{Found}
 use Rattle.clap.specs.declared.parser.matches.SubCommand.{SubCommand}
 use Rattle.table_core.specs.Decimals.{decimal_of}
-use Rattle.command_words.specs.Options.{number_in, optional_number_in}
+use Rattle.command_words.specs.Options.{wished_number, optional_number_in}
 
 -- what `get_str` gives is the first value in the rows
 module _ {A : Type 0} (now : A → Text) (found : Found) (name : Text) where
   pub first_is : (got : Option A) → option_map now got ≡ first_value found name → first_of name (rows_of found) ≡ option_map now got
   first_is got is = sym (is ∙ first_value-rows found name)
 
-  pub number_none : (most : ℕ) (got : Option A) → option_map now got ≡ first_value found name → got ≡ None → number_in (rows_of found) name most ≡ None
+  pub number_none : (most : ℕ) (got : Option A) → option_map now got ≡ first_value found name → got ≡ None → wished_number (rows_of found) name most ≡ None
   number_none most got is none = rw (first_is got is, none) refl
 
   pub number_some : (most : ℕ) (got : Option A) (text : A) → option_map now got ≡ first_value found name → got ≡ Some text
-      → number_in (rows_of found) name most ≡ decimal_of most (now text)
+      → wished_number (rows_of found) name most ≡ decimal_of most (now text)
   number_some most got text is some = rw (first_is got is, some) refl
 
   pub optional_none : (most : ℕ) (got : Option A) → option_map now got ≡ first_value found name → got ≡ None → optional_number_in (rows_of found) name most ≡ Some None

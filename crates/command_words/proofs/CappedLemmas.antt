@@ -9,7 +9,7 @@ use Rattle.run_options.specs.declared.live.LiveAsk.{LiveAsk}
 use Rattle.run_options.specs.declared.options.RunAsk.{RunAsk}
 use Rattle.table_core.specs.Decimals.{decimal_of, is_decimal}
 use Rattle.command_words.specs.Capped.{capped, capped_ask, capped_live_ask}
-use Rattle.command_words.specs.RunWords.{number_of}
+use Rattle.command_words.specs.RunWords.{number_written}
 
 -- ---- one number
 
@@ -22,7 +22,7 @@ by_size number = ap (λ n. Some n) (cases (nat_le number 4294967295) refl)
 
 -- what `decimal` reads, or the greatest number in its place
 pub capped_number : (text : List ℕ) (read : Option ℕ) → is_decimal text ≡ true → read ≡ decimal_of 4294967295 text
-    → Some (unwrap_or read 4294967295) ≡ option_map capped (number_of text)
+    → Some (unwrap_or read 4294967295) ≡ option_map capped (number_written text)
 unfolding decimal_of
 capped_number text read is_one is = rw (is, is_one) (by_size (digits_value 10 text))
 

@@ -6,7 +6,7 @@ use Rattle.clap.specs.Words.{App, HasMatchesOf, IsAmong, Row, Text, fault_of, is
 use Rattle.clap.specs.declared.error.kind.ErrorKind.{ErrorKind}
 use Rattle.clap.specs.declared.error.kind.ErrorKind.TheVariants as kind
 use Rattle.clap.specs.declared.parser.matches.ArgMatches.{ArgMatches}
-use Rattle.command_words.specs.Arguments.{IsRead, IsRefusal, IsRequestOf, wish_in}
+use Rattle.command_words.specs.Arguments.{IsRead, IsClapRefusal, IsRequestOf, wish_in}
 use Rattle.command_words.specs.CommandLine.{audit_app, command_in, errors_in, price_app, program_app, quote_app, rate_app, replay_app, run_app, serve_app}
 use Rattle.command_words.specs.declared.request.Request.{Request}
 use Rattle.command_words.specs.declared.request.Request.TheVariants as request
@@ -23,7 +23,7 @@ unfolding clap_on_literals program_app price_app replay_app run_app audit_app qu
 program_is_free = refl
 
 -- words that clap refuses ask for help, for the version or for nothing
-refused_by : (words : List Text) (error : ErrorKind) (read : Result Request WordsFault) → IsAmong error (errors_in words) → IsRefusal error read → IsRead words read
+refused_by : (words : List Text) (error : ErrorKind) (read : Result Request WordsFault) → IsAmong error (errors_in words) → IsClapRefusal error read → IsRead words read
 refused_by words error (Ok (request.Help text)) among is = rw is at among
 refused_by words error (Ok (request.Version text)) among is = rw is at among
 refused_by words error (Ok (request.Price plan)) among is = absurd is
@@ -38,7 +38,7 @@ refused_by words error (Err fault.Arguments) among is = inl (error, among, is.0)
 refused_by words error (Err fault.OutOfMemory) among is = tt
 refused_by words error (Err fault.Config) among is = absurd is
 
-refused_for_memory : (words : List Text) (error : ErrorKind) (read : Result Request WordsFault) → error ≡ kind.OutOfMemory → IsRefusal error read → IsRead words read
+refused_for_memory : (words : List Text) (error : ErrorKind) (read : Result Request WordsFault) → error ≡ kind.OutOfMemory → IsClapRefusal error read → IsRead words read
 refused_for_memory words error (Ok (request.Help text)) memory is = let no : kind.OutOfMemory ≡ kind.DisplayHelp = sym memory ∙ is in cc
 refused_for_memory words error (Ok (request.Version text)) memory is = let no : kind.OutOfMemory ≡ kind.DisplayVersion = sym memory ∙ is in cc
 refused_for_memory words error (Ok (request.Price plan)) memory is = absurd is
@@ -55,7 +55,7 @@ refused_for_memory words error (Err fault.Config) memory is = absurd is
 
 -- `app` is the program's command line, of which clap says its errors and its matches
 pub refusal_read : (app : App) (words : List Text) (error : ErrorKind) (read : Result Request WordsFault) → app ≡ program_app
-    → (is_simple_and_free app ≡ true → (error ≡ kind.OutOfMemory) ⊎ IsAmong error (fault_of app words)) → IsRefusal error read → IsRead words read
+    → (is_simple_and_free app ≡ true → (error ≡ kind.OutOfMemory) ⊎ IsAmong error (fault_of app words)) → IsClapRefusal error read → IsRead words read
 unfolding errors_in
 refusal_read app words error read app_is kinds is =
     let Kinds : App → Type 0 = λ a. is_simple_and_free a ≡ true → (error ≡ kind.OutOfMemory) ⊎ IsAmong error (fault_of a words) in

@@ -12,10 +12,10 @@ use Rattle.command_words.specs.CommandLine.{command_in, errors_in}
 use Rattle.command_words.specs.Options.{plan_in, replay_in}
 use Rattle.command_words.specs.RunWords.{run_in}
 use Rattle.command_words.specs.ServeWords.{serve_in}
-use Rattle.command_words.specs.QuoteWishes.{wish_of}
+use Rattle.command_words.specs.QuoteWishes.{quote_wish_of}
 use Rattle.command_words.specs.QuoteWords.{quote_in}
 use Rattle.command_words.specs.RateWords.{rate_in}
-use Rattle.rating.specs.SaidOf.{wish_of as rate_wish_of}
+use Rattle.rating.specs.SaidOf.{rate_wish_of as rate_wish_of}
 use Rattle.command_words.specs.Wishes.{Wish, Audits, Prices, Quotes, RatesRecords, Replays, Runs, RunsInto, Serves}
 use Rattle.command_words.specs.declared.request.Request.{Request}
 use Rattle.command_words.specs.declared.request.Request.TheVariants as request
@@ -42,7 +42,7 @@ IsRequestOf wish (Ok (request.Replay account)) = wish ≡ Ok (Replays account.op
 IsRequestOf wish (Ok (request.Run options)) = wish ≡ Ok (Runs (ask_of options))
 IsRequestOf wish (Ok (request.RunInto options folder)) = wish ≡ Ok (RunsInto (ask_of options) folder.now)
 IsRequestOf wish (Ok (request.Audit ask)) = wish ≡ Ok (Audits ask)
-IsRequestOf wish (Ok (request.Quote ask)) = wish ≡ Ok (Quotes (wish_of ask))
+IsRequestOf wish (Ok (request.Quote ask)) = wish ≡ Ok (Quotes (quote_wish_of ask))
 IsRequestOf wish (Ok (request.Rate ask)) = wish ≡ Ok (RatesRecords (rate_wish_of ask))
 IsRequestOf wish (Ok (request.Serve options log)) = wish ≡ Ok (Serves (live_ask_of options) (option_map log_wish_of log))
 IsRequestOf wish (Err fault.Arguments) = wish ≡ Err fault.Arguments
@@ -89,7 +89,7 @@ IsRead words (Ok (request.Replay account)) = AsksFor words (Replays account.open
 IsRead words (Ok (request.Run options)) = AsksFor words (Runs (ask_of options))
 IsRead words (Ok (request.RunInto options folder)) = AsksFor words (RunsInto (ask_of options) folder.now)
 IsRead words (Ok (request.Audit ask)) = AsksFor words (Audits ask)
-IsRead words (Ok (request.Quote ask)) = AsksFor words (Quotes (wish_of ask))
+IsRead words (Ok (request.Quote ask)) = AsksFor words (Quotes (quote_wish_of ask))
 IsRead words (Ok (request.Rate ask)) = AsksFor words (RatesRecords (rate_wish_of ask))
 IsRead words (Ok (request.Serve options log)) = AsksFor words (Serves (live_ask_of options) (option_map log_wish_of log))
 IsRead words (Err fault.Arguments) = AsksNothing words
@@ -97,10 +97,10 @@ IsRead words (Err fault.OutOfMemory) = ⊤
 IsRead words (Err fault.Config) = AsksInVain words fault.Config
 
 -- what is answered to an error of clap
-abbrev pub IsRefusal : ErrorKind → Result Request WordsFault → Type 0
-IsRefusal error (Ok (request.Help text)) = error ≡ kind.DisplayHelp
-IsRefusal error (Ok (request.Version text)) = error ≡ kind.DisplayVersion
-IsRefusal error (Ok _) = ⊥
-IsRefusal error (Err fault.Arguments) = IsMistake error × (error ≢ kind.OutOfMemory)
-IsRefusal error (Err fault.OutOfMemory) = ⊤
-IsRefusal error (Err _) = ⊥
+abbrev pub IsClapRefusal : ErrorKind → Result Request WordsFault → Type 0
+IsClapRefusal error (Ok (request.Help text)) = error ≡ kind.DisplayHelp
+IsClapRefusal error (Ok (request.Version text)) = error ≡ kind.DisplayVersion
+IsClapRefusal error (Ok _) = ⊥
+IsClapRefusal error (Err fault.Arguments) = IsMistake error × (error ≢ kind.OutOfMemory)
+IsClapRefusal error (Err fault.OutOfMemory) = ⊤
+IsClapRefusal error (Err _) = ⊥

@@ -13,8 +13,8 @@ use Rattle.tariff_core.specs.declared.plan.TheConstants.{MAX_RATE}
 use Rattle.tariff_core.specs.declared.times.TheConstants.{DAY}
 
 -- the number of an option, where it is given and at most `most`
-abbrev pub number_in : List Row → Text → ℕ → Option ℕ
-number_in options name most = option_and_then (decimal_of most) (first_of name options)
+abbrev pub wished_number : List Row → Text → ℕ → Option ℕ
+wished_number options name most = option_and_then (decimal_of most) (first_of name options)
 
 -- the number that a text writes, where there is a text
 abbrev pub optional_decimal : ℕ → Option Text → Option (Option ℕ)
@@ -44,27 +44,27 @@ abbrev pub at_least : ℕ → ℕ → Option ℕ
 at_least least number = if nat_le least number then Some number else None
 
 -- the free units of `price`: a day at most, and none where that is left out
-abbrev pub free_in : List Row → Option ℕ
-free_in options = option_map (λ free. unwrap_or free 0) (optional_number_in options (codes "free") DAY)
+abbrev pub wished_free : List Row → Option ℕ
+wished_free options = option_map (λ free. unwrap_or free 0) (optional_number_in options (codes "free") DAY)
 
 -- the least units that `price` bills: a day at most, and none where that is left out
-abbrev pub first_in : List Row → Option ℕ
-first_in options = option_map (λ first. unwrap_or first 0) (optional_number_in options (codes "first") DAY)
+abbrev pub wished_first : List Row → Option ℕ
+wished_first options = option_map (λ first. unwrap_or first 0) (optional_number_in options (codes "first") DAY)
 
 -- the units of a billing step of `price`: 1 to a day, and 1 where that is left out
-abbrev pub step_in : List Row → Option ℕ
-step_in options = option_and_then (λ step. at_least 1 (unwrap_or step 1)) (optional_number_in options (codes "step") DAY)
+abbrev pub wished_step : List Row → Option ℕ
+wished_step options = option_and_then (λ step. at_least 1 (unwrap_or step 1)) (optional_number_in options (codes "step") DAY)
 
 -- a fee and rates, with the free units and the billing steps of `price`
 abbrev pub plan_of : List Row → ℕ → ℕ → Option ℕ → Option Rates
 plan_of options fee before after = option_and_then (λ free. option_and_then (λ first.
-    option_map (λ step. record { fee = fee; before = before; after = after; free = free; first = first; step = step }) (step_in options))
-    (first_in options)) (free_in options)
+    option_map (λ step. record { fee = fee; before = before; after = after; free = free; first = first; step = step }) (wished_step options))
+    (wished_first options)) (wished_free options)
 
 -- the plan of `price`: fee and rates, each at most `MAX_RATE`, free units and billing steps
 abbrev pub plan_in : List Row → Option Rates
 plan_in options = option_and_then (λ fee. option_and_then (λ before. option_and_then (λ after. plan_of options fee before after)
-    (optional_number_in options (codes "after") MAX_RATE)) (number_in options (codes "before") MAX_RATE)) (number_in options (codes "fee") MAX_RATE)
+    (optional_number_in options (codes "after") MAX_RATE)) (wished_number options (codes "before") MAX_RATE)) (wished_number options (codes "fee") MAX_RATE)
 
 -- the limit of a history: 3 to 1,000,000, which it is where it is left out
 abbrev pub limit_in : List Row → Option ℕ
@@ -72,4 +72,4 @@ limit_in options = option_and_then (λ limit. at_least MIN_LIMIT (unwrap_or limi
 
 -- the account of `replay`: its opening credit, at most `MAX_MONEY`, and its limit
 abbrev pub replay_in : List Row → Option Wish
-replay_in options = option_and_then (λ opening. option_map (λ limit. Replays opening limit) (limit_in options)) (number_in options (codes "opening") MAX_MONEY)
+replay_in options = option_and_then (λ opening. option_map (λ limit. Replays opening limit) (limit_in options)) (wished_number options (codes "opening") MAX_MONEY)

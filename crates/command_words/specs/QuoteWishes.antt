@@ -13,5 +13,5 @@ pub record QuoteWish : Type 0 where
   pub clock : Clock
 
 -- what the code asks for
-abbrev pub wish_of : QuoteAsk → QuoteWish
-wish_of ask = record { called = digits_of ask.called; at = ask.at; talk = ask.talk; credit = ask.credit; clock = ask.clock }
+abbrev pub quote_wish_of : QuoteAsk → QuoteWish
+quote_wish_of ask = record { called = digits_of ask.called; at = ask.at; talk = ask.talk; credit = ask.credit; clock = ask.clock }

@@ -19,19 +19,19 @@ abbrev pub moment_asked : Text → Option ℕ
 moment_asked text = option_or (time_of text) (moment_of LAST_MOMENT text)
 
 -- the called number
-abbrev pub called_in : List Row → Option (List ℕ)
-called_in options = option_and_then called_of (first_of (codes "called") options)
+abbrev pub wished_called : List Row → Option (List ℕ)
+wished_called options = option_and_then called_of (first_of (codes "called") options)
 
 -- the moment
-abbrev pub moment_in : List Row → Option ℕ
-moment_in options = option_and_then moment_asked (first_of (codes "at") options)
+abbrev pub wished_moment : List Row → Option ℕ
+wished_moment options = option_and_then moment_asked (first_of (codes "at") options)
 
 -- what is asked of a number at a moment
-abbrev pub asked_at : List Row → List ℕ → ℕ → Option QuoteWish
-asked_at options called at = option_and_then (λ talk.
+abbrev pub quote_asked_at : List Row → List ℕ → ℕ → Option QuoteWish
+quote_asked_at options called at = option_and_then (λ talk.
     option_map (λ credit. record { called = called; at = at; talk = talk; credit = credit; clock = clock_by (has_flag options (codes "clock")) })
     (optional_number_in options (codes "credit") MAX_MONEY)) (optional_number_in options (codes "for") DAY)
 
 -- what the options ask for
 unfoldable pub quote_in : List Row → Option QuoteWish
-quote_in options = option_and_then (λ called. option_and_then (λ at. asked_at options called at) (moment_in options)) (called_in options)
+quote_in options = option_and_then (λ called. option_and_then (λ at. quote_asked_at options called at) (wished_moment options)) (wished_called options)

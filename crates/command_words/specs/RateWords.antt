@@ -13,8 +13,8 @@ times_by None None (Some before) (Some after) = Some (BySplit before after)
 times_by _ _ _ _ = None
 
 -- the columns of the times
-abbrev pub times_in : List Row → Option TimesWish
-times_in options =
+abbrev pub wished_times : List Row → Option TimesWish
+wished_times options =
     times_by (first_of (codes "time") options) (first_of (codes "end") options) (first_of (codes "before") options) (first_of (codes "after") options)
 
 -- the names of the columns, the times among them
@@ -28,4 +28,4 @@ names_in options times = record {
 
 -- what the options ask for
 unfoldable pub rate_in : List Row → Option RateWish
-rate_in options = option_map (λ times. record { names = names_in options times; differing = has_flag options (codes "differing"); summary = has_flag options (codes "summary") }) (times_in options)
+rate_in options = option_map (λ times. record { names = names_in options times; differing = has_flag options (codes "differing"); summary = has_flag options (codes "summary") }) (wished_times options)

@@ -18,13 +18,13 @@ use Rattle.command_words.specs.declared.fault.WordsFault.{WordsFault}
 use Rattle.command_words.specs.declared.fault.WordsFault.TheVariants as fault
 
 -- the number that 1 to 20 digits write, however large
-abbrev pub number_of : Text → Option ℕ
-number_of text = if is_decimal text then Some (digits_value 10 text) else None
+abbrev pub number_written : Text → Option ℕ
+number_written text = if is_decimal text then Some (digits_value 10 text) else None
 
 -- the number of an option, this one where it is left out
 abbrev pub number_or : ℕ → Option Text → Option ℕ
 number_or default None = Some default
-number_or default (Some text) = number_of text
+number_or default (Some text) = number_written text
 
 -- the number of an option, or its default
 abbrev pub setting_in : List Row → Text → ℕ → Option ℕ
@@ -98,10 +98,10 @@ run_wish ask None = Runs ask
 run_wish ask (Some folder) = RunsInto ask folder
 
 -- the run that is asked for, its times judged
-abbrev pub judged : Option RunAsk → Option Text → Result Wish WordsFault
-judged None folder = Err fault.Arguments
-judged (Some ask) folder = if is_config ask then Ok (run_wish ask folder) else Err fault.Config
+abbrev pub judged_run : Option RunAsk → Option Text → Result Wish WordsFault
+judged_run None folder = Err fault.Arguments
+judged_run (Some ask) folder = if is_config ask then Ok (run_wish ask folder) else Err fault.Config
 
 -- what a run is asked for, judged
 abbrev pub run_in : List Row → Result Wish WordsFault
-run_in options = judged (ask_in options) (first_of (codes "into") options)
+run_in options = judged_run (ask_in options) (first_of (codes "into") options)

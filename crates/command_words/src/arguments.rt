@@ -2,7 +2,7 @@
 
 ghost use Rattle.std.specs.Prelude.{◌≡◌, map};
 ghost use Rattle.clap.specs.Words.{kind_of, subcommand_rows_of};
-ghost use Rattle.command_words.specs.Arguments.{IsRead, IsRefusal, IsRequestOf, explains, wish_in};
+ghost use Rattle.command_words.specs.Arguments.{IsRead, IsClapRefusal, IsRequestOf, explains, wish_in};
 
 use crate::audit_words::audit_ask;
 use crate::command_line::program_command;
@@ -97,7 +97,7 @@ fn asked<'a>(matches: &ArgMatches<'a>) -> Result<Request<'a>, WordsFault>
 /// What is answered where `clap` gives no matches: its help or the version where that was asked
 /// for.
 fn refusal<'a>(alloc: Global, error: &Error) -> Result<Request<'a>, WordsFault>
-    ensures { IsRefusal (kind_of error.now) result }
+    ensures { IsClapRefusal (kind_of error.now) result }
 {
     match error.kind() {
         ErrorKind::DisplayHelp => Ok(Request::Help(error.to_string(alloc)?)),

@@ -3,7 +3,7 @@
 ghost use Rattle.std.specs.Prelude.{◌≡◌, ◌≤◌, option_map, unwrap_or, IfSome};
 ghost use Rattle.clap.specs.Words.{first_of, found_of, rows_of};
 ghost use Rattle.tariff_core.specs.RatesOf.{rates_of};
-ghost use Rattle.command_words.specs.Options.{clock_by, has_flag, number_in, optional_number_in, plan_in, replay_in};
+ghost use Rattle.command_words.specs.Options.{clock_by, has_flag, wished_number, optional_number_in, plan_in, replay_in};
 ghost use Rattle.command_words.specs.Wishes.{Replays};
 
 use crate::request::Opening;
@@ -70,7 +70,7 @@ pub(crate) fn clock_by(dates: bool) -> Clock
 
 /// The number of an option, from 0 to `most`.
 fn number(options: &ArgMatches<'_>, name: &str, most: u64) -> Option<u64>
-    ensures value { result ≡ number_in (rows_of (found_of options.now)) name.now most }
+    ensures value { result ≡ wished_number (rows_of (found_of options.now)) name.now most }
     ensures within { IfSome result (λ number. number ≤ most) }
 {
     decimal(options.get_str(name)?.as_bytes(), most)

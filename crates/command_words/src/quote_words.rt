@@ -3,7 +3,7 @@
 ghost use Rattle.std.specs.Prelude.{◌≡◌, ◌≤◌, option_map, IfSome};
 ghost use Rattle.cap_values.specs.NumberDigits.{digits_of};
 ghost use Rattle.clap.specs.Words.{found_of, rows_of};
-ghost use Rattle.command_words.specs.QuoteWishes.{wish_of};
+ghost use Rattle.command_words.specs.QuoteWishes.{quote_wish_of};
 ghost use Rattle.command_words.specs.QuoteWords.{called_of, moment_asked, quote_in};
 
 use crate::options::{clock_by, has_flag, option_text, optional_number};
@@ -16,7 +16,7 @@ use tariff_core::{DAY, LAST_MOMENT, MAX_MONEY, time_of_day};
 /// What the options ask for.
 #[tactic(auto, unfolding(crate::specs::QuoteWords::quote_in))]
 pub(crate) fn quote_ask(options: &ArgMatches<'_>) -> Option<QuoteAsk>
-    ensures { option_map wish_of result ≡ quote_in (rows_of (found_of options.now)) }
+    ensures { option_map quote_wish_of result ≡ quote_in (rows_of (found_of options.now)) }
 {
     let called = called(option_text(options, "called")?)?;
     let at = moment_asked(option_text(options, "at")?)?;

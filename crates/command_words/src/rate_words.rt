@@ -2,8 +2,8 @@
 
 ghost use Rattle.std.specs.Prelude.{◌≡◌, option_map};
 ghost use Rattle.clap.specs.Words.{found_of, rows_of};
-ghost use Rattle.rating.specs.SaidOf.{times_of, wish_of};
-ghost use Rattle.command_words.specs.RateWords.{rate_in, times_by, times_in};
+ghost use Rattle.rating.specs.SaidOf.{times_of, rate_wish_of};
+ghost use Rattle.command_words.specs.RateWords.{rate_in, times_by, wished_times};
 
 use crate::options::{has_flag, option_text};
 use clap::ArgMatches;
@@ -13,7 +13,7 @@ use rating::{Names, RateAsk, Times};
 /// the columns before the tariff switch and after it.
 #[tactic(auto, unfolding(crate::specs::RateWords::rate_in))]
 pub(crate) fn rate_ask<'a>(options: &ArgMatches<'a>) -> Option<RateAsk<'a>>
-    ensures { option_map wish_of result ≡ rate_in (rows_of (found_of options.now)) }
+    ensures { option_map rate_wish_of result ≡ rate_in (rows_of (found_of options.now)) }
 {
     let times = named_times(options)?;
     let names = Names {
@@ -31,7 +31,7 @@ pub(crate) fn rate_ask<'a>(options: &ArgMatches<'a>) -> Option<RateAsk<'a>>
 
 /// By which columns the times of a call are found.
 fn named_times<'a>(options: &ArgMatches<'a>) -> Option<Times<'a>>
-    ensures { option_map times_of result ≡ times_in (rows_of (found_of options.now)) }
+    ensures { option_map times_of result ≡ wished_times (rows_of (found_of options.now)) }
 {
     let time = option_text(options, "time");
     let end = option_text(options, "end");

@@ -4,7 +4,7 @@ ghost use Rattle.std.specs.Prelude.{◌≡◌, ◌≤◌, ◌<◌, option_map, u
 ghost use Rattle.clap.specs.Words.{found_of, rows_of};
 ghost use Rattle.command_words.specs.Arguments.{IsRequestOf};
 ghost use Rattle.command_words.specs.Capped.{capped, capped_ask};
-ghost use Rattle.command_words.specs.RunWords.{ask_in, handling_of, number_of, number_or, output_in, output_of, parts_in, parts_of, run_in, workers_in};
+ghost use Rattle.command_words.specs.RunWords.{ask_in, handling_of, number_written, number_or, output_in, output_of, parts_in, parts_of, run_in, workers_in};
 
 use crate::fault::WordsFault;
 use crate::options::{clock_by, has_flag, option_text, optional_number};
@@ -125,7 +125,7 @@ pub(crate) fn setting(text: Option<&str>, default: u32) -> Option<u32>
 
 /// The number that 1 to 20 digits write; `u32::MAX` stands for all above it.
 fn number(text: &[u8]) -> Option<u32>
-    ensures { result ≡ option_map capped (number_of text.now) }
+    ensures { result ≡ option_map capped (number_written text.now) }
 {
     if !is_decimal(text) {
         return None;

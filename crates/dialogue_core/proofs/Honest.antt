@@ -13,8 +13,8 @@ use Rattle.cap_values.specs.declared.message.SsfMsg.TheVariants as msg
 use Rattle.cap_values.specs.declared.mode.Mode.{Mode}
 use Rattle.dialogue_core.specs.Phases.{Conditions, Phase, Says, Sequel, FirstAsk, Running, Settling, MoreAsk, Returning, Ending, Closed, Asks, Sends, Finished}
 use Rattle.dialogue_core.specs.Phases as phase
-use Rattle.dialogue_core.specs.Runs.{Exchange, Input, IsHonest, IsRun, Message, Answer, Refusal, last_said, step}
-use Rattle.dialogue_core.specs.Table.{Step, are_units, on_begin, ending, first_period, going_on, on_reply, reported, running, sequel}
+use Rattle.dialogue_core.specs.Runs.{Exchange, Input, IsHonest, IsDialogueRun, Message, Answer, Refusal, last_said, step}
+use Rattle.dialogue_core.specs.Table.{Step, are_units, on_begin, ending, says_first_period, going_on, on_reply, event_reported, while_running, sequel}
 use Rattle.dialogue_core.specs.declared.fault.DialogueFault.TheVariants.{Unexpected}
 use Rattle.tariff_core.specs.declared.route.Route.{Route}
 
@@ -39,7 +39,7 @@ awaits_after phase.Clears = tt
 awaits_after phase.Fails = tt
 awaits_after phase.Closes = tt
 
-awaits_event : (t : Conditions) (e : Event) (m : Mode) → AwaitsIn (reported t e m)
+awaits_event : (t : Conditions) (e : Event) (m : Mode) → AwaitsIn (event_reported t e m)
 awaits_event t event.Answer m = tt
 awaits_event t event.CollectedInfo m = tt
 awaits_event t event.RouteSelectFailure m = tt
@@ -48,7 +48,7 @@ awaits_event t event.NoAnswer m = tt
 awaits_event t event.Disconnect m = tt
 awaits_event t event.Abandon m = tt
 
-awaits_running : (t : Conditions) (number at : ℕ) (message : SsfMsg) → AwaitsIn (running t number at message)
+awaits_running : (t : Conditions) (number at : ℕ) (message : SsfMsg) → AwaitsIn (while_running t number at message)
 awaits_running t number at (msg.InitialDp call calling called) = tt
 awaits_running t number at (msg.EventReport e leg m) = awaits_event t e m
 awaits_running t number at (msg.ChargingReport active info) = tt
@@ -60,7 +60,7 @@ awaits_ending (msg.EventReport e leg m) = awaits_after (going_on m)
 awaits_ending (msg.ChargingReport active info) = tt
 awaits_ending msg.Ended = tt
 
-awaits_first : (t : Conditions) (units : ℕ) (last b : Bool) → AwaitsIn (if b then Ok (first_period t units last, Running t) else Err Unexpected)
+awaits_first : (t : Conditions) (units : ℕ) (last b : Bool) → AwaitsIn (if b then Ok (says_first_period t units last, Running t) else Err Unexpected)
 awaits_first t units last true = tt
 awaits_first t units last false = tt
 
@@ -137,7 +137,7 @@ begun_awaits : (call now wanted least : ℕ) (route : Option Route)
 begun_awaits call now wanted least None = tt
 begun_awaits call now wanted least (Some route) = tt
 
-run_awaits : (call now wanted least : ℕ) (route : Option Route) (run : List Exchange) (phase : Phase) → IsRun (on_begin call now wanted least route) run phase
+run_awaits : (call now wanted least : ℕ) (route : Option Route) (run : List Exchange) (phase : Phase) → IsDialogueRun (on_begin call now wanted least route) run phase
     → Awaits (last_said (on_begin call now wanted least route) run) phase
 run_awaits call now wanted least route [] phase is = rw (← is) (begun_awaits call now wanted least route)
 run_awaits call now wanted least route (exchange ∷ earlier) phase (before, runs, is) = rw is at (awaits before exchange.input)
@@ -156,7 +156,7 @@ expected : (asked : Asked) (phase : Phase) (reply : Reply) → Awaits (Asks aske
 expected (Credits amount until) phase reply waits honest = absurd waits
 expected (Reserves call plan wanted least moment) (FirstAsk t) (Credited a) waits honest = absurd honest
 expected (Reserves call plan wanted least moment) (FirstAsk t) (CreditOver a) waits honest = absurd honest
-expected (Reserves call plan wanted least moment) (FirstAsk t) (Granted units last a) waits honest = granted (are_units units) (first_period t units last) (Running t) (units_are units honest.0 honest.1)
+expected (Reserves call plan wanted least moment) (FirstAsk t) (Granted units last a) waits honest = granted (are_units units) (says_first_period t units last) (Running t) (units_are units honest.0 honest.1)
 expected (Reserves call plan wanted least moment) (FirstAsk t) (Denied a) waits honest = refl
 expected (Reserves call plan wanted least moment) (FirstAsk t) (Settled p a) waits honest = absurd honest
 expected (Reserves call plan wanted least moment) (FirstAsk t) (Forfeit p a) waits honest = absurd honest
@@ -208,6 +208,6 @@ expected (Returns call) Ending reply waits honest = absurd waits
 expected (Returns call) Closed reply waits honest = absurd waits
 
 pub honest_expected : (call now wanted least : ℕ) (route : Option Route) (run : List Exchange) (phase : Phase) (asked : Asked) (reply : Reply)
-    → IsRun (on_begin call now wanted least route) run phase → last_said (on_begin call now wanted least route) run ≡ Asks asked → IsHonest asked reply → IsOk (on_reply phase reply)
+    → IsDialogueRun (on_begin call now wanted least route) run phase → last_said (on_begin call now wanted least route) run ≡ Asks asked → IsHonest asked reply → IsOk (on_reply phase reply)
 honest_expected call now wanted least route run phase asked reply is said honest =
     expected asked phase reply (rw said at (run_awaits call now wanted least route run phase is)) honest

@@ -11,8 +11,8 @@ use Rattle.cap_values.specs.declared.mode.Mode.{Mode}
 use Rattle.cap_values.specs.Orders.{Pay}
 use Rattle.dialogue_core.specs.Phases.{Conditions, Phase, Says, Sequel, FirstAsk, Running, Settling, MoreAsk, Returning, Ending, Closed, Asks, Sends, Finished}
 use Rattle.dialogue_core.specs.Phases as phase
-use Rattle.dialogue_core.specs.Runs.{Exchange, Input, IsRun, Message, Answer, Refusal, is_grant, is_over, returns_asked, returns_in, settles_in, settles_since_grant, step, was_granted}
-use Rattle.dialogue_core.specs.Table.{Step, are_units, on_begin, ending, first_period, first_reply, going_on, more_reply, on_reply, reported, running, sequel}
+use Rattle.dialogue_core.specs.Runs.{Exchange, Input, IsDialogueRun, Message, Answer, Refusal, is_grant_input, is_over, returns_asked, returns_in, settles_in, settles_since_grant, step, was_granted}
+use Rattle.dialogue_core.specs.Table.{Step, are_units, on_begin, ending, says_first_period, first_reply, going_on, more_reply, on_reply, event_reported, while_running, sequel}
 use Rattle.dialogue_core.specs.declared.fault.DialogueFault.TheVariants.{Unexpected}
 use Rattle.tariff_core.specs.declared.route.Route.{Route}
 
@@ -37,18 +37,18 @@ Tally Closed s r g = Counts s r 1 (owed_by g) g g
 -- a step keeps the tally
 abbrev Keeps : Input → ℕ → ℕ → Bool → Step → Type 0
 Keeps input s r g (Ok next) =
-    Tally next.1 (if is_grant input then settles_in next.0 else settles_in next.0 + s) (returns_in next.0 + r) (is_grant input || g)
+    Tally next.1 (if is_grant_input input then settles_in next.0 else settles_in next.0 + s) (returns_in next.0 + r) (is_grant_input input || g)
 Keeps input s r g (Err fault) = ⊤
 
 -- the end of a return
-ends : (after : Sequel) (s r : ℕ) (g : Bool) → s ≤ 1 → r ≡ 1 → g ≡ true → (input : Input) → is_grant input ≡ false → Keeps input s r g (Ok (sequel after))
+ends : (after : Sequel) (s r : ℕ) (g : Bool) → s ≤ 1 → r ≡ 1 → g ≡ true → (input : Input) → is_grant_input input ≡ false → Keeps input s r g (Ok (sequel after))
 ends phase.Nothing s r g settled returned grants input plain = rw (plain, grants) (record { settled = omega arith; returned = omega arith; grants = refl })
 ends phase.Continues s r g settled returned grants input plain = rw (plain, grants) (record { settled = omega arith; returned = omega arith; grants = refl })
 ends phase.Clears s r g settled returned grants input plain = rw (plain, grants) (record { settled = omega arith; returned = omega arith; grants = refl })
 ends phase.Fails s r g settled returned grants input plain = rw (plain, grants) (record { settled = omega arith; returned = omega arith; grants = refl })
 ends phase.Closes s r g settled returned grants input plain = rw (plain, grants) (record { settled = omega arith; returned = omega arith; grants = refl })
 
-over : (after : Sequel) (s r : ℕ) (g : Bool) → s ≤ 1 → r ≡ owed_by g → (input : Input) → is_grant input ≡ false → Keeps input s r g (Ok (sequel after))
+over : (after : Sequel) (s r : ℕ) (g : Bool) → s ≤ 1 → r ≡ owed_by g → (input : Input) → is_grant_input input ≡ false → Keeps input s r g (Ok (sequel after))
 over phase.Nothing s r g settled returned input plain = rw plain (record { settled = omega arith; returned = omega (arith, returned); grants = refl })
 over phase.Continues s r g settled returned input plain = rw plain (record { settled = omega arith; returned = omega (arith, returned); grants = refl })
 over phase.Clears s r g settled returned input plain = rw plain (record { settled = omega arith; returned = omega (arith, returned); grants = refl })
@@ -56,7 +56,7 @@ over phase.Fails s r g settled returned input plain = rw plain (record { settled
 over phase.Closes s r g settled returned input plain = rw plain (record { settled = omega arith; returned = omega (arith, returned); grants = refl })
 
 keeps_event : (t : Conditions) (number at : ℕ) (message : SsfMsg) (e : Event) (m : Mode) (s r : ℕ) (g : Bool) → Counts s r 0 0 g true
-    → Keeps (Message number at message) s r g (reported t e m)
+    → Keeps (Message number at message) s r g (event_reported t e m)
 keeps_event t number at message event.Answer m s r g c = record { settled = omega arith; returned = omega arith; grants = c.grants }
 keeps_event t number at message event.CollectedInfo m s r g c = record { settled = omega arith; returned = omega arith; grants = c.grants }
 keeps_event t number at message event.RouteSelectFailure m s r g c = record { settled = omega arith; returned = omega arith; grants = c.grants }
@@ -66,7 +66,7 @@ keeps_event t number at message event.Disconnect m s r g c = record { settled = 
 keeps_event t number at message event.Abandon m s r g c = record { settled = omega arith; returned = omega arith; grants = c.grants }
 
 keeps_running : (t : Conditions) (number at : ℕ) (message : SsfMsg) (s r : ℕ) (g : Bool) → Counts s r 0 0 g true
-    → Keeps (Message number at message) s r g (running t number at message)
+    → Keeps (Message number at message) s r g (while_running t number at message)
 keeps_running t number at (msg.InitialDp call calling called) s r g c = tt
 keeps_running t number at (msg.EventReport e leg m) s r g c = keeps_event t number at (msg.EventReport e leg m) e m s r g c
 keeps_running t number at (msg.ChargingReport active info) s r g c = record { settled = omega arith; returned = omega arith; grants = c.grants }
@@ -79,7 +79,7 @@ keeps_ending number at (msg.ChargingReport active info) s r g c = tt
 keeps_ending number at msg.Ended s r g c = over phase.Closes s r g c.settled c.returned (Message number at msg.Ended) refl
 
 grant_first : (t : Conditions) (units a : ℕ) (last b : Bool) (s r : ℕ) (g : Bool) → Counts s r 0 0 g false
-    → Keeps (Answer (Granted units last a)) s r g (if b then Ok (first_period t units last, Running t) else Err Unexpected)
+    → Keeps (Answer (Granted units last a)) s r g (if b then Ok (says_first_period t units last, Running t) else Err Unexpected)
 grant_first t units a last true s r g c = record { settled = omega arith; returned = omega (arith, c.returned); grants = refl }
 grant_first t units a last false s r g c = tt
 
@@ -161,7 +161,7 @@ begins call now wanted least None = record { settled = omega arith; returned = r
 begins call now wanted least (Some route) = record { settled = omega arith; returned = refl; grants = refl }
 
 -- the tally of a run
-pub tally : (call now wanted least : ℕ) (route : Option Route) (run : List Exchange) (phase : Phase) → IsRun (on_begin call now wanted least route) run phase
+pub tally : (call now wanted least : ℕ) (route : Option Route) (run : List Exchange) (phase : Phase) → IsDialogueRun (on_begin call now wanted least route) run phase
     → Tally phase (settles_since_grant run) (returns_asked run) (was_granted run)
 tally call now wanted least route [] phase is = rw (← is) (begins call now wanted least route)
 tally call now wanted least route (exchange ∷ earlier) phase (before, runs, is) =
@@ -176,7 +176,7 @@ settled_once (Returning after) s r g c = c.settled
 settled_once Ending s r g c = c.settled
 settled_once Closed s r g c = c.settled
 
-pub one_settle : (call now wanted least : ℕ) (route : Option Route) (run : List Exchange) (phase : Phase) → IsRun (on_begin call now wanted least route) run phase
+pub one_settle : (call now wanted least : ℕ) (route : Option Route) (run : List Exchange) (phase : Phase) → IsDialogueRun (on_begin call now wanted least route) run phase
     → settles_since_grant run ≤ 1
 one_settle call now wanted least route run phase is = settled_once phase _ _ _ (tally call now wanted least route run phase is)
 
@@ -189,6 +189,6 @@ returned_once (Returning after) s r g c over = cc
 returned_once Ending s r g c over = c.returned
 returned_once Closed s r g c over = c.returned
 
-pub one_return : (call now wanted least : ℕ) (route : Option Route) (run : List Exchange) (phase : Phase) → IsRun (on_begin call now wanted least route) run phase
+pub one_return : (call now wanted least : ℕ) (route : Option Route) (run : List Exchange) (phase : Phase) → IsDialogueRun (on_begin call now wanted least route) run phase
     → is_over phase ≡ true → returns_asked run ≡ (if was_granted run then 1 else 0)
 one_return call now wanted least route run phase is over = returned_once phase _ _ _ (tally call now wanted least route run phase is) over

@@ -4,7 +4,7 @@ use Rattle.dialogue_core.specs.declared.fault.DialogueFault.{DialogueFault}
 use Rattle.dialogue_core.specs.declared.fault.DialogueFault.TheVariants.{Unexpected, NoAskPending, AskPending}
 
 -- the number of a fault
-abbrev pub code_of : DialogueFault → ℕ
-code_of Unexpected = 1
-code_of NoAskPending = 2
-code_of AskPending = 3
+abbrev pub dialogue_fault_code : DialogueFault → ℕ
+dialogue_fault_code Unexpected = 1
+dialogue_fault_code NoAskPending = 2
+dialogue_fault_code AskPending = 3

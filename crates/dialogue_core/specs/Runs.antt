@@ -27,16 +27,16 @@ pub record Exchange : Type 0 where
   pub said : Says
 
 -- the phase after these exchanges, the newest first, of a dialogue that began so
-abbrev pub IsRun : Says × Phase → List Exchange → Phase → Type 0
-IsRun first [] phase = first.1 ≡ phase
-IsRun first (exchange ∷ earlier) phase = (before : Phase) × IsRun first earlier before × (step before exchange.input ≡ Ok (exchange.said, phase))
+abbrev pub IsDialogueRun : Says × Phase → List Exchange → Phase → Type 0
+IsDialogueRun first [] phase = first.1 ≡ phase
+IsDialogueRun first (exchange ∷ earlier) phase = (before : Phase) × IsDialogueRun first earlier before × (step before exchange.input ≡ Ok (exchange.said, phase))
 
 -- ---- what a run has asked
 
 -- a reply that grants time
-abbrev pub is_grant : Input → Bool
-is_grant (Answer (Granted units last available)) = true
-is_grant _ = false
+abbrev pub is_grant_input : Input → Bool
+is_grant_input (Answer (Granted units last available)) = true
+is_grant_input _ = false
 
 -- 1 where a Settle is asked
 abbrev pub settles_in : Says → ℕ
@@ -52,7 +52,7 @@ returns_in _ = 0
 abbrev pub settles_since_grant : List Exchange → ℕ
 settles_since_grant [] = 0
 settles_since_grant (exchange ∷ earlier) =
-    if is_grant exchange.input then settles_in exchange.said else settles_in exchange.said + settles_since_grant earlier
+    if is_grant_input exchange.input then settles_in exchange.said else settles_in exchange.said + settles_since_grant earlier
 
 -- how many Returns were asked
 abbrev pub returns_asked : List Exchange → ℕ
@@ -62,7 +62,7 @@ returns_asked (exchange ∷ earlier) = returns_in exchange.said + returns_asked 
 -- whether time was ever granted
 abbrev pub was_granted : List Exchange → Bool
 was_granted [] = false
-was_granted (exchange ∷ earlier) = is_grant exchange.input || was_granted earlier
+was_granted (exchange ∷ earlier) = is_grant_input exchange.input || was_granted earlier
 
 -- what was said last
 abbrev pub last_said : Says × Phase → List Exchange → Says
@@ -89,15 +89,15 @@ IsHonest _ _ = ⊥
 -- at most one settle is asked between a grant and the next
 abbrev pub OneSettleAGrant : Type 0
 OneSettleAGrant = (call now wanted least : ℕ) (route : Option Route) (run : List Exchange) (phase : Phase)
-    → IsRun (on_begin call now wanted least route) run phase → settles_since_grant run ≤ 1
+    → IsDialogueRun (on_begin call now wanted least route) run phase → settles_since_grant run ≤ 1
 
 -- a run that is done with the account has asked exactly one return where it was granted time, and none elsewhere
 abbrev pub OneReturnIfGranted : Type 0
 OneReturnIfGranted = (call now wanted least : ℕ) (route : Option Route) (run : List Exchange) (phase : Phase)
-    → IsRun (on_begin call now wanted least route) run phase → is_over phase ≡ true → returns_asked run ≡ (if was_granted run then 1 else 0)
+    → IsDialogueRun (on_begin call now wanted least route) run phase → is_over phase ≡ true → returns_asked run ≡ (if was_granted run then 1 else 0)
 
 -- a reply of the kind that an account gives to what was asked last has its place in the table
 abbrev pub HonestRepliesAreExpected : Type 0
 HonestRepliesAreExpected = (call now wanted least : ℕ) (route : Option Route) (run : List Exchange) (phase : Phase) (asked : Asked) (reply : Reply)
-    → IsRun (on_begin call now wanted least route) run phase → last_said (on_begin call now wanted least route) run ≡ Asks asked
+    → IsDialogueRun (on_begin call now wanted least route) run phase → last_said (on_begin call now wanted least route) run ≡ Asks asked
     → IsHonest asked reply → IsOk (on_reply phase reply)

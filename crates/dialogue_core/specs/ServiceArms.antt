@@ -10,8 +10,8 @@ use Rattle.cap_values.specs.declared.leg.Leg.TheVariants.{One, Two}
 use Rattle.cap_values.specs.declared.mode.Mode.TheVariants.{Interrupted, NotifyAndContinue}
 
 -- an event of which the service is told while the call goes on
-abbrev pub notified : Event → Arming
-notified event = record { event = event; leg = None; mode = NotifyAndContinue }
+abbrev pub notify_arming : Event → Arming
+notify_arming event = record { event = event; leg = None; mode = NotifyAndContinue }
 
 -- a disconnect of a leg, at which the call waits for the service
 abbrev pub interrupted : Leg → Arming
@@ -20,7 +20,7 @@ interrupted leg = record { event = Disconnect; leg = Some leg; mode = Interrupte
 -- each event before the call is over is reported, and the call waits where a party of it hangs up
 abbrev pub service_armings : List Arming
 service_armings =
-    notified RouteSelectFailure ∷ notified CalledPartyBusy ∷ notified NoAnswer ∷ notified Answer ∷ notified Abandon
+    notify_arming RouteSelectFailure ∷ notify_arming CalledPartyBusy ∷ notify_arming NoAnswer ∷ notify_arming Answer ∷ notify_arming Abandon
     ∷ interrupted One ∷ interrupted Two ∷ []
 
 -- these armings, by point

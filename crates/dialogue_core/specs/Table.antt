@@ -67,16 +67,16 @@ on_begin call now wanted least (Some route) =
 -- ---- a message of the gsmSSF
 
 -- an event of a call that was granted time
-abbrev pub reported : Conditions → Event → Mode → Step
-reported t event.Answer mode = Ok (Sends [], Running t)
-reported t _ mode = give_back t (going_on mode)
+abbrev pub event_reported : Conditions → Event → Mode → Step
+event_reported t event.Answer mode = Ok (Sends [], Running t)
+event_reported t _ mode = give_back t (going_on mode)
 
 -- a message while the call goes on
-abbrev pub running : Conditions → ℕ → ℕ → SsfMsg → Step
-running t number at (msg.InitialDp call calling called) = Err Unexpected
-running t number at (msg.EventReport event leg mode) = reported t event mode
-running t number at (msg.ChargingReport active info) = Ok (Asks (Settles t.call number info), Settling t active at)
-running t number at msg.Ended = give_back t phase.Closes
+abbrev pub while_running : Conditions → ℕ → ℕ → SsfMsg → Step
+while_running t number at (msg.InitialDp call calling called) = Err Unexpected
+while_running t number at (msg.EventReport event leg mode) = event_reported t event mode
+while_running t number at (msg.ChargingReport active info) = Ok (Asks (Settles t.call number info), Settling t active at)
+while_running t number at msg.Ended = give_back t phase.Closes
 
 -- a message after the last ask
 abbrev pub ending : SsfMsg → Step
@@ -88,7 +88,7 @@ ending msg.Ended = Ok (Finished, Closed)
 -- of the mail with this number, at its moment
 abbrev pub on_message : Phase → ℕ → ℕ → SsfMsg → Step
 on_message (FirstAsk t) number at message = Err AskPending
-on_message (Running t) number at message = running t number at message
+on_message (Running t) number at message = while_running t number at message
 on_message (Settling t active since) number at message = Err AskPending
 on_message (MoreAsk t) number at message = Err AskPending
 on_message (Returning after) number at message = Err AskPending
@@ -102,13 +102,13 @@ abbrev pub are_units : ℕ → Bool
 are_units units = nat_le 1 units && nat_le units DAY
 
 -- the first period: the call is watched, charged, and goes on
-abbrev pub first_period : Conditions → ℕ → Bool → Says
-first_period t units last = Sends (Watch service_arms ∷ Pay units t.switch last ∷ GoOn ∷ [])
+abbrev pub says_first_period : Conditions → ℕ → Bool → Says
+says_first_period t units last = Sends (Watch service_arms ∷ Pay units t.switch last ∷ GoOn ∷ [])
 
 -- the reply to the first Reserve
 abbrev pub first_reply : Conditions → Reply → Step
 first_reply t (Granted units last available) =
-    if are_units units then Ok (first_period t units last, Running t) else Err Unexpected
+    if are_units units then Ok (says_first_period t units last, Running t) else Err Unexpected
 first_reply t (Denied available) = Ok (Sends (Release 21 ∷ []), Ending)
 first_reply t _ = Err Unexpected
 
@@ -132,9 +132,9 @@ more_reply t (Denied available) = give_back t phase.Clears
 more_reply t _ = Err Unexpected
 
 -- the reply to a Return
-abbrev pub return_reply : Sequel → Reply → Step
-return_reply after (Returned paid available) = Ok (sequel after)
-return_reply after _ = Err Unexpected
+abbrev pub on_return_reply : Sequel → Reply → Step
+on_return_reply after (Returned paid available) = Ok (sequel after)
+on_return_reply after _ = Err Unexpected
 
 -- a reply of the account
 abbrev pub on_reply : Phase → Reply → Step
@@ -143,7 +143,7 @@ on_reply (Running t) reply = Err NoAskPending
 on_reply (Settling t true at) reply = active_reply t at reply
 on_reply (Settling t false at) reply = last_reply t reply
 on_reply (MoreAsk t) reply = more_reply t reply
-on_reply (Returning after) reply = return_reply after reply
+on_reply (Returning after) reply = on_return_reply after reply
 on_reply Ending reply = Err NoAskPending
 on_reply Closed reply = Err NoAskPending
 

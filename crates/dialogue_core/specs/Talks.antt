@@ -22,10 +22,10 @@ after_got phase (Ok reply) = or_done phase (on_reply phase reply)
 after_got phase (Err fault) = or_done phase (on_refusal phase)
 
 -- the operations that are sent
-abbrev pub sent_by : Says → List Order
-sent_by (Asks asked) = []
-sent_by (Sends orders) = orders
-sent_by Finished = []
+abbrev pub orders_sent_by : Says → List Order
+orders_sent_by (Asks asked) = []
+orders_sent_by (Sends orders) = orders
+orders_sent_by Finished = []
 
 -- the asks that can follow the one that is pending in a phase
 abbrev pub asks_after : Phase → ℕ
@@ -73,10 +73,10 @@ pub record IsTalkedOut {X : Type 0} (Does : Asking X) (first : Says × Phase) (f
   pub last : Says
   pub talks : talked first gots ≡ (last, phase)
   pub rests : is_ask last ≡ false
-  pub sends : orders ≡ sent_by last
+  pub sends : orders ≡ orders_sent_by last
 
 -- a talk that ended at an ask that got nothing
-pub record IsCutOff {X E : Type 0} (Does : Asking X) (Ends : X → Asked → E → X → Type 0) (first : Says × Phase) (from to : X) (phase : Phase) (end : E) : Type 0 where
+pub record EndsUnanswered {X E : Type 0} (Does : Asking X) (Ends : X → Asked → E → X → Type 0) (first : Says × Phase) (from to : X) (phase : Phase) (end : E) : Type 0 where
   pub gots : List Got
   pub between : X
   pub are_got : AreGot Does first from gots between

@@ -50,6 +50,6 @@ says_of (turn.Send ops) = phase.Sends (orders_of ops.items)
 says_of turn.Done = phase.Finished
 
 -- what is done, and the state after, are the table's; a refusal is the table's too
-abbrev pub Follows : Result (Turn × State) DialogueFault → Step → Type 0
-Follows (Ok next) step = step ≡ Ok (says_of next.0, phase_at next.1)
-Follows (Err fault) step = step ≡ Err fault
+abbrev pub FollowsTable : Result (Turn × State) DialogueFault → Step → Type 0
+FollowsTable (Ok next) step = step ≡ Ok (says_of next.0, phase_at next.1)
+FollowsTable (Err fault) step = step ≡ Err fault

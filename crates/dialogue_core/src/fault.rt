@@ -1,7 +1,7 @@
 //! Why a dialogue refuses what it is handed.
 
 ghost use Rattle.std.specs.Prelude.{◌≡◌};
-ghost use Rattle.dialogue_core.specs.Faults.{code_of};
+ghost use Rattle.dialogue_core.specs.Faults.{dialogue_fault_code};
 
 use thiserror::Error;
 
@@ -23,7 +23,7 @@ pub enum DialogueFault {
 impl DialogueFault {
     /// The number of the fault.
     pub fn code(self) -> u8
-        ensures { result ≡ code_of self }
+        ensures { result ≡ dialogue_fault_code self }
     {
         self as u8
     }

@@ -2,7 +2,7 @@
 
 ghost use Rattle.cap_values.specs.Orders.{orders_of};
 ghost use Rattle.std.specs.Prelude.{IfOk, IfErr};
-ghost use Rattle.dialogue_core.specs.Talks.{IsCutOff, IsTalkedOut};
+ghost use Rattle.dialogue_core.specs.Talks.{EndsUnanswered, IsTalkedOut};
 ghost use Rattle.dialogue_core.specs.Views.{phase_of, says_of};
 
 use crate::{Dialogue, Turn};
@@ -50,7 +50,7 @@ pub fn converse<P, A: Asker<P>>(
     requires { A.may_ask (asker.old, way.old) }
     ensures talks { IfOk result (λ ops. IsTalkedOut A.does (says_of turn, phase_of dialogue.old)
         (asker.old, way.old) (asker.new, way.new) (phase_of dialogue.new) (orders_of ops.items)) }
-    ensures cut_off { IfErr result (λ end. IsCutOff A.does A.ends
+    ensures cut_off { IfErr result (λ end. EndsUnanswered A.does A.ends
         (says_of turn, phase_of dialogue.old)
         (asker.old, way.old) (asker.new, way.new) (phase_of dialogue.new) end) }
 {

@@ -10,23 +10,23 @@ use Rattle.table_core.specs.Printed.{DecimalsAreRead}
 use Rattle.tariff_core.specs.Rates.{Rates}
 use Rattle.tariff_core.specs.declared.times.TimeInfo.{TimeInfo}
 use Rattle.tariff_core.specs.declared.times.TimeInfo.TheVariants as info
-use Rattle.entry_rows.specs.Column.{any_number_of, interval_of, is_empty, moment_of, money_of, number_of, optional_moment_of, optional_rate_of, rate_of, step_units_of, units_of}
+use Rattle.entry_rows.specs.Column.{any_number_of, interval_of, is_empty_column, moment_column, money_of, number_column, optional_moment_of, optional_rate_of, rate_of, step_units_of, units_of}
 use Rattle.entry_rows.specs.Columns.{in_fourth, number_or_empty, operation_of}
 use Rattle.entry_rows.specs.Fits.{FitsAsked, FitsReport, IsInterval, IsMoment, IsMoney, IsRate, IsTime, IsWide}
 use Rattle.entry_rows.specs.Laws.{IsReadAsOp, OperationsAreRead, RepliesAreRead}
-use Rattle.entry_rows.specs.Operations.{at_of, first_of, free_of, plan_in, reserve_in, step_of}
+use Rattle.entry_rows.specs.Operations.{at_of, first_column, free_of, plan_in, reserve_in, step_column}
 use Rattle.entry_rows.specs.declared.version.Version.{Version}
 use Rattle.entry_rows.specs.declared.version.Version.TheVariants as version
 use Rattle.entry_rows.specs.declared.words.OpWord.TheVariants as op_word
 use Rattle.entry_rows.specs.declared.words.ReplyWord.TheVariants as reply_word
 
-not_empty : (number : ℕ) → number < 2 ^ 64 → is_empty (decimal number) ≡ false
+not_empty : (number : ℕ) → number < 2 ^ 64 → is_empty_column (decimal number) ≡ false
 not_empty number small = let some : 0 < length (decimal number) = decimal_nonempty number small in grind (arith, nat_tests)
 
 module _ (reads : DecimalsAreRead) where
   -- ---- columns
 
-  number_read : (most number : ℕ) → most < 2 ^ 64 → number ≤ most → number_of most (decimal number) ≡ Ok number
+  number_read : (most number : ℕ) → most < 2 ^ 64 → number ≤ most → number_column most (decimal number) ≡ Ok number
   number_read most number small within = rw (reads most number small within) refl
 
   wide : (number : ℕ) → IsWide number → any_number_of (decimal number) ≡ Ok number
@@ -38,7 +38,7 @@ module _ (reads : DecimalsAreRead) where
   money : (number : ℕ) → IsMoney number → money_of (decimal number) ≡ Ok number
   money number fits = number_read 1000000000000000 number (omega arith) fits
 
-  moment : (number : ℕ) → IsMoment number → moment_of (decimal number) ≡ Ok number
+  moment : (number : ℕ) → IsMoment number → moment_column (decimal number) ≡ Ok number
   moment number fits = number_read 2000000000000 number (omega arith) fits
 
   optional_moment : (number : Option ℕ) → IfSome number IsMoment → optional_moment_of (number_or_empty number) ≡ Ok number
@@ -82,7 +82,7 @@ module _ (reads : DecimalsAreRead) where
   -- a version from the third on, in which a plan's steps are read as they are
   reserve_read : (version : Version) (call : ℕ) (plan : Rates) (wanted least at : ℕ) → FitsAsked (Reserves call plan wanted least at)
       → free_of version (decimal plan.free) ≡ Ok plan.free → at_of version (decimal at) ≡ Ok at
-      → first_of version (in_fourth version plan.first) ≡ Ok plan.first → step_of version (in_fourth version plan.step) ≡ Ok plan.step
+      → first_column version (in_fourth version plan.first) ≡ Ok plan.first → step_column version (in_fourth version plan.step) ≡ Ok plan.step
       → IsReadAsOp (Reserves call plan wanted least at) (operation_of version (Reserves call plan wanted least at))
   unfolding plan_in reserve_in
   reserve_read version call plan wanted least at fits free moment_is first beyond = record {

@@ -110,8 +110,8 @@ number_or_empty None = []
 number_or_empty (Some number) = decimal number
 
 -- the opening credit is where an operation would, with its last moment, if it has one
-abbrev pub opening_of : Version → ℕ → Option ℕ → Operation
-opening_of version opening until = record (no_operation version) { op = codes "opening"; x1 = decimal opening; x2 = number_or_empty until }
+abbrev pub opening_columns : Version → ℕ → Option ℕ → Operation
+opening_columns version opening until = record (no_operation version) { op = codes "opening"; x1 = decimal opening; x2 = number_or_empty until }
 
 -- a Settle in the fields of a row
 abbrev pub settle_of : Version → ℕ → ℕ → TimeInfo → Operation
@@ -146,29 +146,29 @@ operation_of version (Settles call number info) = settle_of version call number 
 operation_of version (Returns call) = record (no_operation version) { op = codes "return"; call = decimal call }
 
 -- a reply in the fields of a row
-abbrev pub answer_of : Reply → Answer
-answer_of (reply.Credited available) = record no_answer { reply = codes "credited"; y3 = decimal available }
-answer_of (reply.CreditOver available) = record no_answer { reply = codes "over"; y3 = decimal available }
-answer_of (reply.Granted units true available) = record { reply = codes "granted"; y1 = decimal units; y2 = codes "last"; y3 = decimal available }
-answer_of (reply.Granted units false available) = record { reply = codes "granted"; y1 = decimal units; y2 = codes "more"; y3 = decimal available }
-answer_of (reply.Denied available) = record no_answer { reply = codes "denied"; y3 = decimal available }
-answer_of (reply.Settled paid available) = record no_answer { reply = codes "settled"; y1 = decimal paid; y3 = decimal available }
-answer_of (reply.Forfeit paid available) = record no_answer { reply = codes "forfeit"; y1 = decimal paid; y3 = decimal available }
-answer_of (reply.Returned paid available) = record no_answer { reply = codes "returned"; y1 = decimal paid; y3 = decimal available }
+abbrev pub reply_fields : Reply → Answer
+reply_fields (reply.Credited available) = record no_answer { reply = codes "credited"; y3 = decimal available }
+reply_fields (reply.CreditOver available) = record no_answer { reply = codes "over"; y3 = decimal available }
+reply_fields (reply.Granted units true available) = record { reply = codes "granted"; y1 = decimal units; y2 = codes "last"; y3 = decimal available }
+reply_fields (reply.Granted units false available) = record { reply = codes "granted"; y1 = decimal units; y2 = codes "more"; y3 = decimal available }
+reply_fields (reply.Denied available) = record no_answer { reply = codes "denied"; y3 = decimal available }
+reply_fields (reply.Settled paid available) = record no_answer { reply = codes "settled"; y1 = decimal paid; y3 = decimal available }
+reply_fields (reply.Forfeit paid available) = record no_answer { reply = codes "forfeit"; y1 = decimal paid; y3 = decimal available }
+reply_fields (reply.Returned paid available) = record no_answer { reply = codes "returned"; y1 = decimal paid; y3 = decimal available }
 
 -- a field, a comma, and what follows
 abbrev pub field : List ℕ → List ℕ → List ℕ
 field text rest = text ++ (codes "," ++ rest)
 
 -- the columns that version 4 has behind x7
-abbrev pub steps_text : Version → List ℕ → List ℕ → List ℕ
-steps_text version.Four first step = field first (field step [])
-steps_text version first step = []
+abbrev pub steps_columns : Version → List ℕ → List ℕ → List ℕ
+steps_columns version.Four first step = field first (field step [])
+steps_columns version first step = []
 
 -- the fields of an operation, each with a comma behind it: x8 and x9 in version 4 alone
 abbrev pub operation_text : Operation → List ℕ
 operation_text o =
-    field o.op (field o.call (field o.x1 (field o.x2 (field o.x3 (field o.x4 (field o.x5 (field o.x6 (field o.x7 (steps_text o.version o.x8 o.x9)))))))))
+    field o.op (field o.call (field o.x1 (field o.x2 (field o.x3 (field o.x4 (field o.x5 (field o.x6 (field o.x7 (steps_columns o.version o.x8 o.x9)))))))))
 
 -- those of an answer, which end the line
 abbrev pub answer_text : Answer → List ℕ

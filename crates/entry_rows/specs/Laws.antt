@@ -3,7 +3,7 @@ use Rattle.std.specs.Prelude.{◌≡◌, true, Ok, ⊤}
 use Rattle.account_core.specs.Asked.{Asked, Reserves}
 use Rattle.account_core.specs.Laws.{IsReplyInRange}
 use Rattle.account_core.specs.declared.entry.Reply.{Reply}
-use Rattle.entry_rows.specs.Columns.{Answer, Operation, answer_of, operation_of}
+use Rattle.entry_rows.specs.Columns.{Answer, Operation, reply_fields, operation_of}
 use Rattle.entry_rows.specs.Fits.{FitsAsked}
 use Rattle.entry_rows.specs.Operations.{asked_in, is_asked_blank}
 use Rattle.entry_rows.specs.Replies.{is_reply_blank, reply_in}
@@ -28,16 +28,16 @@ pub record IsReadAsReply (reply : Reply) (columns : Answer) : Type 0 where
   pub blank : is_reply_blank word columns ≡ true
 
 -- a version in which an operation is printed whole: each in the fourth, and in the third each that has no billing steps
-abbrev pub Prints : Version → Asked → Type 0
-Prints version.Four asked = ⊤
-Prints version.Three (Reserves call plan wanted least at) = (plan.first ≡ 0) × (plan.step ≡ 1)
-Prints version.Three asked = ⊤
-Prints version asked = ⊥
+abbrev pub PrintsWhole : Version → Asked → Type 0
+PrintsWhole version.Four asked = ⊤
+PrintsWhole version.Three (Reserves call plan wanted least at) = (plan.first ≡ 0) × (plan.step ≡ 1)
+PrintsWhole version.Three asked = ⊤
+PrintsWhole version asked = ⊥
 
 -- the columns that are printed of an operation, in such a version, are read as it
 abbrev pub OperationsAreRead : Type 0
-OperationsAreRead = (version : Version) (asked : Asked) → FitsAsked asked → Prints version asked → IsReadAsOp asked (operation_of version asked)
+OperationsAreRead = (version : Version) (asked : Asked) → FitsAsked asked → PrintsWhole version asked → IsReadAsOp asked (operation_of version asked)
 
 -- the columns that are printed of a reply are read as it
 abbrev pub RepliesAreRead : Type 0
-RepliesAreRead = (reply : Reply) → IsReplyInRange reply → IsReadAsReply reply (answer_of reply)
+RepliesAreRead = (reply : Reply) → IsReplyInRange reply → IsReadAsReply reply (reply_fields reply)

@@ -2,16 +2,16 @@
 use Rattle.std.specs.Prelude.{◌&&◌, ℕ, Bool, true, false, Result, Ok}
 use Rattle.account_core.specs.declared.entry.Reply.{Reply}
 use Rattle.account_core.specs.declared.entry.Reply.TheVariants as reply
-use Rattle.table_core.specs.Judging.{after}
+use Rattle.table_core.specs.Judging.{and_then}
 use Rattle.table_core.specs.declared.fault.RowKind.{RowKind}
-use Rattle.entry_rows.specs.Column.{is_empty, money_of, units_of}
+use Rattle.entry_rows.specs.Column.{is_empty_column, money_of, units_of}
 use Rattle.entry_rows.specs.Columns.{Answer}
 use Rattle.entry_rows.specs.declared.words.ReplyWord.{ReplyWord}
 use Rattle.entry_rows.specs.declared.words.ReplyWord.TheVariants as word
 
 -- `granted`: y1 the time
 abbrev pub granted_in : Answer → Bool → ℕ → Result Reply RowKind
-granted_in a last available = after (units_of a.y1) (λ units. Ok (reply.Granted units last available))
+granted_in a last available = and_then (units_of a.y1) (λ units. Ok (reply.Granted units last available))
 
 -- the reply of the word, which shows this credit; y1 is what was paid
 abbrev pub shown_in : ReplyWord → Answer → ℕ → Result Reply RowKind
@@ -20,21 +20,21 @@ shown_in word.CreditOver a available = Ok (reply.CreditOver available)
 shown_in word.GrantedMore a available = granted_in a false available
 shown_in word.GrantedLast a available = granted_in a true available
 shown_in word.Denied a available = Ok (reply.Denied available)
-shown_in word.Settled a available = after (money_of a.y1) (λ paid. Ok (reply.Settled paid available))
-shown_in word.Forfeit a available = after (money_of a.y1) (λ paid. Ok (reply.Forfeit paid available))
-shown_in word.Returned a available = after (money_of a.y1) (λ paid. Ok (reply.Returned paid available))
+shown_in word.Settled a available = and_then (money_of a.y1) (λ paid. Ok (reply.Settled paid available))
+shown_in word.Forfeit a available = and_then (money_of a.y1) (λ paid. Ok (reply.Forfeit paid available))
+shown_in word.Returned a available = and_then (money_of a.y1) (λ paid. Ok (reply.Returned paid available))
 
 -- the reply of the word: y3 is the credit that it shows
 abbrev pub reply_in : ReplyWord → Answer → Result Reply RowKind
-reply_in word a = after (money_of a.y3) (shown_in word a)
+reply_in word a = and_then (money_of a.y3) (shown_in word a)
 
 -- the columns that the reply doesn't use are empty
 abbrev pub is_reply_blank : ReplyWord → Answer → Bool
-is_reply_blank word.Credited a = is_empty a.y1 && is_empty a.y2
-is_reply_blank word.CreditOver a = is_empty a.y1 && is_empty a.y2
+is_reply_blank word.Credited a = is_empty_column a.y1 && is_empty_column a.y2
+is_reply_blank word.CreditOver a = is_empty_column a.y1 && is_empty_column a.y2
 is_reply_blank word.GrantedMore a = true
 is_reply_blank word.GrantedLast a = true
-is_reply_blank word.Denied a = is_empty a.y1 && is_empty a.y2
-is_reply_blank word.Settled a = is_empty a.y2
-is_reply_blank word.Forfeit a = is_empty a.y2
-is_reply_blank word.Returned a = is_empty a.y2
+is_reply_blank word.Denied a = is_empty_column a.y1 && is_empty_column a.y2
+is_reply_blank word.Settled a = is_empty_column a.y2
+is_reply_blank word.Forfeit a = is_empty_column a.y2
+is_reply_blank word.Returned a = is_empty_column a.y2

@@ -2,7 +2,7 @@
 use Rattle.std.specs.Prelude.{ℕ, Bool, true, false, List, ◌++◌, Result, Ok, Err, codes}
 use Rattle.std.specs.Fmt.{decimal}
 use Rattle.account_core.specs.Asked.{Asked, Credits, Reserves, Returns, Settles}
-use Rattle.account_core.specs.Faults.{name_of}
+use Rattle.account_core.specs.Faults.{account_fault_name}
 use Rattle.account_core.specs.declared.entry.Reply.{Reply}
 use Rattle.account_core.specs.declared.entry.Reply.TheVariants as reply
 use Rattle.account_core.specs.declared.fault.AccountFault.{AccountFault}
@@ -37,11 +37,11 @@ reply_text (reply.Returned paid available) = codes "returned" ++ paid_text paid 
 -- a reply, or `refused` and the fault in its place
 abbrev pub told_text : Result Reply AccountFault → List ℕ
 told_text (Ok reply) = reply_text reply
-told_text (Err why) = codes "refused " ++ name_of why
+told_text (Err why) = codes "refused " ++ account_fault_name why
 
 -- the word of an operation
-abbrev pub word_of : Asked → List ℕ
-word_of (Credits amount until) = codes "credit"
-word_of (Reserves call plan wanted least at) = codes "reserve"
-word_of (Settles call number info) = codes "settle"
-word_of (Returns call) = codes "return"
+abbrev pub operation_word : Asked → List ℕ
+operation_word (Credits amount until) = codes "credit"
+operation_word (Reserves call plan wanted least at) = codes "reserve"
+operation_word (Settles call number info) = codes "settle"
+operation_word (Returns call) = codes "return"

@@ -4,11 +4,11 @@ use Rattle.entry_rows.specs.declared.version.Version.{Version}
 use Rattle.entry_rows.specs.declared.version.Version.TheVariants as version
 
 -- how many columns an operation has: its word, its call and x1 to x5, then x6, then x7, then x8 and x9
-abbrev pub width_of : Version → ℕ
-width_of version.One = 7
-width_of version.Two = 8
-width_of version.Three = 9
-width_of version.Four = 11
+abbrev pub operation_width : Version → ℕ
+operation_width version.One = 7
+operation_width version.Two = 8
+operation_width version.Three = 9
+operation_width version.Four = 11
 
 -- the version of a header, where those of all versions are in a row, oldest first
 abbrev pub version_at : ℕ → Version

@@ -2,7 +2,7 @@
 
 ghost use Rattle.std.specs.Prelude.{◌≡◌, ◌++◌, [], OnOk, string_bytes};
 ghost use Rattle.account_core.specs.Events.{asked_of};
-ghost use Rattle.entry_rows.specs.Columns.{answer_of, answer_text, in_fourth, opening_of, operation_of, operation_text, settle_of, steps_text};
+ghost use Rattle.entry_rows.specs.Columns.{reply_fields, answer_text, in_fourth, opening_columns, operation_of, operation_text, settle_of, steps_columns};
 
 use crate::{Field, Version};
 use account_core::{Op, Reply};
@@ -17,7 +17,7 @@ pub fn write_opening(
     until: Option<u64>,
 ) -> Result<(), AllocError>
     ensures { OnOk result (string_bytes text.new ≡ string_bytes text.old
-        ++ operation_text (opening_of version opening until)) }
+        ++ operation_text (opening_columns version opening until)) }
 {
     let until = Field(until);
     write!(text, "opening,,{opening},{until},,,,,,")?;
@@ -61,7 +61,7 @@ pub fn write_operation(text: &mut String, version: Version, op: Op) -> Result<()
 /// Adds x8 and x9 of a reserve, where the version has them.
 fn write_steps(text: &mut String, version: Version, plan: Plan) -> Result<(), AllocError>
     ensures { OnOk result (string_bytes text.new ≡ string_bytes text.old
-        ++ steps_text version (in_fourth version plan.first) (in_fourth version plan.step)) }
+        ++ steps_columns version (in_fourth version plan.first) (in_fourth version plan.step)) }
 {
     match version {
         Version::Four => {
@@ -75,7 +75,7 @@ fn write_steps(text: &mut String, version: Version, plan: Plan) -> Result<(), Al
 /// Adds x8 and x9 of a row that isn't a reserve, where the version has them.
 fn write_no_steps(text: &mut String, version: Version) -> Result<(), AllocError>
     ensures { OnOk result (string_bytes text.new ≡ string_bytes text.old
-        ++ steps_text version [] []) }
+        ++ steps_columns version [] []) }
 {
     match version {
         Version::Four => write!(text, ",,"),
@@ -107,7 +107,7 @@ fn write_settle(
 /// Adds the columns of a reply, from reply to y3, and the end of the line.
 pub fn write_answer(text: &mut String, reply: Reply) -> Result<(), AllocError>
     ensures { OnOk result (string_bytes text.new ≡ string_bytes text.old
-        ++ answer_text (answer_of reply)) }
+        ++ answer_text (reply_fields reply)) }
 {
     match reply {
         Reply::Credited { available } => writeln!(text, "credited,,,{available}"),

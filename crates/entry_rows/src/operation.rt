@@ -8,7 +8,7 @@ ghost use Rattle.account_core.specs.Events.{asked_of};
 ghost use Rattle.tariff_core.specs.RatesOf.{rates_of};
 ghost use Rattle.entry_rows.specs.Column.{interval_of, units_of};
 ghost use Rattle.entry_rows.specs.Columns.{HasOperation, first_operation_at, operation_at, x6_at, x7_at, x8_at, x9_at};
-ghost use Rattle.entry_rows.specs.Operations.{are_added_empty, are_last_empty, asked_in, at_of, credit_in, first_of, free_of, has_no_until, is_asked_blank, is_money_blank, no_switch_in, plan_in, reserve_in, return_in, settle_in, step_of, switch_in, until_of};
+ghost use Rattle.entry_rows.specs.Operations.{are_added_empty, are_last_empty, asked_in, at_of, credit_in, first_column, free_of, has_no_until, is_asked_blank, is_money_blank, settle_without_switch, plan_in, reserve_in, return_in, settle_in, step_column, settle_with_switch, until_of};
 
 use crate::places::{CALL, X1, X2, X3, X4, X5, X6, X7, X8, X9};
 use crate::version::Version;
@@ -136,7 +136,7 @@ fn read_free(row: &ByteRecord, at: usize, version: Version) -> Result<u32, RowKi
 fn read_first(row: &ByteRecord, at: usize, version: Version) -> Result<u32, RowKind>
     requires table { at ≤ 16 }
     requires fields { HasOperation version (fields_of row.now) at }
-    ensures value { result ≡ first_of version (x8_at version (fields_of row.now) at) }
+    ensures value { result ≡ first_column version (x8_at version (fields_of row.now) at) }
     ensures within_day { IfOk result (λ first. first ≤ DAY) }
 {
     match version {
@@ -149,7 +149,7 @@ fn read_first(row: &ByteRecord, at: usize, version: Version) -> Result<u32, RowK
 fn read_step(row: &ByteRecord, at: usize, version: Version) -> Result<u32, RowKind>
     requires table { at ≤ 16 }
     requires fields { HasOperation version (fields_of row.now) at }
-    ensures value { result ≡ step_of version (x9_at version (fields_of row.now) at) }
+    ensures value { result ≡ step_column version (x9_at version (fields_of row.now) at) }
     ensures positive { IfOk result (λ step. 1 ≤ step) }
     ensures within_day { IfOk result (λ step. step ≤ DAY) }
 {
@@ -177,7 +177,7 @@ fn read_settle(row: &ByteRecord, at: usize, info: TimeInfo) -> Result<Op, RowKin
 fn read_no_switch(row: &ByteRecord, at: usize) -> Result<TimeInfo, RowKind>
     requires table { at ≤ 16 }
     requires fields { at + 6 < length (fields_of row.now) }
-    ensures { result ≡ no_switch_in (first_operation_at (fields_of row.now) at) }
+    ensures { result ≡ settle_without_switch (first_operation_at (fields_of row.now) at) }
 {
     let t = read_units(row, at + X3)?;
     Ok(TimeInfo::NoSwitch { t })
@@ -186,7 +186,7 @@ fn read_no_switch(row: &ByteRecord, at: usize) -> Result<TimeInfo, RowKind>
 fn read_switch(row: &ByteRecord, at: usize) -> Result<TimeInfo, RowKind>
     requires table { at ≤ 16 }
     requires fields { at + 6 < length (fields_of row.now) }
-    ensures { result ≡ switch_in (first_operation_at (fields_of row.now) at) }
+    ensures { result ≡ settle_with_switch (first_operation_at (fields_of row.now) at) }
 {
     let since = read_units(row, at + X3)?;
     let interval = read_interval(row, at + X4)?;

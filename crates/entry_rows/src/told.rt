@@ -2,7 +2,7 @@
 
 ghost use Rattle.std.specs.Prelude.{◌≡◌, ◌++◌, OnOk, string_bytes};
 ghost use Rattle.account_core.specs.Events.{asked_of};
-ghost use Rattle.entry_rows.specs.Told.{granted_text, reply_text, told_text, word_of};
+ghost use Rattle.entry_rows.specs.Told.{granted_text, reply_text, told_text, operation_word};
 
 use account_core::{AccountFault, Op, Reply};
 use std::alloc::AllocError;
@@ -20,7 +20,7 @@ pub fn write_told(text: &mut String, told: Result<Reply, AccountFault>) -> Resul
 
 /// The word of an operation, as it is in a row.
 pub fn op_word(op: &Op) -> &'static str
-    ensures { result.now ≡ word_of (asked_of op.now) }
+    ensures { result.now ≡ operation_word (asked_of op.now) }
 {
     match op {
         Op::Credit { .. } => "credit",

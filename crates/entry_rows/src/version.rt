@@ -1,7 +1,7 @@
 //! Which columns an operation has in a table.
 
 ghost use Rattle.std.specs.Prelude.{◌≡◌, ◌≤◌};
-ghost use Rattle.entry_rows.specs.Versions.{version_at, width_of};
+ghost use Rattle.entry_rows.specs.Versions.{version_at, operation_width};
 
 /// Which columns an operation has in a table: those of the version before, and more behind them.
 #[derive(Clone, Copy)]
@@ -32,7 +32,7 @@ impl Version {
 
     /// How many columns an operation has, its word included.
     pub fn width(self) -> usize
-        ensures value { result ≡ width_of self }
+        ensures value { result ≡ operation_width self }
         ensures few { result ≤ 11 }
     {
         match self {

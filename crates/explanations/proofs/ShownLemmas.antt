@@ -1,7 +1,7 @@
 -- What is shown of a line, byte by byte.
 use Rattle.std.proofs.Common.{◌≡◌, ◌∙◌, ◌-◌, ◌+◌, ◌<◌, ◌≤◌, ℕ, suc, true, false, List, [], ◌∷◌, ◌++◌, length, drop, get_or, drop-cons, refl, sym, ap, arith, append_assoc, append-nil}
 use Rattle.std.proofs.Math.ListN.{drop_of_length-le}
-use Rattle.explanations.specs.RowLines.{ends_shown, shown, shown_byte, width_of}
+use Rattle.explanations.specs.RowLines.{ends_shown, shown, shown_byte, shown_width}
 
 next_byte : (line : List ℕ) (i : ℕ) → i < length line → drop i line ≡ get_or line i 0 ∷ drop (i + 1) line
 next_byte line i within =
@@ -12,7 +12,7 @@ stops : (room c : ℕ) (text : List ℕ) → ends_shown room c ≡ true → show
 unfolding shown
 stops room c text is = rw is refl
 
-goes_on : (room c : ℕ) (text : List ℕ) → ends_shown room c ≡ false → shown room (c ∷ text) ≡ shown_byte c ++ shown (room - width_of c) text
+goes_on : (room c : ℕ) (text : List ℕ) → ends_shown room c ≡ false → shown room (c ∷ text) ≡ shown_byte c ++ shown (room - shown_width c) text
 unfolding shown
 goes_on room c text is = rw is refl
 
@@ -26,10 +26,10 @@ module _ (line : List ℕ) (i room : ℕ) (text whole : List ℕ) (so_far : text
       sym (append-nil text) ∙ ap (λ rest. text ++ rest) (sym (ap (shown room) (next_byte line i within) ∙ stops room (get_or line i 0) (drop (i + 1) line) is)) ∙ so_far
 
   pub shown_more : (more : List ℕ) (left : ℕ) → i < length line → ends_shown room (get_or line i 0) ≡ false → more ≡ text ++ shown_byte (get_or line i 0)
-      → left ≡ room - width_of (get_or line i 0) → more ++ shown left (drop (i + 1) line) ≡ whole
+      → left ≡ room - shown_width (get_or line i 0) → more ++ shown left (drop (i + 1) line) ≡ whole
   shown_more more left within is more_is left_is =
       rw (more_is, left_is)
-      (append_assoc text (shown_byte (get_or line i 0)) (shown (room - width_of (get_or line i 0)) (drop (i + 1) line))
+      (append_assoc text (shown_byte (get_or line i 0)) (shown (room - shown_width (get_or line i 0)) (drop (i + 1) line))
       ∙ ap (λ rest. text ++ rest) (sym (ap (shown room) (next_byte line i within) ∙ goes_on room (get_or line i 0) (drop (i + 1) line) is)) ∙ so_far)
 
   pub shown_all : length line ≤ i → text ≡ whole

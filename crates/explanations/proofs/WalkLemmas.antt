@@ -11,7 +11,7 @@ use Rattle.csv.specs.declared.parser.State.{State}
 use Rattle.csv.specs.declared.parser.State.TheVariants as st
 use Rattle.table_core.specs.Rows.{Fields}
 use Rattle.explanations.specs.RowStarts.{BeginsLine, is_line_end}
-use Rattle.explanations.specs.Walks.{BeginsRowBehind, HasFewerBehind, HasAtHand, HasWalked, IsBetween, IsPlace, Steps, begins_row, ends_row, met_at, rows_after}
+use Rattle.explanations.specs.Walks.{BeginsRowBehind, HasFewerBehind, HasAtHand, HasWalked, IsBetweenRows, IsPlace, StepsMachine, begins_row, ends_row, met_at, rows_after}
 use Rattle.explanations.specs.declared.walk.Place.{Place}
 use Rattle.explanations.specs.declared.walk.Place.TheVariants as place
 
@@ -83,7 +83,7 @@ module _ (from : Place) (n : ℕ) (front : List ℕ) (c : ℕ) (walked : HasWalk
   }
 
   -- to the end of a row
-  to_end : IsBetween (step default_config walked.state c).0 → is_end (step default_config walked.state c).1 ≡ true
+  to_end : IsBetweenRows (step default_config walked.state c).0 → is_end (step default_config walked.state c).1 ≡ true
       → HasWalked (record { place = place.Between; above = n + 1 }) (front ++ c ∷ [])
   to_end between is = record {
     state = (step default_config walked.state c).0;
@@ -107,7 +107,7 @@ skips : (a : Action) → a ≡ act.Skip → is_end a ≡ false
 skips a is = rw is refl
 
 -- the walk behind a byte
-pub goes_to : (from to : Place) (n : ℕ) (front : List ℕ) (c : ℕ) → Steps from to c → HasWalked (record { place = from; above = n }) front
+pub goes_to : (from to : Place) (n : ℕ) (front : List ℕ) (c : ℕ) → StepsMachine from to c → HasWalked (record { place = from; above = n }) front
     → HasWalked (record { place = to; above = if ends_row from to then n + 1 else n }) (front ++ c ∷ [])
 goes_to place.Between place.Between n front c steps walked =
     let step_is = steps walked.state walked.at_place in
@@ -161,33 +161,33 @@ goes_to place.AfterQuote place.InQuoted n front c steps walked =
 goes_to place.AfterQuote place.AfterQuote n front c steps walked =
     let step_is = steps walked.state walked.at_place in to_next place.AfterQuote n front c walked place.AfterQuote step_is.0 tt step_is.1
 
-pub goes_as : (from to : Place) (n above : ℕ) (front : List ℕ) (c : ℕ) (ended : Bool) → ended ≡ ends_row from to → above ≡ (if ended then n + 1 else n) → Steps from to c
+pub goes_as : (from to : Place) (n above : ℕ) (front : List ℕ) (c : ℕ) (ended : Bool) → ended ≡ ends_row from to → above ≡ (if ended then n + 1 else n) → StepsMachine from to c
     → HasWalked (record { place = from; above = n }) front → HasWalked (record { place = to; above = above }) (front ++ c ∷ [])
 goes_as from to n above front c ended is above_is steps walked = rw (above_is, is) (goes_to from to n front c steps walked)
 
 -- ---- where a row begins
 
-between_ends : (s : State) → IsBetween s → ends_at_end s ≡ false
+between_ends : (s : State) → IsBetweenRows s → ends_at_end s ≡ false
 between_ends s (inl is) = rw is refl
 between_ends s (inr is) = rw is refl
 
-nothing_after : (s : State) (fields : Fields) (field : List ℕ) → IsBetween s → rows_after s fields field [] ≡ []
+nothing_after : (s : State) (fields : Fields) (field : List ℕ) → IsBetweenRows s → rows_after s fields field [] ≡ []
 unfolding rows_after
 nothing_after s fields field between = rw (between_ends s between) refl
 
 no_feed : (c : ℕ) → is_line_end c ≡ false → (c == 10) ≡ false
 no_feed c is = grind (arith, nat_tests)
 
-begins_alike : (s : State) (c : ℕ) → IsBetween s → is_line_end c ≡ false → step default_config s c ≡ step default_config st.StartRecord c
+begins_alike : (s : State) (c : ℕ) → IsBetweenRows s → is_line_end c ≡ false → step default_config s c ≡ step default_config st.StartRecord c
 begins_alike s c (inl is) other = rw is refl
 begins_alike s c (inr is) other = rw (is, no_feed c other) refl
 
-begins_row_alike : (s : State) (text : List ℕ) → IsBetween s → BeginsLine text → rows_after s [] [] text ≡ rows_after st.StartRecord [] [] text
+begins_row_alike : (s : State) (text : List ℕ) → IsBetweenRows s → BeginsLine text → rows_after s [] [] text ≡ rows_after st.StartRecord [] [] text
 unfolding rows_after
 begins_row_alike s [] between begins = absurd begins
 begins_row_alike s (c ∷ rest) between begins = rw (begins_alike s c between begins) refl
 
-none_left : (s : State) (fields : Fields) (field : List ℕ) → IsBetween s → HasAtHand place.Between fields field → rows_after s fields field ≡ rows_after s [] []
+none_left : (s : State) (fields : Fields) (field : List ℕ) → IsBetweenRows s → HasAtHand place.Between fields field → rows_after s fields field ≡ rows_after s [] []
 none_left s fields field between none = rw (none.0, none.1) refl
 
 pub begun : (n row at : ℕ) (text : List ℕ) → HasWalked (record { place = place.Between; above = n }) (take at text) → n + 1 ≡ row → BeginsLine (drop at text)
@@ -210,7 +210,7 @@ begun n row at text walked is begins =
 at_line_end : (c : ℕ) → is_line_end c ≡ true → (step default_config st.StartRecord c).0 ≡ st.StartRecord
 at_line_end c end = rw end refl
 
-begins_line : (to : Place) (c : ℕ) → Steps place.Between to c → begins_row place.Between to ≡ true → (b : Bool) → is_line_end c ≡ b → b ≡ false
+begins_line : (to : Place) (c : ℕ) → StepsMachine place.Between to c → begins_row place.Between to ≡ true → (b : Bool) → is_line_end c ≡ b → b ≡ false
 begins_line to c steps begins false is = refl
 begins_line place.Between c steps begins true is = cc
 begins_line place.StartField c steps begins true is = let no : st.StartRecord ≡ st.StartField = sym (at_line_end c is) ∙ (steps st.StartRecord (inl refl)).0 in cc
@@ -222,7 +222,7 @@ at_line : (at : ℕ) (text : List ℕ) → at < length text → is_line_end (get
 at_line at text within no_end = rw (drop-cons text at 0 within) no_end
 
 pub begins_from : (from to : Place) (n row at : ℕ) (text : List ℕ) → HasWalked (record { place = from; above = n }) (take at text) → n + 1 ≡ row → at < length text
-    → Steps from to (get_or text at 0) → begins_row from to ≡ true → BeginsRowBehind text row at
+    → StepsMachine from to (get_or text at 0) → begins_row from to ≡ true → BeginsRowBehind text row at
 begins_from place.Between to n row at text walked is within steps begins =
     begun n row at text walked is (at_line at text within (begins_line to (get_or text at 0) steps begins (is_line_end (get_or text at 0)) refl))
 begins_from place.StartField to n row at text walked is within steps begins = cc

@@ -5,7 +5,7 @@ use Rattle.explanations.specs.declared.sections.Section.{Section}
 use Rattle.explanations.specs.declared.sections.Section.TheVariants as section
 
 -- a text is what is in front of the first line `%%`
-pub record IsFirst (input text : List ℕ) : Type 0 where
+pub record IsFirstSection (input text : List ℕ) : Type 0 where
   pub rest : List ℕ
   pub divided : first_part input ≡ Ok (record { part = text; rest = rest })
 
@@ -15,7 +15,7 @@ pub record IsSecond (input : List ℕ) (start : ℕ) (text : List ℕ) : Type 0 
   pub behind : List ℕ
   pub divided : first_part input ≡ Ok (record { part = before; rest = behind })
   pub begins : start ≡ length input - length behind
-  pub first : IsFirst behind text
+  pub first : IsFirstSection behind text
 
 -- a text is what is behind the second one
 pub record IsThird (input : List ℕ) (start : ℕ) (text : List ℕ) : Type 0 where
@@ -29,6 +29,6 @@ pub record IsThird (input : List ℕ) (start : ℕ) (text : List ℕ) : Type 0 w
 -- a part of an input: the byte at which it begins, and its text
 abbrev pub IsSection : Section → List ℕ → ℕ → List ℕ → Type 0
 IsSection section.Whole input start text = (start ≡ 0) × (text ≡ input)
-IsSection section.First input start text = (start ≡ 0) × IsFirst input text
+IsSection section.First input start text = (start ≡ 0) × IsFirstSection input text
 IsSection section.Second input start text = IsSecond input start text
 IsSection section.Third input start text = IsThird input start text

@@ -1,6 +1,6 @@
 -- What is said of a fault in a table of an input.
 use Rattle.std.specs.Prelude.{◌≡◌, ◌⊎◌, ◌++◌, ℕ, List, [], take}
-use Rattle.explanations.specs.RowLines.{row_line}
+use Rattle.explanations.specs.RowLines.{shown_row_line}
 use Rattle.explanations.specs.RowStarts.{BeginsRow, HasFewer}
 use Rattle.explanations.specs.Sections.{IsSection}
 use Rattle.explanations.specs.declared.sections.Section.{Section}
@@ -19,20 +19,20 @@ section_of (slip.Setup fault) = section.Second
 section_of (slip.Script fault) = section.Third
 
 -- the number of the row
-abbrev pub row_of : Slip → ℕ
-row_of (slip.Reports fault) = fault.row
-row_of (slip.Ops fault) = fault.row
-row_of (slip.Book fault) = fault.row
-row_of (slip.Tariff fault) = fault.row
-row_of (slip.RunTariff fault) = fault.row
-row_of (slip.Setup fault) = fault.row
-row_of (slip.Script fault) = fault.row
+abbrev pub slip_row : Slip → ℕ
+slip_row (slip.Reports fault) = fault.row
+slip_row (slip.Ops fault) = fault.row
+slip_row (slip.Book fault) = fault.row
+slip_row (slip.Tariff fault) = fault.row
+slip_row (slip.RunTariff fault) = fault.row
+slip_row (slip.Setup fault) = fault.row
+slip_row (slip.Script fault) = fault.row
 
 -- a row of a part that has this text in front of it begins in this line
 pub record BeginsIn (before part : List ℕ) (row : ℕ) (line : List ℕ) : Type 0 where
   pub at : ℕ
   pub begins : BeginsRow part row at
-  pub line_is : line ≡ row_line before part at
+  pub line_is : line ≡ shown_row_line before part at
 
 -- the line of a row, or none where the part has fewer rows
 abbrev pub IsLineOf : List ℕ → List ℕ → ℕ → List ℕ → Type 0
@@ -49,6 +49,6 @@ pub record ShowsRow (input : List ℕ) (section : Section) (row : ℕ) (line : L
 -- an explanation: the line of the row, and what is wrong there
 pub record Explains (input : List ℕ) (slip : Slip) (text : List ℕ) : Type 0 where
   pub line : List ℕ
-  pub shows : ShowsRow input (section_of slip) (row_of slip) line
+  pub shows : ShowsRow input (section_of slip) (slip_row slip) line
   pub more : List ℕ
   pub text_is : text ≡ line ++ more

@@ -13,12 +13,12 @@ use Rattle.explanations.specs.declared.walk.Place.TheVariants as place
 use Rattle.explanations.specs.declared.walk.Walk.{Walk}
 
 -- the machine is between two rows, whatever ended the first
-abbrev pub IsBetween : State → Type 0
-IsBetween s = (s ≡ st.StartRecord) ⊎ (s ≡ st.AfterCr)
+abbrev pub IsBetweenRows : State → Type 0
+IsBetweenRows s = (s ≡ st.StartRecord) ⊎ (s ≡ st.AfterCr)
 
 -- the machine is in the state of a place
 abbrev pub IsPlace : Place → State → Type 0
-IsPlace place.Between s = IsBetween s
+IsPlace place.Between s = IsBetweenRows s
 IsPlace place.StartField s = s ≡ st.StartField
 IsPlace place.InField s = s ≡ st.InField
 IsPlace place.InQuoted s = s ≡ st.InQuoted
@@ -32,7 +32,7 @@ ends_row from to = false
 
 -- what the machine does at a byte from a place to the next: the end of a line between two rows is passed over, and else a row ends or goes on
 abbrev pub IsStep : Place → Place → State × Action → Type 0
-IsStep place.Between place.Between next = IsBetween next.0 × (next.1 ≡ act.Skip)
+IsStep place.Between place.Between next = IsBetweenRows next.0 × (next.1 ≡ act.Skip)
 IsStep from to next = IsPlace to next.0 × (is_end next.1 ≡ ends_row from to)
 
 -- the rows that come of a text, from a state of the machine with the fields and the bytes of the field at hand
@@ -59,12 +59,12 @@ pub record HasWalked (walk : Walk) (front : List ℕ) : Type 0 where
   pub goes_on : (rest : List ℕ) → records default_config (front ++ rest) ≡ rows ++ rows_after state fields field rest
 
 -- what the machine does at a byte from each state of a place
-abbrev pub Steps : Place → Place → ℕ → Type 0
-Steps from to byte = (s : State) → IsPlace from s → IsStep from to (step default_config s byte)
+abbrev pub StepsMachine : Place → Place → ℕ → Type 0
+StepsMachine from to byte = (s : State) → IsPlace from s → IsStep from to (step default_config s byte)
 
 -- the walk behind a byte, at the place there
-abbrev pub passed : Walk → Place → Walk
-passed walk to = record { place = to; above = if ends_row walk.place to then walk.above + 1 else walk.above }
+abbrev pub passed_walk : Walk → Place → Walk
+passed_walk walk to = record { place = to; above = if ends_row walk.place to then walk.above + 1 else walk.above }
 
 -- whether a row begins between two places that follow one another
 abbrev pub begins_row : Place → Place → Bool

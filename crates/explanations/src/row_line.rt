@@ -1,7 +1,7 @@
 //! The line of the input in which a row begins, as it is shown.
 
 ghost use Rattle.std.specs.Prelude.{◌≡◌, ◌≤◌, ◌<◌, ◌+◌, ◌++◌, ◌∷◌, [], length, OnOk, string_bytes};
-ghost use Rattle.explanations.specs.RowLines.{ends_shown, hex_digit, is_printed, lines_ended, row_line, shown, shown_byte, width_of};
+ghost use Rattle.explanations.specs.RowLines.{ends_shown, hex_digit, is_printed, lines_ended, shown_row_line, shown, shown_byte, shown_width};
 
 use crate::starts::is_line_end;
 use std::alloc::AllocError;
@@ -19,7 +19,7 @@ pub(crate) fn push_row_line(
 ) -> Result<(), AllocError>
     requires { at ≤ length part.now }
     ensures { OnOk result (string_bytes text.new
-        ≡ string_bytes text.old ++ row_line before.now part.now at) }
+        ≡ string_bytes text.old ++ shown_row_line before.now part.now at) }
 {
     let line = lines_ended(before) + lines_ended(&part[..at]) + 1;
     write!(text, "line {line} of the input: ")?;
@@ -66,7 +66,7 @@ fn ends_shown(room: usize, byte: u8) -> bool
 
 /// How many columns a byte takes.
 fn width_of(byte: u8) -> usize
-    ensures { result ≡ width_of byte }
+    ensures { result ≡ shown_width byte }
 {
     if is_printed(byte) { 1 } else { 4 }
 }

@@ -1,7 +1,7 @@
 //! The faults of an input that can be explained.
 
 ghost use Rattle.std.specs.Prelude.{◌≡◌};
-ghost use Rattle.explanations.specs.Slips.{row_of, section_of};
+ghost use Rattle.explanations.specs.Slips.{slip_row, section_of};
 
 use crate::Section;
 use table_core::RowFault;
@@ -41,7 +41,7 @@ impl Slip {
 
     /// The number of the row.
     pub(crate) fn row(self) -> u32
-        ensures { result ≡ row_of self }
+        ensures { result ≡ slip_row self }
     {
         match self {
             Slip::Reports(fault) | Slip::Ops(fault) | Slip::Book(fault) => fault.row,

@@ -1,7 +1,7 @@
 //! A walk through the rows of a table, byte by byte.
 
 ghost use Rattle.std.specs.Prelude.{◌≡◌, ◌<◌, ◌++◌, ◌∷◌, [], List, ℕ};
-ghost use Rattle.explanations.specs.Walks.{HasWalked, Steps, ends_row, passed};
+ghost use Rattle.explanations.specs.Walks.{HasWalked, StepsMachine, ends_row, passed_walk};
 
 /// Where a walk is.
 #[derive(Clone, Copy, PartialEq, Eq)]
@@ -21,7 +21,7 @@ pub(crate) enum Place {
 impl Place {
     /// The place behind a byte.
     pub(crate) fn step(self, byte: u8) -> Place
-        ensures { Steps self result byte }
+        ensures { StepsMachine self result byte }
     {
         match (self, byte) {
             (Place::Between, b'\r' | b'\n') => Place::Between,
@@ -55,9 +55,9 @@ impl Walk {
     /// Goes on by a byte, to the place behind it.
     pub(crate) fn pass(&mut self, place: Place)
         requires { self.old.above < 18446744073709551615 }
-        ensures walked { (front : List ℕ) (byte : ℕ) → Steps self.old.place place byte
+        ensures walked { (front : List ℕ) (byte : ℕ) → StepsMachine self.old.place place byte
             → HasWalked self.old front → HasWalked self.new (front ++ byte ∷ []) }
-        ensures passed { self.new ≡ passed self.old place }
+        ensures passed { self.new ≡ passed_walk self.old place }
     {
         if ends_row(self.place, place) {
             self.above += 1;

@@ -30,9 +30,9 @@ use Rattle.workers_core.specs.Handled.{AnswerView, AreRefusedRightly, Holding, I
 use Rattle.workers_core.specs.Laws.{IsRunning, ends_call}
 use Rattle.workers_core.specs.Refusals.{NeverRefusesClosing}
 use Rattle.workers_core.specs.Served.{returned_in, settled_in, settles_of, returns_of}
-use Rattle.workers_core.specs.Talks.{AllAsk, AreRight, Showing, entries_of, entry_of}
+use Rattle.workers_core.specs.Talks.{AllAsk, AreRightlyGot, Showing, entries_of, entry_of}
 use Rattle.workers_core.specs.Verdicts.{DialogueAt, Verdict, GoesOn, goes_on, spoken, verdict_on}
-use Rattle.workers_core.specs.Workers.{IsAbout, IsSound}
+use Rattle.workers_core.specs.Workers.{IsAbout, IsSoundHolding}
 
 -- ---- what a talk asks first got a reply
 
@@ -43,7 +43,7 @@ IsAnsweredFirst (Err fault ∷ []) = ⊥
 IsAnsweredFirst (got ∷ (last ∷ earlier)) = IsAnsweredFirst (last ∷ earlier)
 
 -- where its refusal can't be shown
-pub answered_first : (Shows : Showing) (seat : ℕ) (asked : Asked) (to : Phase) (before : List EntryData) (gots : List Got) → AreRight Shows seat (Asks asked, to) before gots
+pub answered_first : (Shows : Showing) (seat : ℕ) (asked : Asked) (to : Phase) (before : List EntryData) (gots : List Got) → AreRightlyGot Shows seat (Asks asked, to) before gots
     → ((why : AccountFault) → Shows before asked why → ⊥) → IsAnsweredFirst gots
 answered_first Shows seat asked to before [] right never = tt
 answered_first Shows seat asked to before (Ok reply ∷ []) right never = tt
@@ -117,17 +117,17 @@ pub record IsTakenOnce (Shows : ℕ → Showing) (numbers : List ℕ) (call plac
   pub within : place < length old.lists
   pub kept : IsKept old.lists call (old.talks call)
   pub talk : IsTalked numbers call place (said, to) old new told
-  pub right : AreRight (Shows place) (slice_index_or numbers place 0) (said, to) (slice_index_or old.lists place []) talk.gots
+  pub right : AreRightlyGot (Shows place) (slice_index_or numbers place 0) (said, to) (slice_index_or old.lists place []) talk.gots
 
 abbrev IsDoneRightly : (ℕ → Showing) → Setup → List ℕ → ℕ → Holding → Holding → AnswerView → Verdict → Type 0
 IsDoneRightly Shows setup numbers at old new told v = (done : IsDone setup numbers at v old new told) × AreRefusedRightly Shows setup numbers at v old new told done
 
-pub its_call : (setup : Setup) (posts : List Post) (old : Holding) (call place : ℕ) → IsSound (keys_of setup.accounts) posts old → (running : IsRunning old call place) → running.terms.call ≡ call
+pub its_call : (setup : Setup) (posts : List Post) (old : Holding) (call place : ℕ) → IsSoundHolding (keys_of setup.accounts) posts old → (running : IsRunning old call place) → running.terms.call ≡ call
 its_call setup posts old call place sound running =
     (own_of (length (keys_of setup.accounts)) posts call (record { phase = Running running.terms; place = place }) (old.talks call) running.is (sound.talks call)).is.about
 
 pub taken_once : (Shows : ℕ → Showing) (setup : Setup) (numbers : List ℕ) (posts : List Post) (post : Post) (old new : Holding) (told : AnswerView) (call place : ℕ) (message : SsfMsg) (said : Says) (to : Phase)
-    → IsSound (keys_of setup.accounts) posts old → AreKept old → IsRightlyHandled Shows setup numbers post old new told → (running : IsRunning old call place) → post.body ≡ Ssf call message
+    → IsSoundHolding (keys_of setup.accounts) posts old → AreKept old → IsRightlyHandled Shows setup numbers post old new told → (running : IsRunning old call place) → post.body ≡ Ssf call message
     → on_message (Running running.terms) post.number post.at message ≡ Ok (said, to) → IsTakenOnce Shows numbers call place said to old new told
 taken_once Shows setup numbers posts post old new told call place message said to sound kept is running body takes =
     let standing : DialogueAt = record { phase = Running running.terms; place = place } in
@@ -149,7 +149,7 @@ shown_of old call place running kept = subst (λ (found : Option DialogueAt). Is
 
 -- a report of it
 pub report_asked : (Shows : ℕ → Showing) (setup : Setup) (numbers : List ℕ) (posts : List Post) (post : Post) (old new : Holding) (told : AnswerView) (call place : ℕ) (active : Bool) (info : TimeInfo)
-    → IsSound (keys_of setup.accounts) posts old → AreKept old → IsRightlyHandled Shows setup numbers post old new told → (running : IsRunning old call place)
+    → IsSoundHolding (keys_of setup.accounts) posts old → AreKept old → IsRightlyHandled Shows setup numbers post old new told → (running : IsRunning old call place)
     → post.body ≡ Ssf call (msg.ChargingReport active info)
     → IsTakenOnce Shows numbers call place (Asks (Settles call post.number info)) (Settling running.terms active post.at) old new told
 report_asked Shows setup numbers posts post old new told call place active info sound kept is running body =
@@ -170,7 +170,7 @@ report_settled Shows numbers call place number active info at old new told never
 
 -- a message that ends it
 pub ending_asked : (Shows : ℕ → Showing) (setup : Setup) (numbers : List ℕ) (posts : List Post) (post : Post) (old new : Holding) (told : AnswerView) (call place : ℕ) (message : SsfMsg)
-    → IsSound (keys_of setup.accounts) posts old → AreKept old → IsRightlyHandled Shows setup numbers post old new told → IsRunning old call place → post.body ≡ Ssf call message
+    → IsSoundHolding (keys_of setup.accounts) posts old → AreKept old → IsRightlyHandled Shows setup numbers post old new told → IsRunning old call place → post.body ≡ Ssf call message
     → ends_call message ≡ true → IsTakenOnce Shows numbers call place (Asks (Returns call)) (Returning (sequel_to message)) old new told
 ending_asked Shows setup numbers posts post old new told call place message sound kept is running body ends =
     let to : Phase = Returning (sequel_to message) in
@@ -191,7 +191,7 @@ ending_returned Shows numbers call place message old new told never running take
 -- ---- the laws of a worker
 
 record IsInOrder (setup : Setup) (before : List Post) (old : Holding) : Type 0 where
-  sound : IsSound (keys_of setup.accounts) before old
+  sound : IsSoundHolding (keys_of setup.accounts) before old
   kept : AreKept old
 
 in_order : (Shows : ℕ → Showing) (setup : Setup) (number : ℕ) (before : List Post) (post : Post) (old new : Holding) → IsAnsweredNext Shows setup number before post old new → IsInOrder setup before old

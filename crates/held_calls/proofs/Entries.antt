@@ -17,7 +17,7 @@ use Rattle.held_calls.proofs.Tables.{Stands, facts_after, got_stands}
 use Rattle.held_calls.specs.Held.{entries_at, facts_at}
 use Rattle.shared_account.proofs.Knowing.{known_here}
 use Rattle.shared_account.proofs.Owning.{known_alike}
-use Rattle.shared_account.specs.Own.{is_of, of_call}
+use Rattle.shared_account.specs.Own.{asks_of_call, of_call}
 use Rattle.workers_core.proofs.Abouts.{SaysOf, says_of_call}
 use Rattle.workers_core.specs.Handled.{grown}
 use Rattle.workers_core.specs.Talks.{AllAsk, entries_of, entry_of}
@@ -35,7 +35,7 @@ asks_call call (Reserves other plan wanted least at) of = of
 asks_call call (Settles other number info) of = of
 asks_call call (Returns other) of = of
 
-of_this : (call : ℕ) (asked : Asked) → IsOfCall call asked → is_of call asked ≡ true
+of_this : (call : ℕ) (asked : Asked) → IsOfCall call asked → asks_of_call call asked ≡ true
 of_this call (Credits amount until) of = absurd of
 of_this call (Reserves other plan wanted least at) of = eq-eqb other call of
 of_this call (Settles other number info) of = eq-eqb other call of
@@ -44,7 +44,7 @@ of_this call (Returns other) of = eq-eqb other call of
 apart : (call its : ℕ) → call ≢ its → (its == call) ≡ false
 apart call its differ = grind (arith, nat_tests, differ)
 
-of_other : (call its : ℕ) (asked : Asked) → call ≢ its → IsOfCall its asked → is_of call asked ≡ false
+of_other : (call its : ℕ) (asked : Asked) → call ≢ its → IsOfCall its asked → asks_of_call call asked ≡ false
 of_other call its (Credits amount until) differ of = refl
 of_other call its (Reserves other plan wanted least at) differ of = ap (λ c. c == call) of ∙ apart call its differ
 of_other call its (Settles other number info) differ of = ap (λ c. c == call) of ∙ apart call its differ
@@ -53,7 +53,7 @@ of_other call its (Returns other) differ of = ap (λ c. c == call) of ∙ apart 
 -- ---- the entries of a talk
 
 pub of_call-append : (call : ℕ) (mine entries : List EntryData) → of_call call (mine ++ entries) ≡ of_call call mine ++ of_call call entries
-of_call-append call mine entries = filter-append (λ (e : EntryData). is_of call e.asked) mine entries
+of_call-append call mine entries = filter-append (λ (e : EntryData). asks_of_call call e.asked) mine entries
 
 own_entry : (seat call : ℕ) (said : Says) (got : Got) → SaysOf call said → of_call call (entry_of seat said got) ≡ entry_of seat said got
 own_entry seat call (Asks asked) (Ok reply) of = rw (of_this call asked of) refl

@@ -30,14 +30,14 @@ use Rattle.workers_core.proofs.Abouts.{TakesTo, begun_about, begun_says, takes_t
 use Rattle.workers_core.proofs.Chaining.{first_sound}
 use Rattle.workers_core.proofs.Entering.{none_at_first}
 use Rattle.workers_core.proofs.Handling.{Means, is_itself, means_on, own_of, same_number, sound_after}
-use Rattle.workers_core.specs.Chains.{AreAnswered, IsAnswered, at_first, seat_numbers}
+use Rattle.workers_core.specs.Chains.{AreAnswered, AnswersItsPosts, at_first, seat_numbers}
 use Rattle.workers_core.specs.Handled.{AnswerView, Holding, IsDone, IsRightlyHandled}
 use Rattle.workers_core.specs.Laws.{IsRunning, ends_call}
 use Rattle.workers_core.specs.Refusals.{NeverRefusesClosing}
 use Rattle.workers_core.specs.Served.{Report, report_in, reported_in, returns_of, settles_of}
 use Rattle.workers_core.specs.Talks.{Showing, entry_of}
 use Rattle.workers_core.specs.Verdicts.{DialogueAt, Verdict, Strays, Rejects, Recharges, Begins, GoesOn, verdict_on}
-use Rattle.workers_core.specs.Workers.{IsSound}
+use Rattle.workers_core.specs.Workers.{IsSoundHolding}
 
 -- ---- a post that is of no message of a call
 
@@ -45,7 +45,7 @@ apart_by : (b : Bool) (call its : ℕ) → (call == its) ≡ b → (call ≡ its
 apart_by true call its is not = absurd (not (same_number call its is))
 apart_by false call its is not = is
 
-unmoved_by : (setup : Setup) (numbers : List ℕ) (posts : List Post) (post : Post) (v : Verdict) (old new : Holding) (t : AnswerView) (call : ℕ) → IsSound (keys_of setup.accounts) posts old
+unmoved_by : (setup : Setup) (numbers : List ℕ) (posts : List Post) (post : Post) (v : Verdict) (old new : Holding) (t : AnswerView) (call : ℕ) → IsSoundHolding (keys_of setup.accounts) posts old
     → Means setup old.talks post.number post.at post.body v → IsDone setup numbers post.at v old new t → ((message : SsfMsg) → post.body ≡ Ssf call message → ⊥) → IsUnmoved call old new
 unmoved_by setup numbers posts post Strays old new t call sound m done other = (same_lists call old new done.lists, done.talks call)
 unmoved_by setup numbers posts post Rejects old new t call sound m done other = (same_lists call old new done.lists, done.talks call)
@@ -142,7 +142,7 @@ another call other message body differs is its same =
     let alike_too : (other == call) ≡ true = grind (arith, nat_tests, alike) in absurd (cc)
 
 step_of : (Shows : ℕ → Showing) (setup : Setup) (numbers : List ℕ) (posts : List Post) (post : Post) (old new : Holding) (told : AnswerView) (call other : ℕ) (message : SsfMsg) (b : Bool)
-    → (other == call) ≡ b → IsSound (keys_of setup.accounts) posts old → AreKept old → IsRightlyHandled Shows setup numbers post old new told
+    → (other == call) ≡ b → IsSoundHolding (keys_of setup.accounts) posts old → AreKept old → IsRightlyHandled Shows setup numbers post old new told
     → post.body ≡ Ssf other message → IsStep (NeverRefusesClosing Shows call) setup call post.number (Ssf other message) old new told
 step_of Shows setup numbers posts post old new told call other message true same sound kept is body =
     let here = same_number other call same in
@@ -158,7 +158,7 @@ step_of Shows setup numbers posts post old new told call other message false dif
     (ap (λ (b : Bool). if b && ends_call message then was else None) differs)
 
 step_by : (Shows : ℕ → Showing) (setup : Setup) (numbers : List ℕ) (posts : List Post) (post : Post) (old new : Holding) (told : AnswerView) (call : ℕ) (body : Body)
-    → IsSound (keys_of setup.accounts) posts old → AreKept old → IsRightlyHandled Shows setup numbers post old new told → post.body ≡ body
+    → IsSoundHolding (keys_of setup.accounts) posts old → AreKept old → IsRightlyHandled Shows setup numbers post old new told → post.body ≡ body
     → IsStep (NeverRefusesClosing Shows call) setup call post.number body old new told
 step_by Shows setup numbers posts post old new told call (Ssf other message) sound kept is body =
     step_of Shows setup numbers posts post old new told call other message (other == call) refl sound kept is body
@@ -185,7 +185,7 @@ ended_first None later there P is one more = more is
 ended_first (Some place) later there P is one more = one is
 
 path : (Shows : ℕ → Showing) (setup : Setup) (numbers : List ℕ) (call : ℕ) (done posts : List Post) (answers : List AnswerView) (old new : Holding)
-    → IsSound (keys_of setup.accounts) done old → AreKept old → AreAnswered Shows setup numbers posts answers old new → IsPath (NeverRefusesClosing Shows call) setup call posts answers old new
+    → IsSoundHolding (keys_of setup.accounts) done old → AreKept old → AreAnswered Shows setup numbers posts answers old new → IsPath (NeverRefusesClosing Shows call) setup call posts answers old new
 path Shows setup numbers call done [] [] old new sound kept are = record {
   goes = ap (λ (h : Holding). stands_at (h.talks call)) (sym are);
   settles = λ closes place.
@@ -276,7 +276,7 @@ worked_returned Shows setup number posts answers lists call there never is ended
 
 -- a call that goes on no more was returned, where its entries have the replies of accounts
 pub worked_left : (Shows : ℕ → Showing) (setup : Setup) (number : ℕ) (posts : List Post) (answers : List AnswerView) (lists : List (List EntryData)) (call : ℕ) → NeverRefusesClosing Shows call
-    → IsAnswered Shows setup number posts answers lists → (place : ℕ) → All IsHonestEntry (entries_at call lists place)
+    → AnswersItsPosts Shows setup number posts answers lists → (place : ℕ) → All IsHonestEntry (entries_at call lists place)
     → returns_of (entries_at call lists place) ≡ left_at setup call place (map item_of posts) answers
 worked_left Shows setup number posts answers lists call never is place honest =
     let held : Holding = record { lists = lists; talks = is.talks } in

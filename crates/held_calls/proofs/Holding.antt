@@ -29,7 +29,7 @@ use Rattle.workers_core.specs.Handled.{AnswerView, Holding, IsDone, IsTalked}
 use Rattle.workers_core.specs.Served.{returned_in, returns_of}
 use Rattle.workers_core.specs.Talks.{entries_of, entry_of}
 use Rattle.workers_core.specs.Verdicts.{DialogueAt, Verdict, Strays, Rejects, Recharges, Begins, GoesOn, verdict_on}
-use Rattle.workers_core.specs.Workers.{IsAbout, IsSound}
+use Rattle.workers_core.specs.Workers.{IsAbout, IsSoundHolding}
 
 -- ---- a call that is held, and has no Return before its dialogue is through
 
@@ -178,7 +178,7 @@ goes_bound lists call at number now from message said phase about takes kept =
 
 -- ---- post by post
 
-kept_by : (setup : Setup) (numbers : List ℕ) (posts : List Post) (post : Post) (v : Verdict) (old new : Holding) (t : AnswerView) → IsSound (keys_of setup.accounts) posts old → AreKept old
+kept_by : (setup : Setup) (numbers : List ℕ) (posts : List Post) (post : Post) (v : Verdict) (old new : Holding) (t : AnswerView) → IsSoundHolding (keys_of setup.accounts) posts old → AreKept old
     → Means setup old.talks post.number post.at post.body v → IsDone setup numbers post.at v old new t → AreKept new
 kept_by setup numbers posts post Strays old new t sound kept m done call = kept_still call old new (same_lists call old new done.lists) (done.talks call) (kept call)
 kept_by setup numbers posts post Rejects old new t sound kept m done call = kept_still call old new (same_lists call old new done.lists) (done.talks call) (kept call)
@@ -201,7 +201,7 @@ kept_by setup numbers posts post (GoesOn its at said phase) old new t sound kept
     talk_kept numbers call its at (said, phase) old new t (call == its) refl (place_within setup posts old at sound (rw (← m.same, ← many_keys setup) own.is.placed))
     (goes_bound old.lists its at post.number post.at m.standing.phase m.message said phase own.is.about m.takes here) done (kept call)
 
-pub kept_once : (setup : Setup) (numbers : List ℕ) (posts : List Post) (post : Post) (old new : Holding) (t : AnswerView) → IsSound (keys_of setup.accounts) posts old → AreKept old
+pub kept_once : (setup : Setup) (numbers : List ℕ) (posts : List Post) (post : Post) (old new : Holding) (t : AnswerView) → IsSoundHolding (keys_of setup.accounts) posts old → AreKept old
     → IsDone setup numbers post.at (verdict_on setup old.talks post.number post.at post.body) old new t → AreKept new
 kept_once setup numbers posts post old new t sound kept done =
     kept_by setup numbers posts post (verdict_on setup old.talks post.number post.at post.body) old new t sound kept (means_on setup old.talks post.number post.at post.body) done
@@ -209,7 +209,7 @@ kept_once setup numbers posts post old new t sound kept done =
 pub first_kept : (setup : Setup) → AreKept (at_first setup)
 first_kept setup call = ((λ place. ap (of_call call) (none_at_first setup.accounts place)), tt)
 
-pub kept_all : (setup : Setup) (numbers : List ℕ) (done posts : List Post) (refusals : List (Option AccountFault)) (old new : Holding) → IsSound (keys_of setup.accounts) done old → AreKept old
+pub kept_all : (setup : Setup) (numbers : List ℕ) (done posts : List Post) (refusals : List (Option AccountFault)) (old new : Holding) → IsSoundHolding (keys_of setup.accounts) done old → AreKept old
     → AreHandled setup numbers posts refusals old new → AreKept new
 kept_all setup numbers done [] [] old new sound kept are = subst AreKept are kept
 kept_all setup numbers done [] (refusal ∷ refusals) old new sound kept are = absurd are

@@ -34,7 +34,7 @@ use Rattle.runs_core.specs.Shares.{Item, item_at, item_of, numbered, share_from,
 use Rattle.shared_account.proofs.Beginnings.{begins_itself}
 use Rattle.shared_account.proofs.Owning.{filter_reverse}
 use Rattle.shared_account.specs.Closed.{Closed}
-use Rattle.shared_account.specs.Own.{is_of, of_call, own}
+use Rattle.shared_account.specs.Own.{asks_of_call, of_call, own}
 use Rattle.shared_account.specs.Refusals.{Refusal}
 use Rattle.shared_account.specs.Seen.{CallsOfOneSeatAreAlone, IsBySeat, StoodIn}
 use Rattle.tariff_core.specs.declared.plan.TheConstants.{MAX_MONEY}
@@ -176,7 +176,7 @@ run_returned closing one alone setup workers given answers books account place b
 
 -- ---- the replies of a legal history are of the kinds that accounts give
 
-of_its : (call : ℕ) (asked : Asked) → is_of call asked ≡ true → IsOfCall call asked
+of_its : (call : ℕ) (asked : Asked) → asks_of_call call asked ≡ true → IsOfCall call asked
 of_its call (Credits amount until) is = absurd (cc)
 of_its call (Reserves other plan wanted least at) is = same_number other call is
 of_its call (Settles other number info) is = same_number other call is
@@ -199,7 +199,7 @@ honest_past kindly opening until call [] small legal = All-nil IsHonestEntry
 honest_past kindly opening until call (event ∷ h) small legal =
     let before : IsLegal opening until (reverse h) = subst (IsLegalPast opening until) (sym (reverse-reverse h)) legal.0 in
     let admissible : inadmissible (reverse (reverse h)) event.asked ≡ None = subst (λ (l : List EntryData). inadmissible l event.asked ≡ None) (sym (reverse-reverse h)) legal.1.admissible in
-    honest_or call (is_of call event.asked) event (of_call call h)
+    honest_or call (asks_of_call call event.asked) event (of_call call h)
     (λ is.
     let kind = kindly opening until (reverse h) call event.asked small before admissible (of_its call event.asked is) in
     let given = honest_fit (known call (reverse (reverse h))) event.asked (answer opening until (reverse (reverse h)) event.asked) kind.1 in
@@ -215,7 +215,7 @@ turned (x ∷ xs) all =
 honest_book : AnswersAreKindly → (book : Closed) (call : ℕ) → book.opening ≤ MAX_MONEY → IsLegal book.opening book.until book.history → All IsHonestEntry (of_call call book.history)
 honest_book kindly book call small legal =
     turned (of_call call book.history)
-    (subst (All IsHonestEntry) (filter_reverse (λ (event : EntryData). is_of call event.asked) book.history) (honest_past kindly book.opening book.until call (reverse book.history) small legal))
+    (subst (All IsHonestEntry) (filter_reverse (λ (event : EntryData). asks_of_call call event.asked) book.history) (honest_past kindly book.opening book.until call (reverse book.history) small legal))
 
 pub run_left : AnswersAreKindly → RunClosingIsNeverRefused → RunCallsAreOfOneWorker StoodIn → CallsOfOneSeatAreAlone → RunCallsThatEndAreReturned
 run_left kindly closing one alone setup workers given answers books account place book call some run at small =

@@ -27,7 +27,7 @@ use Rattle.tariff_core.specs.declared.times.TheConstants.{DAY}
 use Rattle.workers_core.proofs.Abouts.{SaysOf, says_of_call}
 use Rattle.workers_core.specs.Refusals.{NeverRefusesClosing}
 use Rattle.workers_core.specs.Served.{returned_in, returns_of}
-use Rattle.workers_core.specs.Talks.{AllAsk, AreRight, IsRight, Showing, entries_of, entry_of}
+use Rattle.workers_core.specs.Talks.{AllAsk, AreRightlyGot, IsRightlyGot, Showing, entries_of, entry_of}
 use Rattle.workers_core.specs.Workers.{IsAbout}
 
 -- a call that had a grant owes its Return until it was asked for and answered
@@ -116,7 +116,7 @@ fair_refusal Shows call place mine (Returns other) (Returning after) fault never
 fair_refusal Shows call place mine (Returns other) to fault never of waits shown shows = absurd waits
 
 fair_got : (Shows : ℕ → Showing) (call place seat : ℕ) (mine : List EntryData) (said : Says) (to : Phase) (got : Got) → NeverRefusesClosing Shows call → SaysOf call said
-    → Stands (known call (reverse mine)) (said, to) → IsRight (Shows place) mine said got → All IsHonestEntry (entry_of seat said got)
+    → Stands (known call (reverse mine)) (said, to) → IsRightlyGot (Shows place) mine said got → All IsHonestEntry (entry_of seat said got)
     → (asked : Asked) → said ≡ Asks asked → IsFair asked got
 fair_got Shows call place seat mine (Asks asked) to (Ok reply) never of stands right honest other is =
     let same : asked ≡ other = cc in
@@ -130,7 +130,7 @@ fair_got Shows call place seat mine Finished to got never of stands right honest
 -- ---- in a talk
 
 pub talk_owes : (Shows : ℕ → Showing) (call place seat : ℕ) (mine : List EntryData) (first : Says × Phase) (gots : List Got) → NeverRefusesClosing Shows call → IsAbout call first.1 → SaysOf call first.0
-    → AllAsk first gots → Stands (known call (reverse mine)) first → AreRight (Shows place) seat first mine gots → All IsHonestEntry (entries_of seat first gots)
+    → AllAsk first gots → Stands (known call (reverse mine)) first → AreRightlyGot (Shows place) seat first mine gots → All IsHonestEntry (entries_of seat first gots)
     → Owes call [] first → Owes call (returns_of (entries_of seat first gots)) (talked first gots)
 talk_owes Shows call place seat mine first [] never about says asked stands right honest owes = owes
 talk_owes Shows call place seat mine first (got ∷ earlier) never about says asked stands right honest owes =
@@ -154,7 +154,7 @@ owes_none call returned Finished to rests owes idle = owes idle
 pub talk_leaves : (Shows : ℕ → Showing) (call place seat number : ℕ) (info : _) (t : Conditions) (active : Bool) (since : ℕ) (mine : List EntryData) (gots : List Got) (last : Says) (to : Phase)
     → NeverRefusesClosing Shows call → t.call ≡ call → AllAsk (Asks (Settles call number info), Settling t active since) gots
     → Stands (known call (reverse mine)) (Asks (Settles call number info), Settling t active since)
-    → AreRight (Shows place) seat (Asks (Settles call number info), Settling t active since) mine gots
+    → AreRightlyGot (Shows place) seat (Asks (Settles call number info), Settling t active since) mine gots
     → All IsHonestEntry (entries_of seat (Asks (Settles call number info), Settling t active since) gots) → talked (Asks (Settles call number info), Settling t active since) gots ≡ (last, to)
     → is_ask last ≡ false → is_running to ≡ false → returns_of (entries_of seat (Asks (Settles call number info), Settling t active since) gots) ≡ call ∷ []
 talk_leaves Shows call place seat number info t active since mine gots last to never about asked stands right honest talk rests idle =

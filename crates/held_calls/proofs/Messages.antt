@@ -10,8 +10,8 @@ use Rattle.cap_values.specs.declared.event.Event.TheVariants as event
 use Rattle.cap_values.specs.declared.message.SsfMsg.{SsfMsg}
 use Rattle.cap_values.specs.declared.message.SsfMsg.TheVariants as msg
 use Rattle.dialogue_core.specs.Phases.{Conditions, Phase, Says, FirstAsk, Running, Settling, MoreAsk, Returning, Ending, Closed, Asks, Sends}
-use Rattle.dialogue_core.specs.Table.{are_units, conditions, first_period, on_begin, on_message}
-use Rattle.dialogue_core.specs.Talks.{Got, after_got, is_ask, or_done, sent_by, talked}
+use Rattle.dialogue_core.specs.Table.{are_units, conditions, says_first_period, on_begin, on_message}
+use Rattle.dialogue_core.specs.Talks.{Got, after_got, is_ask, or_done, orders_sent_by, talked}
 use Rattle.dialogue_core.specs.declared.fault.DialogueFault.TheVariants.{Unexpected}
 use Rattle.held_calls.proofs.Closing.{one_got, ending_asked, ending_returned, its_call, report_asked, report_settled}
 use Rattle.workers_core.proofs.Returnings.{sequel_to}
@@ -37,8 +37,8 @@ use Rattle.workers_core.specs.Laws.{IsRunning, ends_call}
 use Rattle.workers_core.specs.Refusals.{NeverRefusesClosing}
 use Rattle.workers_core.specs.Served.{report_in, returned_in, returns_of, settled_in, settles_of}
 use Rattle.workers_core.specs.Talks.{AllAsk, Showing, entries_of}
-use Rattle.workers_core.specs.Verdicts.{DialogueAt, begins, fresh, goes_on, home_of, spoken, verdict_on}
-use Rattle.workers_core.specs.Workers.{IsSound}
+use Rattle.workers_core.specs.Verdicts.{DialogueAt, begins, fresh_call, goes_on, home_of, spoken, verdict_on}
+use Rattle.workers_core.specs.Workers.{IsSoundHolding}
 
 -- ---- the first message of a call
 
@@ -51,13 +51,13 @@ begun_goes setup numbers at call place None old new told bound is =
     let none : is.gots ≡ [] = nothing_asked first is.gots refl is.asked in
     let first_is : first ≡ (is.last, is.phase) = subst (λ (gots : List Got). talked first gots ≡ (is.last, is.phase)) none is.talk in
     ap (λ (p : Says × Phase). stands_at (Some (record { phase = p.1; place = place }))) (sym first_is)
-    ∙ ap (λ (p : Says × Phase). if pays (sent_by p.0) then Some place else None) first_is ∙ ap (λ (orders : List Order). if pays orders then Some place else None) (sym is.orders)
+    ∙ ap (λ (p : Says × Phase). if pays (orders_sent_by p.0) then Some place else None) first_is ∙ ap (λ (orders : List Order). if pays orders then Some place else None) (sym is.orders)
 begun_goes setup numbers at call place (Some route) old new told bound is =
     ap (λ (b : Bool). if b then Some place else None)
     (asked_pays numbers call place (on_begin call at setup.service.wanted setup.service.least (Some route)) old new told bound refl is)
 
 -- it has no Return
-rests_granted : (t : Conditions) (units : ℕ) (last b : Bool) → is_ask (or_done (FirstAsk t) (if b then Ok (first_period t units last, Running t) else Err Unexpected)).0 ≡ false
+rests_granted : (t : Conditions) (units : ℕ) (last b : Bool) → is_ask (or_done (FirstAsk t) (if b then Ok (says_first_period t units last, Running t) else Err Unexpected)).0 ≡ false
 rests_granted t units last true = refl
 rests_granted t units last false = refl
 
@@ -116,7 +116,7 @@ own_begun Closes setup numbers number at call other calling called (Some place) 
 
 own_fresh : (Closes : Type 0) (setup : Setup) (numbers : List ℕ) (number at call : ℕ) (message : SsfMsg) (old new : Holding) (told : AnswerView)
     → ((place : ℕ) → place < length setup.accounts → place < length old.lists) → old.talks call ≡ None → IsKept old.lists call None
-    → IsDone setup numbers at (fresh setup call message) old new told → IsOwnStep Closes setup call number message None old new told
+    → IsDone setup numbers at (fresh_call setup call message) old new told → IsOwnStep Closes setup call number message None old new told
 own_fresh Closes setup numbers number at call (msg.InitialDp other calling called) old new told within none kept done =
     own_begun Closes setup numbers number at call other calling called (home_of calling setup) old new told within none kept refl done
 own_fresh Closes setup numbers number at call (msg.EventReport event leg mode) old new told within none kept done =
@@ -151,7 +151,7 @@ none_before lists call phase place kept not_yet p false is = ap returns_of (kept
 
 -- one that ends it
 ended_step : (Shows : ℕ → Showing) (setup : Setup) (numbers : List ℕ) (posts : List Post) (post : Post) (old new : Holding) (told : AnswerView) (call place : ℕ) (message : SsfMsg)
-    → IsSound (keys_of setup.accounts) posts old → AreKept old → IsRightlyHandled Shows setup numbers post old new told
+    → IsSoundHolding (keys_of setup.accounts) posts old → AreKept old → IsRightlyHandled Shows setup numbers post old new told
     → (running : IsRunning old call place) → post.body ≡ Ssf call message → ends_call message ≡ true → (number : ℕ) → report_in number call message ≡ []
     → after_message setup (pays told.orders) (Some place) message ≡ None
     → IsOwnStep (NeverRefusesClosing Shows call) setup call number message (Some (record { phase = Running running.terms; place = place })) old new told
@@ -191,7 +191,7 @@ ended_step Shows setup numbers posts post old new told call place message sound 
 
 -- a report of it
 report_step : (Shows : ℕ → Showing) (setup : Setup) (numbers : List ℕ) (posts : List Post) (post : Post) (old new : Holding) (told : AnswerView) (call place : ℕ) (active : Bool) (info : _)
-    → IsSound (keys_of setup.accounts) posts old → AreKept old → IsRightlyHandled Shows setup numbers post old new told
+    → IsSoundHolding (keys_of setup.accounts) posts old → AreKept old → IsRightlyHandled Shows setup numbers post old new told
     → (running : IsRunning old call place) → post.body ≡ Ssf call (msg.ChargingReport active info)
     → IsOwnStep (NeverRefusesClosing Shows call) setup call post.number (msg.ChargingReport active info) (Some (record { phase = Running running.terms; place = place })) old new told
 report_step Shows setup numbers posts post old new told call place active info sound kept is running body =
@@ -248,7 +248,7 @@ answer_step Closes setup numbers call number leg mode t place old new told is =
     }
 
 own_running : (Shows : ℕ → Showing) (setup : Setup) (numbers : List ℕ) (posts : List Post) (post : Post) (old new : Holding) (told : AnswerView) (call place : ℕ) (t : Conditions) (message : SsfMsg)
-    → IsSound (keys_of setup.accounts) posts old → AreKept old → IsRightlyHandled Shows setup numbers post old new told
+    → IsSoundHolding (keys_of setup.accounts) posts old → AreKept old → IsRightlyHandled Shows setup numbers post old new told
     → old.talks call ≡ Some (record { phase = Running t; place = place }) → post.body ≡ Ssf call message
     → IsDone setup numbers post.at (goes_on call place (on_message (Running t) post.number post.at message)) old new told
     → IsOwnStep (NeverRefusesClosing Shows call) setup call post.number message (Some (record { phase = Running t; place = place })) old new told
@@ -273,7 +273,7 @@ own_idle Closes setup numbers post old new told call place phase message idle st
     (idle_over post.number post.at phase message idle) (idle_pays post.number post.at phase message idle) stands done
 
 own_by_phase : (Shows : ℕ → Showing) (setup : Setup) (numbers : List ℕ) (posts : List Post) (post : Post) (old new : Holding) (told : AnswerView) (call place : ℕ) (phase : Phase) (message : SsfMsg)
-    → IsSound (keys_of setup.accounts) posts old → AreKept old → IsRightlyHandled Shows setup numbers post old new told
+    → IsSoundHolding (keys_of setup.accounts) posts old → AreKept old → IsRightlyHandled Shows setup numbers post old new told
     → old.talks call ≡ Some (record { phase = phase; place = place }) → post.body ≡ Ssf call message
     → IsDone setup numbers post.at (goes_on call place (on_message phase post.number post.at message)) old new told
     → IsOwnStep (NeverRefusesClosing Shows call) setup call post.number message (Some (record { phase = phase; place = place })) old new told
@@ -293,7 +293,7 @@ own_by_phase Shows setup numbers posts post old new told call place Closed messa
     own_idle (NeverRefusesClosing Shows call) setup numbers post old new told call place Closed message refl stands done
 
 own_by_found : (Shows : ℕ → Showing) (setup : Setup) (numbers : List ℕ) (posts : List Post) (post : Post) (old new : Holding) (told : AnswerView) (call : ℕ) (found : Option DialogueAt) (message : SsfMsg)
-    → IsSound (keys_of setup.accounts) posts old → AreKept old → IsRightlyHandled Shows setup numbers post old new told
+    → IsSoundHolding (keys_of setup.accounts) posts old → AreKept old → IsRightlyHandled Shows setup numbers post old new told
     → old.talks call ≡ found → post.body ≡ Ssf call message
     → IsDone setup numbers post.at (spoken setup post.number post.at call message found) old new told
     → IsOwnStep (NeverRefusesClosing Shows call) setup call post.number message found old new told
@@ -304,7 +304,7 @@ own_by_found Shows setup numbers posts post old new told call (Some standing) me
     own_by_phase Shows setup numbers posts post old new told call standing.place standing.phase message sound kept is stands body done
 
 pub own_step : (Shows : ℕ → Showing) (setup : Setup) (numbers : List ℕ) (posts : List Post) (post : Post) (old new : Holding) (told : AnswerView) (call : ℕ) (message : SsfMsg)
-    → IsSound (keys_of setup.accounts) posts old → AreKept old → IsRightlyHandled Shows setup numbers post old new told → post.body ≡ Ssf call message
+    → IsSoundHolding (keys_of setup.accounts) posts old → AreKept old → IsRightlyHandled Shows setup numbers post old new told → post.body ≡ Ssf call message
     → IsOwnStep (NeverRefusesClosing Shows call) setup call post.number message (old.talks call) old new told
 own_step Shows setup numbers posts post old new told call message sound kept is body =
     own_by_found Shows setup numbers posts post old new told call (old.talks call) message sound kept is refl body

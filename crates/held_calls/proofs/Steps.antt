@@ -10,8 +10,8 @@ use Rattle.cap_values.specs.declared.message.SsfMsg.TheVariants as msg
 use Rattle.cap_values.specs.declared.mode.Mode.TheVariants.{Interrupted, NotifyAndContinue, Transparent}
 use Rattle.dialogue_core.specs.Phases as phase
 use Rattle.dialogue_core.specs.Phases.{Conditions, Phase, Says, Sequel, FirstAsk, Running, Settling, MoreAsk, Returning, Ending, Closed, Asks, Sends, Finished}
-use Rattle.dialogue_core.specs.Table.{Step, are_units, first_period, on_message, on_refusal, on_reply, sequel}
-use Rattle.dialogue_core.specs.Talks.{Got, after_got, is_ask, or_done, sent_by, talked}
+use Rattle.dialogue_core.specs.Table.{Step, are_units, says_first_period, on_message, on_refusal, on_reply, sequel}
+use Rattle.dialogue_core.specs.Talks.{Got, after_got, is_ask, or_done, orders_sent_by, talked}
 use Rattle.dialogue_core.specs.declared.fault.DialogueFault.TheVariants.{Unexpected}
 use Rattle.held_calls.proofs.Entries.{IsHonestEntry, grown_apart, talk_stands}
 use Rattle.held_calls.proofs.Holding.{IsBound, IsSaid, IsUnmoved, SameEntries, apart_from, same_lists}
@@ -78,7 +78,7 @@ fits_idle Finished phase pending fits = absurd (cc)
 -- ---- what a dialogue sends pays for a period just where it goes on then
 
 abbrev pub PaysIfRunning : Says × Phase → Type 0
-PaysIfRunning next = is_running next.1 ≡ pays (sent_by next.0)
+PaysIfRunning next = is_running next.1 ≡ pays (orders_sent_by next.0)
 
 pays_after : (after : Sequel) → PaysIfRunning (sequel after)
 pays_after phase.Nothing = refl
@@ -87,7 +87,7 @@ pays_after phase.Clears = refl
 pays_after phase.Fails = refl
 pays_after phase.Closes = refl
 
-pays_first : (t : Conditions) (units : ℕ) (last b : Bool) → PaysIfRunning (or_done (FirstAsk t) (if b then Ok (first_period t units last, Running t) else Err Unexpected))
+pays_first : (t : Conditions) (units : ℕ) (last b : Bool) → PaysIfRunning (or_done (FirstAsk t) (if b then Ok (says_first_period t units last, Running t) else Err Unexpected))
 pays_first t units last true = refl
 pays_first t units last false = refl
 
@@ -249,7 +249,7 @@ idle_over number at Closed message idle = over_told number at Closed message ref
 
 -- and pays for nothing
 abbrev StepPaysNone : Step → Type 0
-StepPaysNone (Ok next) = pays (sent_by next.0) ≡ false
+StepPaysNone (Ok next) = pays (orders_sent_by next.0) ≡ false
 StepPaysNone (Err fault) = Unit {0}
 
 pub idle_pays : (number at : ℕ) (phase : Phase) (message : SsfMsg) → is_running phase ≡ false → StepPaysNone (on_message phase number at message)
@@ -273,7 +273,7 @@ idle_place phase place idle = ap (λ (b : Bool). if b then Some place else None)
 pub record IsIdleTalk (numbers : List ℕ) (call at : ℕ) (first : Says × Phase) (old new : Holding) (told : AnswerView) : Type 0 where
   pub same : SameEntries call old.lists new.lists
   pub now : new.talks call ≡ Some (record { phase = first.1; place = at })
-  pub orders : told.orders ≡ sent_by first.0
+  pub orders : told.orders ≡ orders_sent_by first.0
 
 pub idle_talk : (numbers : List ℕ) (call at : ℕ) (first : Says × Phase) (old new : Holding) (told : AnswerView) → is_ask first.0 ≡ false → IsTalked numbers call at first old new told
     → IsIdleTalk numbers call at first old new told
@@ -287,7 +287,7 @@ idle_talk numbers call at first old new told rests is =
           ∙ grown_apart call at (entries_of seat first is.gots) old.lists place (ap (λ (gots : List Got). of_call call (entries_of seat first gots)) none);
       now = is.talks call ∙ ap (λ (b : Bool). if b then Some (record { phase = is.phase; place = at }) else old.talks call) (is_itself call)
           ∙ ap (λ (p : Says × Phase). Some (record { phase = p.1; place = at })) (sym first_is);
-      orders = is.orders ∙ ap (λ (p : Says × Phase). sent_by p.0) (sym first_is);
+      orders = is.orders ∙ ap (λ (p : Says × Phase). orders_sent_by p.0) (sym first_is);
     }
 
 pub not_false : (b : Bool) → b ≡ false → not b ≡ true

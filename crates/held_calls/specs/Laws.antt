@@ -10,7 +10,7 @@ use Rattle.run_values.specs.declared.post.Body.TheVariants.{Ssf}
 use Rattle.run_values.specs.declared.post.Post.{Post}
 use Rattle.runs_core.specs.Shares.{item_of}
 use Rattle.tariff_core.specs.declared.times.TimeInfo.{TimeInfo}
-use Rattle.workers_core.specs.Chains.{AreAnswered, IsAnswered, at_first, seat_numbers}
+use Rattle.workers_core.specs.Chains.{AreAnswered, AnswersItsPosts, at_first, seat_numbers}
 use Rattle.workers_core.specs.Handled.{AnswerView, Holding, IsRightlyHandled}
 use Rattle.workers_core.specs.Laws.{IsRunning, ends_call}
 use Rattle.workers_core.specs.Refusals.{NeverRefusesClosing}
@@ -46,12 +46,12 @@ EndedCallsAreReturned Shows =
 abbrev pub WorkedReportsAreSettled : (ℕ → Showing) → Type 0
 WorkedReportsAreSettled Shows =
     (setup : Setup) (number : ℕ) (posts : List Post) (answers : List AnswerView) (lists : List (List EntryData)) (call : ℕ) → NeverRefusesClosing Shows call
-    → IsAnswered Shows setup number posts answers lists
+    → AnswersItsPosts Shows setup number posts answers lists
     → (place : ℕ) → settles_of (entries_at call lists place) ≡ taken_at setup call place (map item_of posts) answers
 
 -- a call that went on at the account at a place when a message ended it has one Return there, and none at any other
 abbrev pub WorkedCallsAreReturned : (ℕ → Showing) → Type 0
 WorkedCallsAreReturned Shows =
     (setup : Setup) (number : ℕ) (posts : List Post) (answers : List AnswerView) (lists : List (List EntryData)) (call there : ℕ) → NeverRefusesClosing Shows call
-    → IsAnswered Shows setup number posts answers lists → ended_at setup call (map item_of posts) answers ≡ Some there
+    → AnswersItsPosts Shows setup number posts answers lists → ended_at setup call (map item_of posts) answers ≡ Some there
     → (place : ℕ) → returns_of (entries_at call lists place) ≡ (if place == there then call ∷ [] else [])

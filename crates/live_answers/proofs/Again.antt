@@ -6,13 +6,13 @@ use Rattle.std.specs.Prelude.{if◌then◌else◌, nat_lt, ⊤}
 use Rattle.std.specs.Io.BufRead.{drop_through, ends_with_byte, take_through}
 use Rattle.live_answers.proofs.LineLemmas.{is_whole, line_first}
 use Rattle.live_answers.specs.Laws.{LogsAreHeardAgain, accepted, last_behind, next_behind}
-use Rattle.live_answers.specs.Lines.{ended, kept, live_lines}
+use Rattle.live_answers.specs.Lines.{with_line_end, kept, live_lines}
 use Rattle.live_answers.specs.Live.{Heard, heard_after, last_after, logged_of, next_after}
 use Rattle.live_answers.specs.Standing.{LineView, said_after, standing}
 use Rattle.live_answers.specs.declared.kind.LineKind.TheVariants as kind
 use Rattle.message_rows.specs.Lines.{line_message}
 use Rattle.message_rows.specs.Messages.{MessageView}
-use Rattle.run_texts.specs.Parts.{begun_by, lines_of}
+use Rattle.run_texts.specs.Parts.{with_first_byte, lines_of}
 
 -- ---- the lines of a text
 
@@ -24,11 +24,11 @@ abbrev pub AreTaken : List (List ℕ) → Type 0
 AreTaken [] = ⊤
 AreTaken (line ∷ lines) = IsTaken line × AreTaken lines
 
-begins_taken : (c : ℕ) (lines : List (List ℕ)) → (c == 10) ≡ false → AreTaken lines → AreTaken (begun_by c lines)
+begins_taken : (c : ℕ) (lines : List (List ℕ)) → (c == 10) ≡ false → AreTaken lines → AreTaken (with_first_byte c lines)
 begins_taken c [] is taken = ((c ∷ [], rw is refl), tt)
 begins_taken c (line ∷ lines) is taken = ((c ∷ taken.0.0, ap (λ l. c ∷ l) taken.0.1 ∙ rw is refl), taken.1)
 
-by_first : (ends : Bool) (c : ℕ) (text : List ℕ) → (c == 10) ≡ ends → AreTaken (lines_of text) → AreTaken (if ends then (c ∷ []) ∷ lines_of text else begun_by c (lines_of text))
+by_first : (ends : Bool) (c : ℕ) (text : List ℕ) → (c == 10) ≡ ends → AreTaken (lines_of text) → AreTaken (if ends then (c ∷ []) ∷ lines_of text else with_first_byte c (lines_of text))
 by_first true c text is taken = ((c ∷ [], rw is refl), taken)
 by_first false c text is taken = begins_taken c (lines_of text) is taken
 
@@ -47,7 +47,7 @@ ends_later x y line =
     let one : length (x ∷ y ∷ line) - 1 ≡ suc (length (y ∷ line) - 1) = omega arith in
     rw (one, has_bytes x (y ∷ line), has_bytes y line) refl
 
-ended_later : (x : ℕ) (line : List ℕ) → (x == 10) ≡ false → ended (x ∷ line) ≡ x ∷ ended line
+ended_later : (x : ℕ) (line : List ℕ) → (x == 10) ≡ false → with_line_end (x ∷ line) ≡ x ∷ with_line_end line
 ended_later x [] is = rw is refl
 ended_later x (y ∷ line) is = ap (λ b. if b then x ∷ y ∷ line else x ∷ y ∷ (line ++ 10 ∷ [])) (ends_later x y line) ∙ either (ends_with_byte 10 (y ∷ line))
   where
@@ -59,24 +59,24 @@ ended_later x (y ∷ line) is = ap (λ b. if b then x ∷ y ∷ line else x ∷ 
 record Parts (line rest : List ℕ) : Type 0 where
   taken : take_through 10 (line ++ rest) ≡ line
   left : drop_through 10 (line ++ rest) ≡ rest
-  whole : ended line ≡ line
+  whole : with_line_end line ≡ line
   some : 0 < length line
 
-parts_by : (ends : Bool) (x : ℕ) (text rest : List ℕ) → (x == 10) ≡ ends → Parts (ended (take_through 10 text)) rest
-    → Parts (ended (if ends then x ∷ [] else x ∷ take_through 10 text)) rest
+parts_by : (ends : Bool) (x : ℕ) (text rest : List ℕ) → (x == 10) ≡ ends → Parts (with_line_end (take_through 10 text)) rest
+    → Parts (with_line_end (if ends then x ∷ [] else x ∷ take_through 10 text)) rest
 parts_by true x text rest is parts =
-    let alone : ended (x ∷ []) ≡ x ∷ [] = rw is refl in
+    let alone : with_line_end (x ∷ []) ≡ x ∷ [] = rw is refl in
     subst (λ l. Parts l rest) (sym alone) (record { taken = rw is refl; left = rw is refl; whole = alone; some = omega arith })
 parts_by false x text rest is parts =
     let line = take_through 10 text in
     subst (λ l. Parts l rest) (sym (ended_later x line is)) (record {
       taken = rw is (ap (λ l. x ∷ l) parts.taken);
       left = rw is parts.left;
-      whole = ended_later x (ended line) is ∙ ap (λ l. x ∷ l) parts.whole;
+      whole = ended_later x (with_line_end line) is ∙ ap (λ l. x ∷ l) parts.whole;
       some = omega arith;
     })
 
-parts_of : (text rest : List ℕ) → Parts (ended (take_through 10 text)) rest
+parts_of : (text rest : List ℕ) → Parts (with_line_end (take_through 10 text)) rest
 parts_of [] rest = record { taken = refl; left = refl; whole = refl; some = omega arith }
 parts_of (x ∷ text) rest = parts_by (x == 10) x text rest refl (parts_of text rest)
 
@@ -93,8 +93,8 @@ short_enough next last line message is = ltb-false 4096 (length line) (not_long 
 line_again : (raw rest : List ℕ) → IsTaken raw → length (kept raw) ≤ 4096 → live_lines (kept raw ++ rest) ≡ kept raw ∷ live_lines rest
 line_again raw rest taken short =
     let line = kept raw in
-    let all : line ≡ ended raw = is_whole line (ended raw) refl short in
-    let parts : Parts line rest = subst (λ l. Parts l rest) (sym all) (subst (λ r. Parts (ended r) rest) (sym taken.1) (parts_of taken.0 rest)) in
+    let all : line ≡ with_line_end raw = is_whole line (with_line_end raw) refl short in
+    let parts : Parts line rest = subst (λ l. Parts l rest) (sym all) (subst (λ r. Parts (with_line_end r) rest) (sym taken.1) (parts_of taken.0 rest)) in
     let same : kept (take_through 10 (line ++ rest)) ≡ line =
     ap kept parts.taken ∙ ap (take 4097) parts.whole ∙ take_all 4097 line (omega (arith, short)) in
     line_first (line ++ rest) (omega (arith, parts.some, length-append line rest))

@@ -9,15 +9,15 @@ use Rattle.std.specs.Io.KnownBytes.{Appends}
 use Rattle.live_answers.proofs.GroupLemmas.{given_many, given_on, heard_on, logged_on, rows_are, text_on}
 use Rattle.live_answers.proofs.Growing.{kept_is_grown, logs_twice, prints_twice}
 use Rattle.live_answers.proofs.LineLemmas.{no_line}
-use Rattle.live_answers.specs.Groups.{BeginsWith, LeftAt, LeftIn, TakesOf, group_rows, heard_behind, line_behind, views_in}
+use Rattle.live_answers.specs.Groups.{BeginsWithLines, LeftAt, LeftIn, TakesOf, group_rows, heard_behind, line_behind, views_in}
 use Rattle.live_answers.specs.Laws.{last_behind, next_behind}
 use Rattle.live_answers.specs.Lines.{live_lines}
 use Rattle.live_answers.specs.Live.{Heard, given_by, given_of, heard_after, heard_in, item_view, last_after, logged_of, next_after, replayed_text, text_after}
 use Rattle.live_answers.specs.Rounds.{Hears, LeadsTo, TakesLines, WritesOn, due, first_of, last_line}
-use Rattle.live_answers.specs.Runs.{Answers, Logs, Prints}
-use Rattle.live_answers.specs.Said.{said_of}
-use Rattle.live_answers.specs.Stages.{fault_of, has_ended}
-use Rattle.live_answers.specs.Standing.{LineView, last_moment, moment_of, said_after}
+use Rattle.live_answers.specs.Runs.{AnswersLines, Logs, PrintsText}
+use Rattle.live_answers.specs.Said.{line_view_of}
+use Rattle.live_answers.specs.Stages.{stage_fault, has_ended}
+use Rattle.live_answers.specs.Standing.{LineView, last_item_moment, item_moment, said_after}
 use Rattle.live_answers.specs.declared.driver.LiveDriver.{LiveDriver}
 use Rattle.live_answers.specs.declared.group.TheConstants.{MAX_GROUP}
 use Rattle.live_answers.specs.declared.replay.Replay.{Replay}
@@ -58,11 +58,11 @@ moment_seen (Some item) = item.0
 abbrev last_seen : List (ℕ × Speech) → ℕ
 last_seen items = moment_seen (slice_get items (length items - 1))
 
-seen_so : (item : Option (ℕ × Body)) → moment_of item ≡ moment_seen (option_map item_view item)
+seen_so : (item : Option (ℕ × Body)) → item_moment item ≡ moment_seen (option_map item_view item)
 seen_so None = refl
 seen_so (Some item) = refl
 
-last_so : (given : List (ℕ × Body)) → last_moment given ≡ last_seen (map item_view given)
+last_so : (given : List (ℕ × Body)) → last_item_moment given ≡ last_seen (map item_view given)
 last_so given =
     seen_so (slice_get given (length given - 1)) ∙ ap moment_seen (sym (slice_get-map item_view given (length given - 1)))
     ∙ ap (λ n. moment_seen (slice_get (map item_view given) (n - 1))) (sym (length-map given item_view))
@@ -89,7 +89,7 @@ count_behind old new heard gives =
     sym (length-map new item_view) ∙ ap length gives ∙ length-append (map item_view old) (given_of heard) ∙ ap (λ n. n + length (given_of heard)) (length-map old item_view)
     ∙ given_many (length old) heard
 
-pub moment_behind : (old new : List (ℕ × Body)) (heard : List Heard) → map item_view new ≡ map item_view old ++ given_of heard → last_moment new ≡ last_behind (last_moment old) heard
+pub moment_behind : (old new : List (ℕ × Body)) (heard : List Heard) → map item_view new ≡ map item_view old ++ given_of heard → last_item_moment new ≡ last_behind (last_item_moment old) heard
 moment_behind old new heard gives =
     last_so new ∙ ap last_seen gives ∙ last_many (map item_view old) heard ∙ ap (λ m. last_behind m heard) (sym (last_so old))
 
@@ -98,8 +98,8 @@ behind_lines : (old new : List (ℕ × Body)) (lines more : List (List ℕ)) →
     → heard_behind old (lines ++ more) ≡ heard_behind old lines ++ heard_behind new more
 behind_lines old new lines more gives =
     let heard = heard_behind old lines in
-    heard_on (length old) (last_moment old) lines more
-    ∙ ap (λ n. heard ++ heard_after n (last_behind (last_moment old) heard) more) (sym (count_behind old new heard gives))
+    heard_on (length old) (last_item_moment old) lines more
+    ∙ ap (λ n. heard ++ heard_after n (last_behind (last_item_moment old) heard) more) (sym (count_behind old new heard gives))
     ∙ ap (λ m. heard ++ heard_after (length new) m more) (sym (moment_behind old new heard gives))
 
 heard_many : (next last : ℕ) (lines : List (List ℕ)) → length (heard_after next last lines) ≡ length lines
@@ -165,7 +165,7 @@ module _ {I O L : Type 0} (remaining : I → Option (List ℕ)) (contents : O �
     pub count : ℕ
     pub whole : why ≡ None → length heard ≤ count
     pub takes : map item_view new.given.items ≡ map item_view old.given.items ++ given_of (take count heard)
-    pub prints : Prints why (contents old.output.now) (contents new.output.now)
+    pub prints : PrintsText why (contents old.output.now) (contents new.output.now)
         (due old answers ++ text_after old.replay all (last_line old answers) (length old.given.items) (take count heard))
     pub logs : Logs why (logged old.log.now) (logged new.log.now) (logged_of (take count heard)) (logged_of (take MAX_GROUP (drop count heard)))
 
@@ -183,7 +183,7 @@ module _ {I O L : Type 0} (remaining : I → Option (List ℕ)) (contents : O �
   is_known : (s : Stage) (known : Option (List ℕ)) (text : List ℕ) → s ≡ stage.Open left.Lines → LeftAt s known text → known ≡ Some text
   is_known s known text opened has = subst (λ it. LeftAt it known text) opened has
 
-  begins_so : (known : Option (List ℕ)) (text : List ℕ) (lines : List (List ℕ)) → known ≡ Some text → IfSome known (BeginsWith lines) → BeginsWith lines text
+  begins_so : (known : Option (List ℕ)) (text : List ℕ) (lines : List (List ℕ)) → known ≡ Some text → IfSome known (BeginsWithLines lines) → BeginsWithLines lines text
   begins_so known text lines is begins = rw is at begins
 
   takes_so : (known new : Option (List ℕ)) (text : List ℕ) (behind : Left) (lines : List (List ℕ)) → known ≡ Some text → TakesOf known new behind lines
@@ -191,11 +191,11 @@ module _ {I O L : Type 0} (remaining : I → Option (List ℕ)) (contents : O �
   takes_so known new text behind lines is takes = rw is at takes
 
   last_round : (s : Stage) (text : List ℕ) (all : List Answer) (old : LiveDriver I O L) (answers : List Answer) (new : LiveDriver I O L) → LeftAt old.stage (remaining old.input) text
-      → has_ended s ≡ true → LeadsTo remaining contents logged old answers new s → Goes (fault_of s) (left_to old text) all old answers new
+      → has_ended s ≡ true → LeadsTo remaining contents logged old answers new s → Goes (stage_fault s) (left_to old text) all old answers new
   last_round (stage.Open behind) text all old answers new has over leads = absurd (cc)
   last_round stage.Ended text all old answers new has over leads =
       let empty : text ≡ [] = leads.ends text has in
-      let none = none_heard (length old.given.items) (last_moment old.given.items) text empty in
+      let none = none_heard (length old.given.items) (last_item_moment old.given.items) text empty in
       record {
         count = 0;
         whole = λ _. rw none (omega arith);
@@ -222,9 +222,9 @@ module _ {I O L : Type 0} (remaining : I → Option (List ℕ)) (contents : O �
       let lines = leads.lines in
       let group = heard_behind was lines in
       let (rest, split) = begins_so _ text lines (is_known old.stage _ text leads.opened has) leads.takes in
-      let later = heard_after (next_behind (length was) group) (last_behind (last_moment was) group) (live_lines rest) in
-      let all_left : left_to old text ≡ group ++ later = ap (heard_behind was) split ∙ heard_on (length was) (last_moment was) lines (live_lines rest) in
-      let few : length group ≤ MAX_GROUP = omega (arith, leads.few, heard_many (length was) (last_moment was) lines) in
+      let later = heard_after (next_behind (length was) group) (last_behind (last_item_moment was) group) (live_lines rest) in
+      let all_left : left_to old text ≡ group ++ later = ap (heard_behind was) split ∙ heard_on (length was) (last_item_moment was) lines (live_lines rest) in
+      let few : length group ≤ MAX_GROUP = omega (arith, leads.few, heard_many (length was) (last_item_moment was) lines) in
       let more = take (MAX_GROUP - length group) later in
       let next : logged_of (take MAX_GROUP (left_to old text)) ≡ logged_of group ++ logged_of more =
       ap (λ h. logged_of (take MAX_GROUP h)) all_left ∙ ap logged_of (take_both group later MAX_GROUP few) ∙ logged_on group more in
@@ -265,8 +265,8 @@ module _ {I O L : Type 0} (remaining : I → Option (List ℕ)) (contents : O �
         whole = λ none. let most = goes.whole none in omega (arith, most, length-append group later);
         takes = goes.takes ∙ ap (λ l. l ++ given_of some) took.gives ∙ append_assoc (map item_view was) (given_of group) (given_of some)
             ∙ ap (λ l. map item_view was ++ l) (sym (given_on group some) ∙ ap given_of (sym taken));
-        prints = subst (λ h. Prints why (contents old.output.now) (contents new.output.now) (due old answers ++ text_after old.replay all line (length was) h)) (sym taken)
-            (prints_twice why _ _ _ _ _ took.prints (subst (λ l. Prints why (contents between.output.now) (contents new.output.now) l) text_is goes.prints));
+        prints = subst (λ h. PrintsText why (contents old.output.now) (contents new.output.now) (due old answers ++ text_after old.replay all line (length was) h)) (sym taken)
+            (prints_twice why _ _ _ _ _ took.prints (subst (λ l. PrintsText why (contents between.output.now) (contents new.output.now) l) text_is goes.prints));
         logs = subst₂ (λ l h. Logs why (logged old.log.now) (logged new.log.now) l (logged_of (take MAX_GROUP h))) (sym (logged_on group some) ∙ ap logged_of (sym taken)) (sym dropped)
             (logs_twice why _ _ _ _ _ _ took.logs goes.logs);
       })
@@ -287,13 +287,13 @@ module _ {I O L : Type 0} (remaining : I → Option (List ℕ)) (contents : O �
       omega (arith, count_behind was between.given.items group took.gives, all_many, length-append before_next next) in
       let rows = rows_are old.replay before_next next more line (length was) group (omega (arith, many)) most in
       let line_so : last_line between next ≡ line_behind old.replay line (length was) (views_in group) =
-      ap (λ (r : Replay). line_behind r between.line (first_of between next) (map said_of between.said.items)) took.replay
-      ∙ ap (λ l. line_behind old.replay l (first_of between next) (map said_of between.said.items)) took.line
-      ∙ ap (λ n. line_behind old.replay line n (map said_of between.said.items)) first ∙ ap (line_behind old.replay line (length was)) took.said in
+      ap (λ (r : Replay). line_behind r between.line (first_of between next) (map line_view_of between.said.items)) took.replay
+      ∙ ap (λ l. line_behind old.replay l (first_of between next) (map line_view_of between.said.items)) took.line
+      ∙ ap (λ n. line_behind old.replay line n (map line_view_of between.said.items)) first ∙ ap (line_behind old.replay line (length was)) took.said in
       record {
-        rows = ap (λ (r : Replay). group_rows r (first_of between next) next between.line (first_of between next) (map said_of between.said.items)) took.replay
-            ∙ ap (λ l. group_rows old.replay (first_of between next) next l (first_of between next) (map said_of between.said.items)) took.line
-            ∙ ap (λ n. group_rows old.replay n next line n (map said_of between.said.items)) first
+        rows = ap (λ (r : Replay). group_rows r (first_of between next) next between.line (first_of between next) (map line_view_of between.said.items)) took.replay
+            ∙ ap (λ l. group_rows old.replay (first_of between next) next l (first_of between next) (map line_view_of between.said.items)) took.line
+            ∙ ap (λ n. group_rows old.replay n next line n (map line_view_of between.said.items)) first
             ∙ ap (group_rows old.replay (length was) next line (length was)) took.said
             ∙ ap (λ n. group_rows old.replay n next line (length was) (views_in group)) (sym many) ∙ rows;
         line = line_so;
@@ -302,7 +302,7 @@ module _ {I O L : Type 0} (remaining : I → Option (List ℕ)) (contents : O �
   -- from round to round, to the end of the run
   pub goes_to_end : (before_this : List Answer) (old : LiveDriver I O L) (answers : List Answer) (heard : List (List Answer)) (new : LiveDriver I O L) (text : List ℕ)
       → LiveRounds before_this old (answers ∷ heard) new → LeftAt old.stage (remaining old.input) text
-      → Goes (fault_of new.stage) (left_to old text) (before_this ++ all_heard (answers ∷ heard)) old answers new
+      → Goes (stage_fault new.stage) (left_to old text) (before_this ++ all_heard (answers ∷ heard)) old answers new
   goes_to_end before_this old answers [] new text rounds has =
       last_round new.stage text _ old answers new has rounds.1 rounds.0.hears_them.leads
   goes_to_end before_this old answers (next ∷ heard) new text rounds has =
@@ -316,23 +316,23 @@ module _ {I O L : Type 0} (remaining : I → Option (List ℕ)) (contents : O �
       let due_is = is_due before_next next (all_heard heard) old answers between behind took many all_many in
       let all = before_next ++ all_heard (next ∷ heard) in
       let is : left_to old text ≡ heard_behind was took.lines ++ left_to between rest = ap (heard_behind was) split ∙ behind_lines was between.given.items took.lines (live_lines rest) took.gives in
-      subst (λ a. Goes (fault_of new.stage) (left_to old text) a old answers new) (append_assoc before_this answers (all_heard (next ∷ heard)))
-      (a_round (fault_of new.stage) (left_to old text) (left_to between rest) all old answers between behind next new took is due_is.rows due_is.line
+      subst (λ a. Goes (stage_fault new.stage) (left_to old text) a old answers new) (append_assoc before_this answers (all_heard (next ∷ heard)))
+      (a_round (stage_fault new.stage) (left_to old text) (left_to between rest) all old answers between behind next new took is due_is.rows due_is.line
       (goes_to_end before_next between next heard new rest later (subst (λ s. LeftAt s (remaining between.input) rest) (sym stage_is) there)))
 
   -- of a run from its first line on
   pub answered : (replay : Replay) (old : LiveDriver I O L) (heard : List (List Answer)) (new : LiveDriver I O L) (text : List ℕ)
       → LiveRounds [] old heard new → old.replay ≡ replay → old.given.items ≡ [] → old.line ≡ 1 → old.said.items ≡ [] → old.stage ≡ stage.Open left.Lines → remaining old.input ≡ Some text
-      → Answers replay (fault_of new.stage) (heard_in text) (all_heard heard) new.given.items (contents old.output.now) (contents new.output.now) (logged old.log.now) (logged new.log.now)
+      → AnswersLines replay (stage_fault new.stage) (heard_in text) (all_heard heard) new.given.items (contents old.output.now) (contents new.output.now) (logged old.log.now) (logged new.log.now)
   answered replay old [] new text rounds again none first nothing opened known = absurd rounds
   answered replay old (answers ∷ heard) new text rounds again none first nothing opened known =
-      let why = fault_of new.stage in
+      let why = stage_fault new.stage in
       let all = all_heard (answers ∷ heard) in
       let has : LeftAt old.stage (remaining old.input) text = subst (λ s. LeftAt s (remaining old.input) text) (sym opened) known in
       let goes = goes_to_end [] old answers heard new text rounds has in
       let lines : left_to old text ≡ heard_in text = ap (λ g. heard_behind g (live_lines text)) none in
-      let nothing_due : due old answers ≡ [] = ap (λ s. group_rows old.replay (first_of old answers) answers old.line (first_of old answers) (map said_of s)) nothing in
-      let line : last_line old answers ≡ 1 = ap (λ s. line_behind old.replay old.line (first_of old answers) (map said_of s)) nothing ∙ first in
+      let nothing_due : due old answers ≡ [] = ap (λ s. group_rows old.replay (first_of old answers) answers old.line (first_of old answers) (map line_view_of s)) nothing in
+      let line : last_line old answers ≡ 1 = ap (λ s. line_behind old.replay old.line (first_of old answers) (map line_view_of s)) nothing ∙ first in
       let text_is : due old answers ++ text_after old.replay all (last_line old answers) (length old.given.items) (take goes.count (left_to old text)) ≡ replayed_text replay all (take goes.count (heard_in text)) =
       ap (λ l. l ++ text_after old.replay all (last_line old answers) (length old.given.items) (take goes.count (left_to old text))) nothing_due
       ∙ ap (λ (r : Replay). text_after r all (last_line old answers) (length old.given.items) (take goes.count (left_to old text))) again
@@ -343,6 +343,6 @@ module _ {I O L : Type 0} (remaining : I → Option (List ℕ)) (contents : O �
         count = goes.count;
         whole = λ ended. subst (λ h. length h ≤ goes.count) lines (goes.whole ended);
         takes = goes.takes ∙ ap (λ g. map item_view g ++ given_of (take goes.count (left_to old text))) none ∙ ap (λ h. given_of (take goes.count h)) lines;
-        prints = subst (λ l. Prints why (contents old.output.now) (contents new.output.now) l) text_is goes.prints;
+        prints = subst (λ l. PrintsText why (contents old.output.now) (contents new.output.now) l) text_is goes.prints;
         logs = subst (λ h. Logs why (logged old.log.now) (logged new.log.now) (logged_of (take goes.count h)) (logged_of (take MAX_GROUP (drop goes.count h)))) lines goes.logs;
       }

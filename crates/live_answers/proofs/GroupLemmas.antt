@@ -10,8 +10,8 @@ use Rattle.live_answers.specs.Groups.{TakesOf, group_rows, line_behind, views_in
 use Rattle.live_answers.specs.Laws.{last_behind, next_behind}
 use Rattle.live_answers.specs.Lines.{kept, live_lines}
 use Rattle.live_answers.specs.Live.{Heard, given_by, given_of, heard_after, last_after, logged_of, next_after, text_after}
-use Rattle.live_answers.specs.Rows.{counted_line, put_down, rows_of_line}
-use Rattle.live_answers.specs.Said.{said_of}
+use Rattle.live_answers.specs.Rows.{line_behind_log, put_down, rows_of_line}
+use Rattle.live_answers.specs.Said.{line_view_of}
 use Rattle.live_answers.specs.Standing.{LineView, said_after}
 use Rattle.live_answers.specs.declared.judging.Said.{Said}
 use Rattle.live_answers.specs.declared.replay.Replay.{Replay}
@@ -36,24 +36,24 @@ no_more (Some (Err why)) next = omega arith
 -- ---- what is printed
 
 -- the number of one line more
-pub line_more : (replay : Replay) (line next : ℕ) (one : Said) (said later : List Said) (here behind : ℕ) → here ≡ counted_line replay next line → behind ≡ next_after next (said_of one)
-    → said ≡ one ∷ later → line_behind replay here behind (map said_of later) ≡ line_behind replay line next (map said_of said)
+pub line_more : (replay : Replay) (line next : ℕ) (one : Said) (said later : List Said) (here behind : ℕ) → here ≡ line_behind_log replay next line → behind ≡ next_after next (line_view_of one)
+    → said ≡ one ∷ later → line_behind replay here behind (map line_view_of later) ≡ line_behind replay line next (map line_view_of said)
 line_more replay line next one said later here behind here_is behind_is is =
-    ap (λ h. line_behind replay h behind (map said_of later)) here_is
-    ∙ ap (λ b. line_behind replay (counted_line replay next line) b (map said_of later)) behind_is ∙ ap (λ l. line_behind replay line next (map said_of l)) (sym is)
+    ap (λ h. line_behind replay h behind (map line_view_of later)) here_is
+    ∙ ap (λ b. line_behind replay (line_behind_log replay next line) b (map line_view_of later)) behind_is ∙ ap (λ l. line_behind replay line next (map line_view_of l)) (sym is)
 
 -- the rows of one line more
 pub rows_more : (replay : Replay) (first : ℕ) (answers : List Answer) (line next : ℕ) (one : Said) (later : List Said) (text new : List ℕ) (here behind : ℕ) (answer : Option Answer)
-    → here ≡ counted_line replay next line → behind ≡ next_after next (said_of one) → answer ≡ slice_get answers (next - first)
-    → new ≡ text ++ rows_of_line replay.quiet here next answer (said_of one)
-    → new ++ group_rows replay first answers here behind (map said_of later) ≡ text ++ group_rows replay first answers line next (map said_of (one ∷ later))
+    → here ≡ line_behind_log replay next line → behind ≡ next_after next (line_view_of one) → answer ≡ slice_get answers (next - first)
+    → new ≡ text ++ rows_of_line replay.quiet here next answer (line_view_of one)
+    → new ++ group_rows replay first answers here behind (map line_view_of later) ≡ text ++ group_rows replay first answers line next (map line_view_of (one ∷ later))
 rows_more replay first answers line next one later text new here behind answer here_is behind_is answer_is new_is =
-    let rows = rows_of_line replay.quiet here next answer (said_of one) in
-    ap (λ l. l ++ group_rows replay first answers here behind (map said_of later)) new_is
-    ∙ append_assoc text rows (group_rows replay first answers here behind (map said_of later))
-    ∙ ap (λ b. text ++ (rows ++ group_rows replay first answers here b (map said_of later))) behind_is
-    ∙ ap (λ a. text ++ (rows_of_line replay.quiet here next a (said_of one) ++ group_rows replay first answers here (next_after next (said_of one)) (map said_of later))) answer_is
-    ∙ ap (λ h. text ++ (rows_of_line replay.quiet h next (slice_get answers (next - first)) (said_of one) ++ group_rows replay first answers h (next_after next (said_of one)) (map said_of later))) here_is
+    let rows = rows_of_line replay.quiet here next answer (line_view_of one) in
+    ap (λ l. l ++ group_rows replay first answers here behind (map line_view_of later)) new_is
+    ∙ append_assoc text rows (group_rows replay first answers here behind (map line_view_of later))
+    ∙ ap (λ b. text ++ (rows ++ group_rows replay first answers here b (map line_view_of later))) behind_is
+    ∙ ap (λ a. text ++ (rows_of_line replay.quiet here next a (line_view_of one) ++ group_rows replay first answers here (next_after next (line_view_of one)) (map line_view_of later))) answer_is
+    ∙ ap (λ h. text ++ (rows_of_line replay.quiet h next (slice_get answers (next - first)) (line_view_of one) ++ group_rows replay first answers h (next_after next (line_view_of one)) (map line_view_of later))) here_is
 
 -- ---- what is taken
 
@@ -180,7 +180,7 @@ pub text_on : (replay : Replay) (all : List Answer) (line next : ℕ) (heard mor
     ≡ text_after replay all line next heard ++ text_after replay all (line_behind replay line next (views_in heard)) (next_behind next heard) more
 text_on replay all line next [] more = refl
 text_on replay all line next (one ∷ heard) more =
-    let here = counted_line replay next line in
+    let here = line_behind_log replay next line in
     let behind = next_after next one.said in
     let rows = rows_of_line replay.quiet here next (slice_get all next) one.said in
     ap (λ l. rows ++ l) (text_on replay all here behind heard more)
@@ -217,7 +217,7 @@ pub rows_are : (replay : Replay) (before answers more : List Answer) (line next 
     → group_rows replay (length before) answers line next (views_in heard) ≡ text_after replay (before ++ (answers ++ more)) line next heard
 rows_are replay before answers more line next [] least most = refl
 rows_are replay before answers more line next (one ∷ heard) least most =
-    let here = counted_line replay next line in
+    let here = line_behind_log replay next line in
     let behind = next_after next one.said in
     let row = same_row replay.quiet here next (slice_get answers (next - length before)) (slice_get (before ++ (answers ++ more)) next) one.said
     (λ longer. got_there before answers more next least (omega (arith, most, longer, none_less heard behind))) in

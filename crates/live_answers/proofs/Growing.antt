@@ -2,7 +2,7 @@
 use Rattle.std.proofs.Common.{◌+◌, ℕ, Bool, true, false, Option, Some, None, List, [], ◌++◌, length, take, sym, subst, ◌∙◌, ap, append_assoc, append-nil, le_refl, take_all}
 use Rattle.std.proofs.Math.Seq.{take-append-add}
 use Rattle.std.specs.Io.KnownBytes.{Appends, Keeps}
-use Rattle.live_answers.specs.Runs.{Logs, Prints}
+use Rattle.live_answers.specs.Runs.{Logs, PrintsText}
 use Rattle.live_answers.specs.declared.stage.LiveFault.{LiveFault}
 use Rattle.live_answers.specs.declared.stage.LiveFault.TheVariants as fault
 use Rattle.rating.specs.Fronts.{Writes}
@@ -19,7 +19,7 @@ kept_is_grown (Some a) None keeps = absurd keeps
 kept_is_grown (Some a) (Some b) keeps = keeps ∙ sym (append-nil a)
 
 -- all of a text was written, and then another as far as its writer took it
-pub prints_twice : (why : Option LiveFault) (a b c : Option (List ℕ)) (xs ys : List ℕ) → Appends a b xs → Prints why b c ys → Prints why a c (xs ++ ys)
+pub prints_twice : (why : Option LiveFault) (a b c : Option (List ℕ)) (xs ys : List ℕ) → Appends a b xs → PrintsText why b c ys → PrintsText why a c (xs ++ ys)
 prints_twice None a b c xs ys first second = grow_twice a b c xs ys first second
 prints_twice (Some fault.Input) a b c xs ys first second = grow_twice a b c xs ys first second
 prints_twice (Some fault.Output) a b c xs ys first second =

@@ -9,10 +9,10 @@ use Rattle.live_answers.specs.declared.kind.LineKind.TheVariants as kind
 use Rattle.table_core.specs.declared.fault.RowKind.TheVariants as row
 
 -- the moment of a line of a log, or what is wrong with it: it has to be accepted, and an empty one has no row
-abbrev pub moment_in : LineView → Result ℕ LineKind
-moment_in None = Err (kind.Row row.Csv)
-moment_in (Some (Ok message)) = Ok message.at
-moment_in (Some (Err why)) = Err why
+abbrev pub logged_moment : LineView → Result ℕ LineKind
+logged_moment None = Err (kind.Row row.Csv)
+logged_moment (Some (Ok message)) = Ok message.at
+logged_moment (Some (Err why)) = Err why
 
 -- what is wrong with the line of a number, or with those behind it
 abbrev pub wrong_or : ℕ → Result ℕ LineKind → Option (ℕ × LineKind) → Option (ℕ × LineKind)
@@ -22,7 +22,7 @@ wrong_or number (Err why) later = Some (number, why)
 -- the first line that isn't accepted, behind the line of a number: its own number, and what is wrong with it
 abbrev pub first_wrong : ℕ → List Heard → Option (ℕ × LineKind)
 first_wrong number [] = None
-first_wrong number (one ∷ heard) = wrong_or (number + 1) (moment_in one.said) (first_wrong (number + 1) heard)
+first_wrong number (one ∷ heard) = wrong_or (number + 1) (logged_moment one.said) (first_wrong (number + 1) heard)
 
 -- the lines of a log are counted where all are accepted; else the first that isn't is given, where the header in front of them is line 1
 abbrev pub IsChecked : List Heard → Result ℕ ReplayFault → Type 0

@@ -5,6 +5,6 @@ use Rattle.live_answers.specs.declared.kind.LineKind.{LineKind}
 use Rattle.live_answers.specs.declared.kind.LineKind.TheVariants as kind
 
 -- the name of a kind
-abbrev pub name_of : LineKind → List ℕ
-name_of kind.TooLong = codes "TooLong"
-name_of (kind.Row why) = rows.name_of why
+abbrev pub line_kind_name : LineKind → List ℕ
+line_kind_name kind.TooLong = codes "TooLong"
+line_kind_name (kind.Row why) = rows.row_kind_name why

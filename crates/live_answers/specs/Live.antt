@@ -1,7 +1,7 @@
 -- What a live run gives, prints and logs of the lines of its input.
 use Rattle.std.specs.Prelude.{◌+◌, ℕ, Some, None, List, [], ◌∷◌, ◌++◌, Ok, Err, flat_map, slice_get}
 use Rattle.live_answers.specs.Lines.{live_lines}
-use Rattle.live_answers.specs.Rows.{counted_line, put_down, rows_of_line}
+use Rattle.live_answers.specs.Rows.{line_behind_log, put_down, rows_of_line}
 use Rattle.live_answers.specs.Standing.{LineView, said_after}
 use Rattle.live_answers.specs.declared.replay.Replay.{Replay}
 use Rattle.message_rows.specs.Messages.{Speech, speech_of}
@@ -58,8 +58,8 @@ logged_of heard = flat_map (λ (one : Heard). put_down one.line one.said) heard
 abbrev pub text_after : Replay → List Answer → ℕ → ℕ → List Heard → List ℕ
 text_after replay answers line next [] = []
 text_after replay answers line next (one ∷ heard) =
-    rows_of_line replay.quiet (counted_line replay next line) next (slice_get answers next) one.said
-    ++ text_after replay answers (counted_line replay next line) (next_after next one.said) heard
+    rows_of_line replay.quiet (line_behind_log replay next line) next (slice_get answers next) one.said
+    ++ text_after replay answers (line_behind_log replay next line) (next_after next one.said) heard
 
 -- what a live run prints of its lines behind the header, which is the line 1, where some of them were heard before
 abbrev pub replayed_text : Replay → List Answer → List Heard → List ℕ

@@ -1,9 +1,9 @@
 -- What a live run does in a round.
 use Rattle.std.specs.Prelude.{◌≡◌, ◌≤◌, ◌-◌, ◌++◌, ℕ, Option, Some, None, List, [], IfSome, length, map}
 use Rattle.std.specs.Io.KnownBytes.{Appends, Keeps}
-use Rattle.live_answers.specs.Groups.{BeginsWith, LeftAt, TakesOf, group_rows, heard_behind, line_behind, views_in}
+use Rattle.live_answers.specs.Groups.{BeginsWithLines, LeftAt, TakesOf, group_rows, heard_behind, line_behind, views_in}
 use Rattle.live_answers.specs.Live.{given_of, item_view, logged_of}
-use Rattle.live_answers.specs.Said.{said_of}
+use Rattle.live_answers.specs.Said.{line_view_of}
 use Rattle.live_answers.specs.declared.driver.LiveDriver.{LiveDriver}
 use Rattle.live_answers.specs.declared.group.TheConstants.{MAX_GROUP}
 use Rattle.live_answers.specs.declared.stage.Left.{Left}
@@ -22,11 +22,11 @@ module _ {I O L : Type 0} where
 
   -- what is to be printed of the last lines
   abbrev pub due : LiveDriver I O L → List Answer → List ℕ
-  due driver answers = group_rows driver.replay (first_of driver answers) answers driver.line (first_of driver answers) (map said_of driver.said.items)
+  due driver answers = group_rows driver.replay (first_of driver answers) answers driver.line (first_of driver answers) (map line_view_of driver.said.items)
 
   -- the number of the last of them
   abbrev pub last_line : LiveDriver I O L → List Answer → ℕ
-  last_line driver answers = line_behind driver.replay driver.line (first_of driver answers) (map said_of driver.said.items)
+  last_line driver answers = line_behind driver.replay driver.line (first_of driver answers) (map line_view_of driver.said.items)
 
   -- it writes where it wrote before
   pub record WritesOn (before after : LiveDriver I O L) : Type 0 where
@@ -42,7 +42,7 @@ module _ {I O L : Type 0} where
       pub takes : TakesOf (remaining before.input) (remaining after.input) behind lines
       pub replay : after.replay ≡ before.replay
       pub line : after.line ≡ last_line before answers
-      pub said : map said_of after.said.items ≡ views_in (heard_behind before.given.items lines)
+      pub said : map line_view_of after.said.items ≡ views_in (heard_behind before.given.items lines)
       pub gives : map item_view after.given.items ≡ map item_view before.given.items ++ given_of (heard_behind before.given.items lines)
       pub prints : Appends (contents before.output.now) (contents after.output.now) (due before answers)
       pub logs : Appends (logged before.log.now) (logged after.log.now) (logged_of (heard_behind before.given.items lines))
@@ -71,7 +71,7 @@ module _ {I O L : Type 0} where
       pub lines : List (List ℕ)
       pub few : length lines ≤ MAX_GROUP
       pub opened : before.stage ≡ stage.Open left.Lines
-      pub takes : IfSome (remaining before.input) (BeginsWith lines)
+      pub takes : IfSome (remaining before.input) (BeginsWithLines lines)
       pub gives : after.given.items ≡ before.given.items
       pub prints : Appends (contents before.output.now) (contents after.output.now) (due before answers)
       pub logs : AppendsFront (logged before.log.now) (logged after.log.now) (logged_of (heard_behind before.given.items lines))

@@ -7,10 +7,10 @@ use Rattle.message_rows.specs.Views.{view_of}
 use Rattle.tariff_core.specs.declared.times.TheConstants.{HORIZON}
 
 -- what is said, as a trace prints it
-abbrev pub said_of : Said → LineView
-said_of said.Nothing = None
-said_of (said.Message message) = Some (Ok (view_of message))
-said_of (said.Fault kind) = Some (Err kind)
+abbrev pub line_view_of : Said → LineView
+line_view_of said.Nothing = None
+line_view_of (said.Message message) = Some (Ok (view_of message))
+line_view_of (said.Fault kind) = Some (Err kind)
 
 -- the moment of a message, and 0 where there is none
 abbrev pub said_at : Said → ℕ

@@ -11,7 +11,7 @@ has_ended stage.Ended = true
 has_ended (stage.Failed why) = true
 
 -- the fault that has ended it
-abbrev pub fault_of : Stage → Option LiveFault
-fault_of (stage.Open left) = None
-fault_of stage.Ended = None
-fault_of (stage.Failed why) = Some why
+abbrev pub stage_fault : Stage → Option LiveFault
+stage_fault (stage.Open left) = None
+stage_fault stage.Ended = None
+stage_fault (stage.Failed why) = Some why

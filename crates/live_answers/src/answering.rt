@@ -1,7 +1,7 @@
 //! A live run, from its first line to its books.
 
 ghost use Rattle.std.specs.Prelude.{IfErr, IfOk};
-ghost use Rattle.live_answers.specs.Runs.{IsAnswered, MayEnd};
+ghost use Rattle.live_answers.specs.Runs.{IsLiveRunTo, MayEndLive};
 
 use crate::driver::LiveDriver;
 use crate::{LiveFault, Replay};
@@ -63,11 +63,11 @@ pub fn answer_live<R: Wait + Threads + Sync, I: BufRead + Drop, O: Write, L: Wri
     log: &mut L,
     replay: Replay,
 ) -> Result<Answered, RunFault>
-    ensures answered { IfOk result (λ answered. IsAnswered setup.now replay (I.remaining input)
+    ensures answered { IfOk result (λ answered. IsLiveRunTo setup.now replay (I.remaining input)
         (O.contents output.old) (O.contents output.new)
         (L.contents log.old) (L.contents log.new)
         answered.given.items answered.books.items answered.fault) }
-    ensures fault { IfErr result MayEnd }
+    ensures fault { IfErr result MayEndLive }
 {
     let mut driver = LiveDriver::new(alloc, input, output, log, replay);
     let books = serve(rt, alloc, setup, &mut driver, 1, &OpenGate)?;

@@ -1,10 +1,10 @@
 //! The lines of a log, before they are heard again.
 
 ghost use Rattle.std.specs.Prelude.{◌≡◌};
-ghost use Rattle.live_answers.specs.Checks.{IsChecked, moment_in};
+ghost use Rattle.live_answers.specs.Checks.{IsChecked, logged_moment};
 ghost use Rattle.live_answers.specs.Cuts.{replay_fault_of};
 ghost use Rattle.live_answers.specs.Live.{heard_in};
-ghost use Rattle.live_answers.specs.Said.{said_of};
+ghost use Rattle.live_answers.specs.Said.{line_view_of};
 ghost use Rattle.live_answers.specs.declared.checking.ReplayFault.TheVariants as faults;
 
 use crate::LineKind;
@@ -72,7 +72,7 @@ pub fn check_replay(alloc: Global, lines: &[u8]) -> Result<usize, ReplayFault>
 
 /// The moment of a line that is accepted, or what is wrong with it.
 fn moment_of(said: Said) -> Result<u64, LineKind>
-    ensures { result ≡ moment_in (said_of said) }
+    ensures { result ≡ logged_moment (line_view_of said) }
 {
     match said {
         Said::Message(message) => Ok(message.at),

@@ -4,7 +4,7 @@ ghost use Rattle.std.specs.Prelude.{◌≡◌, ◌<◌, ◌≤◌, ◌-◌, ◌^
 ghost use Rattle.live_answers.specs.Groups.{TakesOf, views_in};
 ghost use Rattle.live_answers.specs.Live.{heard_after, last_after, logged_of, next_after};
 ghost use Rattle.live_answers.specs.Rows.{put_down};
-ghost use Rattle.live_answers.specs.Said.{IsInRange, said_of};
+ghost use Rattle.live_answers.specs.Said.{IsInRange, line_view_of};
 ghost use Rattle.live_answers.specs.Standing.{said_after};
 
 use crate::fault::Stop;
@@ -50,8 +50,8 @@ impl Group {
     /// Adds a line.
     fn add(&mut self, alloc: Global, line: &[u8]) -> Result<(), AllocError>
         requires room { self.old.next < 2 ^ 64 - 1 }
-        ensures said { OnOk result (map said_of self.new.said.items
-            ≡ map said_of self.old.said.items
+        ensures said { OnOk result (map line_view_of self.new.said.items
+            ≡ map line_view_of self.old.said.items
             ++ said_after self.old.next self.old.last line.now ∷ []) }
         ensures logged { OnOk result (self.new.logged.items ≡ self.old.logged.items
             ++ put_down line.now (said_after self.old.next self.old.last line.now)) }
@@ -83,7 +83,7 @@ pub(crate) fn take_group<I: BufRead>(
     requires room { group.old.next < 2 ^ 63 }
     ensures taken { IfOk result (λ left. (lines : List (List ℕ)) × (length lines ≤ MAX_GROUP)
         × TakesOf (I.remaining input.old) (I.remaining input.new) left lines
-        × (map said_of group.new.said.items
+        × (map line_view_of group.new.said.items
         ≡ views_in (heard_after group.old.next group.old.last lines))
         × (group.new.logged.items ≡ logged_of (heard_after group.old.next group.old.last lines))) }
 {

@@ -3,11 +3,11 @@
 ghost use Rattle.std.specs.Prelude.{◌≡◌, ◌<◌, ◌≤◌, ◌-◌, ◌^◌, IfOk, Some};
 ghost use Rattle.std.specs.Result.{result_map_both};
 ghost use Rattle.live_answers.specs.Live.{next_after};
-ghost use Rattle.live_answers.specs.Said.{IsInRange, said_of};
-ghost use Rattle.live_answers.specs.Standing.{in_time, last_moment, placed, said_after};
+ghost use Rattle.live_answers.specs.Said.{IsInRange, line_view_of};
+ghost use Rattle.live_answers.specs.Standing.{in_time, last_item_moment, placed, said_after};
 ghost use Rattle.live_answers.specs.declared.kind.LineKind.TheVariants as kinds;
 ghost use Rattle.message_rows.specs.Views.{view_of};
-ghost use Rattle.table_core.specs.Judging.{after};
+ghost use Rattle.table_core.specs.Judging.{and_then};
 
 use crate::{LineKind, MAX_LINE};
 use message_rows::{Message, read_line};
@@ -31,7 +31,7 @@ impl Said {
     /// How many messages are accepted, where so many were before it.
     pub(crate) fn next_place(self, place: usize) -> usize
         requires room { place < 2 ^ 64 - 1 }
-        ensures { result ≡ next_after place (said_of self) }
+        ensures { result ≡ next_after place (line_view_of self) }
     {
         match self {
             Said::Message(_) => place + 1,
@@ -42,7 +42,7 @@ impl Said {
 
 /// What a line says where so many messages were accepted, the last of them at this moment.
 pub(crate) fn judge(alloc: Global, next: u64, last: u64, line: &[u8]) -> Result<Said, AllocError>
-    ensures says { IfOk result (λ said. said_of said ≡ said_after next last line.now) }
+    ensures says { IfOk result (λ said. line_view_of said ≡ said_after next last line.now) }
     ensures in_range { IfOk result IsInRange }
 {
     if line.len() > MAX_LINE {
@@ -59,7 +59,7 @@ pub(crate) fn judge(alloc: Global, next: u64, last: u64, line: &[u8]) -> Result<
 
 /// What a line with a row says.
 fn said_by(placed: Result<Message, RowKind>) -> Said
-    ensures says { said_of result ≡ Some (result_map_both (λ message. message) kinds.Row
+    ensures says { line_view_of result ≡ Some (result_map_both (λ message. message) kinds.Row
         (result_map_both view_of (λ kind. kind) placed)) }
     ensures in_range { IfOk placed (λ message. message.at ≤ HORIZON) → IsInRange result }
 {
@@ -73,7 +73,7 @@ fn said_by(placed: Result<Message, RowKind>) -> Said
 /// the moment, which a row that is sent again may have passed.
 fn place(next: u64, last: u64, read: Result<Message, RowKind>) -> Result<Message, RowKind>
     ensures says { result_map_both view_of (λ kind. kind) result
-        ≡ after (result_map_both view_of (λ kind. kind) read) (placed next last) }
+        ≡ and_then (result_map_both view_of (λ kind. kind) read) (placed next last) }
     ensures in_range { IfOk read (λ message. message.at ≤ HORIZON)
         → IfOk result (λ message. message.at ≤ HORIZON) }
 {
@@ -98,7 +98,7 @@ fn in_time(last: u64, message: Message) -> Result<Message, RowKind>
 
 /// The moment of the last item, 0 before the first.
 pub(crate) fn last_moment(given: &[(u64, Body)]) -> u64
-    ensures { result ≡ last_moment given.now }
+    ensures { result ≡ last_item_moment given.now }
 {
     match given.last() {
         Some(item) => item.0,

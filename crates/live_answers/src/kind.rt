@@ -1,7 +1,7 @@
 //! What is wrong with a line.
 
 ghost use Rattle.std.specs.Prelude.{Some};
-ghost use Rattle.live_answers.specs.Kinds.{name_of};
+ghost use Rattle.live_answers.specs.Kinds.{line_kind_name};
 
 use std::fmt;
 use table_core::RowKind;
@@ -16,7 +16,7 @@ pub enum LineKind {
 }
 
 impl fmt::Display for LineKind {
-    ghost output = { λ kind. Some (name_of kind) };
+    ghost output = { λ kind. Some (line_kind_name kind) };
 
     fn fmt<W: fmt::Write>(&self, f: &mut fmt::Formatter<W>) -> fmt::Result {
         match self {

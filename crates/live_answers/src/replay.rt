@@ -1,6 +1,6 @@
 //! What of an input was heard before.
 
-ghost use Rattle.live_answers.specs.Rows.{counted_line};
+ghost use Rattle.live_answers.specs.Rows.{line_behind_log};
 
 /// What of an input was heard before: a run that was cut off begins with the lines that it has
 /// logged.
@@ -24,7 +24,7 @@ impl Replay {
 
     /// The number of the line behind one, where so many messages were accepted.
     pub(crate) fn next_line(self, given: usize, line: u64) -> u64
-        ensures { result ≡ counted_line self given line }
+        ensures { result ≡ line_behind_log self given line }
     {
         if given < self.messages {
             line

@@ -6,7 +6,7 @@ ghost use Rattle.live_answers.specs.Cuts.{CutsLog, CutsOutput, WhereFailed};
 ghost use Rattle.live_answers.specs.Groups.{group_rows, line_behind};
 ghost use Rattle.live_answers.specs.Live.{given_by, item_view};
 ghost use Rattle.live_answers.specs.Rows.{rows_of_line};
-ghost use Rattle.live_answers.specs.Said.{IsInRange, said_of};
+ghost use Rattle.live_answers.specs.Said.{IsInRange, line_view_of};
 ghost use Rattle.rating.specs.Fronts.{Writes};
 ghost use Rattle.run_values.specs.declared.post.Body.{Body};
 
@@ -36,12 +36,12 @@ pub(crate) fn tell<O: Write>(
 ) -> Result<u64, Stop>
     requires room { first < 2 ^ 63 }
     ensures told { OnOk result (Appends (O.contents output.old) (O.contents output.new)
-        (group_rows replay first answers.now before first (map said_of said.now))) }
+        (group_rows replay first answers.now before first (map line_view_of said.now))) }
     ensures line { IfOk result (λ line. line
-        ≡ line_behind replay before first (map said_of said.now)) }
+        ≡ line_behind replay before first (map line_view_of said.now)) }
     ensures cut { IfErr result (WhereFailed (CutsOutput (O.contents output.old)
         (O.contents output.new)
-        (group_rows replay first answers.now before first (map said_of said.now)))) }
+        (group_rows replay first answers.now before first (map line_view_of said.now)))) }
 {
     let mut text = String::new(alloc);
     let mut line = before;
@@ -69,7 +69,7 @@ fn write_line_rows(
     answer: Option<&Answer>,
 ) -> Result<(), AllocError>
     ensures { OnOk result (string_bytes text.new ≡ string_bytes text.old
-        ++ rows_of_line quiet line place (option_copied answer.entry) (said_of said.now)) }
+        ++ rows_of_line quiet line place (option_copied answer.entry) (line_view_of said.now)) }
 {
     match *said {
         Said::Nothing => Ok(()),
@@ -108,7 +108,7 @@ pub(crate) fn give(given: &mut Vec<(u64, Body)>, said: &[Said]) -> Result<(), Al
     ensures grows { OnOk result ((added : List (ℕ × Body))
         × (given.new.items ≡ given.old.items ++ added)) }
     ensures gives { OnOk result (map item_view given.new.items
-        ≡ map item_view given.old.items ++ flat_map given_by (map said_of said.now)) }
+        ≡ map item_view given.old.items ++ flat_map given_by (map line_view_of said.now)) }
 {
     for one in said {
         give_one(given, *one)?;
@@ -124,7 +124,7 @@ fn give_one(given: &mut Vec<(u64, Body)>, said: Said) -> Result<(), AllocError>
     ensures grows { OnOk result ((added : List (ℕ × Body))
         × (given.new.items ≡ given.old.items ++ added)) }
     ensures gives { OnOk result (map item_view given.new.items
-        ≡ map item_view given.old.items ++ given_by (said_of said)) }
+        ≡ map item_view given.old.items ++ given_by (line_view_of said)) }
 {
     if let Said::Message(message) = said {
         given.push((message.at, message.body))?;

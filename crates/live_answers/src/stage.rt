@@ -1,7 +1,7 @@
 //! How far a live run has come.
 
 ghost use Rattle.std.specs.Prelude.{◌≡◌};
-ghost use Rattle.live_answers.specs.Stages.{fault_of, has_ended};
+ghost use Rattle.live_answers.specs.Stages.{stage_fault, has_ended};
 
 /// What ends a live run before its input ends.
 #[derive(Clone, Copy, Debug, PartialEq, Eq)]
@@ -46,7 +46,7 @@ impl Stage {
 
     /// The fault that has ended the run, if one has.
     pub(crate) fn fault(self) -> Option<LiveFault>
-        ensures { result ≡ fault_of self }
+        ensures { result ≡ stage_fault self }
     {
         match self {
             Stage::Failed(fault) => Some(fault),

@@ -4,7 +4,7 @@ use Rattle.live_log.specs.declared.fault.LogFault.{LogFault}
 use Rattle.live_log.specs.declared.fault.LogFault.TheVariants as fault
 
 -- the name of a fault
-abbrev pub name_of : LogFault → List ℕ
-name_of fault.Other = codes "Other"
-name_of fault.Device = codes "Device"
-name_of fault.OutOfMemory = codes "OutOfMemory"
+abbrev pub log_fault_name : LogFault → List ℕ
+log_fault_name fault.Other = codes "Other"
+log_fault_name fault.Device = codes "Device"
+log_fault_name fault.OutOfMemory = codes "OutOfMemory"

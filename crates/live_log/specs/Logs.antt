@@ -18,7 +18,7 @@ pub record HasLinesBehind (head text lines : List ℕ) : Type 0 where
   pub lines_are : HasLines behind lines
 
 -- a text begins another, and isn't all of it
-pub record IsCutOff (text whole : List ℕ) : Type 0 where
+pub record IsProperFront (text whole : List ℕ) : Type 0 where
   pub rest : List ℕ
   pub begins : whole ≡ text ++ rest
   pub some : 0 < length rest
@@ -31,5 +31,5 @@ pub record Differ (text other : List ℕ) : Type 0 where
 -- what the text of a log is
 abbrev pub IsFound : List ℕ → List ℕ → Found → Type 0
 IsFound head text (found.Lines lines) = HasLinesBehind head text lines.now
-IsFound head text found.Begun = IsCutOff text head
+IsFound head text found.Begun = IsProperFront text head
 IsFound head text found.Other = Differ text head

@@ -1,7 +1,7 @@
 //! What keeps a log from being used.
 
 ghost use Rattle.std.specs.Prelude.{Some};
-ghost use Rattle.live_log.specs.Faults.{name_of};
+ghost use Rattle.live_log.specs.Faults.{log_fault_name};
 
 use std::fmt;
 use std::fs::TryLockError;
@@ -20,7 +20,7 @@ pub enum LogFault {
 }
 
 impl fmt::Display for LogFault {
-    ghost output = { λ fault. Some (name_of fault) };
+    ghost output = { λ fault. Some (log_fault_name fault) };
 
     fn fmt<W: fmt::Write>(&self, f: &mut fmt::Formatter<W>) -> fmt::Result {
         f.write_str(match self {

@@ -10,13 +10,13 @@ use Rattle.cap_values.specs.declared.message.SsfMsg.TheVariants.{InitialDp, Even
 use Rattle.cap_values.specs.declared.mode.Mode.{Mode}
 use Rattle.cap_values.specs.declared.number.Number.{Number}
 use Rattle.dialogue_core.specs.Phases.{Conditions, Phase, FirstAsk, Running, Settling, MoreAsk, Returning, Ending, Closed}
-use Rattle.dialogue_core.specs.Table.{Step, ending, on_message, reported, running, sequel}
+use Rattle.dialogue_core.specs.Table.{Step, ending, on_message, event_reported, while_running, sequel}
 use Rattle.run_values.specs.Setups.{Setup, place_of}
 use Rattle.run_values.specs.declared.post.Body.{Body}
 use Rattle.run_values.specs.declared.post.Body.TheVariants.{Ssf, Recharge}
 use Rattle.runs_core.specs.Shares.{Item}
 use Rattle.workers_core.specs.Handled.{AnswerView, Holding, IsDone}
-use Rattle.workers_core.specs.Verdicts.{DialogueAt, IsRouted, Verdict, begins, fresh, goes_on, home_of, spoken, verdict_on}
+use Rattle.workers_core.specs.Verdicts.{DialogueAt, IsRouted, Verdict, begins, fresh_call, goes_on, home_of, spoken, verdict_on}
 
 -- ---- what is said
 
@@ -46,10 +46,10 @@ speaks_itself (Recharge account amount until) = (refl, refl, refl)
 
 -- ---- a dialogue
 
-running_alike : (t : Conditions) (number at : ℕ) (one other : SsfMsg) → SaysAlike one other → running t number at one ≡ running t number at other
+running_alike : (t : Conditions) (number at : ℕ) (one other : SsfMsg) → SaysAlike one other → while_running t number at one ≡ while_running t number at other
 running_alike t number at (InitialDp call calling called) (InitialDp other caller dialled) alike = refl
 running_alike t number at (EventReport event leg mode) (EventReport other its_leg its_mode) alike =
-    ap (λ (e : Event). reported t e mode) alike.0 ∙ ap (λ (m : Mode). reported t other m) alike.1
+    ap (λ (e : Event). event_reported t e mode) alike.0 ∙ ap (λ (m : Mode). event_reported t other m) alike.1
 running_alike t number at (ChargingReport active info) (ChargingReport other times) alike = rw (alike.0, alike.1) refl
 running_alike t number at Ended Ended alike = refl
 running_alike t number at one other alike = absurd alike
@@ -87,7 +87,7 @@ module _ (setup : Setup) (numbers : List ℕ) (number at : ℕ) (old new : Holdi
   same_home calling caller same =
       ap (λ digits. option_and_then (λ account. place_of account setup) (lookup (λ (other : Number). bytes_eq (digits_of other) digits) setup.subscribers)) same
 
-  fresh_as : (call : ℕ) (one other : SsfMsg) → SaysAlike one other → Does (fresh setup call other) → Does (fresh setup call one)
+  fresh_as : (call : ℕ) (one other : SsfMsg) → SaysAlike one other → Does (fresh_call setup call other) → Does (fresh_call setup call one)
   fresh_as call (InitialDp own calling called) (InitialDp its caller dialled) alike done =
       begins_as call called dialled (home_of calling setup) alike.1
       (subst (λ home. Does (begins call dialled home)) (sym (same_home calling caller alike.0)) done)

@@ -8,9 +8,9 @@ use Rattle.live_answers.specs.Lines.{kept, live_lines}
 use Rattle.live_answers.specs.Live.{Heard, given_by, given_of, heard_after, heard_in, last_after, logged_of, next_after}
 use Rattle.live_answers.specs.Rows.{put_down}
 use Rattle.live_answers.specs.Standing.{LineView, said_after}
-use Rattle.live_recovery.specs.Recovery.{heard_behind}
+use Rattle.live_recovery.specs.Recovery.{rest_heard_behind}
 use Rattle.message_rows.specs.Messages.{Speech}
-use Rattle.run_texts.specs.Parts.{begun_by, lines_of}
+use Rattle.run_texts.specs.Parts.{with_first_byte, lines_of}
 
 -- ---- the first lines of a text are a text
 
@@ -19,7 +19,7 @@ front zero text = []
 front (suc count) [] = []
 front (suc count) (c ∷ text) = if c == 10 then c ∷ front count text else c ∷ front (suc count) text
 
-begun_front : (count c : ℕ) (lines : List (List ℕ)) → begun_by c (take (suc count) lines) ≡ take (suc count) (begun_by c lines)
+begun_front : (count c : ℕ) (lines : List (List ℕ)) → with_first_byte c (take (suc count) lines) ≡ take (suc count) (with_first_byte c lines)
 begun_front zero c [] = refl
 begun_front (suc count) c [] = refl
 begun_front count c (line ∷ lines) = refl
@@ -31,9 +31,9 @@ front_lines (suc count) [] = refl
 front_lines (suc count) (c ∷ text) = by_end (c == 10) refl (front_lines count text) (front_lines (suc count) text)
   where
     by_end : (ends : Bool) → (c == 10) ≡ ends → lines_of (front count text) ≡ take count (lines_of text) → lines_of (front (suc count) text) ≡ take (suc count) (lines_of text)
-        → lines_of (if ends then c ∷ front count text else c ∷ front (suc count) text) ≡ take (suc count) (if ends then (c ∷ []) ∷ lines_of text else begun_by c (lines_of text))
+        → lines_of (if ends then c ∷ front count text else c ∷ front (suc count) text) ≡ take (suc count) (if ends then (c ∷ []) ∷ lines_of text else with_first_byte c (lines_of text))
     by_end true is next here = rw is (ap (λ l. (c ∷ []) ∷ l) next)
-    by_end false is next here = rw is (ap (begun_by c) here ∙ begun_front count c (lines_of text))
+    by_end false is next here = rw is (ap (with_first_byte c) here ∙ begun_front count c (lines_of text))
 
 heard_take : (count next last : ℕ) (lines : List (List ℕ)) → heard_after next last (take count lines) ≡ take count (heard_after next last lines)
 heard_take zero next last lines = refl
@@ -48,9 +48,9 @@ heard_front count text =
 
 -- the messages of the first lines are heard again, and then further lines
 pub fronts_again : LogsAreHeardAgain → (count : ℕ) (text rest : List ℕ)
-    → heard_in (logged_of (take count (heard_in text)) ++ rest) ≡ accepted (take count (heard_in text)) ++ heard_behind (take count (heard_in text)) rest
+    → heard_in (logged_of (take count (heard_in text)) ++ rest) ≡ accepted (take count (heard_in text)) ++ rest_heard_behind (take count (heard_in text)) rest
 fronts_again again count text rest =
-    subst (λ h. heard_in (logged_of h ++ rest) ≡ accepted h ++ heard_behind h rest) (heard_front count text) (again (front count text) rest)
+    subst (λ h. heard_in (logged_of h ++ rest) ≡ accepted h ++ rest_heard_behind h rest) (heard_front count text) (again (front count text) rest)
 
 -- an empty text has no lines
 no_line : live_lines [] ≡ []

@@ -9,7 +9,7 @@ use Rattle.cap_values.specs.NumberDigits.{digits_of}
 use Rattle.cap_values.specs.Orders.{Order, Release}
 use Rattle.dialogue_core.specs.Phases.{Phase, Says, Asks, Closed}
 use Rattle.dialogue_core.specs.Table.{on_begin}
-use Rattle.dialogue_core.specs.Talks.{Got, is_ask, sent_by, talked}
+use Rattle.dialogue_core.specs.Talks.{Got, is_ask, orders_sent_by, talked}
 use Rattle.live_recovery.proofs.Routing.{begins_alike}
 use Rattle.live_recovery.proofs.Talking.{AreEntered, same_got, same_gots}
 use Rattle.tariff_core.specs.Laws.{IsProper}
@@ -152,7 +152,7 @@ module _ (opening_at : ℕ → ℕ) (until_at : ℕ → Option ℕ) (count : ℕ
       let same = same_gots o u seat first mine (slice_index_or ends place []) (slice_index_or endings place []) is.gots too.gots here there_same rests rests_too in
       let last : (is.last, is.phase) ≡ (too.last, too.phase) = sym is.talk ∙ ap (talked first) same ∙ too.talk in
       record {
-        told_is = told_alike told also number (is.orders ∙ ap (λ (p : Says × Phase). sent_by p.0) last ∙ sym too.orders) (is.stray ∙ sym too.stray) (none ∙ sym none_too);
+        told_is = told_alike told also number (is.orders ∙ ap (λ (p : Says × Phase). orders_sent_by p.0) last ∙ sym too.orders) (is.stray ∙ sym too.stray) (none ∙ sym none_too);
         hold = record {
           lists = lists_alike place seat first old.lists new.lists again.lists other.lists is.gots too.gots hold.lists same is.lists too.lists;
           talks = now_alike call (record { phase = is.phase; place = place }) (record { phase = too.phase; place = place }) old.talks new.talks again.talks other.talks hold.talks

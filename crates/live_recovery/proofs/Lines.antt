@@ -6,13 +6,13 @@ use Rattle.std.proofs.lemmas.List.Elements.{All-head, All-tail}
 use Rattle.std.specs.Prelude.{◌==◌, All, if◌then◌else◌, nat_lt, slice_index, ⊤}
 use Rattle.std.specs.Io.{IsEmptyOrEndsWith}
 use Rattle.std.specs.Io.BufRead.{ends_with_byte}
-use Rattle.live_answers.specs.Lines.{ended, kept}
+use Rattle.live_answers.specs.Lines.{with_line_end, kept}
 use Rattle.live_answers.specs.Live.{Heard, heard_after, last_after, logged_of, next_after}
 use Rattle.live_answers.specs.Rows.{put_down}
 use Rattle.live_answers.specs.Standing.{LineView, said_after, standing}
 use Rattle.live_answers.specs.declared.kind.LineKind.TheVariants as kind
 use Rattle.message_rows.specs.Lines.{line_message}
-use Rattle.run_texts.specs.Parts.{begun_by, lines_of}
+use Rattle.run_texts.specs.Parts.{with_first_byte, lines_of}
 
 -- ---- texts that end with LF, and texts without one
 
@@ -85,7 +85,7 @@ not_end x is same = let other : (x == 10) ≡ true = rw same refl in absurd (cc)
 an_end : (x : ℕ) → (x == 10) ≡ true → x ≡ 10
 an_end x is = grind (arith, nat_tests, is)
 
-begun_raw : (c : ℕ) (lines : List (List ℕ)) → c ≢ 10 → AreRaw lines → AreRaw (begun_by c lines)
+begun_raw : (c : ℕ) (lines : List (List ℕ)) → c ≢ 10 → AreRaw lines → AreRaw (with_first_byte c lines)
 begun_raw c [] other raw = (tt, tt)
 begun_raw c ([] ∷ lines) other raw = (tt, raw.1)
 begun_raw c ((x ∷ line) ∷ lines) other raw = ((other, raw.0), raw.1)
@@ -95,14 +95,14 @@ unfolding lines_of
 all_raw [] = tt
 all_raw (c ∷ text) = by_end (c == 10) refl (all_raw text)
   where
-    by_end : (ends : Bool) → (c == 10) ≡ ends → AreRaw (lines_of text) → AreRaw (if ends then (c ∷ []) ∷ lines_of text else begun_by c (lines_of text))
+    by_end : (ends : Bool) → (c == 10) ≡ ends → AreRaw (lines_of text) → AreRaw (if ends then (c ∷ []) ∷ lines_of text else with_first_byte c (lines_of text))
     by_end true is raw = (tt, raw)
     by_end false is raw = begun_raw c (lines_of text) (not_end c is) raw
 
 has_bytes : (x : ℕ) (line : List ℕ) → nat_lt 0 (length (x ∷ line)) ≡ true
 has_bytes x line = grind (arith, nat_tests)
 
-ended_later : (x y : ℕ) (line : List ℕ) → ended (x ∷ y ∷ line) ≡ x ∷ ended (y ∷ line)
+ended_later : (x y : ℕ) (line : List ℕ) → with_line_end (x ∷ y ∷ line) ≡ x ∷ with_line_end (y ∷ line)
 ended_later x y line =
     let one : length (x ∷ y ∷ line) - 1 ≡ suc (length (y ∷ line) - 1) = omega arith in
     let same : ends_with_byte 10 (x ∷ y ∷ line) ≡ ends_with_byte 10 (y ∷ line) = rw (one, has_bytes x (y ∷ line), has_bytes y line) refl in
@@ -112,7 +112,7 @@ ended_later x y line =
     either true = refl
     either false = refl
 
-ended_line : (line : List ℕ) → IsRaw line → IsLine (ended line)
+ended_line : (line : List ℕ) → IsRaw line → IsLine (with_line_end line)
 ended_line [] raw = record { body = []; none = tt; is = refl }
 ended_line (x ∷ []) raw = by_end (x == 10) refl
   where
@@ -145,7 +145,7 @@ line_ends next last raw is = by_length (nat_lt 4096 (length (kept raw))) refl
     by_length : (long : Bool) → nat_lt 4096 (length (kept raw)) ≡ long → LineEnds (kept raw) (if long then Some (Err kind.TooLong) else standing next last (line_message (kept raw)))
     by_length true so = tt
     by_length false so =
-        let all : kept raw ≡ ended raw = take_all 4097 (ended raw) (omega (arith, ltb-false 4096 (length (kept raw)) so, length-take 4097 (ended raw))) in
+        let all : kept raw ≡ with_line_end raw = take_all 4097 (with_line_end raw) (omega (arith, ltb-false 4096 (length (kept raw)) so, length-take 4097 (with_line_end raw))) in
         any (standing next last (line_message (kept raw))) (subst IsLine (sym all) (ended_line raw is))
 
 pub are_ended : (next last : ℕ) (raws : List (List ℕ)) → AreRaw raws → AreEnded (heard_after next last (map kept raws))

@@ -10,7 +10,7 @@ use Rattle.entry_rows.specs.Columns.{number_or_empty}
 use Rattle.live_answers.specs.Laws.{ReplaysAreSilent, last_behind, next_behind, silence}
 use Rattle.live_answers.specs.Lines.{live_lines}
 use Rattle.live_answers.specs.Live.{Heard, heard_after, heard_in, next_after, text_after}
-use Rattle.live_answers.specs.Rows.{counted_line, rows_of_line}
+use Rattle.live_answers.specs.Rows.{line_behind_log, rows_of_line}
 use Rattle.live_answers.specs.Standing.{LineView}
 use Rattle.live_answers.specs.declared.replay.Replay.{Replay}
 use Rattle.live_recovery.proofs.Alone.{runs_alike}
@@ -18,7 +18,7 @@ use Rattle.live_recovery.specs.Laws.{RestartsPrintTheRest, views_of}
 use Rattle.message_rows.specs.Messages.{MessageView}
 use Rattle.run_trace.specs.Said.{Said, alone, answer_said, operation_said, refused_said, release_word, stray_said}
 use Rattle.moment_texts.specs.declared.clock.Clock.TheVariants as clock
-use Rattle.run_trace.specs.Tables.{answer_rows, head_text, row, service_rows}
+use Rattle.run_trace.specs.Tables.{answer_rows, head_text, trace_row, service_rows}
 use Rattle.run_values.specs.declared.post.Answer.{Answer}
 use Rattle.workers_core.specs.Handled.{AnswerView, answer_view}
 
@@ -65,7 +65,7 @@ abbrev head_of_message : ℕ → MessageView → List ℕ
 head_of_message number message = head_text clock.Digits message.at number message.speech.call
 
 abbrev row_of : ℕ → MessageView → List ℕ
-row_of number message = row (head_of_message number message) message.speech.from message.speech.said
+row_of number message = trace_row (head_of_message number message) message.speech.from message.speech.said
 
 pub no_fewer : (said : LineView) (next : ℕ) → next ≤ next_after next said
 no_fewer None next = omega arith
@@ -90,7 +90,7 @@ pub same_text : (replay : Replay) (answers others : List Answer) (line next : �
     → text_after replay answers line next heard ≡ text_after replay others line next heard
 same_text replay answers others line next [] count most agree = refl
 same_text replay answers others line next (one ∷ heard) count most agree =
-    let here = counted_line replay next line in
+    let here = line_behind_log replay next line in
     let behind = next_after next one.said in
     ap (λ rows. rows ++ text_after replay answers here behind heard)
     (same_line answers others replay.quiet here next count one.said (omega (arith, most, none_less heard behind)) agree)

@@ -10,18 +10,18 @@ use Rattle.cap_values.specs.declared.mode.Mode.{Mode}
 use Rattle.entry_rows.specs.Column.{counted_interval}
 use Rattle.entry_rows.specs.Columns.{number_or_empty}
 use Rattle.live_answers.specs.Live.{Heard, given_by, given_of, heard_after, last_after, next_after}
-use Rattle.live_answers.specs.Standing.{LineView, in_time, numbered, placed, said_after, standing}
+use Rattle.live_answers.specs.Standing.{LineView, in_time, numbered_message, placed, said_after, standing}
 use Rattle.live_answers.specs.declared.kind.LineKind.TheVariants as kind
 use Rattle.live_recovery.proofs.Decimals.{IsShort, is_short}
 use Rattle.message_rows.specs.Lines.{line_message, message_of, nine}
-use Rattle.message_rows.specs.Messages.{MessageView, Speech, call_in, charging_report_in, ended_in, event_in, event_report_in, initial_in, interval_in, leg_in, message_in, mode_in, no_switch_in, of_switch, recharge_in, state_in, switch_in, switched_in, when_blank}
+use Rattle.message_rows.specs.Messages.{MessageView, Speech, message_call_in, charging_report_in, ended_message_in, event_message_in, event_report_in, initial_in, interval_in, leg_in, message_in, mode_in, report_without_switch, of_switch, recharge_message_in, report_state_in, report_with_switch, switched_in, message_when_blank}
 use Rattle.moment_texts.specs.Fields.{moment_in}
 use Rattle.moment_texts.specs.Reading.{at_most, date_and_time_of, moment_of}
 use Rattle.run_texts.specs.Setups.{account_in, amount_in, party_in, until_in}
 use Rattle.run_trace.specs.Said.{Said, report_said}
 use Rattle.table_core.specs.Decimals.{decimal_of}
 use Rattle.table_core.specs.Fields.{field_in, has_word, number_in, optional_in, present}
-use Rattle.table_core.specs.Judging.{after}
+use Rattle.table_core.specs.Judging.{and_then}
 use Rattle.table_core.specs.Rows.{Fields, rows_of}
 use Rattle.table_core.specs.declared.fault.RowKind.{RowKind}
 use Rattle.table_core.specs.declared.fault.RowKind.TheVariants as row
@@ -48,11 +48,11 @@ no_number said short other = record {
 abbrev pub Reads : Speech → Type 0
 Reads speech = IsReadable speech.said
 
-blank_is : (blank : Bool) (speech read : Speech) → when_blank blank speech ≡ Ok read → speech ≡ read
+blank_is : (blank : Bool) (speech read : Speech) → message_when_blank blank speech ≡ Ok read → speech ≡ read
 blank_is true speech read is = cc is
 blank_is false speech read is = absurd (cc)
 
-reads_blank : (blank : Bool) (speech read : Speech) → when_blank blank speech ≡ Ok read → Reads speech → Reads read
+reads_blank : (blank : Bool) (speech read : Speech) → message_when_blank blank speech ≡ Ok read → Reads speech → Reads read
 reads_blank blank speech read is reads = subst Reads (blank_is blank speech read is) reads
 
 -- ---- numbers that were read
@@ -110,20 +110,20 @@ moment_few fields until is = present_few _ (moment_in fields 7 1000000000000) un
 
 initial_reads : (fields : Fields) (speech : Speech) → initial_in fields ≡ Ok speech → Reads speech
 initial_reads fields speech is =
-    let one = after_is (call_in fields) _ speech is in
+    let one = after_is (message_call_in fields) _ speech is in
     let two = after_is (party_in fields 5) _ speech one.2 in
     let three = after_is (party_in fields 6) _ speech two.2 in
     reads_blank _ _ speech three.2 (no_number _ (omega arith) (λ is. omega (arith, is)))
 
 event_reads : (fields : Fields) (e : Event) (m : Mode) (speech : Speech) → event_report_in fields e m ≡ Ok speech → Reads speech
 event_reads fields e m speech is =
-    let one = after_is (call_in fields) _ speech is in
+    let one = after_is (message_call_in fields) _ speech is in
     let two = after_is (leg_in fields) _ speech one.2 in
     reads_blank _ _ speech two.2 (no_number _ (omega arith) (λ is. omega (arith, is)))
 
-ended_reads : (fields : Fields) (speech : Speech) → ended_in fields ≡ Ok speech → Reads speech
+ended_reads : (fields : Fields) (speech : Speech) → ended_message_in fields ≡ Ok speech → Reads speech
 ended_reads fields speech is =
-    let one = after_is (call_in fields) _ speech is in
+    let one = after_is (message_call_in fields) _ speech is in
     reads_blank _ _ speech one.2 (no_number _ (omega arith) (λ is. omega (arith, is)))
 
 report_reads : (active : Bool) (times : TimeInfo) → IsShort (report_said active times).x3 → IsShort (report_said active times).x4 → IsReadable (report_said active times)
@@ -132,15 +132,15 @@ report_reads active (info.Switch since interval) third fourth = record { report 
 
 charging_reads : (fields : Fields) (active switched : Bool) (speech : Speech) → charging_report_in fields active switched ≡ Ok speech → Reads speech
 charging_reads fields active false speech is =
-    let one = after_is (call_in fields) _ speech is in
-    let two = after_is (no_switch_in fields) _ speech one.2 in
+    let one = after_is (message_call_in fields) _ speech is in
+    let two = after_is (report_without_switch fields) _ speech one.2 in
     let (time, read, times) = after_is (number_in fields 7 864000) _ two.0 two.1 in
     let same : info.NoSwitch time ≡ two.0 = cc times in
     reads_blank _ _ speech two.2 (subst (λ t. IsReadable (report_said active t)) same
     (report_reads active (info.NoSwitch time) (number_short fields 7 864000 time (omega arith) read) none_few))
 charging_reads fields active true speech is =
-    let one = after_is (call_in fields) _ speech is in
-    let two = after_is (switch_in fields) _ speech one.2 in
+    let one = after_is (message_call_in fields) _ speech is in
+    let two = after_is (report_with_switch fields) _ speech one.2 in
     let (since, read, later) = after_is (number_in fields 7 864000) _ two.0 two.1 in
     let (interval, read_too, times) = after_is (interval_in fields) _ two.0 later in
     let same : info.Switch since interval ≡ two.0 = cc times in
@@ -148,7 +148,7 @@ charging_reads fields active true speech is =
     subst Reads said (subst (λ t. IsReadable (report_said active t)) same
     (report_reads active (info.Switch since interval) (number_short fields 7 864000 since (omega arith) read) (interval_few fields interval read_too)))
 
-recharge_reads : (fields : Fields) (speech : Speech) → recharge_in fields ≡ Ok speech → Reads speech
+recharge_reads : (fields : Fields) (speech : Speech) → recharge_message_in fields ≡ Ok speech → Reads speech
 recharge_reads fields speech is =
     let (account, of_account, one) = after_is (account_in fields 5) _ speech is in
     let (amount, of_amount, two) = after_is (amount_in fields 6) _ speech one in
@@ -166,13 +166,13 @@ module _ {W : Type 0} (initial ended recharge : W) (event : Event → Mode → W
   ended_word = if has_word fields 4 (codes "Ended") then Ok ended else Err row.What
 
   abbrev reports : Result W RowKind
-  reports = after (state_in fields) (λ active. after (switched_in fields) (λ switched. Ok (report active switched)))
+  reports = and_then (report_state_in fields) (λ active. and_then (switched_in fields) (λ switched. Ok (report active switched)))
 
   abbrev report_word : Result W RowKind
   report_word = if has_word fields 4 (codes "ApplyChargingReport") then reports else ended_word
 
   abbrev events : Result W RowKind
-  events = after (event_in fields) (λ e. after (mode_in fields) (λ m. Ok (event e m)))
+  events = and_then (event_message_in fields) (λ e. and_then (mode_in fields) (λ m. Ok (event e m)))
 
   abbrev event_word : Result W RowKind
   event_word = if has_word fields 4 (codes "EventReportBCSM") then events else report_word
@@ -200,13 +200,13 @@ module _ {W : Type 0} (initial ended recharge : W) (event : Event → Mode → W
 
     an_event : (w : W) → ((e : Event) (m : Mode) → P (event e m)) → events ≡ Ok w → P w
     an_event w holds is =
-        let (e, of_event, one) = after_is (event_in fields) (λ e. after (mode_in fields) (λ m. Ok (event e m))) w is in
+        let (e, of_event, one) = after_is (event_message_in fields) (λ e. and_then (mode_in fields) (λ m. Ok (event e m))) w is in
         let (m, of_mode, two) = after_is (mode_in fields) (λ m. Ok (event e m)) w one in
         this_word (event e m) w (holds e m) two
 
     a_report : (w : W) → ((active switched : Bool) → P (report active switched)) → reports ≡ Ok w → P w
     a_report w holds is =
-        let (active, of_state, one) = after_is (state_in fields) (λ active. after (switched_in fields) (λ switched. Ok (report active switched))) w is in
+        let (active, of_state, one) = after_is (report_state_in fields) (λ active. and_then (switched_in fields) (λ switched. Ok (report active switched))) w is in
         let (switched, of_switched, two) = after_is (switched_in fields) (λ switched. Ok (report active switched)) w one in
         this_word (report active switched) w (holds active switched) two
 
@@ -221,8 +221,8 @@ module _ {W : Type 0} (initial ended recharge : W) (event : Event → Mode → W
         (pick (has_word fields 3 (codes "operator") && has_word fields 4 (codes "Recharge")) (Ok recharge) (Err row.What) w (this_word recharge w of_recharge) (no_word w))
 
   a_message : (said : W → Result Speech RowKind) (message : MessageView)
-      → after a_word (λ w. after (moment_in fields 0 2000000000000) (λ at. after (optional_in fields 1 18446744073709551615) (λ number.
-      after (said w) (λ speech. Ok (record { at = at; number = number; speech = speech }))))) ≡ Ok message
+      → and_then a_word (λ w. and_then (moment_in fields 0 2000000000000) (λ at. and_then (optional_in fields 1 18446744073709551615) (λ number.
+      and_then (said w) (λ speech. Ok (record { at = at; number = number; speech = speech }))))) ≡ Ok message
       → ((w : W) → a_word ≡ Ok w → (speech : Speech) → said w ≡ Ok speech → Reads speech) → Reads message.speech
   a_message said message is reads =
       let (w, of_word, one) = after_is a_word _ message is in
@@ -237,8 +237,8 @@ module _ {W : Type 0} (initial ended recharge : W) (event : Event → Mode → W
       said_of none (Err why) = none
 
   pub any_message : (said : W → Result Speech RowKind) (message : MessageView)
-      → after a_word (λ w. after (moment_in fields 0 2000000000000) (λ at. after (optional_in fields 1 18446744073709551615) (λ number.
-      after (said w) (λ speech. Ok (record { at = at; number = number; speech = speech }))))) ≡ Ok message
+      → and_then a_word (λ w. and_then (moment_in fields 0 2000000000000) (λ at. and_then (optional_in fields 1 18446744073709551615) (λ number.
+      and_then (said w) (λ speech. Ok (record { at = at; number = number; speech = speech }))))) ≡ Ok message
       → ((speech : Speech) → said initial ≡ Ok speech → Reads speech) → ((speech : Speech) → said ended ≡ Ok speech → Reads speech) → ((speech : Speech) → said recharge ≡ Ok speech → Reads speech)
       → ((e : Event) (m : Mode) (speech : Speech) → said (event e m) ≡ Ok speech → Reads speech) → ((active switched : Bool) (speech : Speech) → said (report active switched) ≡ Ok speech → Reads speech)
       → Reads message.speech
@@ -267,7 +267,7 @@ numbered_is true above message read rest later is = absurd (cc)
 numbered_is false true message read rest later is = absurd (cc)
 numbered_is false false message read rest later is = later is
 
-placed_is : (next last : ℕ) (message read : MessageView) (number : Option ℕ) → numbered next last message number ≡ Ok read → message ≡ read
+placed_is : (next last : ℕ) (message read : MessageView) (number : Option ℕ) → numbered_message next last message number ≡ Ok read → message ≡ read
 placed_is next last message read None is = in_time_is (nat_lt message.at last) message read is
 placed_is next last message read (Some number) is =
     numbered_is (nat_lt number next) (nat_lt next number) message read (in_time last message) (in_time_is (nat_lt message.at last) message read) is
@@ -280,14 +280,14 @@ stands_reads next last (Ok message) reads = by_place (placed next last message) 
     by_place (Err why) is = tt
     by_place (Ok other) is = subst (λ (m : MessageView). Reads m.speech) (placed_is next last message other message.number is) (reads message refl)
 
-row_reads : (fields : Fields) (message : MessageView) → after (nine fields) message_in ≡ Ok message → Reads message.speech
+row_reads : (fields : Fields) (message : MessageView) → and_then (nine fields) message_in ≡ Ok message → Reads message.speech
 row_reads fields message is =
     let (same, wide, read) = after_is (nine fields) message_in message is in
     message_reads same message read
 
 rows_read : (next last : ℕ) (rows : List Fields) → LineReads (standing next last (message_of rows))
 rows_read next last [] = tt
-rows_read next last (fields ∷ []) = stands_reads next last (after (nine fields) message_in) (row_reads fields)
+rows_read next last (fields ∷ []) = stands_reads next last (and_then (nine fields) message_in) (row_reads fields)
 rows_read next last (fields ∷ other ∷ others) = tt
 
 line_reads : (next last : ℕ) (line : List ℕ) → LineReads (said_after next last line)

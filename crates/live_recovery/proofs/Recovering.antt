@@ -6,7 +6,7 @@ use Rattle.live_answers.specs.Checks.{first_wrong}
 use Rattle.live_answers.specs.Laws.{LogsAreHeardAgain, accepted, next_behind}
 use Rattle.live_answers.specs.Lines.{live_lines}
 use Rattle.live_answers.specs.Live.{Heard, given_of, heard_in, item_view, logged_of, replayed_text}
-use Rattle.live_answers.specs.Runs.{Logs, Prints}
+use Rattle.live_answers.specs.Runs.{Logs, PrintsText}
 use Rattle.live_answers.specs.declared.group.TheConstants.{MAX_GROUP}
 use Rattle.live_answers.specs.declared.replay.Replay.{Replay}
 use Rattle.live_recovery.proofs.Alone.{as_many, books_are, both_alike}
@@ -18,7 +18,7 @@ use Rattle.live_recovery.proofs.Texts.{begun_text, printed_again}
 use Rattle.live_recovery.specs.Laws.{views_of}
 use Rattle.tariff_core.proofs.Proper.{read_is_proper}
 use Rattle.tariff_core.specs.Laws.{IsProper}
-use Rattle.live_recovery.specs.Recovery.{CutOffRunsGoOn, GoesOn, HearsAgain, IsLive, IsResumed, IsUncut, LiveRun, LiveRunsAreAlike, StoppedLogsAreRight, StoppedRunsGoOn, front_of, heard_behind, text_again, text_anew, with_further}
+use Rattle.live_recovery.specs.Recovery.{CutOffRunsGoOn, GoesOnBehind, HearsAgain, IsLive, IsResumed, IsUncut, LiveRun, LiveRunsAreAlike, StoppedLogsAreRight, StoppedRunsGoOn, front_of, rest_heard_behind, text_again, text_anew, with_further}
 use Rattle.message_rows.specs.Messages.{Speech}
 use Rattle.run_values.specs.Setups.{Setup}
 use Rattle.run_values.specs.declared.post.Answer.{Answer}
@@ -47,22 +47,22 @@ begins setup it served more lines answers books proper uncut is =
 
 -- and prints of the lines that it took in what that one would
 begun_prints : (setup : Setup) (it : LiveRun) (served : IsLive setup it) (answers : List Answer) (rest : List AnswerView) → views_of answers ≡ views_of served.answered.answers ++ rest
-    → Prints it.fault it.output_old it.output_new (replayed_text it.replay answers (front_of it served.answered.lines.count))
+    → PrintsText it.fault it.output_old it.output_new (replayed_text it.replay answers (front_of it served.answered.lines.count))
 begun_prints setup it served answers rest are =
     let heard = front_of it served.answered.lines.count in
     let takes : map item_view it.given ≡ given_of heard = served.answered.lines.takes in
     let many : next_behind 0 heard ≤ length served.answered.answers =
     omega (arith, given_many 0 heard, ap length takes, length-map it.given item_view, as_many it.given served.answered.answers served.answered.run.each_heard) in
-    subst (λ l. Prints it.fault it.output_old it.output_new l) (begun_text it.replay served.answered.answers answers rest heard are many) served.answered.lines.prints
+    subst (λ l. PrintsText it.fault it.output_old it.output_new l) (begun_text it.replay served.answered.answers answers rest heard are many) served.answered.lines.prints
 
 -- ---- two runs over one input
 
 whole_front : (setup : Setup) (it : LiveRun) (served : IsLive setup it) → it.fault ≡ None → front_of it served.answered.lines.count ≡ heard_in it.input
 whole_front setup it served ended = take_all served.answered.lines.count (heard_in it.input) (served.answered.lines.whole ended)
 
-printed_all : (it : LiveRun) (text whole : List ℕ) → it.fault ≡ None → text ≡ whole → Prints it.fault it.output_old it.output_new text → Appends it.output_old it.output_new whole
+printed_all : (it : LiveRun) (text whole : List ℕ) → it.fault ≡ None → text ≡ whole → PrintsText it.fault it.output_old it.output_new text → Appends it.output_old it.output_new whole
 printed_all it text whole ended is prints =
-    subst (λ l. Appends it.output_old it.output_new l) is (subst (λ why. Prints why it.output_old it.output_new text) ended prints)
+    subst (λ l. Appends it.output_old it.output_new l) is (subst (λ why. PrintsText why it.output_old it.output_new text) ended prints)
 
 pub live_alike : LiveRunsAreAlike
 live_alike setup one other tariff first second input replay ended ended_too =
@@ -89,7 +89,7 @@ module _ (again : LogsAreHeardAgain) (setup : Setup) (input : List ℕ) (count :
   heard = take count (heard_in input)
 
   abbrev behind : List Heard
-  behind = heard_behind heard rest
+  behind = rest_heard_behind heard rest
 
   abbrev taken : ℕ
   taken = served.answered.lines.count
@@ -126,7 +126,7 @@ module _ (again : LogsAreHeardAgain) (setup : Setup) (input : List ℕ) (count :
       let whole = subst (λ why. Logs why it.log_old it.log_new (logged_of (front_of it taken)) (logged_of (take MAX_GROUP (drop taken (heard_in it.input))))) ended served.answered.lines.logs in
       subst (λ l. Appends it.log_old it.log_new l) (ap logged_of (all_taken ended ∙ hears) ∙ logged_again heard behind) whole
 
-  goes_on : (answers : List Answer) (books : List Closed) → IsUncut setup (with_further heard rest) answers books → GoesOn setup it served heard rest answers books
+  goes_on : (answers : List Answer) (books : List Closed) → IsUncut setup (with_further heard rest) answers books → GoesOnBehind setup it served heard rest answers books
   goes_on answers books uncut =
       let first = begins setup it served (given_of (drop taken (heard_in it.input))) (with_further heard rest) answers books proper uncut given_so in
       let prints = begun_prints setup it served answers first.rest first.are in
@@ -161,11 +161,11 @@ stopped_go_on again setup input size it lines rest tariff has served begins_so r
 
 -- what a run took in is of the lines of its log
 given_early : (it : LiveRun) (taken count : ℕ) (rest : List ℕ) → taken ≤ count → given_of (with_further (front_of it count) rest)
-    ≡ given_of (front_of it taken) ++ (given_of (drop taken (front_of it count)) ++ given_of (heard_behind (front_of it count) rest))
+    ≡ given_of (front_of it taken) ++ (given_of (drop taken (front_of it count)) ++ given_of (rest_heard_behind (front_of it count) rest))
 given_early it taken count rest least =
     let heard = front_of it count in
-    let later = given_of (heard_behind heard rest) in
-    given_both heard (heard_behind heard rest) ∙ ap (λ l. l ++ later) (given_split taken heard) ∙ append_assoc (given_of (take taken heard)) (given_of (drop taken heard)) later
+    let later = given_of (rest_heard_behind heard rest) in
+    given_both heard (rest_heard_behind heard rest) ∙ ap (λ l. l ++ later) (given_split taken heard) ∙ append_assoc (given_of (take taken heard)) (given_of (drop taken heard)) later
     ∙ ap (λ h. given_of h ++ (given_of (drop taken heard) ++ later)) (take-take taken count (heard_in it.input) least)
 
 pub recovered : LogsAreHeardAgain → CutOffRunsGoOn

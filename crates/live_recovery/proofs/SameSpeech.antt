@@ -11,7 +11,7 @@ use Rattle.entry_rows.specs.Columns.{number_or_empty}
 use Rattle.live_answers.specs.Live.{item_view}
 use Rattle.live_recovery.proofs.Alike.{GoAlike, SaysAlike, SpeakAlike}
 use Rattle.live_recovery.proofs.Decimals.{IsShort, same_number, same_option}
-use Rattle.message_rows.specs.Messages.{Speech, event_in, mode_in, speech_of}
+use Rattle.message_rows.specs.Messages.{Speech, event_message_in, mode_in, speech_of}
 use Rattle.moment_texts.specs.Printing.{moment_or_empty}
 use Rattle.moment_texts.specs.declared.clock.Clock.TheVariants as clock
 use Rattle.run_trace.specs.Said.{Said, event_word as word_of, message_said, mode_word, report_said, state_word}
@@ -26,7 +26,7 @@ use Rattle.live_recovery.proofs.Readable.{IsReadable, ItemsRead, Reads}
 
 -- ---- words
 
-event_back : (fields : Fields) (e : Event) → field_in fields 5 ≡ word_of e → event_in fields ≡ Ok e
+event_back : (fields : Fields) (e : Event) → field_in fields 5 ≡ word_of e → event_message_in fields ≡ Ok e
 event_back fields event.CollectedInfo is = rw is refl
 event_back fields event.RouteSelectFailure is = rw is refl
 event_back fields event.CalledPartyBusy is = rw is refl

@@ -6,7 +6,7 @@ use Rattle.std.proofs.lemmas.Option.{slice_get-map}
 use Rattle.std.specs.Prelude.{if◌then◌else◌, nat_lt, slice_get}
 use Rattle.live_answers.specs.Laws.{accepted, if_accepted, next_behind}
 use Rattle.live_answers.specs.Live.{Heard, next_after, text_after}
-use Rattle.live_answers.specs.Rows.{counted_line, message_rows, rows_of_line}
+use Rattle.live_answers.specs.Rows.{line_behind_log, message_rows, rows_of_line}
 use Rattle.live_answers.specs.Standing.{LineView}
 use Rattle.live_answers.specs.declared.replay.Replay.{Replay}
 use Rattle.live_recovery.proofs.Printing.{Agree, none_less, no_fewer, same_text}
@@ -43,7 +43,7 @@ one_again replay answers line next text (Some (Err why)) heard later most is = i
 one_again replay answers line next text (Some (Ok message)) heard later most is =
     let less : nat_lt next replay.messages ≡ true = is_less next replay.messages (omega (arith, most, none_less heard (next + 1))) in
     let rows = if nat_lt next replay.quiet then [] else message_rows next message (slice_get answers next) in
-    let same : counted_line replay next line ≡ line = rw less refl in
+    let same : line_behind_log replay next line ≡ line = rw less refl in
     ap (λ l. rows ++ text_after replay answers l (next + 1) (accepted heard ++ later)) same ∙ ap (λ l. rows ++ l) is
     ∙ sym (append_assoc rows (text_again replay.quiet answers (next + 1) heard) (text_after replay answers line (next_behind (next + 1) heard) later))
 
@@ -57,7 +57,7 @@ row_anew quiet line next answer None less = refl
 row_anew quiet line next answer (Some (Err why)) less = refl
 row_anew quiet line next answer (Some (Ok message)) less = rw (not_less next quiet less, not_less next 0 (omega arith)) refl
 
-line_anew : (replay : Replay) (next line : ℕ) → replay.messages ≤ next → counted_line replay next line ≡ counted_line nothing next line
+line_anew : (replay : Replay) (next line : ℕ) → replay.messages ≤ next → line_behind_log replay next line ≡ line_behind_log nothing next line
 line_anew replay next line less = rw (not_less next replay.messages less, not_less next 0 (omega arith)) refl
 
 -- lines behind all that was heard before are printed as they come
@@ -66,7 +66,7 @@ are_anew : (replay : Replay) (answers : List Answer) (line next : ℕ) (heard : 
 are_anew replay answers line next [] less quiet = refl
 are_anew replay answers line next (one ∷ heard) less quiet =
     let behind = next_after next one.said in
-    let here = counted_line replay next line in
+    let here = line_behind_log replay next line in
     let more = no_fewer one.said next in
     ap (λ rows. rows ++ text_after replay answers here behind heard) (row_anew replay.quiet here next (slice_get answers next) one.said quiet)
     ∙ ap (λ l. rows_of_line 0 here next (slice_get answers next) one.said ++ l) (are_anew replay answers here behind heard (omega (arith, less, more)) (omega (arith, quiet, more)))

@@ -6,7 +6,7 @@ use Rattle.live_answers.specs.Laws.{accepted, last_behind, next_behind}
 use Rattle.live_answers.specs.Lines.{live_lines}
 use Rattle.live_answers.specs.Live.{Heard, given_of, heard_after, heard_in, item_view, live_text, logged_of, next_after, replayed_text, text_after}
 use Rattle.live_answers.specs.Rows.{message_rows}
-use Rattle.live_answers.specs.Runs.{IsAnswered, Prints}
+use Rattle.live_answers.specs.Runs.{IsLiveRunTo, PrintsText}
 use Rattle.live_answers.specs.Standing.{LineView}
 use Rattle.live_answers.specs.declared.group.TheConstants.{MAX_GROUP}
 use Rattle.live_answers.specs.declared.replay.Replay.{Replay}
@@ -39,7 +39,7 @@ pub record LiveRun : Type 0 where
 
 -- a live run in a setup, in which no account has refused an ask
 pub record IsLive (setup : Setup) (it : LiveRun) : Type 0 where
-  pub answered : IsAnswered setup it.replay (Some it.input) it.output_old it.output_new it.log_old it.log_new it.given it.books it.fault
+  pub answered : IsLiveRunTo setup it.replay (Some it.input) it.output_old it.output_new it.log_old it.log_new it.given it.books it.fault
   pub none : NoneIsRefused answered.answers
 
 -- two live runs over one input that were not cut off, and heard as much of it before, have printed the same and come to the same books
@@ -62,12 +62,12 @@ abbrev pub front_of : LiveRun → ℕ → List Heard
 front_of it count = take count (heard_in it.input)
 
 -- further lines, behind lines that say this
-abbrev pub heard_behind : List Heard → List ℕ → List Heard
-heard_behind heard rest = heard_after (next_behind 0 heard) (last_behind 0 heard) (live_lines rest)
+abbrev pub rest_heard_behind : List Heard → List ℕ → List Heard
+rest_heard_behind heard rest = heard_after (next_behind 0 heard) (last_behind 0 heard) (live_lines rest)
 
 -- lines, and then these further ones
 abbrev pub with_further : List Heard → List ℕ → List Heard
-with_further heard rest = heard ++ heard_behind heard rest
+with_further heard rest = heard ++ rest_heard_behind heard rest
 
 -- a run hears the lines of a log again: all of them, and some of the first in silence
 pub record HearsAgain (lines : List ℕ) (replay : Replay) : Type 0 where
@@ -105,27 +105,27 @@ BeginAs answers longer = (more : List AnswerView) × (views_of longer ≡ views_
 -- of the lines that a run took in it has printed what is printed by these answers, as which its own begin
 pub record HasPrinted (setup : Setup) (it : LiveRun) (served : IsLive setup it) (answers : List Answer) : Type 0 where
   pub begin : BeginAs served.answered.answers answers
-  pub prints : Prints it.fault it.output_old it.output_new (replayed_text it.replay answers (front_of it served.answered.lines.count))
+  pub prints : PrintsText it.fault it.output_old it.output_new (replayed_text it.replay answers (front_of it served.answered.lines.count))
 
 -- a run that goes on behind a log, by the answers and the books of a run that was never cut off, over the lines that the log has the messages of, and further ones
-pub record GoesOn (setup : Setup) (it : LiveRun) (served : IsLive setup it) (heard : List Heard) (rest : List ℕ) (answers : List Answer) (books : List Closed) : Type 0 where
+pub record GoesOnBehind (setup : Setup) (it : LiveRun) (served : IsLive setup it) (heard : List Heard) (rest : List ℕ) (answers : List Answer) (books : List Closed) : Type 0 where
   -- of the lines that it took in it has printed what is printed by the answers of that run
   pub printed : HasPrinted setup it served answers
   -- which is, where it wasn't cut off itself: the messages of the log again, but for the quiet ones, and then what that run prints of the further lines
-  pub goes_on : it.fault ≡ None → Appends it.output_old it.output_new (text_again it.replay.quiet answers 0 heard ++ text_anew answers (next_behind 0 heard) (heard_behind heard rest))
+  pub goes_on : it.fault ≡ None → Appends it.output_old it.output_new (text_again it.replay.quiet answers 0 heard ++ text_anew answers (next_behind 0 heard) (rest_heard_behind heard rest))
   -- and then it has come to the books of that run
   pub books_are : it.fault ≡ None → it.books ≡ books
 
 -- a run whose input is a log with the messages of these lines, and then further lines, goes on as a run over all the lines that was never cut off
 pub record IsResumed (setup : Setup) (it : LiveRun) (served : IsLive setup it) (heard : List Heard) (rest : List ℕ) : Type 0 where
   -- it hears just the accepted lines again, and of the further ones what they say behind all
-  pub hears : heard_in it.input ≡ accepted heard ++ heard_behind heard rest
+  pub hears : heard_in it.input ≡ accepted heard ++ rest_heard_behind heard rest
   -- where it isn't cut off itself, it is such a run
   pub uncut : it.fault ≡ None → IsUncut setup (with_further heard rest) served.answered.answers it.books
   -- and then it has logged what such a run logs: each message once
   pub logs : it.fault ≡ None → Appends it.log_old it.log_new (logged_of (with_further heard rest))
   -- in any case it is as each such run
-  pub goes_on : (answers : List Answer) (books : List Closed) → IsUncut setup (with_further heard rest) answers books → GoesOn setup it served heard rest answers books
+  pub goes_on : (answers : List Answer) (books : List Closed) → IsUncut setup (with_further heard rest) answers books → GoesOnBehind setup it served heard rest answers books
 
 -- a run whose input is the whole lines that are left of a log, wherever its writer was stopped, and then further lines, goes on as a run over all the lines that was
 -- never cut off
@@ -182,6 +182,6 @@ OutputsAreJoined = (setup : Setup) (first second : LiveRun) (head log lines rest
     → (early : IsLive setup first) → first.log_old ≡ Some head → first.log_new ≡ Some log → HasLinesBehind head log lines
     → IsLive setup second → second.input ≡ lines ++ rest → HearsAgain lines second.replay → second.replay.quiet ≡ second.replay.messages
     → first.replay ≡ record { messages = 0; quiet = 0 } → (first.fault ≡ None) ⊎ (first.fault ≡ Some fault.Input) → second.fault ≡ None
-    → All (λ (one : Heard). IsFine one.said) (heard_behind (front_of first early.answered.lines.count) rest)
+    → All (λ (one : Heard). IsFine one.said) (rest_heard_behind (front_of first early.answered.lines.count) rest)
     → (answers : List Answer) (books : List Closed) → IsUncut setup (with_further (front_of first early.answered.lines.count) rest) answers books
     → AreJoined first second answers (with_further (front_of first early.answered.lines.count) rest)

@@ -15,14 +15,14 @@ use Rattle.cap_values.specs.declared.mode.Mode.TheVariants as mode
 use Rattle.entry_rows.specs.Columns.{number_or_empty}
 use Rattle.entry_rows.specs.Fits.{FitsReport, IsInterval, IsMoment, IsMoney, IsTime, IsWide}
 use Rattle.message_rows.specs.Laws.{FitsMessage, FitsPost, message_of_post}
-use Rattle.message_rows.specs.Messages.{event_in, interval_in, leg_in, message_in, mode_in, state_in}
+use Rattle.message_rows.specs.Messages.{event_message_in, interval_in, leg_in, message_in, mode_in, report_state_in}
 use Rattle.moment_texts.specs.Laws.{MomentsAreRead}
 use Rattle.moment_texts.specs.Printing.{moment_or_empty, moment_text}
 use Rattle.moment_texts.specs.Reading.{date_and_time_of, moment_of}
 use Rattle.moment_texts.specs.declared.clock.Clock.{Clock}
 use Rattle.run_texts.specs.Setups.{until_in}
 use Rattle.run_trace.specs.Said.{Said, event_word, leg_number, mode_word, post_said, state_word}
-use Rattle.run_trace.specs.Tables.{call_of, sender_of}
+use Rattle.run_trace.specs.Tables.{call_of_post, sender_of}
 use Rattle.run_values.specs.declared.post.Body.{Body}
 use Rattle.run_values.specs.declared.post.Body.TheVariants as body
 use Rattle.table_core.specs.Decimals.{decimal_of}
@@ -39,11 +39,11 @@ row_fields moment number call from said =
 
 -- those of a post, whose moments a clock has printed
 abbrev pub post_fields : Clock → ℕ → ℕ × Body → Fields
-post_fields clock number post = row_fields (moment_text clock post.0) number (call_of post.1) (sender_of post.1) (post_said clock post.1)
+post_fields clock number post = row_fields (moment_text clock post.0) number (call_of_post post.1) (sender_of post.1) (post_said clock post.1)
 
 -- ---- words
 
-event_read : (fields : Fields) (e : Event) → field_in fields 5 ≡ event_word e → event_in fields ≡ Ok e
+event_read : (fields : Fields) (e : Event) → field_in fields 5 ≡ event_word e → event_message_in fields ≡ Ok e
 event_read fields event.CollectedInfo is = rw is refl
 event_read fields event.RouteSelectFailure is = rw is refl
 event_read fields event.CalledPartyBusy is = rw is refl
@@ -57,7 +57,7 @@ mode_read fields mode.Interrupted is = rw is refl
 mode_read fields mode.NotifyAndContinue is = rw is refl
 mode_read fields mode.Transparent is = rw is refl
 
-state_read : (fields : Fields) (active : Bool) → field_in fields 5 ≡ state_word active → state_in fields ≡ Ok active
+state_read : (fields : Fields) (active : Bool) → field_in fields 5 ≡ state_word active → report_state_in fields ≡ Ok active
 state_read fields true is = rw is refl
 state_read fields false is = rw is refl
 

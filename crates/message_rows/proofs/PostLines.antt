@@ -27,7 +27,7 @@ use Rattle.moment_texts.specs.Laws.{MomentsArePlain, MomentsAreRead}
 use Rattle.moment_texts.specs.Printing.{moment_or_empty, moment_text}
 use Rattle.moment_texts.specs.declared.clock.Clock.{Clock}
 use Rattle.run_trace.specs.Said.{Said, event_word, leg_number, mode_word, post_said, state_word}
-use Rattle.run_trace.specs.Tables.{call_of, head_of, row, sender_of}
+use Rattle.run_trace.specs.Tables.{call_of_post, head_of, trace_row, sender_of}
 use Rattle.run_values.specs.declared.post.Body.{Body}
 use Rattle.run_values.specs.declared.post.Body.TheVariants as body
 use Rattle.table_core.specs.Printed.{DecimalsArePlain, DecimalsAreRead, IsPlain, IsPlainRow, TablesAreRead, line_of, lines_of}
@@ -36,11 +36,11 @@ use Rattle.tariff_core.specs.declared.times.TimeInfo.TheVariants as info
 
 -- ---- the line
 
-row_line : (clock : Clock) (number : ℕ) (post : ℕ × Body) → row (head_of clock number post) (sender_of post.1) (post_said clock post.1) ≡ line_of (post_fields clock number post)
+row_line : (clock : Clock) (number : ℕ) (post : ℕ × Body) → trace_row (head_of clock number post) (sender_of post.1) (post_said clock post.1) ≡ line_of (post_fields clock number post)
 row_line clock number post = simp append_assoc
 
 pub post_line : (clock : Clock) (number : ℕ) (post : ℕ × Body)
-    → row (head_of clock number post) (sender_of post.1) (post_said clock post.1) ≡ lines_of (post_fields clock number post ∷ [])
+    → trace_row (head_of clock number post) (sender_of post.1) (post_said clock post.1) ≡ lines_of (post_fields clock number post ∷ [])
 post_line clock number post = rw (row_line clock number post, append-nil (line_of (post_fields clock number post))) refl
 
 -- ---- no byte order mark
@@ -137,7 +137,7 @@ module _ (plain : DecimalsArePlain) (moments_plain : MomentsArePlain) (clock : C
   said_plain (body.Recharge account amount until) fits =
       record { what = refl; x1 = plain account (omega (arith, fits.0)); x2 = plain amount (omega (arith, fits.1)); x3 = until_plain until fits.2; x4 = refl }
 
-  call_plain : (b : Body) → FitsBody b → IsPlain (number_or_empty (call_of b))
+  call_plain : (b : Body) → FitsBody b → IsPlain (number_or_empty (call_of_post b))
   call_plain (body.Ssf call msg) fits = plain call (omega (arith, fits.0))
   call_plain (body.Recharge account amount until) fits = refl
 
@@ -147,14 +147,14 @@ module _ (plain : DecimalsArePlain) (moments_plain : MomentsArePlain) (clock : C
 
   post_plain : (number : ℕ) (post : ℕ × Body) → FitsPost number post → IsPlainRow (post_fields clock number post)
   post_plain number post fits =
-      fields_plain (moment_text clock post.0) number (call_of post.1) (sender_of post.1) (post_said clock post.1)
+      fields_plain (moment_text clock post.0) number (call_of_post post.1) (sender_of post.1) (post_said clock post.1)
       (moments_plain clock post.0 (omega (arith, fits.at))).plain (plain number (omega (arith, fits.counted))) (call_plain post.1 fits.body) (sender_plain post.1) (said_plain post.1 fits.body)
 
   module _ (tables : TablesAreRead) where
     rows_are_one : (number : ℕ) (post : ℕ × Body) → FitsPost number post → rows_of (lines_of (post_fields clock number post ∷ [])) ≡ post_fields clock number post ∷ []
     rows_are_one number post fits =
         tables (post_fields clock number post ∷ []) (All-cons IsPlainRow (post_fields clock number post) [] (post_plain number post fits) (All-nil IsPlainRow))
-        (unmarked (moment_text clock post.0) (decimal number) (later_fields (call_of post.1) (sender_of post.1) (post_said clock post.1))
+        (unmarked (moment_text clock post.0) (decimal number) (later_fields (call_of_post post.1) (sender_of post.1) (post_said clock post.1))
         (moments_plain clock post.0 (omega (arith, fits.at))).digit)
 
 pub posts_read : DecimalsArePlain → DecimalsAreRead → TablesAreRead → MomentsArePlain → MomentsAreRead → PostsAreRead

@@ -7,7 +7,7 @@ use Rattle.moment_texts.specs.declared.clock.Clock.{Clock}
 use Rattle.message_rows.specs.Lines.{line_message}
 use Rattle.message_rows.specs.Messages.{MessageView, speech_of}
 use Rattle.run_trace.specs.Said.{post_said}
-use Rattle.run_trace.specs.Tables.{head_of, row, sender_of}
+use Rattle.run_trace.specs.Tables.{head_of, trace_row, sender_of}
 use Rattle.run_values.specs.declared.post.Body.{Body}
 use Rattle.run_values.specs.declared.post.Body.TheVariants as body
 use Rattle.tariff_core.specs.declared.times.TheConstants.{LAST_MOMENT}
@@ -37,4 +37,4 @@ message_of_post number post = record { at = post.0; number = Some number; speech
 -- the row that a trace prints of a post by either clock, as a line, is read as that post with its number
 abbrev pub PostsAreRead : Type 0
 PostsAreRead = (clock : Clock) (number : ℕ) (post : ℕ × Body) → FitsPost number post
-    → line_message (row (head_of clock number post) (sender_of post.1) (post_said clock post.1)) ≡ Some (Ok (message_of_post number post))
+    → line_message (trace_row (head_of clock number post) (sender_of post.1) (post_said clock post.1)) ≡ Some (Ok (message_of_post number post))

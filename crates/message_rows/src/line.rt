@@ -8,7 +8,7 @@ ghost use Rattle.message_rows.specs.Lines.{is_plain, line_message, nine};
 ghost use Rattle.message_rows.specs.Messages.{message_in};
 ghost use Rattle.message_rows.specs.Views.{view_of};
 ghost use Rattle.table_core.specs.Faults.{IsOfReading};
-ghost use Rattle.table_core.specs.Judging.{after};
+ghost use Rattle.table_core.specs.Judging.{and_then};
 ghost use Rattle.table_core.specs.Rows.{rows_of};
 
 use crate::message::{Message, read_message};
@@ -66,7 +66,7 @@ fn read_by_parser(
 /// The message of a row of nine fields; else `Csv`.
 fn read_row(row: &ByteRecord) -> Result<Message, RowKind>
     ensures says { result_map_both view_of (λ kind. kind) result
-        ≡ after (nine (fields_of row.now)) message_in }
+        ≡ and_then (nine (fields_of row.now)) message_in }
     ensures in_range { IfOk result (λ message. message.at ≤ HORIZON) }
 {
     if row.len() != COLUMNS {

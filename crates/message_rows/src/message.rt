@@ -3,7 +3,7 @@
 ghost use Rattle.std.specs.Prelude.{◌≡◌, ◌≤◌, ◌<◌, IfOk, length, true};
 ghost use Rattle.std.specs.Result.{result_map_both};
 ghost use Rattle.csv.specs.Records.{fields_of};
-ghost use Rattle.message_rows.specs.Messages.{call_in, charging_report_in, ended_in, event_report_in, initial_in, interval_in, leg_in, message_in, no_switch_in, recharge_in, speech_in, speech_of, switch_in, when_blank};
+ghost use Rattle.message_rows.specs.Messages.{message_call_in, charging_report_in, ended_message_in, event_report_in, initial_in, interval_in, leg_in, message_in, report_without_switch, recharge_message_in, speech_in, speech_of, report_with_switch, message_when_blank};
 ghost use Rattle.message_rows.specs.Views.{leg_number_of, view_of};
 
 use crate::words::{Word, read_word};
@@ -61,7 +61,7 @@ fn read_body(row: &ByteRecord, word: Word) -> Result<Body, RowKind>
 
 fn read_call(row: &ByteRecord) -> Result<u64, RowKind>
     requires { 8 < length (fields_of row.now) }
-    ensures { result ≡ call_in (fields_of row.now) }
+    ensures { result ≡ message_call_in (fields_of row.now) }
 {
     number(row, 2, u64::MAX)
 }
@@ -124,7 +124,7 @@ fn read_charging_report(row: &ByteRecord, active: bool, switched: bool) -> Resul
 
 fn read_no_switch(row: &ByteRecord) -> Result<TimeInfo, RowKind>
     requires { 8 < length (fields_of row.now) }
-    ensures { result ≡ no_switch_in (fields_of row.now) }
+    ensures { result ≡ report_without_switch (fields_of row.now) }
 {
     let t = number(row, 7, u64::from(DAY))? as u32;
     Ok(TimeInfo::NoSwitch { t })
@@ -132,7 +132,7 @@ fn read_no_switch(row: &ByteRecord) -> Result<TimeInfo, RowKind>
 
 fn read_switch(row: &ByteRecord) -> Result<TimeInfo, RowKind>
     requires { 8 < length (fields_of row.now) }
-    ensures { result ≡ switch_in (fields_of row.now) }
+    ensures { result ≡ report_with_switch (fields_of row.now) }
 {
     let since = number(row, 7, u64::from(DAY))? as u32;
     let interval = read_interval(row)?;
@@ -153,7 +153,7 @@ fn read_interval(row: &ByteRecord) -> Result<Option<u32>, RowKind>
 
 fn read_ended(row: &ByteRecord) -> Result<Body, RowKind>
     requires { 8 < length (fields_of row.now) }
-    ensures { result_map_both speech_of (λ kind. kind) result ≡ ended_in (fields_of row.now) }
+    ensures { result_map_both speech_of (λ kind. kind) result ≡ ended_message_in (fields_of row.now) }
 {
     let call = read_call(row)?;
     let blank = is_blank(row, 5) && is_blank(row, 6) && is_blank(row, 7) && is_blank(row, 8);
@@ -168,7 +168,7 @@ fn read_ended(row: &ByteRecord) -> Result<Body, RowKind>
 
 fn read_recharge(row: &ByteRecord) -> Result<Body, RowKind>
     requires { 8 < length (fields_of row.now) }
-    ensures { result_map_both speech_of (λ kind. kind) result ≡ recharge_in (fields_of row.now) }
+    ensures { result_map_both speech_of (λ kind. kind) result ≡ recharge_message_in (fields_of row.now) }
 {
     let account = account(row, 5)?;
     let amount = amount(row, 6)?;
@@ -183,7 +183,7 @@ fn read_recharge(row: &ByteRecord) -> Result<Body, RowKind>
 
 /// What is said, where the fields that must be empty are.
 fn when_blank(blank: bool, body: Body) -> Result<Body, RowKind>
-    ensures { result_map_both speech_of (λ kind. kind) result ≡ when_blank blank (speech_of body) }
+    ensures { result_map_both speech_of (λ kind. kind) result ≡ message_when_blank blank (speech_of body) }
 {
     if blank { Ok(body) } else { Err(RowKind::Empty) }
 }

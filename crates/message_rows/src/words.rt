@@ -2,7 +2,7 @@
 
 ghost use Rattle.std.specs.Prelude.{◌≡◌, ◌<◌, length};
 ghost use Rattle.csv.specs.Records.{fields_of};
-ghost use Rattle.message_rows.specs.Messages.{event_in, mode_in, state_in, switch_word_in, switched_in, word_in};
+ghost use Rattle.message_rows.specs.Messages.{event_message_in, mode_in, report_state_in, switch_word_in, switched_in, message_word_in};
 
 use cap_values::{Event, Mode};
 use csv::ByteRecord;
@@ -26,7 +26,7 @@ pub(crate) enum Word {
 /// The word of a row; else `What`.
 pub(crate) fn read_word(row: &ByteRecord) -> Result<Word, RowKind>
     requires { 8 < length (fields_of row.now) }
-    ensures { result ≡ word_in (fields_of row.now) }
+    ensures { result ≡ message_word_in (fields_of row.now) }
 {
     if is_word(row, 3, "switch") {
         read_switch_word(row)
@@ -62,7 +62,7 @@ fn read_switch_word(row: &ByteRecord) -> Result<Word, RowKind>
 /// The event of a report.
 fn read_event(row: &ByteRecord) -> Result<Event, RowKind>
     requires { 8 < length (fields_of row.now) }
-    ensures { result ≡ event_in (fields_of row.now) }
+    ensures { result ≡ event_message_in (fields_of row.now) }
 {
     if is_word(row, 5, "collectedInfo") {
         Ok(Event::CollectedInfo)
@@ -102,7 +102,7 @@ fn read_mode(row: &ByteRecord) -> Result<Mode, RowKind>
 /// Whether the call of a charging report goes on.
 fn read_state(row: &ByteRecord) -> Result<bool, RowKind>
     requires { 8 < length (fields_of row.now) }
-    ensures { result ≡ state_in (fields_of row.now) }
+    ensures { result ≡ report_state_in (fields_of row.now) }
 {
     if is_word(row, 5, "active") {
         Ok(true)

@@ -4,7 +4,7 @@ use Rattle.std.proofs.lemmas.Bool.{eq-eqb}
 use Rattle.std.specs.Prelude.{unwrap_or, if◌then◌else◌, IsSome}
 use Rattle.account_core.specs.Answers.{accepted_times}
 use Rattle.account_core.specs.Asked.{Asked, Credits, Reserves, Settles, Returns, IsOfCall, call_of}
-use Rattle.account_core.specs.Known.{CallFacts, Deed, deed, deed_of, known_after, nothing_known, plan_in_force}
+use Rattle.account_core.specs.Known.{CallFacts, EntryDeed, deed, deed_of, known_after, nothing_known, plan_in_force}
 use Rattle.account_core.specs.Known as known
 use Rattle.account_core.specs.Ledger.{event_by}
 use Rattle.account_core.specs.Standing.{IsGrant, FitsCall}
@@ -13,12 +13,12 @@ use Rattle.account_core.specs.declared.entry.Reply.TheVariants.{Credited, Credit
 use Rattle.cap_values.specs.Orders.{Paid, Pay}
 use Rattle.dialogue_core.specs.Phases.{Conditions, Phase, Says, Sequel, FirstAsk, Running, Settling, MoreAsk, Returning, Ending, Closed, Asks, Sends, Finished}
 use Rattle.dialogue_core.specs.Phases as phase
-use Rattle.dialogue_core.specs.Table.{Step, are_units, first_period, on_reply, sequel, on_refusal}
+use Rattle.dialogue_core.specs.Table.{Step, are_units, says_first_period, on_reply, sequel, on_refusal}
 use Rattle.dialogue_core.specs.declared.fault.DialogueFault.TheVariants.{Unexpected}
 use Rattle.ssf_core.specs.Meters.{Meter}
 use Rattle.tariff_core.specs.Rates.{Rates}
 use Rattle.tariff_core.specs.declared.times.TimeInfo.{TimeInfo}
-use Rattle.one_call.specs.Covered.{Fits, IsAsking, IsCovered, IsFresh, IsMore, IsUsedUp}
+use Rattle.one_call.specs.Covered.{FitsMeter, IsAsking, IsCovered, IsFreshCall, IsMore, IsUsedUp}
 use Rattle.one_call.specs.Tallies.{with_answer}
 use Rattle.one_call.specs.declared.tally.Tally.{Tally}
 
@@ -59,14 +59,14 @@ of_call call meter queued kept Closed asked asks = absurd asks
 
 -- what is said then fits; a reply that has no place leaves the dialogue where it is
 abbrev pub FitsThen : ℕ → Meter → List Paid → CallFacts → Phase → Step → Type 0
-FitsThen call meter queued kept phase (Ok next) = Fits call meter queued kept next.1 next.0
-FitsThen call meter queued kept phase (Err fault) = Fits call meter queued kept phase Finished
+FitsThen call meter queued kept phase (Ok next) = FitsMeter call meter queued kept next.1 next.0
+FitsThen call meter queued kept phase (Err fault) = FitsMeter call meter queued kept phase Finished
 
 abbrev pub given : Bool → Says → Phase → Step
 given units said phase = if units then Ok (said, phase) else Err Unexpected
 
 -- the first grant covers the first period
-first_covered : (call of : ℕ) (meter : Meter) (queued : List Paid) (kept : CallFacts) (t : Conditions) (asked : Rates) (wanted least units : ℕ) → IsFresh call meter queued kept t asked of
+first_covered : (call of : ℕ) (meter : Meter) (queued : List Paid) (kept : CallFacts) (t : Conditions) (asked : Rates) (wanted least units : ℕ) → IsFreshCall call meter queued kept t asked of
     → IsGrant kept wanted least units → IsCovered meter (queued ++ record { period = units; switch = t.switch } ∷ []) (known_after kept (known.Grants asked units))
 first_covered call of meter queued kept t asked wanted least units fresh grant =
     rw fresh.none_queued (record {
@@ -96,8 +96,8 @@ more_covered meter queued kept asked wanted least units used grant =
     })
 
 first_given : (b : Bool) (call of : ℕ) (meter : Meter) (queued : List Paid) (kept : CallFacts) (t : Conditions) (asked : Rates) (wanted least units : ℕ) (last : Bool)
-    → IsFresh call meter queued kept t asked of → IsGrant kept wanted least units
-    → FitsThen call meter queued (known_after kept (known.Grants asked units)) (FirstAsk t) (given b (first_period t units last) (Running t))
+    → IsFreshCall call meter queued kept t asked of → IsGrant kept wanted least units
+    → FitsThen call meter queued (known_after kept (known.Grants asked units)) (FirstAsk t) (given b (says_first_period t units last) (Running t))
 first_given true call of meter queued kept t asked wanted least units last fresh grant =
     (fresh.its_call, first_covered call of meter queued kept t asked wanted least units fresh grant)
 first_given false call of meter queued kept t asked wanted least units last fresh grant = tt
@@ -110,7 +110,7 @@ more_given true call of meter queued kept t asked wanted least units last more g
 more_given false call of meter queued kept t asked wanted least units last more grant = tt
 
 -- what follows a return asks nothing, and settles nothing
-pub sequel_fits : (call : ℕ) (meter : Meter) (queued : List Paid) (kept : CallFacts) (after : Sequel) → Fits call meter queued kept (sequel after).1 (sequel after).0
+pub sequel_fits : (call : ℕ) (meter : Meter) (queued : List Paid) (kept : CallFacts) (after : Sequel) → FitsMeter call meter queued kept (sequel after).1 (sequel after).0
 sequel_fits call meter queued kept phase.Nothing = tt
 sequel_fits call meter queued kept phase.Continues = tt
 sequel_fits call meter queued kept phase.Clears = tt

@@ -12,15 +12,15 @@ use Rattle.cap_values.specs.declared.message.SsfMsg.TheVariants as msg
 use Rattle.cap_values.specs.declared.mode.Mode.{Mode}
 use Rattle.cap_values.specs.declared.operation.ScfOp.{ScfOp}
 use Rattle.dialogue_core.specs.Phases.{Conditions, Phase, Says, FirstAsk, Running, Settling, MoreAsk, Returning, Ending, Closed}
-use Rattle.dialogue_core.specs.Table.{going_on, reported, on_message}
+use Rattle.dialogue_core.specs.Table.{going_on, event_reported, on_message}
 use Rattle.dialogue_core.specs.declared.fault.DialogueFault.{DialogueFault}
-use Rattle.ssf_core.specs.Meters.{EndsWith, Later, Meter, RunsThrough, TakesPeriod}
+use Rattle.ssf_core.specs.Meters.{EndsMeter, Later, Meter, RunsThrough, TakesPeriod}
 use Rattle.ssf_core.specs.Meters as meters
 use Rattle.ssf_core.specs.declared.item.Item.TheVariants as item
 use Rattle.ssf_core.specs.declared.item.Out.{Out}
 use Rattle.tariff_core.specs.Rates.{Rates}
 use Rattle.tariff_core.specs.Times.{Elapsed, no_times}
-use Rattle.one_call.specs.Covered.{IsAtRest, IsCovered, IsReady, IsResting, IsSingle, IsTold}
+use Rattle.one_call.specs.Covered.{IsAtRest, IsCovered, IsReadyCall, IsResting, IsSingle, KnowsTimes}
 use Rattle.ssf_core.specs.Deliveries.{deliveries_at}
 use Rattle.ssf_core.specs.declared.deliveries.Delivery.{Delivery}
 use Rattle.one_call.specs.Deliveries.{queued_in}
@@ -39,7 +39,7 @@ by_then : (switched : Option ℕ) (s moment last : ℕ) → (switched ≡ Some s
 by_then switched s moment last (inl was) sooner behind = sooner was
 by_then switched s moment last (inr order) sooner behind = le_trans behind order
 
-told_later : (meter after : Meter) (times : Elapsed) → Later meter after → (times ≡ no_times) ⊎ IsTold meter times → (times ≡ no_times) ⊎ IsTold after times
+told_later : (meter after : Meter) (times : Elapsed) → Later meter after → (times ≡ no_times) ⊎ KnowsTimes meter times → (times ≡ no_times) ⊎ KnowsTimes after times
 told_later meter after times later (inl none) = inl none
 told_later meter after times later (inr on_message) = inr (record {
   answer = on_message.answer;
@@ -84,7 +84,7 @@ rest_later call meter after queued standing phase later rest = record {
 
 -- ---- an order is taken or refused
 
-told_taken : (meter after : Meter) (paid : Paid) (times : Elapsed) → TakesPeriod paid meter after → (times ≡ no_times) ⊎ IsTold meter times → (times ≡ no_times) ⊎ IsTold after times
+told_taken : (meter after : Meter) (paid : Paid) (times : Elapsed) → TakesPeriod paid meter after → (times ≡ no_times) ⊎ KnowsTimes meter times → (times ≡ no_times) ⊎ KnowsTimes after times
 told_taken meter after paid times takes (inl none) = inl none
 told_taken meter after paid times takes (inr on_message) = inr (record {
   answer = on_message.answer;
@@ -125,7 +125,7 @@ covered_refused meter after paid kept later covered = record {
   unforfeited = covered.unforfeited;
 }
 
-covered_ends : (handed queued : List Paid) (meter after : Meter) (kept : CallFacts) → EndsWith handed meter after → IsCovered meter (handed ++ queued) kept
+covered_ends : (handed queued : List Paid) (meter after : Meter) (kept : CallFacts) → EndsMeter handed meter after → IsCovered meter (handed ++ queued) kept
     → IsCovered after queued kept
 covered_ends [] queued meter after kept later covered = covered_later meter after queued kept later covered
 covered_ends (paid ∷ []) [] meter after kept (inl later) covered = covered_refused meter after paid kept later covered
@@ -133,7 +133,7 @@ covered_ends (paid ∷ []) [] meter after kept (inr takes) covered = covered_tak
 covered_ends (paid ∷ []) (next ∷ queued) meter after kept ends covered = absurd covered.single
 covered_ends (paid ∷ (next ∷ handed)) queued meter after kept ends covered = absurd covered.single
 
-resting_ends : (call : ℕ) (handed queued : List Paid) (meter after : Meter) (kept : CallFacts) (phase : Phase) → EndsWith handed meter after
+resting_ends : (call : ℕ) (handed queued : List Paid) (meter after : Meter) (kept : CallFacts) (phase : Phase) → EndsMeter handed meter after
     → IsResting call meter (handed ++ queued) kept phase → IsResting call after queued kept phase
 resting_ends call handed queued meter after kept (FirstAsk t) ends rests = tt
 resting_ends call handed queued meter after kept (Running t) ends rests = (rests.0, covered_ends handed queued meter after kept ends rests.1)
@@ -146,7 +146,7 @@ resting_ends call handed queued meter after kept Closed ends rests = tt
 -- the next item
 pub run_next : (handed : List Paid) (now after : Meter) (outs : List Out) (index : ℕ) (out : Out) → index < length outs → out ≡ get_or outs index out
     → RunsThrough handed now (drop index outs) after
-    → (ready : Meter) × (Later now ready × ((sent : Meter) × (meters.Sends ready out.at out.item sent × RunsThrough handed sent (drop (index + 1) outs) after)))
+    → (ready : Meter) × (Later now ready × ((sent : Meter) × (meters.MetersItem ready out.at out.item sent × RunsThrough handed sent (drop (index + 1) outs) after)))
 run_next handed now after outs index out within is run =
     let front : drop index outs ≡ out ∷ drop (index + 1) outs =
     drop-cons outs index out within ∙ (ap (λ (o : Out). o ∷ drop (suc index) outs) (sym is) ∙ ap (λ n. out ∷ drop n outs) (sym (add-one index))) in
@@ -168,7 +168,7 @@ nothing_queued : (call : ℕ) (meter : Meter) (queued : List Paid) (kept : CallF
 nothing_queued call meter queued kept t rests = rw (append-nil queued) rests
 
 event_fits : (call : ℕ) (meter : Meter) (queued : List Paid) (kept : CallFacts) (t : Conditions) (e : Event) (mode : Mode) → IsResting call meter queued kept (Running t)
-    → FitsThen call meter queued kept (Running t) (reported t e mode)
+    → FitsThen call meter queued kept (Running t) (event_reported t e mode)
 event_fits call meter queued kept t event.CollectedInfo mode rests = rests.0
 event_fits call meter queued kept t event.RouteSelectFailure mode rests = rests.0
 event_fits call meter queued kept t event.CalledPartyBusy mode rests = rests.0
@@ -178,7 +178,7 @@ event_fits call meter queued kept t event.Disconnect mode rests = rests.0
 event_fits call meter queued kept t event.Abandon mode rests = rests.0
 
 told_fits : (call number moment now : ℕ) (meter after : Meter) (queued : List Paid) (kept : CallFacts) (phase : Phase) (message : SsfMsg) → IsResting call meter queued kept phase
-    → meters.Sends meter now (item.Msg message) after → FitsThen call after queued kept phase (on_message phase number moment message)
+    → meters.MetersItem meter now (item.Msg message) after → FitsThen call after queued kept phase (on_message phase number moment message)
 told_fits call number moment now meter after queued kept (FirstAsk t) message rests sends = tt
 told_fits call number moment now meter after queued kept (Running t) (msg.InitialDp id calling called) rests later = resting_later call meter after queued kept (Running t) later rests
 told_fits call number moment now meter after queued kept (Running t) (msg.EventReport e leg mode) rests later =
@@ -197,8 +197,8 @@ told_fits call number moment now meter after queued kept Ending msg.Ended rests 
 told_fits call number moment now meter after queued kept Closed message rests sends = tt
 
 pub heard : (call number moment now : ℕ) (meter after : Meter) (queued : List Paid) (standing : Option CallFacts) (old new : Phase) (said : Says) (message : SsfMsg)
-    → on_message old number moment message ≡ Ok (said, new) → IsAtRest call meter queued standing old → meters.Sends meter now (item.Msg message) after
-    → IsReady call after queued standing new said
+    → on_message old number moment message ≡ Ok (said, new) → IsAtRest call meter queued standing old → meters.MetersItem meter now (item.Msg message) after
+    → IsReadyCall call after queued standing new said
 heard call number moment now meter after queued standing old new said message is rest sends = record {
   kept = rest.kept;
   stands = rest.stands;
@@ -206,7 +206,7 @@ heard call number moment now meter after queued standing old new said message is
 }
 
 pub unheard : (call number moment now : ℕ) (meter after : Meter) (queued : List Paid) (standing : Option CallFacts) (old new : Phase) (message : SsfMsg) (fault : DialogueFault)
-    → on_message old number moment message ≡ Err fault → new ≡ old → IsAtRest call meter queued standing old → meters.Sends meter now (item.Msg message) after
+    → on_message old number moment message ≡ Err fault → new ≡ old → IsAtRest call meter queued standing old → meters.MetersItem meter now (item.Msg message) after
     → IsAtRest call after (queued ++ paid_by (orders_of [])) standing new
 unheard call number moment now meter after queued standing old new message fault is same rest sends =
     rw (append-nil queued, same) (record {

@@ -16,7 +16,7 @@ use Rattle.tariff_core.specs.Reading.{times_read}
 use Rattle.tariff_core.specs.Times.{Elapsed, no_times}
 use Rattle.tariff_core.specs.declared.times.TimeInfo.{TimeInfo}
 use Rattle.tariff_core.specs.declared.times.TimeInfo.TheVariants.{Switch}
-use Rattle.one_call.specs.Covered.{IsCovered, IsSingle, IsTold, IsUsedUp, times_at}
+use Rattle.one_call.specs.Covered.{IsCovered, IsSingle, KnowsTimes, IsUsedUp, times_at}
 
 -- ---- tests
 
@@ -135,7 +135,7 @@ accepts kept info plan new unforfeited is_plan read lawful = rw (unforfeited, is
 
 -- ---- of a covered call
 
-told_at : (meter : Meter) (times : Elapsed) (answer now : ℕ) → (times ≡ no_times) ⊎ IsTold meter times → meter.answered ≡ Some answer → meter.last ≤ now
+told_at : (meter : Meter) (times : Elapsed) (answer now : ℕ) → (times ≡ no_times) ⊎ KnowsTimes meter times → meter.answered ≡ Some answer → meter.last ≤ now
     → Follows times (times_at answer meter.switched now)
 told_at meter times answer now (inl none) answered last = rw none (none_follow (times_at answer meter.switched now))
 told_at meter times answer now (inr told) answered last =

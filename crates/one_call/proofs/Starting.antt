@@ -6,12 +6,12 @@ use Rattle.cap_values.specs.declared.message.SsfMsg.TheVariants as msg
 use Rattle.dialogue_core.specs.Phases.{Phase, Says}
 use Rattle.dialogue_core.specs.Table.{on_begin, seconds_to}
 use Rattle.ssf_core.specs.Calls.{Stands, View}
-use Rattle.ssf_core.specs.Meters.{Later, Meter, Metered, RunsThrough, Sends, meter_of}
+use Rattle.ssf_core.specs.Meters.{Later, Meter, Metered, RunsThrough, MetersItem, meter_of}
 use Rattle.ssf_core.specs.declared.item.Item.{Item}
 use Rattle.ssf_core.specs.declared.item.Item.TheVariants as item
 use Rattle.ssf_core.specs.declared.item.Out.{Out}
 use Rattle.tariff_core.specs.declared.route.Route.{Route}
-use Rattle.one_call.specs.Covered.{IsReady}
+use Rattle.one_call.specs.Covered.{IsReadyCall}
 use Rattle.one_call.specs.Starts.{IsStarted, IsUnpaid}
 
 unpaid_later : (meter after : Meter) → Later meter after → IsUnpaid meter → IsUnpaid after
@@ -21,7 +21,7 @@ unpaid_later meter after later unpaid = record {
   none_awaited = later.same_awaited ∙ unpaid.none_awaited;
 }
 
-unpaid_sends : (meter after : Meter) (now : ℕ) (sent : Item) → Sends meter now sent after → IsUnpaid meter → IsUnpaid after
+unpaid_sends : (meter after : Meter) (now : ℕ) (sent : Item) → MetersItem meter now sent after → IsUnpaid meter → IsUnpaid after
 unpaid_sends meter after now (item.Msg (msg.InitialDp call calling called)) sends unpaid = unpaid_later meter after sends unpaid
 unpaid_sends meter after now (item.Msg (msg.EventReport event leg mode)) sends unpaid = unpaid_later meter after sends unpaid
 unpaid_sends meter after now (item.Msg (msg.ChargingReport active info)) sends unpaid = unpaid_later meter after sends.later unpaid
@@ -48,12 +48,12 @@ seconds_if now (Some at) = refl
 
 -- the service's first turn fits a gsmSSF that took no period, and a port to which the call is new
 pub begun_ready : (call now wanted least : ℕ) (route : Option Route) (meter : Meter) (standing : Option CallFacts) (phase : Phase) (said : Says)
-    → on_begin call now wanted least route ≡ (said, phase) → standing ≡ Some nothing_known → IsUnpaid meter → IsReady call meter [] standing phase said
+    → on_begin call now wanted least route ≡ (said, phase) → standing ≡ Some nothing_known → IsUnpaid meter → IsReadyCall call meter [] standing phase said
 begun_ready call now wanted least None meter standing phase said is new unpaid =
-    let P : (Says × Phase) → Type 0 = λ p. IsReady call meter [] standing p.1 p.0 in
+    let P : (Says × Phase) → Type 0 = λ p. IsReadyCall call meter [] standing p.1 p.0 in
     subst P is (record { kept = nothing_known; stands = new; fits = tt })
 begun_ready call now wanted least (Some route) meter standing phase said is new unpaid =
-    let P : (Says × Phase) → Type 0 = λ p. IsReady call meter [] standing p.1 p.0 in
+    let P : (Says × Phase) → Type 0 = λ p. IsReadyCall call meter [] standing p.1 p.0 in
     subst P is (record {
       kept = nothing_known;
       stands = new;

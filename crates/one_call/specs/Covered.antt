@@ -31,7 +31,7 @@ times_at answer (Some switch) now =
     else record { before = switch - answer; after = now - switch; switched = true }
 
 -- the times that the port keeps are those of the call at a moment by now; a switch that they don't have came no sooner
-pub record IsTold (meter : Meter) (times : Elapsed) : Type 0 where
+pub record KnowsTimes (meter : Meter) (times : Elapsed) : Type 0 where
   pub answer : ℕ
   pub switch : Option ℕ
   pub moment : ℕ
@@ -48,7 +48,7 @@ pub record IsCovered (meter : Meter) (queued : List Paid) (kept : CallFacts) : T
   pub covers : meter.granted + units_in queued ≤ kept.granted
   pub within_day : kept.granted ≤ DAY
   pub single : IsSingle meter plan queued
-  pub agrees : (kept.times ≡ no_times) ⊎ IsTold meter kept.times
+  pub agrees : (kept.times ≡ no_times) ⊎ KnowsTimes meter kept.times
   pub rated : meter.awaited ≡ true → is_some plan.after ≡ true
   pub unforfeited : kept.forfeited ≡ false
 
@@ -60,7 +60,7 @@ pub record IsUsedUp (meter : Meter) (queued : List Paid) (kept : CallFacts) : Ty
   pub all : kept.times.before + kept.times.after ≡ meter.granted
 
 -- the first time was asked for: nothing was granted, taken or queued
-pub record IsFresh (call : ℕ) (meter : Meter) (queued : List Paid) (kept : CallFacts) (t : Conditions) (plan : Rates) (of : ℕ) : Type 0 where
+pub record IsFreshCall (call : ℕ) (meter : Meter) (queued : List Paid) (kept : CallFacts) (t : Conditions) (plan : Rates) (of : ℕ) : Type 0 where
   pub ours : of ≡ call
   pub its_call : t.call ≡ call
   pub its_plan : plan ≡ t.plan
@@ -86,7 +86,7 @@ pub record IsMore (call : ℕ) (meter : Meter) (queued : List Paid) (kept : Call
 
 -- the port is asked this, in this phase
 abbrev pub IsAsking : ℕ → Meter → List Paid → CallFacts → Phase → Asked → Type 0
-IsAsking call meter queued kept (FirstAsk t) (Reserves of plan wanted least moment) = IsFresh call meter queued kept t plan of
+IsAsking call meter queued kept (FirstAsk t) (Reserves of plan wanted least moment) = IsFreshCall call meter queued kept t plan of
 IsAsking call meter queued kept (Settling t active since) (Settles of number info) = IsSettled call meter queued kept t active of info
 IsAsking call meter queued kept (MoreAsk t) (Reserves of plan wanted least moment) = IsMore call meter queued kept t of
 IsAsking call meter queued kept (Returning after) (Returns of) = of ≡ call
@@ -98,17 +98,17 @@ IsResting call meter queued kept (Running t) = (t.call ≡ call) × IsCovered me
 IsResting call meter queued kept phase = Unit {0}
 
 -- what was said fits: the orders that are sent are queued
-abbrev pub Fits : ℕ → Meter → List Paid → CallFacts → Phase → Says → Type 0
-Fits call meter queued kept phase (Asks asked) = IsAsking call meter queued kept phase asked
-Fits call meter queued kept phase (Sends orders) = IsResting call meter (queued ++ paid_by orders) kept phase
-Fits call meter queued kept phase Finished = IsResting call meter queued kept phase
+abbrev pub FitsMeter : ℕ → Meter → List Paid → CallFacts → Phase → Says → Type 0
+FitsMeter call meter queued kept phase (Asks asked) = IsAsking call meter queued kept phase asked
+FitsMeter call meter queued kept phase (Sends orders) = IsResting call meter (queued ++ paid_by orders) kept phase
+FitsMeter call meter queued kept phase Finished = IsResting call meter queued kept phase
 
 -- the port keeps something of the call, and what was said fits it
-pub record IsReady (call : ℕ) (meter : Meter) (queued : List Paid) (standing : Option CallFacts) (phase : Phase) (said : Says) : Type 0 where
+pub record IsReadyCall (call : ℕ) (meter : Meter) (queued : List Paid) (standing : Option CallFacts) (phase : Phase) (said : Says) : Type 0 where
   pub kept : CallFacts
   pub stands : standing ≡ Some kept
-  pub fits : Fits call meter queued kept phase said
+  pub fits : FitsMeter call meter queued kept phase said
 
 -- the same while nothing is asked
 abbrev pub IsAtRest : ℕ → Meter → List Paid → Option CallFacts → Phase → Type 0
-IsAtRest call meter queued standing phase = IsReady call meter queued standing phase Finished
+IsAtRest call meter queued standing phase = IsReadyCall call meter queued standing phase Finished

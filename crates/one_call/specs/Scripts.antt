@@ -4,9 +4,9 @@ use Rattle.std.specs.Option.{ForSome}
 use Rattle.ssf_core.specs.declared.item.BcsmEvent.{BcsmEvent}
 
 -- no moment lies below the one before it, nor the first one below the start
-abbrev pub are_in_order : ℕ → List (ℕ × BcsmEvent) → Bool
-are_in_order start [] = true
-are_in_order start (next ∷ script) = nat_le start next.0 && are_in_order next.0 script
+abbrev pub events_are_in_order : ℕ → List (ℕ × BcsmEvent) → Bool
+events_are_in_order start [] = true
+events_are_in_order start (next ∷ script) = nat_le start next.0 && events_are_in_order next.0 script
 
 -- the moment of the first event
 abbrev pub next_event : List (ℕ × BcsmEvent) → Option ℕ

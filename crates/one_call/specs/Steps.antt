@@ -12,7 +12,7 @@ pub data Given : Type 0 where
   Waits : Given
 
 -- the first delivery where it is due by now, else the first event where it is, else the time alone
-abbrev pub IsNext : ℕ → List Delivery → List (ℕ × BcsmEvent) → Given → List Delivery → List (ℕ × BcsmEvent) → Type 0
-IsNext now deliveries script (Delivers delivery) after left = TakesDue now deliveries (Some delivery) after × (left ≡ script)
-IsNext now deliveries script (Meets event) after left = TakesDue now deliveries None after × TakesEvent now script (Some event) left
-IsNext now deliveries script Waits after left = TakesDue now deliveries None after × TakesEvent now script None left
+abbrev pub IsNextGiven : ℕ → List Delivery → List (ℕ × BcsmEvent) → Given → List Delivery → List (ℕ × BcsmEvent) → Type 0
+IsNextGiven now deliveries script (Delivers delivery) after left = TakesDue now deliveries (Some delivery) after × (left ≡ script)
+IsNextGiven now deliveries script (Meets event) after left = TakesDue now deliveries None after × TakesEvent now script (Some event) left
+IsNextGiven now deliveries script Waits after left = TakesDue now deliveries None after × TakesEvent now script None left

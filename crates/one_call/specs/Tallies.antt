@@ -9,8 +9,8 @@ use Rattle.ssf_core.specs.declared.fault.SsfFault.{SsfFault}
 use Rattle.one_call.specs.declared.tally.Tally.{Tally}
 
 -- one more, up to the largest number of 64 bits
-abbrev pub counted : ℕ → ℕ
-counted count = min (count + 1) 18446744073709551615
+abbrev pub asks_counted : ℕ → ℕ
+asks_counted count = min (count + 1) 18446744073709551615
 
 -- nothing was counted yet
 abbrev pub no_tally : Tally
@@ -19,15 +19,15 @@ no_tally = record { messages = 0; reports = 0; forfeits = 0; last = None; refuse
 -- a message counts, and a charging report counts as such and is the last one
 abbrev pub with_message : Tally → SsfMsg → Tally
 with_message tally (ChargingReport active info) =
-    record tally { messages = counted tally.messages; reports = counted tally.reports; last = Some info }
-with_message tally message = record tally { messages = counted tally.messages }
+    record tally { messages = asks_counted tally.messages; reports = asks_counted tally.reports; last = Some info }
+with_message tally message = record tally { messages = asks_counted tally.messages }
 
 -- of the port's answers a forfeit counts
 abbrev pub with_answer : Tally → Result Reply AccountFault → Tally
-with_answer tally (Ok (Forfeit paid available)) = record tally { forfeits = counted tally.forfeits }
+with_answer tally (Ok (Forfeit paid available)) = record tally { forfeits = asks_counted tally.forfeits }
 with_answer tally answer = tally
 
 -- an input counts where it was refused
 abbrev pub with_fault : Tally → Option SsfFault → Tally
-with_fault tally (Some fault) = record tally { refused = counted tally.refused }
+with_fault tally (Some fault) = record tally { refused = asks_counted tally.refused }
 with_fault tally None = tally

@@ -4,7 +4,7 @@ ghost use Rattle.std.specs.Prelude.{◌≡◌, ◌++◌, ℕ, List};
 ghost use Rattle.cap_values.specs.Orders.{Paid, orders_of, paid_by};
 ghost use Rattle.dialogue_core.specs.Views.{phase_of, says_of};
 ghost use Rattle.ssf_core.specs.Meters.{Meter};
-ghost use Rattle.one_call.specs.Covered.{IsAtRest, IsReady};
+ghost use Rattle.one_call.specs.Covered.{IsAtRest, IsReadyCall};
 
 use crate::tally::Tally;
 use account_core::{AccountFault, Op, Port, Reply};
@@ -14,13 +14,13 @@ use dialogue_core::{Asker, Dialogue, Turn};
 use std::convert::Infallible;
 
 impl<P: Port> Asker<P> for Tally {
-    ghost use Rattle.one_call.specs.Asks.{IsAsked};
+    ghost use Rattle.one_call.specs.Asks.{IsAskedOnce};
 
     type End = Infallible;
 
     ghost may_ask = { λ _. Unit {0} };
 
-    ghost does = { IsAsked P.state };
+    ghost does = { IsAskedOnce P.state };
 
     ghost ends = { λ _ _ _ _. ⊥ };
 
@@ -40,11 +40,11 @@ pub(crate) fn converse<P: Port>(
     turn: Turn,
 ) -> ArrayVec<ScfOp, 4>
     ensures kept { (call : ℕ) (meter : Meter) (queued : List Paid)
-        → IsReady call meter queued
+        → IsReadyCall call meter queued
         (P.state port.old call) (phase_of dialogue.old) (says_of turn)
         → tally.new.forfeits ≡ tally.old.forfeits }
     ensures rests { (call : ℕ) (meter : Meter) (queued : List Paid)
-        → IsReady call meter queued
+        → IsReadyCall call meter queued
         (P.state port.old call) (phase_of dialogue.old) (says_of turn)
         → IsAtRest call meter (queued ++ paid_by (orders_of result.items))
         (P.state port.new call) (phase_of dialogue.new) }

@@ -4,7 +4,7 @@ ghost use Rattle.std.specs.Prelude.{◌≡◌, ◌+◌, ◌<◌, ◌≤◌, ◌�
 ghost use Rattle.std.specs.Option.{ForSome};
 ghost use Rattle.account_core.specs.Known.{nothing_known};
 ghost use Rattle.one_call.specs.Drives.{IsDelay};
-ghost use Rattle.one_call.specs.Scripts.{are_in_order};
+ghost use Rattle.one_call.specs.Scripts.{events_are_in_order};
 
 use crate::rounds::play;
 use crate::script::are_in_order;
@@ -53,11 +53,11 @@ pub fn drive_call<P: Port>(
     ensures forfeits { P.state port.old call.0 ≡ Some nothing_known
         → IfOk result (λ end. end.forfeits ≡ 0) }
     ensures backwards { IsErrOf result DriveFault.Backwards
-        ↔ (are_in_order start script.now ≡ false) }
+        ↔ (events_are_in_order start script.now ≡ false) }
     ensures delay { IsErrOf result DriveFault.Delay
-        ↔ ((are_in_order start script.now ≡ true) × (¬ IsDelay delay config.tccd)) }
+        ↔ ((events_are_in_order start script.now ≡ true) × (¬ IsDelay delay config.tccd)) }
     ensures memory { IsErrOf result DriveFault.OutOfMemory
-        → (are_in_order start script.now ≡ true) × IsDelay delay config.tccd }
+        → (events_are_in_order start script.now ≡ true) × IsDelay delay config.tccd }
     ensures backwards_asks_nothing { IsErrOf result DriveFault.Backwards → port.new ≡ port.old }
     ensures delay_asks_nothing { IsErrOf result DriveFault.Delay → port.new ≡ port.old }
 {

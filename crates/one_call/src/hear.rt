@@ -3,7 +3,7 @@
 ghost use Rattle.std.specs.Prelude.{◌≡◌, ◌++◌, ℕ, List, IfOk, IfErr};
 ghost use Rattle.cap_values.specs.Orders.{Paid, orders_of, paid_by};
 ghost use Rattle.dialogue_core.specs.Views.{phase_of};
-ghost use Rattle.ssf_core.specs.Meters.{Meter, RunsThrough, Sends};
+ghost use Rattle.ssf_core.specs.Meters.{Meter, RunsThrough, MetersItem};
 ghost use Rattle.ssf_core.specs.declared.item.Item.TheVariants as sent;
 ghost use Rattle.one_call.specs.Covered.{IsAtRest};
 ghost use Rattle.one_call.specs.Deliveries.{AreSent, queued_in};
@@ -29,11 +29,11 @@ fn hear<P: Port>(
 ) -> ArrayVec<ScfOp, 4>
     ensures kept { (call now : ℕ) (meter after : Meter) (queued : List Paid)
         → IsAtRest call meter queued (P.state port.old call) (phase_of dialogue.old)
-        → Sends meter now (sent.Msg message) after
+        → MetersItem meter now (sent.Msg message) after
         → tally.new.forfeits ≡ tally.old.forfeits }
     ensures rests { (call now : ℕ) (meter after : Meter) (queued : List Paid)
         → IsAtRest call meter queued (P.state port.old call) (phase_of dialogue.old)
-        → Sends meter now (sent.Msg message) after
+        → MetersItem meter now (sent.Msg message) after
         → IsAtRest call after (queued ++ paid_by (orders_of result.items))
         (P.state port.new call) (phase_of dialogue.new) }
 {
@@ -59,12 +59,12 @@ fn hear_one<P: Port>(
     ensures kept { (call now : ℕ) (meter after : Meter) (handed : List Paid)
         → IsAtRest call meter (handed ++ queued_in deliveries.old.items)
         (P.state port.old call) (phase_of dialogue.old)
-        → Sends meter now out.item after
+        → MetersItem meter now out.item after
         → tally.new.forfeits ≡ tally.old.forfeits }
     ensures rests { (call now : ℕ) (meter after : Meter) (handed : List Paid)
         → IsAtRest call meter (handed ++ queued_in deliveries.old.items)
         (P.state port.old call) (phase_of dialogue.old)
-        → Sends meter now out.item after
+        → MetersItem meter now out.item after
         → IfOk result (λ _. IsAtRest call after (handed ++ queued_in deliveries.new.items)
         (P.state port.new call) (phase_of dialogue.new)) }
     ensures sent { IfOk result (λ _. AreSent due to deliveries.old.items deliveries.new.items) }

@@ -1,13 +1,13 @@
 //! The events that a call is to meet.
 
 ghost use Rattle.std.specs.Prelude.{◌≡◌, ◌≤◌, IsTrue, ◌↔◌, ℕ, drop, length};
-ghost use Rattle.one_call.specs.Scripts.{TakesEvent, are_in_order, next_event};
+ghost use Rattle.one_call.specs.Scripts.{TakesEvent, events_are_in_order, next_event};
 
 use ssf_core::{BcsmEvent, Moment};
 
 /// Whether no event lies below the start, nor below the event before it.
 pub(crate) fn are_in_order(start: Moment, script: &[(Moment, BcsmEvent)]) -> bool
-    ensures { result ≡ are_in_order start script.now }
+    ensures { result ≡ events_are_in_order start script.now }
 {
     let mut last = start;
     for (moment, _) in script {

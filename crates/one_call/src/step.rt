@@ -4,7 +4,7 @@ ghost use Rattle.std.specs.Prelude.{◌≡◌, ◌≤◌, ◌++◌, List, drop};
 ghost use Rattle.cap_values.specs.Orders.{Paid};
 ghost use Rattle.ssf_core.specs.Meters.{Metered};
 ghost use Rattle.one_call.specs.Deliveries.{queued_in};
-ghost use Rattle.one_call.specs.Steps.{Given, IsNext};
+ghost use Rattle.one_call.specs.Steps.{Given, IsNextGiven};
 
 use crate::script::take_event;
 use ssf_core::{BcsmEvent, Delivery, Moment, Ssf, Step, take_due};
@@ -22,7 +22,7 @@ pub(crate) fn step(
 ) -> Step
     requires { now ≤ HORIZON }
     ensures next { (given : Given)
-        × IsNext now deliveries.old.items (drop played.old script.now)
+        × IsNextGiven now deliveries.old.items (drop played.old script.now)
         given deliveries.new.items (drop played.new script.now) }
     ensures metered { (handed : List Paid)
         × ((queued_in deliveries.old.items ≡ handed ++ queued_in deliveries.new.items)

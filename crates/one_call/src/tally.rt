@@ -1,7 +1,7 @@
 //! What is counted as a call is driven.
 
 ghost use Rattle.std.specs.Prelude.{◌≡◌};
-ghost use Rattle.one_call.specs.Tallies.{counted, no_tally, with_answer, with_fault, with_message};
+ghost use Rattle.one_call.specs.Tallies.{asks_counted, no_tally, with_answer, with_fault, with_message};
 
 use account_core::{AccountFault, Reply};
 use cap_values::SsfMsg;
@@ -82,7 +82,7 @@ impl Tally {
 
 /// One more.
 fn counted(count: u64) -> u64
-    ensures { result ≡ counted count }
+    ensures { result ≡ asks_counted count }
 {
     count.saturating_add(1)
 }

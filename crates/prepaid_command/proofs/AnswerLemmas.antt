@@ -21,18 +21,18 @@ use Rattle.run_texts.specs.Inputs.{tariff_in}
 use Rattle.run_texts.specs.declared.input_fault.InputFault.{InputFault}
 use Rattle.run_texts.specs.declared.input_fault.InputFault.TheVariants as input_fault
 use Rattle.runs_core.specs.declared.run_fault.RunFault.TheVariants as run
-use Rattle.table_core.specs.Judging.{after}
+use Rattle.table_core.specs.Judging.{and_then}
 use Rattle.table_core.specs.Rows.{rows_of}
 use Rattle.table_core.specs.declared.fault.RowFault.{RowFault}
 use Rattle.tariff_core.specs.Bands.{Band}
 use Rattle.tariff_core.specs.Rates.{Rates}
 use Rattle.tariff_core.specs.Times.{Elapsed}
-use Rattle.prepaid_command.specs.Answers.{Answers, IsAnswer, IsAnswerTo, IsAuditOfTable, IsFiledRun, IsTold, IsToldAudit, IsToldQuote, IsToldRun, Written, price_of_input, replay_of_input}
-use Rattle.prepaid_command.specs.Explanations.{IsAdded, IsOfWords, IsSaidBehind, IsSaidBy, IsSaidOf, has_parts, slip_of}
-use Rattle.prepaid_command.specs.Faults.{Gives, GivesOne, meaning_in, meaning_of_part, of_run, of_run_input, of_words}
+use Rattle.prepaid_command.specs.Answers.{Answers, IsAnswer, IsAnswerTo, IsAuditOfTable, IsFiledRun, IsSaidOrReported, IsToldAudit, IsToldQuote, IsToldRun, Written, price_of_input, replay_of_input}
+use Rattle.prepaid_command.specs.Explanations.{IsAdded, IsOfWords, IsSaidBehind, IsSaidBy, IsSaidOfFault, has_parts, slip_of}
+use Rattle.prepaid_command.specs.Faults.{GivesAnswer, GivesOne, meaning_in, meaning_of_part, of_run, of_run_input, of_words}
 use Rattle.prepaid_command.specs.Input.{sized, sized_as}
 use Rattle.prepaid_command.specs.PriceLines.{price_lines}
-use Rattle.prepaid_command.specs.Reports.{reports_of}
+use Rattle.prepaid_command.specs.Reports.{table_reports_of}
 use Rattle.prepaid_command.specs.Replays.{replayed}
 use Rattle.prepaid_command.specs.Tellings.{Telling, plain, telling_of_files, telling_of_run}
 use Rattle.prepaid_command.specs.declared.fault.Fault.{Fault}
@@ -47,7 +47,7 @@ IsOfInput fault.Arguments = ⊥
 IsOfInput fault.Config = ⊥
 IsOfInput why = ⊤
 
-after_of : {X Y : Type 0} (read : Result X Fault) (next : X → Result Y Fault) → IfErr read IsOfInput → ((x : X) → IfErr (next x) IsOfInput) → IfErr (after read next) IsOfInput
+after_of : {X Y : Type 0} (read : Result X Fault) (next : X → Result Y Fault) → IfErr read IsOfInput → ((x : X) → IfErr (next x) IsOfInput) → IfErr (and_then read next) IsOfInput
 after_of (Ok x) next of_read of_next = of_next x
 after_of (Err why) next of_read of_next = of_read
 
@@ -58,14 +58,14 @@ sized_by false text = tt
 sized_of : (text : List ℕ) → IfErr (sized text) IsOfInput
 sized_of text = sized_by (nat_lt 16777216 (length text)) text
 
-reports_by : (plan : Rates) (reports : Result (List Elapsed) RowFault) → IfErr (after (meaning_in part.Reports reports) (λ all. Ok (plain (price_lines plan 0 all)))) IsOfInput
+reports_by : (plan : Rates) (reports : Result (List Elapsed) RowFault) → IfErr (and_then (meaning_in part.Reports reports) (λ all. Ok (plain (price_lines plan 0 all)))) IsOfInput
 reports_by plan (Ok reports) = tt
 reports_by plan (Err why) = tt
 
 price_of : (plan : Rates) (input : List ℕ) → IfErr (price_of_input plan input) IsOfInput
 price_of plan input =
-    after_of (sized input) (λ text. after (meaning_in part.Reports (reports_of plan (rows_of text))) (λ reports. Ok (plain (price_lines plan 0 reports)))) (sized_of input)
-    (λ text. reports_by plan (reports_of plan (rows_of text)))
+    after_of (sized input) (λ text. and_then (meaning_in part.Reports (table_reports_of plan (rows_of text))) (λ reports. Ok (plain (price_lines plan 0 reports)))) (sized_of input)
+    (λ text. reports_by plan (table_reports_of plan (rows_of text)))
 
 run_input_of : (why : InputFault) → IsOfInput (of_run_input why)
 run_input_of input_fault.Parts = tt
@@ -87,7 +87,7 @@ quote_by wish (Err why) answer of_meaning is = rw is of_meaning
 
 pub quote_of : (wish : QuoteWish) (input : List ℕ) (answer : Result Telling Fault) → IsAnswerTo (Quotes wish) input answer → IfErr answer IsOfInput
 quote_of wish input answer is =
-    quote_by wish (after (sized input) (λ text. meaning_of_part (tariff_in text))) answer
+    quote_by wish (and_then (sized input) (λ text. meaning_of_part (tariff_in text))) answer
     (after_of (sized input) (λ text. meaning_of_part (tariff_in text)) (sized_of input) (λ text. part_of (tariff_in text))) is
 
 books_of_part : {X : Type 0} (read : Result X RowFault) → IfErr (meaning_in part.Book read) IsOfInput
@@ -136,7 +136,7 @@ answers words wish input of_input (Err (fault.Run run.Channel)) asked is = recor
 answers words wish input of_input (Err (fault.Run run.Thread)) asked is = record { wish = wish; asked = asked; answered = is }
 
 -- an answer that is a function of its input is one that is meant
-gives_one : {X : Type 0} (view : X → Telling) (result : Result X Fault) (meaning : Result Telling Fault) → Gives view result meaning
+gives_one : {X : Type 0} (view : X → Telling) (result : Result X Fault) (meaning : Result Telling Fault) → GivesAnswer view result meaning
     → GivesOne (λ answer. meaning ≡ answer) (result_map_both view (λ why. why) result)
 gives_one view (Ok x) meaning gives = gives
 gives_one view (Err fault.Arguments) meaning gives = gives
@@ -163,13 +163,13 @@ refused_words words input words_fault.OutOfMemory is = tt
 
 -- ---- replays and runs
 
-lines_by : (lines : Result (List ℕ) RowFault) → IfErr (after (meaning_in part.Ops lines) (λ text. Ok (plain text))) IsOfInput
+lines_by : (lines : Result (List ℕ) RowFault) → IfErr (and_then (meaning_in part.Ops lines) (λ text. Ok (plain text))) IsOfInput
 lines_by (Ok lines) = tt
 lines_by (Err why) = tt
 
 replay_of : (opening limit : ℕ) (input : List ℕ) → IfErr (replay_of_input opening limit input) IsOfInput
 replay_of opening limit input =
-    after_of (sized input) (λ text. after (meaning_in part.Ops (replayed opening limit (rows_of text))) (λ lines. Ok (plain lines))) (sized_of input)
+    after_of (sized input) (λ text. and_then (meaning_in part.Ops (replayed opening limit (rows_of text))) (λ lines. Ok (plain lines))) (sized_of input)
     (λ text. lines_by (replayed opening limit (rows_of text)))
 
 told_run : (made : Result RunSaid RunError) → IfErr (result_map_both telling_of_run of_run made) IsOfInput
@@ -206,14 +206,14 @@ filed_of ask folder input answer is = filed_by ask (sized input) answer (sized_o
 said_over : {V W X : Type 0} (words : List (List ℕ)) (items : V → List ℕ) (text_of : W → List ℕ) (view : X → Telling) (known : Option (List ℕ)) (kept : Option V) (more : Option W)
     (answer : Result X Fault) (wish : Wish) → AsksFor words wish → IfSome known (λ text. IfSome kept (λ bytes. items bytes ≡ text))
     → IfNone kept (IfErr answer (λ why. IfSome more (λ m. slip_of (has_parts wish) why ≡ None)))
-    → IfSome kept (λ bytes. IfErr answer (λ why. IfSome more (λ said. IsSaidOf (has_parts wish) (items bytes) why (text_of said))))
+    → IfSome kept (λ bytes. IfErr answer (λ why. IfSome more (λ said. IsSaidOfFault (has_parts wish) (items bytes) why (text_of said))))
     → IfSome known (λ text. IfErr (result_map_both view (λ why. why) answer) (λ why. IfSome (option_map text_of more) (λ said. IsSaidBy words text why said)))
 said_over words items text_of view None kept more answer wish asked same none said = tt
 said_over words items text_of view (Some text) kept more (Ok x) wish asked same none said = tt
 said_over words items text_of view (Some text) kept None (Err why) wish asked same none said = tt
 said_over words items text_of view (Some text) None (Some m) (Err why) wish asked same none said = inl (record { wish = wish; asked = asked; said = rw none tt })
 said_over words items text_of view (Some text) (Some bytes) (Some m) (Err why) wish asked same none said =
-    inl (record { wish = wish; asked = asked; said = subst (λ (t : List ℕ). IsSaidOf (has_parts wish) t why (text_of m)) same said })
+    inl (record { wish = wish; asked = asked; said = subst (λ (t : List ℕ). IsSaidOfFault (has_parts wish) t why (text_of m)) same said })
 
 -- nothing is said behind an answer of another command
 pub none_added : {W X : Type 0} (words : List (List ℕ)) (text_of : W → List ℕ) (view : X → Telling) (known : Option (List ℕ)) (more : Option W) (answer : Result X Fault)
@@ -243,7 +243,7 @@ answered_known words None wish of_input answer asked is = tt
 answered_known words (Some input) wish of_input answer asked is = answers words wish input (of_input input) answer asked is
 
 pub gives_known : {X : Type 0} (view : X → Telling) (known : Option (List ℕ)) (result : Result X Fault) (meaning : List ℕ → Result Telling Fault)
-    → IfSome known (λ input. Gives view result (meaning input)) → IfSome known (λ input. GivesOne (λ answer. meaning input ≡ answer) (result_map_both view (λ why. why) result))
+    → IfSome known (λ input. GivesAnswer view result (meaning input)) → IfSome known (λ input. GivesOne (λ answer. meaning input ≡ answer) (result_map_both view (λ why. why) result))
 gives_known view None result meaning gives = tt
 gives_known view (Some input) result meaning gives = gives_one view result (meaning input) gives
 
@@ -259,9 +259,9 @@ module _ {V W X : Type 0} (items : V → List ℕ) (text_of : W → List ℕ) (v
       → IfSome known (λ input. GivesOne (IsAnswerTo wish input) (result_map_both view (λ why. why) answer)) → told_answer ≡ answer → explaining ≡ explains words
       → (explaining ≡ false → more ≡ None) → IfSome known (λ text. IfSome kept (λ bytes. items bytes ≡ text))
       → IfNone kept (IfErr answer (λ why. IfSome more (λ m. slip_of (has_parts wish) why ≡ None)))
-      → IfSome kept (λ bytes. IfErr answer (λ why. IfSome more (λ said. IsSaidOf (has_parts wish) (items bytes) why (text_of said))))
+      → IfSome kept (λ bytes. IfErr answer (λ why. IfSome more (λ said. IsSaidOfFault (has_parts wish) (items bytes) why (text_of said))))
       → IfSome known (λ text. IfOk (result_map_both view (λ why. why) answer) (λ telling. IfSome (option_map text_of more) (λ said. IsAdded words text said)))
-      → IsTold (option_map text_of more) (result_map_both view (λ why. why) told_answer) status old new → Answers words known status old new
+      → IsSaidOrReported (option_map text_of more) (result_map_both view (λ why. why) told_answer) status old new → Answers words known status old new
   wished wish of_input asked is same_answer explains_is only same none said added told = record {
     answer = result_map_both view (λ why. why) answer;
     answered = answered_known words known wish of_input (result_map_both view (λ why. why) answer) asked is;
@@ -269,7 +269,7 @@ module _ {V W X : Type 0} (items : V → List ℕ) (text_of : W → List ℕ) (v
     only = λ off. none_said text_of more (only (explains_is ∙ off));
     said = said_over words items text_of view known kept more answer wish asked same none said;
     added = added;
-    told = subst (λ (a : Result X Fault). IsTold (option_map text_of more) (result_map_both view (λ why. why) a) status old new) same_answer told;
+    told = subst (λ (a : Result X Fault). IsSaidOrReported (option_map text_of more) (result_map_both view (λ why. why) a) status old new) same_answer told;
   }
 
 pub price_wished : (plan : Rates) (input : List ℕ) (answer : Result Telling Fault) → IsAnswerTo (Prices plan) input answer → IfErr answer IsOfInput
@@ -284,7 +284,7 @@ about_texts text_of P (Some m) is = is
 
 module _ (words : List (List ℕ)) (status : ℕ) (old new : Written) where
   -- the help or the version
-  pub helped : (known : Option (List ℕ)) (telling : Telling) (text : List ℕ) → AsksHelp words ⊎ AsksVersion words → telling ≡ plain text → IsTold None (Ok telling) status old new
+  pub helped : (known : Option (List ℕ)) (telling : Telling) (text : List ℕ) → AsksHelp words ⊎ AsksVersion words → telling ≡ plain text → IsSaidOrReported None (Ok telling) status old new
       → Answers words known status old new
   helped None telling text asked is told = record { answer = Ok telling; answered = tt; more = None; only = λ off. refl; said = tt; added = tt; told = told }
   helped (Some input) telling text asked is told =
@@ -292,7 +292,7 @@ module _ (words : List (List ℕ)) (status : ℕ) (old new : Written) where
 
   -- words that are refused, and what is said of them
   pub refused : (known more : Option (List ℕ)) (why : WordsFault) (fault : Fault) → IsRead words (Err why) → fault ≡ of_words why → (explains words ≡ false → more ≡ None)
-      → (IfSome more (λ said. IsOfWords fault)) → IsTold more (Err fault) status old new → Answers words known status old new
+      → (IfSome more (λ said. IsOfWords fault)) → IsSaidOrReported more (Err fault) status old new → Answers words known status old new
   refused None more why fault read is only of_words told = record { answer = Err fault; answered = tt; more = more; only = only; said = tt; added = tt; told = told }
   refused (Some input) more why fault read is only of_words told = record {
     answer = Err fault;
@@ -308,16 +308,16 @@ module _ {W X : Type 0} (text_of : W → List ℕ) (view : X → Telling) (words
     (told_answer : Result X Fault) where
   -- the same, as the code tells it
   pub helped_plainly : (answer : X) (text : List ℕ) → AsksHelp words ⊎ AsksVersion words → view answer ≡ plain text → told_answer ≡ Ok answer → more ≡ None
-      → IsTold (option_map text_of more) (result_map_both view (λ why. why) told_answer) status old new → Answers words known status old new
+      → IsSaidOrReported (option_map text_of more) (result_map_both view (λ why. why) told_answer) status old new → Answers words known status old new
   helped_plainly answer text asked is answer_is none told =
-      let said : IsTold (option_map text_of more) (Ok (view answer)) status old new =
-      subst (λ (a : Result X Fault). IsTold (option_map text_of more) (result_map_both view (λ why. why) a) status old new) answer_is told in
-      helped words status old new known (view answer) text asked is (subst (λ (m : Option W). IsTold (option_map text_of m) (Ok (view answer)) status old new) none said)
+      let said : IsSaidOrReported (option_map text_of more) (Ok (view answer)) status old new =
+      subst (λ (a : Result X Fault). IsSaidOrReported (option_map text_of more) (result_map_both view (λ why. why) a) status old new) answer_is told in
+      helped words status old new known (view answer) text asked is (subst (λ (m : Option W). IsSaidOrReported (option_map text_of m) (Ok (view answer)) status old new) none said)
 
   pub refused_words_told : (explaining : Bool) (why : WordsFault) → IsRead words (Err why) → told_answer ≡ Err (of_words why) → explaining ≡ explains words
       → (explaining ≡ false → more ≡ None) → IfSome more (λ said. IsOfWords (of_words why))
-      → IsTold (option_map text_of more) (result_map_both view (λ why. why) told_answer) status old new → Answers words known status old new
+      → IsSaidOrReported (option_map text_of more) (result_map_both view (λ why. why) told_answer) status old new → Answers words known status old new
   refused_words_told explaining why read answer_is explains_is only about told =
       refused words status old new known (option_map text_of more) why (of_words why) read refl (λ off. none_said text_of more (only (explains_is ∙ off)))
       (about_texts text_of (IsOfWords (of_words why)) more about)
-      (subst (λ (a : Result X Fault). IsTold (option_map text_of more) (result_map_both view (λ why. why) a) status old new) answer_is told)
+      (subst (λ (a : Result X Fault). IsSaidOrReported (option_map text_of more) (result_map_both view (λ why. why) a) status old new) answer_is told)

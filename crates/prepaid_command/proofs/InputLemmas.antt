@@ -5,7 +5,7 @@ use Rattle.std.specs.declared.io.ErrorKind.{ErrorKind}
 use Rattle.std.proofs.lemmas.Bool.Decides.{nat_tests}
 use Rattle.std.proofs.lemmas.List.{take_all}
 use Rattle.runs_core.specs.declared.run_fault.RunFault.TheVariants as run
-use Rattle.prepaid_command.specs.Faults.{MayAlwaysCome, Refuses}
+use Rattle.prepaid_command.specs.Faults.{FaultMayAlwaysCome, RefusesCommand}
 use Rattle.prepaid_command.specs.Input.{failed_input, is_out_of_memory, sized}
 use Rattle.prepaid_command.specs.declared.fault.Fault.{Fault}
 use Rattle.prepaid_command.specs.declared.fault.Fault.TheVariants as fault
@@ -37,7 +37,7 @@ same_bytes (Some text) bytes read short =
     read ∙ take_all 16777217 text (omega arith)
 
 -- a fault that may always come may come at any meaning
-pub run_fault : {Y : Type 0} (why : Fault) (meaning : Result Y Fault) → MayAlwaysCome why → Refuses why meaning
+pub run_fault : {Y : Type 0} (why : Fault) (meaning : Result Y Fault) → FaultMayAlwaysCome why → RefusesCommand why meaning
 run_fault fault.Arguments meaning is = absurd is
 run_fault fault.Config meaning is = absurd is
 run_fault fault.TooLong meaning is = absurd is
@@ -55,10 +55,10 @@ run_fault (fault.Run run.Mismatch) meaning is = absurd is
 run_fault (fault.Run run.Channel) meaning is = absurd is
 run_fault (fault.Run run.Thread) meaning is = absurd is
 
-either_may_come : (is : Bool) → MayAlwaysCome (if is then fault.Run run.OutOfMemory else fault.Device)
+either_may_come : (is : Bool) → FaultMayAlwaysCome (if is then fault.Run run.OutOfMemory else fault.Device)
 either_may_come true = tt
 either_may_come false = tt
 
 -- what tells that an input failed may come at any input
-pub failed_may_come : (why : ErrorKind) (told : Fault) → told ≡ failed_input why → MayAlwaysCome told
+pub failed_may_come : (why : ErrorKind) (told : Fault) → told ≡ failed_input why → FaultMayAlwaysCome told
 failed_may_come why told is = rw is (either_may_come (is_out_of_memory why))

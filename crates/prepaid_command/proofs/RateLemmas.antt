@@ -2,15 +2,15 @@
 use Rattle.std.proofs.Common.{ℕ, List, inl, inr, refl}
 use Rattle.rating.specs.Asks.{RateWish}
 use Rattle.rating.specs.Ends.{StopsBy}
-use Rattle.rating.specs.Texts.{input_of}
+use Rattle.rating.specs.Texts.{rate_input_of}
 use Rattle.rating.specs.declared.fault.RateFault.{RateFault}
 use Rattle.rating.specs.declared.fault.RateFault.TheVariants as rate
 use Rattle.run_texts.specs.declared.input_fault.InputFault.TheVariants as input
-use Rattle.prepaid_command.specs.Answers.{IsRatedBy, IsSaid, Written}
+use Rattle.prepaid_command.specs.Answers.{IsRatedByWish, IsSaid, Written}
 use Rattle.prepaid_command.specs.Faults.{of_rate}
 
-pub not_rated : (wish : RateWish) (text : List ℕ) (status : ℕ) (old new : Written) (why : RateFault) → StopsBy wish.differing (input_of wish.names text) old.output new.output why
-    → IsSaid (of_rate why) status old.faults new.faults → IsRatedBy wish text status old new
+pub not_rated : (wish : RateWish) (text : List ℕ) (status : ℕ) (old new : Written) (why : RateFault) → StopsBy wish.differing (rate_input_of wish.names text) old.output new.output why
+    → IsSaid (of_rate why) status old.faults new.faults → IsRatedByWish wish text status old new
 not_rated wish text status old new rate.Output stops said = inr (inr (record { status_is = said.0; front = inr stops; line = inl said.1 }))
 not_rated wish text status old new (rate.Input input.Device) stops said = inr (inr (record { status_is = said.0; front = stops; line = inr (inl said.1) }))
 not_rated wish text status old new (rate.Input input.OutOfMemory) stops said = inr (inr (record { status_is = said.0; front = stops; line = inr (inr said.1) }))

@@ -14,7 +14,7 @@ use Rattle.entry_rows.specs.Columns.{HasOperation}
 use Rattle.entry_rows.specs.Versions.{version_at}
 use Rattle.table_core.specs.Rows.{Fields}
 use Rattle.table_core.specs.Tables.{width_at}
-use Rattle.prepaid_command.specs.Asks.{Asking, asks_headers}
+use Rattle.prepaid_command.specs.Asks.{SeatAsk, asks_headers}
 use Rattle.prepaid_command.specs.ReplayLines.{told_line}
 use Rattle.prepaid_command.specs.Replays.{history_after, line_of_ask, replay_lines}
 
@@ -31,17 +31,17 @@ has_operation (suc (suc (suc (suc header)))) fields one wide = absurd (omega (ar
 -- ---- one more ask
 
 -- the history after some asks, newest first
-unfoldable pub history_of : ℕ → Option ℕ → ℕ → List EntryData → List Asking → List EntryData
+unfoldable pub history_of : ℕ → Option ℕ → ℕ → List EntryData → List SeatAsk → List EntryData
 history_of opening until limit h [] = h
 history_of opening until limit h (ask ∷ asks) = history_of opening until limit (history_after opening until limit h ask) asks
 
-pub history_more : (opening : ℕ) (until : Option ℕ) (limit : ℕ) (h : List EntryData) (asks : List Asking) (ask : Asking)
+pub history_more : (opening : ℕ) (until : Option ℕ) (limit : ℕ) (h : List EntryData) (asks : List SeatAsk) (ask : SeatAsk)
     → history_of opening until limit h (asks ++ ask ∷ []) ≡ history_after opening until limit (history_of opening until limit h asks) ask
 unfolding history_of
 history_more opening until limit h [] ask = refl
 history_more opening until limit h (first ∷ asks) ask = history_more opening until limit (history_after opening until limit h first) asks ask
 
-pub lines_more : (opening : ℕ) (until : Option ℕ) (limit : ℕ) (h : List EntryData) (asks : List Asking) (ask : Asking)
+pub lines_more : (opening : ℕ) (until : Option ℕ) (limit : ℕ) (h : List EntryData) (asks : List SeatAsk) (ask : SeatAsk)
     → replay_lines opening until limit h (asks ++ ask ∷ []) ≡ replay_lines opening until limit h asks ++ line_of_ask opening until limit (history_of opening until limit h asks) ask
 unfolding history_of replay_lines
 lines_more opening until limit h [] ask = append-nil (line_of_ask opening until limit h ask)
@@ -49,7 +49,7 @@ lines_more opening until limit h (first ∷ asks) ask =
     rw (lines_more opening until limit (history_after opening until limit h first) asks ask) (sym (append_assoc (line_of_ask opening until limit h first) _ _))
 
 -- what was replayed so far: these asks, whose lines were printed, and whose history the ledger has
-pub record IsReplayed (opening : ℕ) (until : Option ℕ) (limit : ℕ) (text : List ℕ) (ledger : Ledger) (asks : List Asking) : Type 0 where
+pub record IsReplayed (opening : ℕ) (until : Option ℕ) (limit : ℕ) (text : List ℕ) (ledger : Ledger) (asks : List SeatAsk) : Type 0 where
   pub opened : ledger.opening ≡ opening
   pub lasting : ledger.until ≡ until
   pub limited : ledger.limit ≡ limit
@@ -64,7 +64,7 @@ none_replayed opening until limit = record { opened = refl; lasting = refl; limi
 -- ---- one operation
 
 -- what the answer to an ask does to the lines and to the history
-pub record IsStep (old new : Ledger) (ask : Asking) (told : Result Reply AccountFault) : Type 0 where
+pub record IsStep (old new : Ledger) (ask : SeatAsk) (told : Result Reply AccountFault) : Type 0 where
   pub line : told_line told ≡ line_of_ask old.opening old.until old.limit (reverse old.history) ask
   pub history : reverse new.history ≡ history_after old.opening old.until old.limit (reverse old.history) ask
   pub opening : new.opening ≡ old.opening
@@ -106,7 +106,7 @@ module _ (old new : Teller) (ledger : Ledger) (is : IsTellerOf ledger old) (seat
   teller_after (Ok reply) entered kept = entered ledger is
   teller_after (Err why) entered kept = kept ledger is
 
-pub one_replayed : (opening : ℕ) (until : Option ℕ) (limit : ℕ) (text : List ℕ) (old new : Ledger) (asks : List Asking) (ask : Asking) (told : Result Reply AccountFault)
+pub one_replayed : (opening : ℕ) (until : Option ℕ) (limit : ℕ) (text : List ℕ) (old new : Ledger) (asks : List SeatAsk) (ask : SeatAsk) (told : Result Reply AccountFault)
     → IsReplayed opening until limit text old asks → IsStep old new ask told → IsReplayed opening until limit (text ++ told_line told) new (asks ++ ask ∷ [])
 one_replayed opening until limit text old new asks ask told was step = record {
   opened = step.opening ∙ was.opened;

@@ -2,7 +2,7 @@
 use Rattle.std.proofs.Common.{◌≡◌, ℕ, Bool, true, false, List, [], ◌∷◌, ◌++◌, Result, Ok, Err, refl}
 use Rattle.std.specs.Prelude.{if◌then◌else◌}
 use Rattle.table_core.specs.Fields.{number_in}
-use Rattle.table_core.specs.Judging.{after}
+use Rattle.table_core.specs.Judging.{and_then}
 use Rattle.table_core.specs.Rows.{Fields}
 use Rattle.table_core.specs.declared.fault.RowKind.{RowKind}
 use Rattle.table_core.specs.declared.fault.RowKind.TheVariants as kind
@@ -10,7 +10,7 @@ use Rattle.table_core.proofs.TableLemmas.{table_keeps}
 use Rattle.tariff_core.specs.Lawful.{is_lawful}
 use Rattle.tariff_core.specs.Rates.{Rates}
 use Rattle.tariff_core.specs.Times.{Elapsed, no_times}
-use Rattle.prepaid_command.specs.Reports.{AreInOrder, judged, last_after, report_in, reported, reports_form, reports_of}
+use Rattle.prepaid_command.specs.Reports.{AreInOrder, judged_report, last_after, report_row_in, times_reported, reports_form, table_reports_of}
 
 -- ---- one more report
 
@@ -33,23 +33,23 @@ judged_lawful plan last times given true lawful is = let same : given ≡ times 
 judged_lawful plan last times given false lawful is = cc
 
 numbers_read : (plan : Rates) (last times : Elapsed) (first second : Result ℕ RowKind)
-    → after first (λ b. after second (λ a. judged plan last (reported b a))) ≡ Ok times → is_lawful plan last times 864000 ≡ true
-numbers_read plan last times (Ok b) (Ok a) is = judged_lawful plan last times (reported b a) _ refl is
+    → and_then first (λ b. and_then second (λ a. judged_report plan last (times_reported b a))) ≡ Ok times → is_lawful plan last times 864000 ≡ true
+numbers_read plan last times (Ok b) (Ok a) is = judged_lawful plan last times (times_reported b a) _ refl is
 numbers_read plan last times (Ok b) (Err why) is = cc
 numbers_read plan last times (Err why) second is = cc
 
 row_keeps : (plan : Rates) (read next : List Elapsed) (row : Result Elapsed RowKind)
     → ((times : Elapsed) → row ≡ Ok times → is_lawful plan (last_after no_times read) times 864000 ≡ true)
-    → after row (λ times. Ok (read ++ times ∷ [])) ≡ Ok next → AreInOrder plan no_times read → AreInOrder plan no_times next
+    → and_then row (λ times. Ok (read ++ times ∷ [])) ≡ Ok next → AreInOrder plan no_times read → AreInOrder plan no_times next
 row_keeps plan read next (Ok times) lawful is order =
     let same : read ++ times ∷ [] ≡ next = cc in rw (← same) (order_more plan no_times read times (lawful times refl) order)
 row_keeps plan read next (Err why) lawful is order = cc
 
 -- the reports of a table are in order
-pub in_order : (plan : Rates) (rows : List Fields) (reports : List Elapsed) → reports_of plan rows ≡ Ok reports → AreInOrder plan no_times reports
+pub in_order : (plan : Rates) (rows : List Fields) (reports : List Elapsed) → table_reports_of plan rows ≡ Ok reports → AreInOrder plan no_times reports
 unfolding AreInOrder
 in_order plan rows reports is =
     table_keeps (reports_form plan) (AreInOrder plan no_times)
-    (λ header read next fields judged. row_keeps plan read next (report_in plan (last_after no_times read) fields)
-    (λ times. numbers_read plan (last_after no_times read) times (number_in fields 0 864000) (number_in fields 1 864000)) judged)
+    (λ header read next fields judged_report. row_keeps plan read next (report_row_in plan (last_after no_times read) fields)
+    (λ times. numbers_read plan (last_after no_times read) times (number_in fields 0 864000) (number_in fields 1 864000)) judged_report)
     rows reports tt is

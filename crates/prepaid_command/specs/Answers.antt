@@ -21,16 +21,16 @@ use Rattle.run_options.specs.declared.live.LiveAsk.{LiveAsk}
 use Rattle.run_options.specs.declared.options.RunAsk.{RunAsk}
 use Rattle.run_texts.specs.Inputs.{tariff_in}
 use Rattle.runs_core.specs.declared.run_fault.RunFault.TheVariants as run
-use Rattle.table_core.specs.Judging.{after}
+use Rattle.table_core.specs.Judging.{and_then}
 use Rattle.table_core.specs.Rows.{rows_of}
 use Rattle.tariff_core.specs.Bands.{Band}
 use Rattle.tariff_core.specs.Rates.{Rates}
 use Rattle.prepaid_command.specs.Explanations.{IsAdded, IsSaidBy}
-use Rattle.prepaid_command.specs.Faults.{line_of, meaning_in, meaning_of_part, of_rate, of_run, of_serve, status_of}
+use Rattle.prepaid_command.specs.Faults.{line_of_fault, meaning_in, meaning_of_part, of_rate, of_run, of_serve, status_of}
 use Rattle.prepaid_command.specs.Summaries.{status_of_rating, summary_of}
 use Rattle.rating.specs.Asks.{RateWish}
-use Rattle.rating.specs.Ends.{IsInPart, IsPrinted as IsRatedWhole}
-use Rattle.rating.specs.Texts.{input_of}
+use Rattle.rating.specs.Ends.{IsInPart, IsRatedWhole as IsRatedWhole}
+use Rattle.rating.specs.Texts.{rate_input_of}
 use Rattle.rating.specs.declared.fault.RateFault.{RateFault}
 use Rattle.rating.specs.declared.tally.Tally.{Tally}
 use Rattle.rating.specs.Fronts.{AppendsFront}
@@ -38,7 +38,7 @@ use Rattle.prepaid_command.specs.Input.{sized, sized_as}
 use Rattle.prepaid_command.specs.PriceLines.{price_lines}
 use Rattle.prepaid_command.specs.Quotes.{IsQuoteText}
 use Rattle.prepaid_command.specs.Replays.{replayed}
-use Rattle.prepaid_command.specs.Reports.{reports_of}
+use Rattle.prepaid_command.specs.Reports.{table_reports_of}
 use Rattle.prepaid_command.specs.Tellings.{Telling, plain, status_of_telling, telling_of_files, telling_of_run}
 use Rattle.prepaid_command.specs.declared.fault.Fault.{Fault}
 use Rattle.prepaid_command.specs.declared.fault.Fault.TheVariants as fault
@@ -46,13 +46,13 @@ use Rattle.prepaid_command.specs.declared.fault.Part.TheVariants as part
 
 -- what `price` makes of an input: its lines, or the first fault
 abbrev pub price_of_input : Rates → List ℕ → Result Telling Fault
-price_of_input plan input = after (sized input) (λ text.
-    after (meaning_in part.Reports (reports_of plan (rows_of text))) (λ reports. Ok (plain (price_lines plan 0 reports))))
+price_of_input plan input = and_then (sized input) (λ text.
+    and_then (meaning_in part.Reports (table_reports_of plan (rows_of text))) (λ reports. Ok (plain (price_lines plan 0 reports))))
 
 -- what `replay` makes of it
 abbrev pub replay_of_input : ℕ → ℕ → List ℕ → Result Telling Fault
-replay_of_input opening limit input = after (sized input) (λ text.
-    after (meaning_in part.Ops (replayed opening limit (rows_of text))) (λ lines. Ok (plain lines)))
+replay_of_input opening limit input = and_then (sized input) (λ text.
+    and_then (meaning_in part.Ops (replayed opening limit (rows_of text))) (λ lines. Ok (plain lines)))
 
 -- an answer of a run, its fault told as the program's
 pub record IsToldRun (ask : RunAsk) (text : List ℕ) (answer : Result Telling Fault) : Type 0 where
@@ -102,7 +102,7 @@ pub record IsToldQuote (bands : List Band) (wish : QuoteWish) (answer : Result T
 -- what `quote` makes of an input, which is a tariff
 abbrev pub IsQuoteOfInput : QuoteWish → List ℕ → Result Telling Fault → Type 0
 IsQuoteOfInput wish input answer =
-    MatchResult (after (sized input) (λ text. meaning_of_part (tariff_in text))) (λ bands. IsToldQuote bands wish answer) (λ why. answer ≡ Err why)
+    MatchResult (and_then (sized input) (λ text. meaning_of_part (tariff_in text))) (λ bands. IsToldQuote bands wish answer) (λ why. answer ≡ Err why)
 
 -- what is made of an input as it was wished, where it is printed once it is whole
 abbrev pub IsAnswerTo : Wish → List ℕ → Result Telling Fault → Type 0
@@ -116,7 +116,7 @@ IsAnswerTo (RatesRecords wish) input answer = ⊥
 IsAnswerTo (Serves ask log) input answer = ⊥
 
 -- the words ask for what has this answer
-pub record IsAnswered (words : List (List ℕ)) (input : List ℕ) (answer : Result Telling Fault) : Type 0 where
+pub record AskForAnswer (words : List (List ℕ)) (input : List ℕ) (answer : Result Telling Fault) : Type 0 where
   pub wish : Wish
   pub asked : AsksFor words wish
   pub answered : IsAnswerTo wish input answer
@@ -124,12 +124,12 @@ pub record IsAnswered (words : List (List ℕ)) (input : List ℕ) (answer : Res
 -- an answer to the words and the input: the help, the version or what is asked for, or the first fault. A failed reader and memory that runs out may come at any
 abbrev pub IsAnswer : List (List ℕ) → List ℕ → Result Telling Fault → Type 0
 IsAnswer words input (Ok telling) =
-    ((AsksHelp words ⊎ AsksVersion words) × (telling.passes ≡ true)) ⊎ IsAnswered words input (Ok telling)
+    ((AsksHelp words ⊎ AsksVersion words) × (telling.passes ≡ true)) ⊎ AskForAnswer words input (Ok telling)
 IsAnswer words input (Err fault.Arguments) = AsksNothing words
 IsAnswer words input (Err fault.Config) = AsksInVain words words_fault.Config
 IsAnswer words input (Err fault.Device) = ⊤
 IsAnswer words input (Err (fault.Run run.OutOfMemory)) = ⊤
-IsAnswer words input (Err why) = IsAnswered words input (Err why)
+IsAnswer words input (Err why) = AskForAnswer words input (Err why)
 
 -- what the two writers hold, where that is known
 pub record Written : Type 0 where
@@ -151,20 +151,20 @@ pub record IsCutOff (telling : Telling) (status : ℕ) (old new : Written) : Typ
 -- the line of a fault went to the error writer, or where that failed a front of it. The output stays as it was
 pub record IsReported (why : Fault) (status : ℕ) (old new : Written) : Type 0 where
   pub status_is : status ≡ status_of why
-  pub line : AppendsFront old.faults new.faults (line_of why ++ codes "\n")
+  pub line : AppendsFront old.faults new.faults (line_of_fault why ++ codes "\n")
   pub output : Keeps old.output new.output
 
 -- the line of a fault and behind it what is said of it went to the error writer, or where that failed a front of these. The output stays as it was
 pub record IsReportedWith (why : Fault) (text : List ℕ) (status : ℕ) (old new : Written) : Type 0 where
   pub status_is : status ≡ status_of why
-  pub line : AppendsFront old.faults new.faults (line_of why ++ (codes "\n" ++ text))
+  pub line : AppendsFront old.faults new.faults (line_of_fault why ++ (codes "\n" ++ text))
   pub output : Keeps old.output new.output
 
 -- an answer was told, or a fault, and what is said of it
-abbrev pub IsTold : Option (List ℕ) → Result Telling Fault → ℕ → Written → Written → Type 0
-IsTold more (Ok telling) status old new = IsPrinted telling (unwrap_or more []) status old new ⊎ IsCutOff telling status old new
-IsTold None (Err why) status old new = IsReported why status old new
-IsTold (Some text) (Err why) status old new = IsReportedWith why text status old new
+abbrev pub IsSaidOrReported : Option (List ℕ) → Result Telling Fault → ℕ → Written → Written → Type 0
+IsSaidOrReported more (Ok telling) status old new = IsPrinted telling (unwrap_or more []) status old new ⊎ IsCutOff telling status old new
+IsSaidOrReported None (Err why) status old new = IsReported why status old new
+IsSaidOrReported (Some text) (Err why) status old new = IsReportedWith why text status old new
 
 -- the status and what was written are of one answer, which is that to the words and the input, where this is known
 pub record Answers (words : List (List ℕ)) (input : Option (List ℕ)) (status : ℕ) (old new : Written) : Type 0 where
@@ -176,30 +176,30 @@ pub record Answers (words : List (List ℕ)) (input : Option (List ℕ)) (status
   pub said : IfSome input (λ text. IfErr answer (λ why. IfSome more (λ said. IsSaidBy words text why said)))
   -- and behind an answer: nothing but of a run
   pub added : IfSome input (λ text. IfOk answer (λ telling. IfSome more (λ said. IsAdded words text said)))
-  pub told : IsTold more answer status old new
+  pub told : IsSaidOrReported more answer status old new
 
 -- ---- records that are rated as they come
 
 -- what is said of a fault to the error writer: its line or a front of it, at its status; of an output that failed nothing, at status 2
 abbrev pub IsSaid : Option Fault → ℕ → Option (List ℕ) → Option (List ℕ) → Type 0
 IsSaid None status old new = (status ≡ 2) × Keeps old new
-IsSaid (Some why) status old new = (status ≡ status_of why) × AppendsFront old new (line_of why ++ codes "\n")
+IsSaid (Some why) status old new = (status ≡ status_of why) × AppendsFront old new (line_of_fault why ++ codes "\n")
 
 -- the line of a failed input or of memory that ran out, or nothing where the output failed
 abbrev pub IsOfFailure : Option (List ℕ) → Option (List ℕ) → Type 0
-IsOfFailure old new = Keeps old new ⊎ AppendsFront old new (line_of fault.Device ++ codes "\n") ⊎ AppendsFront old new (line_of (fault.Run run.OutOfMemory) ++ codes "\n")
+IsOfFailure old new = Keeps old new ⊎ AppendsFront old new (line_of_fault fault.Device ++ codes "\n") ⊎ AppendsFront old new (line_of_fault (fault.Run run.OutOfMemory) ++ codes "\n")
 
 -- all rows were rated and printed: the status says whether all are right, and the summary went to the error writer where it was asked for, or a front of it
-pub record IsRated (wish : RateWish) (text : List ℕ) (status : ℕ) (old new : Written) : Type 0 where
+pub record IsRatedInput (wish : RateWish) (text : List ℕ) (status : ℕ) (old new : Written) : Type 0 where
   pub tally : Tally
-  pub printed : IsRatedWhole wish.differing (input_of wish.names text) tally old.output new.output
+  pub printed : IsRatedWhole wish.differing (rate_input_of wish.names text) tally old.output new.output
   pub status_is : status ≡ status_of_rating tally
   pub line : AppendsFront old.faults new.faults (summary_of wish tally)
 
 -- the tariff or the header has a fault, which is told, and the output stays as it was
-pub record IsRefused (wish : RateWish) (text : List ℕ) (status : ℕ) (old new : Written) : Type 0 where
+pub record IsRatingRefused (wish : RateWish) (text : List ℕ) (status : ℕ) (old new : Written) : Type 0 where
   pub why : RateFault
-  pub refused : input_of wish.names text ≡ Err why
+  pub refused : rate_input_of wish.names text ≡ Err why
   pub fault : Fault
   pub fault_is : of_rate why ≡ Some fault
   pub reported : IsReported fault status old new
@@ -207,18 +207,18 @@ pub record IsRefused (wish : RateWish) (text : List ℕ) (status : ℕ) (old new
 -- the input, memory or the output failed, at status 2: a front of the text was printed, or nothing, and of a line about it a front, or nothing
 pub record IsBroken (wish : RateWish) (text : List ℕ) (status : ℕ) (old new : Written) : Type 0 where
   pub status_is : status ≡ 2
-  pub front : Keeps old.output new.output ⊎ IsInPart wish.differing (input_of wish.names text) old.output new.output
+  pub front : Keeps old.output new.output ⊎ IsInPart wish.differing (rate_input_of wish.names text) old.output new.output
   pub line : IsOfFailure old.faults new.faults
 
 -- how records that are rated as they come were told: whole, refused, or broken off
-abbrev pub IsRatedBy : RateWish → List ℕ → ℕ → Written → Written → Type 0
-IsRatedBy wish text status old new = IsRated wish text status old new ⊎ IsRefused wish text status old new ⊎ IsBroken wish text status old new
+abbrev pub IsRatedByWish : RateWish → List ℕ → ℕ → Written → Written → Type 0
+IsRatedByWish wish text status old new = IsRatedInput wish text status old new ⊎ IsRatingRefused wish text status old new ⊎ IsBroken wish text status old new
 
 -- the words ask for records to be rated, and so they were
 pub record RatesAsAsked (words : List (List ℕ)) (input : Option (List ℕ)) (status : ℕ) (old new : Written) : Type 0 where
   pub wish : RateWish
   pub asked : AsksFor words (RatesRecords wish)
-  pub rated : IfSome input (λ text. IsRatedBy wish text status old new)
+  pub rated : IfSome input (λ text. IsRatedByWish wish text status old new)
 
 -- ---- messages that are answered as they come
 
@@ -228,7 +228,7 @@ IsServeEnd (Ok done) status old new = (status ≡ 0) × Keeps old new
 IsServeEnd (Err why) status old new = IsSaid (of_serve why) status old new
 
 -- the output and the status are of one end of the service, which is that over this input, where this is known
-pub record IsServed (ask : LiveAsk) (log : Option LogWish) (input : Option (List ℕ)) (status : ℕ) (old new : Written) : Type 0 where
+pub record IsServedInput (ask : LiveAsk) (log : Option LogWish) (input : Option (List ℕ)) (status : ℕ) (old new : Written) : Type 0 where
   pub result : Result (Unit {0}) ServeError
   pub serves : IfSome input (λ text. ServesBy ask log (live_input_of text) old.output new.output result)
   pub ends : IsServeEnd result status old.faults new.faults
@@ -238,4 +238,4 @@ pub record ServesAsAsked (words : List (List ℕ)) (input : Option (List ℕ)) (
   pub ask : LiveAsk
   pub log : Option LogWish
   pub asked : AsksFor words (Serves ask log)
-  pub served : IsServed ask log input status old new
+  pub served : IsServedInput ask log input status old new

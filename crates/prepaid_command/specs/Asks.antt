@@ -2,7 +2,7 @@
 use Rattle.std.specs.Prelude.{ℕ, Bool, List, [], ◌∷◌, ◌++◌, Result, Ok, Err, if◌then◌else◌, codes}
 use Rattle.account_core.specs.Asked.{Asked}
 use Rattle.table_core.specs.Fields.{field_in}
-use Rattle.table_core.specs.Judging.{adds, after}
+use Rattle.table_core.specs.Judging.{adds, and_then}
 use Rattle.table_core.specs.Tables.{TableForm, table_form, table_of}
 use Rattle.table_core.specs.declared.fault.RowFault.{RowFault}
 use Rattle.table_core.specs.declared.fault.RowKind.{RowKind}
@@ -15,40 +15,40 @@ use Rattle.entry_rows.specs.Words.{op_word_in}
 use Rattle.entry_rows.specs.declared.version.Version.{Version}
 
 -- what a seat asks
-pub record Asking : Type 0 where
+pub record SeatAsk : Type 0 where
   pub seat : ℕ
   pub asked : Asked
 
 -- what is asked, where the columns that must be empty are
-abbrev pub when_blank : Bool → Asking → Result Asking RowKind
-when_blank blank asking = if blank then Ok asking else Err kind.Empty
+abbrev pub ask_when_blank : Bool → SeatAsk → Result SeatAsk RowKind
+ask_when_blank blank asking = if blank then Ok asking else Err kind.Empty
 
 -- what the columns of a row ask: its word is judged first, then its numbers, then the empty columns
-unfoldable pub asking_in : List ℕ → Operation → Result Asking RowKind
+unfoldable pub asking_in : List ℕ → Operation → Result SeatAsk RowKind
 asking_in seat_text columns =
-    after (op_word_in columns) (λ word.
-    after (seat_of seat_text) (λ seat.
-    after (asked_in word columns) (λ asked.
-    when_blank (is_asked_blank word columns) (record { seat = seat; asked = asked }))))
+    and_then (op_word_in columns) (λ word.
+    and_then (seat_of seat_text) (λ seat.
+    and_then (asked_in word columns) (λ asked.
+    ask_when_blank (is_asked_blank word columns) (record { seat = seat; asked = asked }))))
 
 -- what a row of a table of this version asks
-abbrev pub ask_in : Version → List (List ℕ) → Result Asking RowKind
+abbrev pub ask_in : Version → List (List ℕ) → Result SeatAsk RowKind
 ask_in version fields = asking_in (field_in fields 0) (operation_at version fields 1)
 
 -- `seat,op,call,x1,x2,x3,x4,x5`; later headers have `x6` too, then `x7`, then `x8` and `x9`
-abbrev pub first_header : List (List ℕ)
-first_header = codes "seat" ∷ codes "op" ∷ codes "call" ∷ codes "x1" ∷ codes "x2" ∷ codes "x3" ∷ codes "x4" ∷ codes "x5" ∷ []
+abbrev pub first_ops_header : List (List ℕ)
+first_ops_header = codes "seat" ∷ codes "op" ∷ codes "call" ∷ codes "x1" ∷ codes "x2" ∷ codes "x3" ∷ codes "x4" ∷ codes "x5" ∷ []
 
 -- the headers of a table of operations, the oldest first
 abbrev pub asks_headers : List (List (List ℕ))
 asks_headers =
-    first_header ∷ (first_header ++ codes "x6" ∷ []) ∷ (first_header ++ codes "x6" ∷ codes "x7" ∷ [])
-    ∷ (first_header ++ codes "x6" ∷ codes "x7" ∷ codes "x8" ∷ codes "x9" ∷ []) ∷ []
+    first_ops_header ∷ (first_ops_header ++ codes "x6" ∷ []) ∷ (first_ops_header ++ codes "x6" ∷ codes "x7" ∷ [])
+    ∷ (first_ops_header ++ codes "x6" ∷ codes "x7" ∷ codes "x8" ∷ codes "x9" ∷ []) ∷ []
 
 -- 10,000 rows at most; each row asks something
-abbrev pub asks_form : TableForm (List Asking) RowKind RowFault
+abbrev pub asks_form : TableForm (List SeatAsk) RowKind RowFault
 asks_form = table_form asks_headers 10000 [] (λ header. adds (λ asks. ask_in (version_at header)))
 
 -- what a table asks
-abbrev pub asks_of : List (List (List ℕ)) → Result (List Asking) RowFault
+abbrev pub asks_of : List (List (List ℕ)) → Result (List SeatAsk) RowFault
 asks_of rows = table_of asks_form rows

@@ -22,8 +22,8 @@ slip_of in_parts (fault.Table part.Script row) = Some (slip.Script row)
 slip_of in_parts why = None
 
 -- a text is said of a fault over an input: where a row has the fault, it explains that
-abbrev pub IsSaidOf : Bool → List ℕ → Fault → List ℕ → Type 0
-IsSaidOf in_parts input why text = IfSome (slip_of in_parts why) (λ slip. Explains input slip text)
+abbrev pub IsSaidOfFault : Bool → List ℕ → Fault → List ℕ → Type 0
+IsSaidOfFault in_parts input why text = IfSome (slip_of in_parts why) (λ slip. Explains input slip text)
 
 -- a text is said of a run over an input, behind its answer: which calls no subscriber makes
 pub record IsSaidBehind (input text : List ℕ) : Type 0 where
@@ -41,7 +41,7 @@ has_parts wish = false
 pub record IsExplained (words : List (List ℕ)) (input : List ℕ) (why : Fault) (text : List ℕ) : Type 0 where
   pub wish : Wish
   pub asked : AsksFor words wish
-  pub said : IsSaidOf (has_parts wish) input why text
+  pub said : IsSaidOfFault (has_parts wish) input why text
 
 -- the words wish a run over the input, and a text is said behind its answer
 pub record IsAdded (words : List (List ℕ)) (input text : List ℕ) : Type 0 where

@@ -6,9 +6,9 @@ use Rattle.answer_command.specs.declared.error.ServeError.{ServeError}
 use Rattle.answer_command.specs.declared.error.ServeError.TheVariants as serve
 use Rattle.command_words.specs.declared.fault.WordsFault.{WordsFault}
 use Rattle.command_words.specs.declared.fault.WordsFault.TheVariants as words
-use Rattle.live_answers.specs.Kinds.{name_of as name_of_line}
+use Rattle.live_answers.specs.Kinds.{line_kind_name as name_of_line}
 use Rattle.live_answers.specs.declared.stage.LiveFault.TheVariants as live
-use Rattle.live_log.specs.Faults.{name_of as name_of_log}
+use Rattle.live_log.specs.Faults.{log_fault_name as name_of_log}
 use Rattle.live_log.specs.declared.fault.LogFault.{LogFault}
 use Rattle.live_log.specs.declared.fault.LogFault.TheVariants as log
 use Rattle.run_command.specs.declared.error.RunError.{RunError}
@@ -17,14 +17,14 @@ use Rattle.run_texts.specs.declared.input_fault.InputFault.{InputFault}
 use Rattle.run_texts.specs.declared.input_fault.InputFault.TheVariants as input
 use Rattle.rating.specs.declared.fault.RateFault.{RateFault}
 use Rattle.rating.specs.declared.fault.RateFault.TheVariants as rate
-use Rattle.runs_core.specs.RunFaults.{name_of}
+use Rattle.runs_core.specs.RunFaults.{run_fault_name}
 use Rattle.runs_core.specs.declared.run_fault.RunFault.TheVariants as run
-use Rattle.table_core.specs.Faults.{text_of}
+use Rattle.table_core.specs.Faults.{row_fault_text}
 use Rattle.table_core.specs.declared.fault.RowFault.{RowFault}
 use Rattle.table_core.specs.declared.fault.RowKind.TheVariants as kind
 use Rattle.table_core.specs.declared.fault.TableFault.{TableFault}
 use Rattle.table_core.specs.declared.fault.TableFault.TheVariants as table
-use Rattle.tariff_core.specs.TariffFaults.{text_of as tariff_text_of}
+use Rattle.tariff_core.specs.TariffFaults.{tariff_fault_text as tariff_text_of}
 use Rattle.prepaid_command.specs.Input.{is_out_of_memory}
 use Rattle.prepaid_command.specs.declared.fault.Fault.{Fault}
 use Rattle.prepaid_command.specs.declared.fault.Fault.TheVariants as fault
@@ -42,18 +42,18 @@ name_of_part part.Records = codes "records"
 name_of_part part.Messages = codes "messages"
 
 -- the line that says a fault, without its end
-abbrev pub line_of : Fault → List ℕ
-line_of fault.Arguments = codes "prepaid: arguments"
-line_of fault.Config = codes "prepaid: input: Config"
-line_of fault.TooLong = codes "prepaid: input: TooLong"
-line_of fault.Parts = codes "prepaid: input: Parts"
-line_of (fault.Tariff row) = codes "prepaid: tariff " ++ tariff_text_of row
-line_of (fault.Table part row) = codes "prepaid: " ++ (name_of_part part ++ (codes " " ++ text_of row))
-line_of (fault.Log why) = codes "prepaid: log: " ++ name_of_log why
-line_of (fault.LogRow row kind) = codes "prepaid: log row " ++ (decimal row ++ (codes ": " ++ name_of_line kind))
-line_of fault.Into = codes "prepaid: into: Device"
-line_of fault.Device = codes "prepaid: run: Device"
-line_of (fault.Run why) = codes "prepaid: run: " ++ name_of why
+abbrev pub line_of_fault : Fault → List ℕ
+line_of_fault fault.Arguments = codes "prepaid: arguments"
+line_of_fault fault.Config = codes "prepaid: input: Config"
+line_of_fault fault.TooLong = codes "prepaid: input: TooLong"
+line_of_fault fault.Parts = codes "prepaid: input: Parts"
+line_of_fault (fault.Tariff row) = codes "prepaid: tariff " ++ tariff_text_of row
+line_of_fault (fault.Table part row) = codes "prepaid: " ++ (name_of_part part ++ (codes " " ++ row_fault_text row))
+line_of_fault (fault.Log why) = codes "prepaid: log: " ++ name_of_log why
+line_of_fault (fault.LogRow row kind) = codes "prepaid: log row " ++ (decimal row ++ (codes ": " ++ name_of_line kind))
+line_of_fault fault.Into = codes "prepaid: into: Device"
+line_of_fault fault.Device = codes "prepaid: run: Device"
+line_of_fault (fault.Run why) = codes "prepaid: run: " ++ run_fault_name why
 
 -- the exit status of a fault
 abbrev pub status_of : Fault → ℕ
@@ -133,21 +133,21 @@ of_run (error.Input why) = of_run_input why
 of_run (error.Run why) = fault.Run why
 
 -- the input may fail, and memory run out, at any words and any input
-abbrev pub MayAlwaysCome : Fault → Type 0
-MayAlwaysCome fault.Device = ⊤
-MayAlwaysCome (fault.Run run.OutOfMemory) = ⊤
-MayAlwaysCome _ = ⊥
+abbrev pub FaultMayAlwaysCome : Fault → Type 0
+FaultMayAlwaysCome fault.Device = ⊤
+FaultMayAlwaysCome (fault.Run run.OutOfMemory) = ⊤
+FaultMayAlwaysCome _ = ⊥
 
 -- a fault of the words or of the input is what these mean, but for one that may always come
-abbrev pub Refuses : {Y : Type 0} → Fault → Result Y Fault → Type 0
-Refuses fault.Device meaning = ⊤
-Refuses (fault.Run run.OutOfMemory) meaning = ⊤
-Refuses why meaning = meaning ≡ Err why
+abbrev pub RefusesCommand : {Y : Type 0} → Fault → Result Y Fault → Type 0
+RefusesCommand fault.Device meaning = ⊤
+RefusesCommand (fault.Run run.OutOfMemory) meaning = ⊤
+RefusesCommand why meaning = meaning ≡ Err why
 
 -- an answer, seen by `view`, is what is meant
-abbrev pub Gives : {X Y : Type 0} → (X → Y) → Result X Fault → Result Y Fault → Type 0
-Gives view (Ok x) meaning = meaning ≡ Ok (view x)
-Gives view (Err why) meaning = Refuses why meaning
+abbrev pub GivesAnswer : {X Y : Type 0} → (X → Y) → Result X Fault → Result Y Fault → Type 0
+GivesAnswer view (Ok x) meaning = meaning ≡ Ok (view x)
+GivesAnswer view (Err why) meaning = RefusesCommand why meaning
 
 -- an answer is one of those that are meant
 abbrev pub GivesOne : {Y : Type 0} → (Result Y Fault → Type 0) → Result Y Fault → Type 0

@@ -1,7 +1,7 @@
 -- The line about what the accounts of a run refused.
 use Rattle.std.specs.Prelude.{◌==◌, ◌++◌, ℕ, List, [], codes, length, if◌then◌else◌}
 use Rattle.std.specs.Fmt.{decimal}
-use Rattle.account_core.specs.Faults.{name_of}
+use Rattle.account_core.specs.Faults.{account_fault_name}
 use Rattle.account_core.specs.declared.fault.AccountFault.{AccountFault}
 use Rattle.account_core.specs.declared.fault.AccountFault.TheVariants as fault
 use Rattle.run_command.specs.declared.refusals.Refusals.{Refusals}
@@ -12,7 +12,7 @@ before_kind line = if length line == 0 then codes "prepaid: refused: " else line
 
 -- the line with a kind more, `N KIND`, where it came
 abbrev pub with_kind : List ℕ → ℕ → AccountFault → List ℕ
-with_kind line count why = if count == 0 then line else before_kind line ++ (decimal count ++ (codes " " ++ name_of why))
+with_kind line count why = if count == 0 then line else before_kind line ++ (decimal count ++ (codes " " ++ account_fault_name why))
 
 -- the kinds that came, in the order in which an account judges them
 abbrev pub kinds_of : Refusals → List ℕ
@@ -21,9 +21,9 @@ kinds_of r =
     r.not_open fault.NotOpen) r.call_used fault.CallUsed) r.history_full fault.HistoryFull) r.out_of_memory fault.OutOfMemory
 
 -- a line that has anything, with its end
-abbrev pub ended : List ℕ → List ℕ
-ended line = if length line == 0 then [] else line ++ codes "\n"
+abbrev pub ended_line : List ℕ → List ℕ
+ended_line line = if length line == 0 then [] else line ++ codes "\n"
 
 -- `prepaid: refused: 2 HistoryFull, 1 OutOfMemory`; nothing where nothing was refused
 abbrev pub refused_line : Refusals → List ℕ
-refused_line refusals = ended (kinds_of refusals)
+refused_line refusals = ended_line (kinds_of refusals)

@@ -2,7 +2,7 @@
 
 ghost use Rattle.std.specs.Prelude.{◌≡◌, ◌++◌, [], codes, IfOk, OnOk};
 ghost use Rattle.rating.specs.Fronts.{AppendsFront};
-ghost use Rattle.prepaid_command.specs.Faults.{line_of, status_of};
+ghost use Rattle.prepaid_command.specs.Faults.{line_of_fault, status_of};
 ghost use Rattle.prepaid_command.specs.Refused.{kinds_of, refused_line, with_kind};
 
 use crate::Fault;
@@ -18,7 +18,7 @@ pub(crate) const MOST_BYTES: usize = 256;
 
 /// The line of a fault, with LF at its end.
 pub(crate) fn fault_line(fault: Fault) -> Result<ArrayString<MOST_BYTES>, fmt::Error>
-    ensures { IfOk result (λ line. line.bytes ≡ line_of fault ++ codes "\n") }
+    ensures { IfOk result (λ line. line.bytes ≡ line_of_fault fault ++ codes "\n") }
 {
     let mut line = ArrayString::new();
     writeln!(line, "{fault}")?;
@@ -69,7 +69,7 @@ fn add_kind(line: &mut ArrayString<MOST_BYTES>, count: u64, fault: AccountFault)
 pub(crate) fn report<E: io::Write>(faults: &mut E, fault: Fault) -> u8
     ensures status { result ≡ status_of fault }
     ensures line { AppendsFront (E.contents faults.old) (E.contents faults.new)
-        (line_of fault ++ codes "\n") }
+        (line_of_fault fault ++ codes "\n") }
 {
     if let Ok(line) = fault_line(fault) {
         write_text(faults, line.as_str().as_bytes());
@@ -81,7 +81,7 @@ pub(crate) fn report<E: io::Write>(faults: &mut E, fault: Fault) -> u8
 pub(crate) fn report_with<E: io::Write>(faults: &mut E, fault: Fault, more: &[u8]) -> u8
     ensures status { result ≡ status_of fault }
     ensures line { AppendsFront (E.contents faults.old) (E.contents faults.new)
-        (line_of fault ++ (codes "\n" ++ more.now)) }
+        (line_of_fault fault ++ (codes "\n" ++ more.now)) }
 {
     if let Ok(line) = fault_line(fault) {
         write_both(faults, line.as_str().as_bytes(), more);

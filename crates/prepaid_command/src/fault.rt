@@ -3,7 +3,7 @@
 ghost use Rattle.std.specs.Prelude.{◌≡◌, Some};
 ghost use Rattle.std.specs.IoError.{error_kind};
 ghost use Rattle.runs_core.specs.declared.run_fault.RunFault.TheVariants as run;
-ghost use Rattle.prepaid_command.specs.Faults.{line_of, name_of_part, of_run, of_words};
+ghost use Rattle.prepaid_command.specs.Faults.{line_of_fault, name_of_part, of_run, of_words};
 ghost use Rattle.prepaid_command.specs.declared.fault.Fault.TheVariants as out;
 
 use answer_command::ServeError;
@@ -187,7 +187,7 @@ impl Fault {
 }
 
 impl fmt::Display for Fault {
-    ghost output = { λ fault. Some (line_of fault) };
+    ghost output = { λ fault. Some (line_of_fault fault) };
 
     fn fmt<W: fmt::Write>(&self, f: &mut fmt::Formatter<W>) -> fmt::Result {
         match self {

@@ -2,7 +2,7 @@
 
 ghost use Rattle.std.specs.Prelude.{◌≡◌, IfOk, IfSome};
 ghost use Rattle.std.specs.IoError.{error_kind};
-ghost use Rattle.prepaid_command.specs.Faults.{Gives};
+ghost use Rattle.prepaid_command.specs.Faults.{GivesAnswer};
 ghost use Rattle.prepaid_command.specs.Input.{failed_input, sized};
 
 use crate::Fault;
@@ -16,7 +16,7 @@ pub const MAX_INPUT: u64 = 16_777_216;
 /// All the bytes of the input, or `TooLong` where they are more than `MAX_INPUT`.
 pub fn read_input<I: Read + Drop>(alloc: Global, input: I) -> Result<Vec<u8>, Fault>
     ensures read { IfSome (I.remaining input)
-        (λ text. Gives (λ bytes. bytes.items) result (sized text)) }
+        (λ text. GivesAnswer (λ bytes. bytes.items) result (sized text)) }
     ensures same { IfOk result (λ bytes. IfSome (I.remaining input) (λ text. bytes.items ≡ text)) }
 {
     let mut bytes = Vec::new(alloc);

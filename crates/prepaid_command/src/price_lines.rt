@@ -1,10 +1,10 @@
 //! The lines that `price` prints.
 
 ghost use Rattle.std.specs.Prelude.{◌≡◌, ◌≤◌, length, IfSome, IfOk, string_bytes};
-ghost use Rattle.prepaid_command.specs.Reports.{report_in, reports_of, AreInOrder};
+ghost use Rattle.prepaid_command.specs.Reports.{report_row_in, table_reports_of, AreInOrder};
 ghost use Rattle.prepaid_command.specs.PriceLines.{price_lines};
 ghost use Rattle.csv.specs.Records.{fields_of};
-ghost use Rattle.table_core.specs.Faults.{Gives};
+ghost use Rattle.table_core.specs.Faults.{GivesTable};
 ghost use Rattle.table_core.specs.Rows.{rows_of};
 ghost use Rattle.tariff_core.specs.RatesOf.{rates_of};
 ghost use Rattle.tariff_core.specs.Times.{no_times};
@@ -23,7 +23,7 @@ pub fn read_reports<I: Read + Drop>(
     reader: I,
 ) -> Result<Vec<Times>, TableFault>
     ensures { IfSome (I.remaining reader) (λ text.
-        Gives (λ reports. reports.items) result (reports_of (rates_of plan.now) (rows_of text))) }
+        GivesTable (λ reports. reports.items) result (table_reports_of (rates_of plan.now) (rows_of text))) }
 {
     let mut table = Table::open(alloc, reader, &[&["before", "after"]], MAX_ROWS)?;
     let mut reports = Vec::new(alloc);
@@ -41,7 +41,7 @@ pub fn read_reports<I: Read + Drop>(
 /// The report in a row, after the times of the row before it.
 fn report(plan: &Plan, last: Times, row: &ByteRecord) -> Result<Times, RowKind>
     requires { length (fields_of row.now) ≡ 2 }
-    ensures { result ≡ report_in (rates_of plan.now) last (fields_of row.now) }
+    ensures { result ≡ report_row_in (rates_of plan.now) last (fields_of row.now) }
 {
     let before = number(row, 0, u64::from(DAY))? as u32;
     let after = number(row, 1, u64::from(DAY))? as u32;

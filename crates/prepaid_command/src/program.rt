@@ -4,10 +4,10 @@ ghost use Rattle.std.specs.Prelude.{◌≡◌, ◌⊎◌, ◌++◌, None, map, o
 ghost use Rattle.std.specs.Io.KnownBytes.{Keeps};
 ghost use Rattle.std.specs.Result.{result_map_both};
 ghost use Rattle.tariff_core.specs.RatesOf.{rates_of};
-ghost use Rattle.command_words.specs.QuoteWishes.{wish_of};
+ghost use Rattle.command_words.specs.QuoteWishes.{quote_wish_of};
 ghost use Rattle.run_options.specs.Options.{ask_of};
-ghost use Rattle.prepaid_command.specs.Answers.{Answers, IsCutOff, IsPrinted, IsTold, IsAuditOfInput, IsAuditOfTable, IsQuoteOfInput, RatesAsAsked, ServesAsAsked, price_of_input, replay_of_input};
-ghost use Rattle.prepaid_command.specs.Faults.{Gives, GivesOne};
+ghost use Rattle.prepaid_command.specs.Answers.{Answers, IsCutOff, IsPrinted, IsSaidOrReported, IsAuditOfInput, IsAuditOfTable, IsQuoteOfInput, RatesAsAsked, ServesAsAsked, price_of_input, replay_of_input};
+ghost use Rattle.prepaid_command.specs.Faults.{GivesAnswer, GivesOne};
 ghost use Rattle.rating.specs.Fronts.{AppendsFront};
 ghost use Rattle.prepaid_command.specs.Refused.{refused_line};
 ghost use Rattle.prepaid_command.specs.Tellings.{telling_of};
@@ -140,7 +140,7 @@ where
 
 /// Prints an answer, or reports a fault, with what is said of it, and gives the status.
 fn tell<O: Write, E: Write>(output: &mut O, faults: &mut E, told: Told) -> u8
-    ensures told { IsTold (option_map string_bytes told.more)
+    ensures told { IsSaidOrReported (option_map string_bytes told.more)
         (result_map_both telling_of (λ fault. fault) told.answer) result
         (record { output = O.contents output.old; faults = E.contents faults.old })
         (record { output = O.contents output.new; faults = E.contents faults.new }) }
@@ -163,7 +163,7 @@ fn price_reports<I: Read + Drop>(
 ) -> Result<Answer, Fault>
     requires { kept.old ≡ None }
     ensures answer { IfSome (I.remaining input) (λ text.
-        Gives telling_of result (price_of_input (rates_of plan.now) text)) }
+        GivesAnswer telling_of result (price_of_input (rates_of plan.now) text)) }
     ensures kept { IfSome (I.remaining input) (λ text.
         IfSome kept.new (λ bytes. bytes.items ≡ text)) }
 {
@@ -188,7 +188,7 @@ fn replay_operations<I: Read + Drop>(
     ensures kept { IfSome (I.remaining input) (λ text.
         IfSome kept.new (λ bytes. bytes.items ≡ text)) }
     ensures answer { IfSome (I.remaining input) (λ text.
-        Gives telling_of result (replay_of_input account.opening account.limit text)) }
+        GivesAnswer telling_of result (replay_of_input account.opening account.limit text)) }
 {
     let bytes = read_input(alloc, input)?;
     match replay(alloc, account.opening, account.limit, bytes.as_slice()) {
@@ -250,7 +250,7 @@ fn quote_input<I: Read + Drop>(
     ensures kept { IfSome (I.remaining input) (λ text.
         IfSome kept.new (λ bytes. bytes.items ≡ text)) }
     ensures answer { IfSome (I.remaining input) (λ text. GivesOne
-        (IsQuoteOfInput (wish_of ask.now) text)
+        (IsQuoteOfInput (quote_wish_of ask.now) text)
         (result_map_both telling_of (λ fault. fault) result)) }
 {
     let bytes = read_input(alloc, input)?;

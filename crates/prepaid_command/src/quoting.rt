@@ -2,7 +2,7 @@
 
 ghost use Rattle.std.specs.Prelude.{◌≡◌, ◌+◌, ◌++◌, ◌≤◌, ◌<◌, IfOk, IfSome, OnOk, string_bytes};
 ghost use Rattle.tariff_core.specs.RatesOf.{rates_of};
-ghost use Rattle.command_words.specs.QuoteWishes.{wish_of};
+ghost use Rattle.command_words.specs.QuoteWishes.{quote_wish_of};
 ghost use Rattle.prepaid_command.specs.Quotes.{IsQuoteText, afford_line, band_line, plan_text, prefix_text, price_line, quote_lines, steps_text, switch_line};
 
 use command_words::QuoteAsk;
@@ -20,7 +20,7 @@ pub(crate) fn print_quote(
     ask: &QuoteAsk,
 ) -> Result<String, AllocError>
     ensures { IfOk result (λ text.
-        IsQuoteText tariff.now (wish_of ask.now) (string_bytes text)) }
+        IsQuoteText tariff.now (quote_wish_of ask.now) (string_bytes text)) }
 {
     let mut text = String::new(alloc);
     let Some(quote) = tariff.quote(ask.called.as_bytes(), ask.at) else {
@@ -36,7 +36,7 @@ fn write_quote(text: &mut String, ask: &QuoteAsk, quote: &Quote<'_>) -> Result<(
     requires { IfSome quote.now.route.switch_at (λ at. (ask.now.at < at)
         × (at ≤ ask.now.at + DAY)) }
     ensures { OnOk result (string_bytes text.new ≡ string_bytes text.old
-        ++ quote_lines (wish_of ask.now) quote.now.prefix.now quote.now.start quote.now.route) }
+        ++ quote_lines (quote_wish_of ask.now) quote.now.prefix.now quote.now.start quote.now.route) }
 {
     let plan = &quote.route.plan;
     write_band(text, quote.prefix, quote.start, plan)?;

@@ -3,9 +3,9 @@
 ghost use Rattle.std.specs.Prelude.{◌≡◌, ◌++◌, ◌⊎◌, [], IfOk, IfSome, OnOk, if◌then◌else◌};
 ghost use Rattle.std.specs.Io.KnownBytes.{Keeps};
 ghost use Rattle.rating.specs.Fronts.{AppendsFront};
-ghost use Rattle.rating.specs.SaidOf.{wish_of};
-ghost use Rattle.rating.specs.Tallies.{IsBounded};
-ghost use Rattle.prepaid_command.specs.Answers.{IsRatedBy, IsSaid};
+ghost use Rattle.rating.specs.SaidOf.{rate_wish_of};
+ghost use Rattle.rating.specs.Tallies.{IsBoundedTally};
+ghost use Rattle.prepaid_command.specs.Answers.{IsRatedByWish, IsSaid};
 ghost use Rattle.prepaid_command.specs.Faults.{of_rate};
 ghost use Rattle.prepaid_command.specs.Summaries.{counts_text, status_of_rating, sums_text, summary_line};
 
@@ -30,7 +30,7 @@ pub(crate) fn rate_input<I: Read + Drop, O: Write, E: Write>(
     output: &mut O,
     faults: &mut E,
 ) -> u8
-    ensures rated { IfSome (I.remaining input) (λ text. IsRatedBy (wish_of ask.now) text result
+    ensures rated { IfSome (I.remaining input) (λ text. IsRatedByWish (rate_wish_of ask.now) text result
         (record { output = O.contents output.old; faults = E.contents faults.old })
         (record { output = O.contents output.new; faults = E.contents faults.new })) }
     ensures silent { result ≡ 1 → Keeps (O.contents output.old) (O.contents output.new) }
@@ -43,7 +43,7 @@ pub(crate) fn rate_input<I: Read + Drop, O: Write, E: Write>(
 
 /// Writes the summary, where it is wanted, and gives the status of rows that were all printed.
 fn tell_tally<E: Write>(faults: &mut E, summary: bool, tally: &Tally) -> u8
-    requires { IsBounded tally.now }
+    requires { IsBoundedTally tally.now }
     ensures status { result ≡ status_of_rating tally.now }
     ensures line { AppendsFront (E.contents faults.old) (E.contents faults.new)
         (if summary then summary_line tally.now else []) }

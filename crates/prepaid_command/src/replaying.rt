@@ -6,7 +6,7 @@ ghost use Rattle.prepaid_command.specs.ReplayLines.{told_line};
 ghost use Rattle.prepaid_command.specs.Replays.{replayed};
 ghost use Rattle.prepaid_command.specs.Asks.{ask_in};
 ghost use Rattle.prepaid_command.specs.AskingOf.{asking_of};
-ghost use Rattle.table_core.specs.Faults.{Gives};
+ghost use Rattle.table_core.specs.Faults.{GivesTable};
 ghost use Rattle.table_core.specs.Rows.{rows_of};
 ghost use Rattle.csv.specs.Records.{fields_of};
 ghost use Rattle.entry_rows.specs.Columns.{HasOperation};
@@ -37,7 +37,7 @@ pub fn replay<I: Read + Drop>(
 ) -> Result<String, TableFault>
     requires { opening ≤ MAX_MONEY }
     ensures { IfSome (I.remaining reader) (λ text.
-        Gives string_bytes result (replayed opening limit (rows_of text))) }
+        GivesTable string_bytes result (replayed opening limit (rows_of text))) }
 {
     let headers: &[&[&str]] = &[
         &["seat", "op", "call", "x1", "x2", "x3", "x4", "x5"],

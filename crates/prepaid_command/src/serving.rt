@@ -4,7 +4,7 @@ ghost use Rattle.std.specs.Prelude.{◌≡◌, option_map};
 ghost use Rattle.std.specs.Io.KnownBytes.{Keeps};
 ghost use Rattle.run_options.specs.Logs.{log_wish_of};
 ghost use Rattle.run_options.specs.Options.{live_ask_of};
-ghost use Rattle.prepaid_command.specs.Answers.{IsServeEnd, IsServed};
+ghost use Rattle.prepaid_command.specs.Answers.{IsServeEnd, IsServedInput};
 
 use crate::error_lines::report;
 use crate::fault::Fault;
@@ -31,7 +31,7 @@ pub(crate) fn serve_messages<R, I: BufRead + Drop, O: Write, E: Write>(
 ) -> u8
 where
     R: Wait + Threads + Sync + Files<File = File>,
-    ensures served { IsServed (live_ask_of options.now) (option_map log_wish_of log.entry)
+    ensures served { IsServedInput (live_ask_of options.now) (option_map log_wish_of log.entry)
         (I.remaining input) result
         (record { output = O.contents output.old; faults = E.contents faults.old })
         (record { output = O.contents output.new; faults = E.contents faults.new }) }

@@ -1,7 +1,7 @@
 //! An answer, or a fault and what is said of it.
 
 ghost use Rattle.std.specs.Prelude.{◌≡◌, false, true, Err, None, IfErr, IfNone, IfOk, IfSome, string_bytes};
-ghost use Rattle.prepaid_command.specs.Explanations.{IsOfWords, IsSaidBehind, IsSaidOf, slip_of};
+ghost use Rattle.prepaid_command.specs.Explanations.{IsOfWords, IsSaidBehind, IsSaidOfFault, slip_of};
 ghost use Rattle.prepaid_command.specs.Faults.{of_words};
 
 use crate::answer::Answer;
@@ -49,7 +49,7 @@ impl Told {
         ensures none { IfNone input.now (IfErr answer (λ why. IfSome result.more
             (λ _. slip_of in_parts why ≡ None))) }
         ensures said { IfSome input.now (λ bytes. IfErr answer (λ why. IfSome result.more
-            (λ more. IsSaidOf in_parts bytes.items why (string_bytes more)))) }
+            (λ more. IsSaidOfFault in_parts bytes.items why (string_bytes more)))) }
     {
         let more = match (&answer, input) {
             (Err(fault), Some(bytes)) if explains => said_of(alloc, in_parts, bytes, *fault),
@@ -73,7 +73,7 @@ impl Told {
         ensures none { IfNone input.now (IfErr answer (λ why. IfSome result.more
             (λ _. slip_of true why ≡ None))) }
         ensures said { IfSome input.now (λ bytes. IfErr answer (λ why. IfSome result.more
-            (λ more. IsSaidOf true bytes.items why (string_bytes more)))) }
+            (λ more. IsSaidOfFault true bytes.items why (string_bytes more)))) }
         ensures unread { IfNone input.now (IfOk answer (λ _. result.more ≡ None)) }
         ensures behind { IfSome input.now (λ bytes. IfOk answer (λ _. IfSome result.more
             (λ more. IsSaidBehind bytes.items (string_bytes more)))) }
@@ -103,7 +103,7 @@ impl Told {
         ensures none { IfNone input.now (IfErr answer (λ why. IfSome result.more
             (λ _. slip_of true why ≡ None))) }
         ensures said { IfSome input.now (λ bytes. IfErr answer (λ why. IfSome result.more
-            (λ more. IsSaidOf true bytes.items why (string_bytes more)))) }
+            (λ more. IsSaidOfFault true bytes.items why (string_bytes more)))) }
         ensures unread { IfNone input.now (IfOk answer (λ _. result.more ≡ None)) }
         ensures behind { IfSome input.now (λ bytes. IfOk answer (λ _. IfSome result.more
             (λ more. IsSaidBehind bytes.items (string_bytes more)))) }
@@ -191,7 +191,7 @@ fn strangers_of(alloc: Global, options: &RunOptions, input: &Vec<u8>) -> Option<
 /// What is said of a fault over an input; nothing where memory runs out.
 fn said_of(alloc: Global, in_parts: bool, input: &Vec<u8>, fault: Fault) -> Option<String>
     ensures { IfSome result (λ more.
-        IsSaidOf in_parts input.now.items fault (string_bytes more)) }
+        IsSaidOfFault in_parts input.now.items fault (string_bytes more)) }
 {
     match slip_of(in_parts, fault) {
         Some(slip) => explain(alloc, input.as_slice(), slip).ok(),

@@ -11,7 +11,7 @@ use Rattle.std.proofs.lemmas.Fmt.{length-decimal-le}
 use Rattle.std.proofs.lemmas.List.Elements.{All-from_recursion, All-head, All-tail}
 use Rattle.std.proofs.lemmas.List.Folds.{list_all-append, list_any-append}
 use Rattle.call_records.specs.Records.{IsPrefixOf, prefix_of}
-use Rattle.call_records.specs.Tables.{word_of}
+use Rattle.call_records.specs.Tables.{outcome_word}
 use Rattle.call_records.specs.declared.call_record.CallRecord.{CallRecord}
 use Rattle.call_records.specs.declared.outcome.Outcome.{Outcome}
 use Rattle.call_records.specs.declared.outcome.Outcome.TheVariants as outcome
@@ -24,8 +24,8 @@ use Rattle.moment_texts.specs.Printing.{moment_or_empty, moment_text}
 use Rattle.moment_texts.specs.Reading.{at_most, both, date_and_time_of, day_of, moment_of, seconds_of, time_of}
 use Rattle.moment_texts.specs.declared.clock.Clock.{Clock}
 use Rattle.rated_records.specs.Tables.{IsPrintable, record_fields}
-use Rattle.rating.specs.Calls.{size_of, with_commas}
-use Rattle.run_records.specs.Laws.{IsInRange}
+use Rattle.rating.specs.Calls.{row_size, with_commas}
+use Rattle.run_records.specs.Laws.{RecordIsInRange}
 use Rattle.table_core.specs.Decimals.{decimal_of, digits_text, is_decimal}
 use Rattle.table_core.specs.Printed.{DecimalsArePlain, IsPlain, IsPlainRow}
 use Rattle.table_core.specs.Rows.{Fields}
@@ -120,7 +120,7 @@ party_digits party =
 party_fits : (party : Number) → Fits (digits_of party)
 party_fits party = let (digits, short) = party_digits party in (digits_bare (digits_of party) digits, omega (arith, short))
 
-word_fits : (word : Outcome) → Fits (word_of word)
+word_fits : (word : Outcome) → Fits (outcome_word word)
 word_fits outcome.Unknown = (refl, omega arith)
 word_fits outcome.NoRoute = (refl, omega arith)
 word_fits outcome.Denied = (refl, omega arith)
@@ -136,12 +136,12 @@ word_fits outcome.Cut = (refl, omega arith)
 word_fits outcome.Released = (refl, omega arith)
 
 -- the bytes of a row, where no field needs quotes
-size_by : (fields : Fields) → All Fits fields → size_of fields ≤ 301 * length fields
+size_by : (fields : Fields) → All Fits fields → row_size fields ≤ 301 * length fields
 unfolding with_commas
 size_by [] fit = omega arith
 size_by (field ∷ fields) fit =
     let (plain, short) = All-head Fits field fields fit in
-    let rest : size_of fields ≤ 301 * length fields = size_by fields (All-tail Fits field fields fit) in
+    let rest : row_size fields ≤ 301 * length fields = size_by fields (All-tail Fits field fields fit) in
     let bare : field_text default_writer field ≡ field = rw plain refl in
     let here = length-append (field_text default_writer field ++ (comma ∷ [])) (with_commas fields) in
     let first = length-append (field_text default_writer field) (comma ∷ []) in
@@ -191,7 +191,7 @@ module _ (plain : DecimalsArePlain) where
     optional_moment_fits None small = (refl, omega arith)
     optional_moment_fits (Some at) small = moment_fits at small
 
-    fields_fit : (bands : List Band) (call : CallRecord) → IsPrefixOf bands (digits_of call.called) (prefix_of call) → IsPrintable call → IsInRange call → All Fits (record_fields clock call)
+    fields_fit : (bands : List Band) (call : CallRecord) → IsPrefixOf bands (digits_of call.called) (prefix_of call) → IsPrintable call → RecordIsInRange call → All Fits (record_fields clock call)
     fields_fit bands call prefix printable range =
         All-from_recursion Fits (record_fields clock call) (
           decimal_fits call.call printable.number,
@@ -225,11 +225,11 @@ module _ (plain : DecimalsArePlain) where
           ),
         )
 
-    pub fields_plain : (bands : List Band) (call : CallRecord) → IsPrefixOf bands (digits_of call.called) (prefix_of call) → IsPrintable call → IsInRange call → IsPlainRow (record_fields clock call)
+    pub fields_plain : (bands : List Band) (call : CallRecord) → IsPrefixOf bands (digits_of call.called) (prefix_of call) → IsPrintable call → RecordIsInRange call → IsPlainRow (record_fields clock call)
     fields_plain bands call prefix printable range =
         record { several = omega arith; plain = all_plain (record_fields clock call) (fields_fit bands call prefix printable range) }
 
     -- the bytes of its row are few
-    pub record_size : (bands : List Band) (call : CallRecord) → IsPrefixOf bands (digits_of call.called) (prefix_of call) → IsPrintable call → IsInRange call
-        → size_of (record_fields clock call) ≤ 3612
+    pub record_size : (bands : List Band) (call : CallRecord) → IsPrefixOf bands (digits_of call.called) (prefix_of call) → IsPrintable call → RecordIsInRange call
+        → row_size (record_fields clock call) ≤ 3612
     record_size bands call prefix printable range = size_by (record_fields clock call) (fields_fit bands call prefix printable range)

@@ -20,18 +20,18 @@ use Rattle.moment_texts.specs.Printing.{moment_text}
 use Rattle.moment_texts.specs.Reading.{moment_of}
 use Rattle.moment_texts.specs.declared.clock.Clock.{Clock}
 use Rattle.rated_records.proofs.Fields.{fields_plain, record_size}
-use Rattle.rated_records.specs.Laws.{IsRatedBy, RecordsHaveNoDifference, said_by}
+use Rattle.rated_records.specs.Laws.{IsRatedBy, RecordsHaveNoDifference, record_says}
 use Rattle.rated_records.specs.Tables.{IsInputOf, IsPrintable, IsRatedTable, IsRowOf, TablesHaveNoDifference, header_fields, names_by_start, record_fields}
-use Rattle.rating.specs.Calls.{CallSaid, call_in, said_in, size_of, with_commas}
+use Rattle.rating.specs.Calls.{CallSaid, call_in, said_in, row_size, with_commas}
 use Rattle.rating.specs.Columns.{columns_in, place_from}
 use Rattle.rating.specs.Rated.{IsPriced, Faulty}
-use Rattle.rating.specs.Texts.{IsRatedRow, IsRatedText, RateInput, RatedRow, headed, input_of, text_of}
+use Rattle.rating.specs.Texts.{IsRatedRow, IsRatedText, RateInput, RatedRow, headed, rate_input_of, rated_text}
 use Rattle.rating.specs.declared.fault.RateFault.{RateFault}
 use Rattle.rating.specs.declared.kind.RateKind.{RateKind}
 use Rattle.rating.specs.declared.tally.Tally.{Tally}
 use Rattle.run_records.specs.Laws.{IsServedRun, RecordsAreInRange}
 use Rattle.run_records.specs.Starts.{HaveTheirStarts}
-use Rattle.run_texts.specs.Inputs.{told}
+use Rattle.run_texts.specs.Inputs.{as_input_fault}
 use Rattle.run_texts.specs.declared.input_fault.InputFault.{InputFault}
 use Rattle.run_texts.specs.declared.input_fault.InputFault.TheVariants as fault
 use Rattle.shared_account.specs.Closed.{Closed}
@@ -84,7 +84,7 @@ record HasTable (bands : List Band) (clock : Clock) (rows : List Fields) (Printe
   bands_are : input.bands ≡ bands
   header_is : input.header ≡ header_fields
   rows_are : input.rows ≡ rows
-  says : (call : CallRecord) → Printed call → said_in (length input.header) input.columns (record_fields clock call) ≡ said_by call
+  says : (call : CallRecord) → Printed call → said_in (length input.header) input.columns (record_fields clock call) ≡ record_says call
 
 abbrev ReadsTable : List Band → Clock → List Fields → (CallRecord → Type 0) → Result RateInput RateFault → Type 0
 ReadsTable bands clock rows Printed meaning = MatchResult meaning (HasTable bands clock rows Printed) (λ why. ⊥)
@@ -130,7 +130,7 @@ module _ (Stood : Closed → ℕ → Knowing) (read : DecimalsAreRead) (plain : 
     says = λ call printed.
         let range = ranges run call is printed.is_record in
         let size = record_size plain moments moments_plain clock run.setup.tariff call (own_prefix call printed.is_record) printed.printable range in
-        let long : nat_lt 65536 (size_of (record_fields clock call)) ≡ false = not_over (size_of (record_fields clock call)) 65536 (omega (arith, size)) in
+        let long : nat_lt 65536 (row_size (record_fields clock call)) ≡ false = not_over (row_size (record_fields clock call)) 65536 (omega (arith, size)) in
         let number : is_number (digits_of call.called) ≡ true = call.called.in_range in
         let charged : (length (decimal call.paid) == 0) ≡ false = some_bytes (length (decimal call.paid)) (decimal_nonempty call.paid (omega (arith, range.paid))) in
         let paid : decimal_of 1000000000000000 (decimal call.paid) ≡ Some call.paid = read 1000000000000000 call.paid (omega arith) range.paid in
@@ -152,7 +152,7 @@ module _ (Stood : Closed → ℕ → Knowing) (read : DecimalsAreRead) (plain : 
     rating = λ lawful.
         let By : Result CallSaid RateKind → Type 0 = λ said. MatchResult said (λ it. IsPriced input.bands it.called it.answered it.paid row.rating) (λ why. row.rating ≡ Faulty why) in
         let Of : Fields → Type 0 = λ fields. By (said_in (length input.header) input.columns fields) in
-        let On : List Band → Type 0 = λ bands. MatchResult (said_by call) (λ it. IsPriced bands it.called it.answered it.paid row.rating) (λ why. row.rating ≡ Faulty why) in
+        let On : List Band → Type 0 = λ bands. MatchResult (record_says call) (λ it. IsPriced bands it.called it.answered it.paid row.rating) (λ why. row.rating ≡ Faulty why) in
         let by_record : IsRatedBy run call row.rating = subst On has.bands_are (subst By (has.says call printed) (subst Of (sym same) rated)) in
         right run call row.rating is starts proper printed.is_record lawful by_record;
   }
@@ -173,15 +173,15 @@ module _ (Stood : Closed → ℕ → Knowing) (read : DecimalsAreRead) (plain : 
   -- ---- the text
 
   table_rated : (table input : List ℕ) → (text : IsCallText clock run table) → All IsPrintable text.calls → IsInputOf run table input → (differing : Bool) (printed : List ℕ) (tally : Tally)
-      → IsRatedText differing (input_of names_by_start input) printed tally → IsRatedTable differing clock text.calls printed tally
+      → IsRatedText differing (rate_input_of names_by_start input) printed tally → IsRatedTable differing clock text.calls printed tally
   table_rated table input text printable input_is differing printed tally rated =
       let rows : List Fields = map (record_fields clock) text.calls in
       let read_as : rows_of input_is.first.rest ≡ header_fields ∷ rows = ap rows_of (input_is.rest ∙ text.is) ∙ table_rows text.calls printable text.are.each in
-      let means : input_of names_by_start input ≡ headed names_by_start run.setup.tariff (header_fields ∷ rows) =
+      let means : rate_input_of names_by_start input ≡ headed names_by_start run.setup.tariff (header_fields ∷ rows) =
       rw (input_is.is_first, input_is.tariff) (ap (headed names_by_start run.setup.tariff) read_as) in
       let As : Result RateInput RateFault → Type 0 = ReadsTable run.setup.tariff clock rows (IsPrinted run) in
       let has : HasTable run.setup.tariff clock rows (IsPrinted run) rated.input = subst As (sym means ∙ rated.is_input) (reads rows) in
-      let Header : Fields → Type 0 = λ header. printed ≡ text_of differing header rated.rated in
+      let Header : Fields → Type 0 = λ header. printed ≡ rated_text differing header rated.rated in
       record {
         rated = rated.rated;
         each = rows_rated rated.input rows has text.calls rated.rated (sym has.rows_are ∙ rated.are_rated.rows_are) printable text.are.each rated.are_rated.each;
@@ -189,7 +189,7 @@ module _ (Stood : Closed → ℕ → Knowing) (read : DecimalsAreRead) (plain : 
         tally_is = rated.tally_is;
       }
 
-was_told : {X E : Type 0} (tell : E → InputFault) (found : Result X E) (x : X) → told tell found ≡ Ok x → found ≡ Ok x
+was_told : {X E : Type 0} (tell : E → InputFault) (found : Result X E) (x : X) → as_input_fault tell found ≡ Ok x → found ≡ Ok x
 was_told tell (Ok other) x is = let same : other ≡ x = cc in ap Ok same
 was_told tell (Err why) x is = cc
 

@@ -11,7 +11,7 @@ use Rattle.call_records.specs.declared.outcome.Outcome.TheVariants as outcome
 use Rattle.moment_texts.specs.declared.clock.Clock.{Clock}
 use Rattle.rated_records.specs.Laws.{paid_rightly}
 use Rattle.rated_records.specs.Tables.{IsRowOf, NoRowIsPrinted, header_fields}
-use Rattle.rating.specs.Lines.{header_line, line_of}
+use Rattle.rating.specs.Lines.{header_line, rated_line}
 use Rattle.rating.specs.Rated.{Rating, Faulty, Priced, is_right}
 use Rattle.rating.specs.Tallies.{counted, no_rows, passes}
 use Rattle.rating.specs.Texts.{RatedRow}
@@ -46,7 +46,7 @@ rows_right clock (call ∷ calls) (row ∷ rated) lawful prefixed zip =
 
 -- ---- none is printed, and all pass
 
-none_printed : (rated : List RatedRow) → All IsRightRow rated → flat_map (λ row. line_of true row.fields row.rating) rated ≡ []
+none_printed : (rated : List RatedRow) → All IsRightRow rated → flat_map (λ row. rated_line true row.fields row.rating) rated ≡ []
 unfolding IsRightRow
 none_printed [] right = refl
 none_printed (row ∷ rated) right =

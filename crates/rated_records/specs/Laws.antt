@@ -14,18 +14,18 @@ use Rattle.run_records.specs.Laws.{IsServedRun}
 use Rattle.run_records.specs.Starts.{HaveTheirStarts}
 use Rattle.shared_account.specs.Closed.{Closed}
 use Rattle.shared_account.specs.Refusals.{Knowing}
-use Rattle.table_core.specs.Judging.{after}
+use Rattle.table_core.specs.Judging.{and_then}
 
 -- what a record says to `rate`, where its start is taken for the answer, and its times before the switch and after it as they are
-abbrev pub said_by : CallRecord → Result CallSaid RateKind
-said_by call =
-    after (talk_split call.times.before call.times.after) (λ talk.
+abbrev pub record_says : CallRecord → Result CallSaid RateKind
+record_says call =
+    and_then (talk_split call.times.before call.times.after) (λ talk.
     Ok (record { called = digits_of call.called; answered = Some (record { at = call.start; talk = talk }); paid = Some call.paid }))
 
 -- what a record comes to by the tariff of its run
 abbrev pub IsRatedBy : Run → CallRecord → Rating → Type 0
 IsRatedBy run call rating =
-    MatchResult (said_by call) (λ said. IsPriced run.setup.tariff said.called said.answered said.paid rating) (λ why. rating ≡ Faulty why)
+    MatchResult (record_says call) (λ said. IsPriced run.setup.tariff said.called said.answered said.paid rating) (λ why. rating ≡ Faulty why)
 
 -- its times, and what it has paid as their price
 abbrev pub charge_of : CallRecord → Charge

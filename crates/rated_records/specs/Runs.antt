@@ -4,18 +4,18 @@ use Rattle.call_records.specs.Records.{Run}
 use Rattle.call_records.specs.Tables.{IsCallText}
 use Rattle.moment_texts.specs.declared.clock.Clock.{Clock}
 use Rattle.rated_records.specs.Tables.{IsInputOf, IsPrintable, IsRatedTable, names_by_start}
-use Rattle.rating.specs.Texts.{IsRatedText, input_of}
+use Rattle.rating.specs.Texts.{IsRatedText, rate_input_of}
 use Rattle.rating.specs.declared.tally.Tally.{Tally}
 use Rattle.run_command.specs.Answers.{IsRunOf, RunSaid}
 use Rattle.run_options.specs.declared.options.RunAsk.{RunAsk}
 
 -- what an answer of `run` has come to
-abbrev pub run_of : (ask : RunAsk) (input : List ℕ) (ran : RunSaid) → IsRunOf ask input ran → Run
-run_of ask input ran is = record { setup = is.are_books.setup; given = is.given; books = is.books }
+abbrev pub run_of_answer : (ask : RunAsk) (input : List ℕ) (ran : RunSaid) → IsRunOf ask input ran → Run
+run_of_answer ask input ran is = record { setup = is.are_books.setup; given = is.given; books = is.books }
 
 -- where an answer of `run` is the table of its calls, `rate` prints of it, behind the run's tariff, each record in its row, to just what was paid unless it has a forfeit
 abbrev pub RunsHaveNoDifference : Type 0
 RunsHaveNoDifference =
-    (ask : RunAsk) (input : List ℕ) (ran : RunSaid) (is : IsRunOf ask input ran) (clock : Clock) (text : IsCallText clock (run_of ask input ran is) ran.text) → All IsPrintable text.calls
-    → (records : List ℕ) → IsInputOf (run_of ask input ran is) ran.text records → (differing : Bool) (printed : List ℕ) (tally : Tally)
-    → IsRatedText differing (input_of names_by_start records) printed tally → IsRatedTable differing clock text.calls printed tally
+    (ask : RunAsk) (input : List ℕ) (ran : RunSaid) (is : IsRunOf ask input ran) (clock : Clock) (text : IsCallText clock (run_of_answer ask input ran is) ran.text) → All IsPrintable text.calls
+    → (records : List ℕ) → IsInputOf (run_of_answer ask input ran is) ran.text records → (differing : Bool) (printed : List ℕ) (tally : Tally)
+    → IsRatedText differing (rate_input_of names_by_start records) printed tally → IsRatedTable differing clock text.calls printed tally

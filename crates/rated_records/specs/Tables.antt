@@ -3,7 +3,7 @@ use Rattle.std.specs.Prelude.{◌≡◌, ◌≢◌, ◌<◌, ◌≤◌, ◌^◌,
 use Rattle.std.specs.Fmt.{decimal}
 use Rattle.std.specs.List.{AllZip}
 use Rattle.call_records.specs.Records.{Run, prefix_of}
-use Rattle.call_records.specs.Tables.{IsCallText, word_of}
+use Rattle.call_records.specs.Tables.{IsCallText, outcome_word}
 use Rattle.call_records.specs.declared.call_record.CallRecord.{CallRecord}
 use Rattle.call_records.specs.declared.outcome.Outcome.TheVariants as outcome
 use Rattle.cap_values.specs.NumberDigits.{digits_of}
@@ -14,7 +14,7 @@ use Rattle.rated_records.specs.Laws.{paid_rightly}
 use Rattle.rating.specs.Asks.{NamesWish, ByUsualNames}
 use Rattle.rating.specs.Lines.{header_line}
 use Rattle.rating.specs.Tallies.{passes}
-use Rattle.rating.specs.Texts.{IsRatedText, RatedRow, count_of, input_of, text_of}
+use Rattle.rating.specs.Texts.{IsRatedText, RatedRow, counts_of, rate_input_of, rated_text}
 use Rattle.rating.specs.declared.tally.Tally.{Tally}
 use Rattle.run_records.specs.Laws.{IsServedRun}
 use Rattle.run_records.specs.Starts.{HaveTheirStarts}
@@ -40,7 +40,7 @@ header_fields =
 abbrev pub record_fields : Clock → CallRecord → Fields
 record_fields clock call =
     decimal call.call ∷ digits_of call.calling ∷ digits_of call.called ∷ number_or_empty call.account ∷ digits_text (unwrap_or (prefix_of call) []) ∷ moment_text clock call.start
-    ∷ moment_or_empty clock call.answer ∷ moment_or_empty clock call.end ∷ decimal call.times.before ∷ decimal call.times.after ∷ decimal call.paid ∷ word_of call.outcome ∷ []
+    ∷ moment_or_empty clock call.answer ∷ moment_or_empty clock call.end ∷ decimal call.times.before ∷ decimal call.times.after ∷ decimal call.paid ∷ outcome_word call.outcome ∷ []
 
 -- the numbers of a record have 64 bits, as those of each record of the code, and its start is a moment that a script may have
 pub record IsPrintable (call : CallRecord) : Type 0 where
@@ -66,14 +66,14 @@ pub record IsRowOf (clock : Clock) (call : CallRecord) (row : RatedRow) : Type 0
 pub record IsRatedTable (differing : Bool) (clock : Clock) (calls : List CallRecord) (printed : List ℕ) (tally : Tally) : Type 0 where
   pub rated : List RatedRow
   pub each : AllZip (IsRowOf clock) calls rated
-  pub printed_is : printed ≡ text_of differing header_fields rated
-  pub tally_is : tally ≡ count_of rated
+  pub printed_is : printed ≡ rated_text differing header_fields rated
+  pub tally_is : tally ≡ counts_of rated
 
 -- of a run's tariff with the table of its calls `rate` prints such a text, whatever it is asked to print
 abbrev pub TablesHaveNoDifference : (Closed → ℕ → Knowing) → Type 0
 TablesHaveNoDifference Stood =
     (run : Run) (clock : Clock) (table input : List ℕ) → IsServedRun Stood run → HaveTheirStarts run.given → (text : IsCallText clock run table) → All IsPrintable text.calls
-    → IsInputOf run table input → (differing : Bool) (printed : List ℕ) (tally : Tally) → IsRatedText differing (input_of names_by_start input) printed tally
+    → IsInputOf run table input → (differing : Bool) (printed : List ℕ) (tally : Tally) → IsRatedText differing (rate_input_of names_by_start input) printed tally
     → IsRatedTable differing clock text.calls printed tally
 
 -- where no call has a forfeit and each has a prefix, all rows are right, and of those that aren't none is printed

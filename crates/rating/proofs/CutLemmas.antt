@@ -7,10 +7,10 @@ use Rattle.std.proofs.lemmas.List.Elements.{All-append}
 use Rattle.std.proofs.lemmas.List.Sums.{fold-append}
 use Rattle.table_core.specs.Rows.{Fields}
 use Rattle.rating.specs.Laws.{PartsAreRated, together, with_rows}
-use Rattle.rating.specs.Lines.{header_line, line_of}
+use Rattle.rating.specs.Lines.{header_line, rated_line}
 use Rattle.rating.specs.Rated.{Rating, Faulty, Priced}
-use Rattle.rating.specs.Tallies.{counted, no_rows, tally_of}
-use Rattle.rating.specs.Texts.{AreRated, IsRatedRow, IsRatedText, RateInput, RatedRow, count_of, text_of}
+use Rattle.rating.specs.Tallies.{counted, no_rows, tally_of_rows}
+use Rattle.rating.specs.Texts.{AreRated, IsRatedRow, IsRatedText, RateInput, RatedRow, counts_of, rated_text}
 use Rattle.rating.specs.declared.fault.RateFault.{RateFault}
 use Rattle.rating.specs.declared.tally.Tally.{Tally}
 
@@ -53,18 +53,18 @@ together_none tally =
     same_tally _ _ (nothing_more _) (nothing_more _) (nothing_more _) (nothing_more _) (nothing_more _) (nothing_more _) (nothing_more _)
 
 -- what is counted of some rows, behind others
-counted_behind : (tally : Tally) (ratings : List Rating) → fold counted tally ratings ≡ together tally (tally_of ratings)
+counted_behind : (tally : Tally) (ratings : List Rating) → fold counted tally ratings ≡ together tally (tally_of_rows ratings)
 counted_behind tally [] = together_none tally
 counted_behind tally (rating ∷ ratings) =
     counted_behind (counted tally rating) ratings
-    ∙ ap (λ t. together t (tally_of ratings)) (counted_together tally rating)
-    ∙ together_assoc tally (counted no_rows rating) (tally_of ratings)
+    ∙ ap (λ t. together t (tally_of_rows ratings)) (counted_together tally rating)
+    ∙ together_assoc tally (counted no_rows rating) (tally_of_rows ratings)
     ∙ ap (λ t. together tally t) (sym (counted_behind (counted no_rows rating) ratings))
 
 -- what is counted of two parts is what is counted of both
-both_counted : (front back : List Rating) (one other : Tally) → one ≡ tally_of front → other ≡ tally_of back → together one other ≡ tally_of (front ++ back)
+both_counted : (front back : List Rating) (one other : Tally) → one ≡ tally_of_rows front → other ≡ tally_of_rows back → together one other ≡ tally_of_rows (front ++ back)
 both_counted front back one other is_one is_other =
-    rw (is_one, is_other) (sym (counted_behind (tally_of front) back)) ∙ sym (fold-append counted no_rows front back)
+    rw (is_one, is_other) (sym (counted_behind (tally_of_rows front) back)) ∙ sym (fold-append counted no_rows front back)
 
 -- ---- what is printed
 
@@ -75,16 +75,16 @@ ok_is meaning one other is is_too = cc
 record Lines (differing : Bool) (input : RateInput) (rows : List Fields) (text : List ℕ) (tally : Tally) : Type 0 where
   rated : List RatedRow
   are_rated : AreRated input rows rated
-  lines : text ≡ flat_map (λ row. line_of differing row.fields row.rating) rated
-  tally_is : tally ≡ count_of rated
+  lines : text ≡ flat_map (λ row. rated_line differing row.fields row.rating) rated
+  tally_is : tally ≡ counts_of rated
 
 lines_of : (differing : Bool) (input : RateInput) (rows : List Fields) (text : List ℕ) (tally : Tally)
     → IsRatedText differing (Ok (with_rows input rows)) (header_line input.header ++ text) tally → Lines differing input rows text tally
 lines_of differing input rows text tally is =
     let same : with_rows input rows ≡ is.input = ok_is (Ok (with_rows input rows)) _ _ refl is.is_input in
     let are : AreRated (with_rows input rows) rows is.rated = subst (λ (i : RateInput). AreRated i i.rows is.rated) (sym same) is.are_rated in
-    let printed : header_line input.header ++ text ≡ text_of differing input.header is.rated =
-    subst (λ (i : RateInput). header_line input.header ++ text ≡ text_of differing i.header is.rated) (sym same) is.printed_is in
+    let printed : header_line input.header ++ text ≡ rated_text differing input.header is.rated =
+    subst (λ (i : RateInput). header_line input.header ++ text ≡ rated_text differing i.header is.rated) (sym same) is.printed_is in
     record {
       rated = is.rated;
       are_rated = record { rows_are = are.rows_are; each = are.each };
@@ -97,8 +97,8 @@ parts_are_rated differing input front back first second one other is_front is_ba
     let a = lines_of differing input front first one is_front in
     let b = lines_of differing input back second other is_back in
     let rows : front ++ back ≡ map (λ row. row.fields) (a.rated ++ b.rated) = rw (map-append (λ (row : RatedRow). row.fields) a.rated b.rated, ← a.are_rated.rows_are, ← b.are_rated.rows_are) refl in
-    let lines : first ++ second ≡ flat_map (λ row. line_of differing row.fields row.rating) (a.rated ++ b.rated) =
-    rw (flat_map-append (λ (row : RatedRow). line_of differing row.fields row.rating) a.rated b.rated, ← a.lines, ← b.lines) refl in
+    let lines : first ++ second ≡ flat_map (λ row. rated_line differing row.fields row.rating) (a.rated ++ b.rated) =
+    rw (flat_map-append (λ (row : RatedRow). rated_line differing row.fields row.rating) a.rated b.rated, ← a.lines, ← b.lines) refl in
     record {
       input = with_rows input (front ++ back);
       is_input = refl;
@@ -107,5 +107,5 @@ parts_are_rated differing input front back first second one other is_front is_ba
       printed_is = ap (λ l. header_line input.header ++ l) lines;
       tally_is =
           both_counted (map (λ (row : RatedRow). row.rating) a.rated) (map (λ (row : RatedRow). row.rating) b.rated) one other a.tally_is b.tally_is
-          ∙ ap (λ l. tally_of l) (sym (map-append (λ (row : RatedRow). row.rating) a.rated b.rated));
+          ∙ ap (λ l. tally_of_rows l) (sym (map-append (λ (row : RatedRow). row.rating) a.rated b.rated));
     }

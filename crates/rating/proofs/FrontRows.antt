@@ -6,7 +6,7 @@ use Rattle.std.proofs.Math.Seq.{take-append_seam}
 use Rattle.std.proofs.lemmas.List.{length-take-le, take_all}
 use Rattle.csv.specs.Writing.{by_style, comma, default_writer, escaped, field_text, needs_quotes, quoted}
 use Rattle.table_core.specs.Rows.{Fields}
-use Rattle.rating.specs.Calls.{size_of, with_commas}
+use Rattle.rating.specs.Calls.{row_size, with_commas}
 use Rattle.rating.specs.Lines.{front}
 
 -- the bytes of some fields, the end of each counted as one
@@ -78,7 +78,7 @@ text_by true field = omega (arith, escaped_size field, length-append (escaped de
 text_by false field = omega arith
 
 -- a row of a first field and others
-pub size_more : (field : List ℕ) (fields : Fields) → length field + 1 + size_of fields ≤ size_of (field ∷ fields)
+pub size_more : (field : List ℕ) (fields : Fields) → length field + 1 + row_size fields ≤ row_size (field ∷ fields)
 unfolding with_commas
 size_more field fields =
     let all = length-append (field_text default_writer field ++ (comma ∷ [])) (with_commas fields) in
@@ -91,7 +91,7 @@ isnt_less : (a b : ℕ) → nat_lt a b ≡ false → b ≤ a
 isnt_less a b is = grind (arith, nat_tests)
 
 abbrev pub WholeOrOver : Fields → Fields → ℕ → Type 0
-WholeOrOver some fields room = (some ≡ fields) ⊎ ((room < size_of some) × (room < size_of fields))
+WholeOrOver some fields room = (some ≡ fields) ⊎ ((room < row_size some) × (room < row_size fields))
 
 one_more : (field : List ℕ) (some fields : Fields) (less room : ℕ) → room ≡ length field + 1 + less → WholeOrOver some fields less → WholeOrOver (field ∷ some) (field ∷ fields) room
 one_more field some fields less room is (inl same) = inl (ap (λ l. field ∷ l) same)
@@ -107,10 +107,10 @@ either_by : (b : Bool) (field : List ℕ) (fields : Fields) (room : ℕ) → nat
 either_by true field fields room is more = one_more field (front (room - (length field + 1)) fields) fields (room - (length field + 1)) room (omega (arith, is_less (length field) room is)) more
 either_by false field fields room is more = too_long field fields room (isnt_less (length field) room is)
 
-same_by : (limit most : ℕ) (some fields : Fields) → limit ≤ most → WholeOrOver some fields most → nat_lt limit (size_of some) ≡ nat_lt limit (size_of fields)
-same_by limit most some fields within (inl same) = ap (λ l. nat_lt limit (size_of l)) same
+same_by : (limit most : ℕ) (some fields : Fields) → limit ≤ most → WholeOrOver some fields most → nat_lt limit (row_size some) ≡ nat_lt limit (row_size fields)
+same_by limit most some fields within (inl same) = ap (λ l. nat_lt limit (row_size l)) same
 same_by limit most some fields within (inr over) =
-    less_is limit (size_of some) (omega (arith, within, over.0)) ∙ sym (less_is limit (size_of fields) (omega (arith, within, over.1)))
+    less_is limit (row_size some) (omega (arith, within, over.0)) ∙ sym (less_is limit (row_size fields) (omega (arith, within, over.1)))
 
 -- either all of a row is shown, or it has more bytes than there is room for, and so has what is shown
 pub whole_or_over : (fields : Fields) (room : ℕ) → WholeOrOver (front room fields) fields room
@@ -120,5 +120,5 @@ whole_or_over (field ∷ fields) room =
     either_by (nat_lt (length field) room) field fields room refl (whole_or_over fields (room - (length field + 1)))
 
 -- whether it has more bytes than so many is seen by what is shown
-pub same_size : (limit most : ℕ) (fields : Fields) → limit ≤ most → nat_lt limit (size_of (front most fields)) ≡ nat_lt limit (size_of fields)
+pub same_size : (limit most : ℕ) (fields : Fields) → limit ≤ most → nat_lt limit (row_size (front most fields)) ≡ nat_lt limit (row_size fields)
 same_size limit most fields within = same_by limit most (front most fields) fields within (whole_or_over fields most)

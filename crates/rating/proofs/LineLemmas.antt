@@ -9,7 +9,7 @@ use Rattle.table_core.specs.Printed.{IsPlain}
 use Rattle.table_core.specs.Rows.{Fields}
 use Rattle.std.specs.Fmt.{decimal}
 use Rattle.rating.specs.Calls.{with_commas}
-use Rattle.rating.specs.Lines.{cell, columns_of, columns_text, difference, header_line, name_of, names, row_line, shown}
+use Rattle.rating.specs.Lines.{cell, columns_of, columns_text, difference, header_line, rate_kind_name, names, rating_line, shown}
 use Rattle.rating.specs.Rated.{Rating, Faulty, Priced}
 
 by_quote : (is : Bool) (mark byte : ℕ) (rest : List ℕ) → (if is then mark ∷ byte ∷ rest else byte ∷ rest) ≡ (if is then mark ∷ byte ∷ [] else byte ∷ []) ++ rest
@@ -131,14 +131,14 @@ fault_text name = rw (append-nil name) refl
 columns_row : (rating : Rating) → columns_text rating ≡ row_text default_writer (columns_of rating)
 unfolding fields_text is_blank
 columns_row (Priced prefix charge paid) = priced_text (cell prefix) (cell (decimal charge.before)) (cell (decimal charge.after)) (cell (decimal charge.price)) (cell (difference charge.price paid))
-columns_row (Faulty why) = fault_text (cell (name_of why))
+columns_row (Faulty why) = fault_text (cell (rate_kind_name why))
 
 several_columns : (rating : Rating) → IsSeveral (columns_of rating)
 several_columns (Priced prefix charge paid) = record { first = prefix; second = decimal charge.before; more = _; is = refl }
 several_columns (Faulty why) = record { first = []; second = []; more = _; is = refl }
 
 -- the line of a row, in the two pieces in which it is written
-pub row_written : (now : List ℕ) (fields : Fields) (rating : Rating) → (now ++ with_commas (shown fields)) ++ columns_text rating ≡ now ++ row_line fields rating
+pub row_written : (now : List ℕ) (fields : Fields) (rating : Rating) → (now ++ with_commas (shown fields)) ++ columns_text rating ≡ now ++ rating_line fields rating
 row_written now fields rating =
     append_assoc now (with_commas (shown fields)) (columns_text rating)
     ∙ ap (λ l. now ++ l) (ap (λ l. with_commas (shown fields) ++ l) (columns_row rating) ∙ commas_before (shown fields) (columns_of rating) (several_columns rating))

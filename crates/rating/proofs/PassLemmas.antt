@@ -13,7 +13,7 @@ use Rattle.csv.specs.declared.parser.State.TheVariants as st
 use Rattle.memchr.specs.Find.{IsFirstByte, IsLastByte, is_byte}
 use Rattle.rating.proofs.StartCuts.{first_is}
 use Rattle.rating.proofs.StepLemmas.{IsCalm, IsPlain, StaysBy, after_cr, step_stays}
-use Rattle.rating.specs.Cuts.{CanPass, IsBetween, IsMove, added, closing, cut_from, cut_second, cut_start, cut_third, passed, passed_on, room_after, state_of}
+use Rattle.rating.specs.Cuts.{CanPass, IsBetween, IsMove, passed_byte, closing, cut_from, cut_second, cut_start, cut_third, passed_text, passed_on, room_after, cut_state_of}
 use Rattle.rating.specs.declared.call.TheConstants.{MAX_SHOWN}
 use Rattle.rating.specs.declared.place.Moves.TheVariants as moves
 use Rattle.rating.specs.declared.place.Place.{Place}
@@ -23,7 +23,7 @@ use Rattle.rating.specs.declared.place.Within.TheVariants as within
 
 -- ---- between two rows
 
-same_added : (room : Option ℕ) (c : ℕ) → added st.AfterCr room c ≡ added st.StartRecord room c
+same_added : (room : Option ℕ) (c : ℕ) → passed_byte st.AfterCr room c ≡ passed_byte st.StartRecord room c
 same_added None c = refl
 same_added (Some zero) c = refl
 same_added (Some (suc room)) c = refl
@@ -65,31 +65,31 @@ unfolding cut_from
 row_ends most s room c rest moves = rw moves.1 (ap (λ l. c ∷ l) (behind_row most (step default_config s c).0 (Some most) rest moves.0))
 
 pub quote_passes : (most : ℕ) (s : State) (room c : ℕ) (to : Within) (rest : List ℕ) → IsMove (moves.Skips to) (step default_config s c)
-    → cut_from most s (Some room) (c ∷ rest) ≡ c ∷ cut_from most (state_of to) (Some room) rest
+    → cut_from most s (Some room) (c ∷ rest) ≡ c ∷ cut_from most (cut_state_of to) (Some room) rest
 unfolding cut_from
 quote_passes most s room c to rest moves = rw (moves.1, moves.0) refl
 
 pub quote_goes : (most : ℕ) (s : State) (c : ℕ) (to : Within) (rest : List ℕ) → IsMove (moves.Skips to) (step default_config s c)
-    → cut_from most s None (c ∷ rest) ≡ cut_from most (state_of to) None rest
+    → cut_from most s None (c ∷ rest) ≡ cut_from most (cut_state_of to) None rest
 unfolding cut_from
 quote_goes most s c to rest moves = rw (moves.1, moves.0) refl
 
 pub byte_passes : (most : ℕ) (s : State) (room c : ℕ) (to : Within) (rest : List ℕ) → 0 < room → IsMove (moves.Adds to) (step default_config s c)
-    → cut_from most s (Some room) (c ∷ rest) ≡ c ∷ cut_from most (state_of to) (Some (room - 1)) rest
+    → cut_from most s (Some room) (c ∷ rest) ≡ c ∷ cut_from most (cut_state_of to) (Some (room - 1)) rest
 unfolding cut_from
 byte_passes most s zero c to rest some moves = absurd (omega (arith, some))
 byte_passes most s (suc room) c to rest some (at, inl is) = let less : suc room - 1 ≡ room = omega arith in rw (is, at, less) refl
 byte_passes most s (suc room) c to rest some (at, inr is) = let less : suc room - 1 ≡ room = omega arith in rw (is, at, less) refl
 
 pub byte_cuts : (most : ℕ) (s : State) (room c : ℕ) (to : Within) (rest : List ℕ) → room ≤ 0 → IsMove (moves.Adds to) (step default_config s c)
-    → cut_from most s (Some room) (c ∷ rest) ≡ closing s ++ cut_from most (state_of to) None rest
+    → cut_from most s (Some room) (c ∷ rest) ≡ closing s ++ cut_from most (cut_state_of to) None rest
 unfolding cut_from
 byte_cuts most s (suc room) c to rest none moves = absurd (omega (arith, none))
 byte_cuts most s zero c to rest none (at, inl is) = rw (is, at) refl
 byte_cuts most s zero c to rest none (at, inr is) = rw (is, at) refl
 
 pub byte_goes : (most : ℕ) (s : State) (c : ℕ) (to : Within) (rest : List ℕ) → IsMove (moves.Adds to) (step default_config s c)
-    → cut_from most s None (c ∷ rest) ≡ cut_from most (state_of to) None rest
+    → cut_from most s None (c ∷ rest) ≡ cut_from most (cut_state_of to) None rest
 unfolding cut_from
 byte_goes most s c to rest (at, inl is) = rw (is, at) refl
 byte_goes most s c to rest (at, inr is) = rw (is, at) refl
@@ -192,7 +192,7 @@ before_quote part None k none within before = not_true (slice_index part k == 34
 before_quote part (Some quote) k first within before = not_true (slice_index part k == 34) (first.0.before k (omega arith) before)
 
 by_place : (place : Place) (count end : ℕ) (part rest : List ℕ) → CanPass place count → end < count → end < length part → ((k : ℕ) → k < end → (slice_index part k == 34) ≡ false) → slice_index part end ≡ 10
-    → passed place (part ++ rest) ≡ take (suc end) part ++ cut_from MAX_SHOWN st.StartRecord (Some MAX_SHOWN) (drop (suc end) part ++ rest)
+    → passed_text place (part ++ rest) ≡ take (suc end) part ++ cut_from MAX_SHOWN st.StartRecord (Some MAX_SHOWN) (drop (suc end) part ++ rest)
 by_place place.Between count end part rest can before within plain is =
     rows_pass MAX_SHOWN st.StartRecord MAX_SHOWN end part rest (inr (inl refl)) (λ _. refl) (omega (arith, can, before)) (omega (arith, can, before)) within plain is
 by_place (place.InRow within.StartField room) count end part rest can before fits plain is =
@@ -208,18 +208,18 @@ by_place place.SecondMark count end part rest can before fits plain is = absurd 
 
 pub skipped : (place : Place) (part : List ℕ) (quote : Option ℕ) (sure count end : ℕ) → IsFirstByte (is_byte 34) part quote → CanPass place count
     → sure ≡ min (unwrap_or quote (length part)) count → IsLastByte (is_byte 10) (take sure part) (Some end)
-    → (rest : List ℕ) → passed place (part ++ rest) ≡ take (end + 1) part ++ cut_from MAX_SHOWN st.StartRecord (Some MAX_SHOWN) (drop (end + 1) part ++ rest)
+    → (rest : List ℕ) → passed_text place (part ++ rest) ≡ take (end + 1) part ++ cut_from MAX_SHOWN st.StartRecord (Some MAX_SHOWN) (drop (end + 1) part ++ rest)
 skipped place part quote sure count end first can is last = λ rest.
     let more : suc end ≡ end + 1 = omega arith in
     let within : end < length part = omega (arith, last.0.high, length-take sure part) in
     let early : end < sure = omega (arith, last.0.high, length-take sure part) in
     let feed : slice_index part end ≡ 10 = sym (get_or-take sure part end 0 early) ∙ is_value _ 10 last.1 in
-    subst (λ n. passed place (part ++ rest) ≡ take n part ++ cut_from MAX_SHOWN st.StartRecord (Some MAX_SHOWN) (drop n part ++ rest)) more
+    subst (λ n. passed_text place (part ++ rest) ≡ take n part ++ cut_from MAX_SHOWN st.StartRecord (Some MAX_SHOWN) (drop n part ++ rest)) more
     (by_place place count end part rest can (omega (arith, early, is)) within (λ k less. before_quote part quote k first (omega (arith, less, within)) (omega (arith, less, early, is))) feed)
 
 -- ---- a read
 
-passed_nothing : (place : Place) → passed place [] ≡ []
+passed_nothing : (place : Place) → passed_text place [] ≡ []
 unfolding cut_from cut_start cut_second cut_third
 passed_nothing place.Start = refl
 passed_nothing place.FirstMark = refl
@@ -229,14 +229,14 @@ passed_nothing (place.InRow at room) = refl
 passed_nothing (place.InRest at) = refl
 
 -- at the end of a table nothing is left to pass on
-pub ends_there : (place : Place) (known : Option (List ℕ)) → IsAtEnd known → IsAtEnd (option_map (passed place) known)
+pub ends_there : (place : Place) (known : Option (List ℕ)) → IsAtEnd known → IsAtEnd (option_map (passed_text place) known)
 ends_there place None end = tt
-ends_there place (Some text) end = ap (λ l. passed place l) end ∙ passed_nothing place
+ends_there place (Some text) end = ap (λ l. passed_text place l) end ∙ passed_nothing place
 
 -- nothing was read
-pub none_read : (place now : Place) (first old new : Option (List ℕ)) → Keeps (option_map (passed place) first) (option_map (passed now) old) → Consumes old new []
-    → Consumes (option_map (passed place) first) (option_map (passed now) new) []
+pub none_read : (place now : Place) (first old new : Option (List ℕ)) → Keeps (option_map (passed_text place) first) (option_map (passed_text now) old) → Consumes old new []
+    → Consumes (option_map (passed_text place) first) (option_map (passed_text now) new) []
 none_read place now None old new keeps none = tt
 none_read place now (Some text) None new keeps none = absurd keeps
 none_read place now (Some text) (Some rest) None keeps none = absurd none
-none_read place now (Some text) (Some rest) (Some left) keeps none = sym keeps ∙ ap (λ l. passed now l) none
+none_read place now (Some text) (Some rest) (Some left) keeps none = sym keeps ∙ ap (λ l. passed_text now l) none

@@ -9,13 +9,13 @@ use Rattle.std.proofs.lemmas.List.Concat.{flat_map-append}
 use Rattle.std.proofs.lemmas.List.Elements.{All-nil, All-push}
 use Rattle.std.proofs.lemmas.List.Sums.{fold_push}
 use Rattle.csv.specs.Records.{fields_of}
-use Rattle.table_core.specs.Rows.{Fields, HasLeft, Takes, rows_of}
+use Rattle.table_core.specs.Rows.{Fields, HasRowsLeft, TakesNext, rows_of}
 use Rattle.table_core.specs.declared.table.Rows.{Rows}
-use Rattle.rating.specs.Ends.{AddsRow, EndsBy, IsInPart, IsPrinted, MayAlwaysCome, Sends, StopsBy}
+use Rattle.rating.specs.Ends.{AddsRatedRow, EndsRating, IsInPart, IsRatedWhole, RateFaultMayAlwaysCome, SendsFront, StopsBy}
 use Rattle.rating.specs.Fronts.{AppendsFront}
-use Rattle.rating.specs.Lines.{columns_text, header_line, line_of, shown}
+use Rattle.rating.specs.Lines.{columns_text, header_line, rated_line, shown}
 use Rattle.rating.specs.Rated.{IsPriced, IsRated, Rating, Faulty, is_right}
-use Rattle.rating.specs.Calls.{said_in, size_of, with_commas}
+use Rattle.rating.specs.Calls.{said_in, row_size, with_commas}
 use Rattle.rating.proofs.FrontRows.{WholeOrOver, less_is, not_less, whole_or_over}
 use Rattle.rating.proofs.LineLemmas.{row_written}
 use Rattle.rating.proofs.StartCuts.{table_cut}
@@ -24,7 +24,7 @@ use Rattle.tariff_core.specs.Bands.{Band}
 use Rattle.rating.specs.declared.call.TheConstants.{MAX_ROW, MAX_SHOWN}
 use Rattle.rating.specs.declared.columns.Columns.{Columns}
 use Rattle.rating.specs.Tallies.{counted, no_rows}
-use Rattle.rating.specs.Texts.{AreRated, IsRatedRow, RateInput, RatedRow, below, count_of, headed, text_of}
+use Rattle.rating.specs.Texts.{AreRated, IsRatedRow, RateInput, RatedRow, rated_below, counts_of, headed, rated_text}
 use Rattle.rating.specs.Asks.{NamesWish}
 use Rattle.rating.specs.Columns.{columns_in}
 use Rattle.rating.specs.Faults.{of_rows}
@@ -41,13 +41,13 @@ pub record IsUnderWay {R : Type 0} (remaining : R → Option (List ℕ)) (differ
   pub read : List Fields
   pub left : List Fields
   pub rows_are : input.rows ≡ read ++ left
-  pub has : HasLeft remaining rows (map shown left)
+  pub has : HasRowsLeft remaining rows (map shown left)
   pub rated : List RatedRow
   pub are_rated : AreRated input read rated
   pub sent : List ℕ
   pub wrote : Appends old now sent
-  pub text_is : sent ++ text ≡ text_of differing input.header rated
-  pub tally_is : tally ≡ count_of rated
+  pub text_is : sent ++ text ≡ rated_text differing input.header rated
+  pub tally_is : tally ≡ counts_of rated
 
 -- nothing was written yet
 pub nothing_yet : (known : Option (List ℕ)) → Appends known known []
@@ -81,12 +81,12 @@ front_all (c ∷ sent) text = ap (λ l. c ∷ l) (front_all sent text)
 
 none_left : (left : List Fields) → map shown left ≡ [] → left ≡ []
 none_left [] none = refl
-none_left (whole ∷ below) none = absurd (cc)
+none_left (whole ∷ rated_below) none = absurd (cc)
 
 pub first_left : (left : List Fields) (first : Fields) (rest : List Fields) → map shown left ≡ first ∷ rest
-    → (whole : Fields) × (below : List Fields) × (left ≡ whole ∷ below) × (first ≡ shown whole) × (rest ≡ map shown below)
+    → (whole : Fields) × (rated_below : List Fields) × (left ≡ whole ∷ rated_below) × (first ≡ shown whole) × (rest ≡ map shown rated_below)
 first_left [] first rest is = absurd (cc)
-first_left (whole ∷ below) first rest is = (whole, below, refl, cc, cc)
+first_left (whole ∷ rated_below) first rest is = (whole, rated_below, refl, cc, cc)
 
 over_row : (size : ℕ) → MAX_SHOWN < size → nat_lt MAX_ROW size ≡ true
 over_row size over = less_is MAX_ROW size (omega (arith, over))
@@ -94,7 +94,7 @@ over_row size over = less_is MAX_ROW size (omega (arith, over))
 said_by : (width : ℕ) (columns : Columns) (some fields : Fields) → WholeOrOver some fields MAX_SHOWN → said_in width columns some ≡ said_in width columns fields
 unfolding said_in
 said_by width columns some fields (inl same) = ap (λ l. said_in width columns l) same
-said_by width columns some fields (inr over) = rw (over_row (size_of some) over.0, over_row (size_of fields) over.1) refl
+said_by width columns some fields (inr over) = rw (over_row (row_size some) over.0, over_row (row_size fields) over.1) refl
 
 -- a row comes to what is printed of it comes to: one that was cut has too many bytes
 rated_whole : (bands : List Band) (width : ℕ) (columns : Columns) (whole : Fields) (rating : Rating) → IsRated bands width columns (shown whole) rating → IsRated bands width columns whole rating
@@ -104,7 +104,7 @@ rated_whole bands width columns whole rating rated =
 
 module _ {R : Type 0} (remaining : R → Option (List ℕ)) (differing : Bool) (input : RateInput) where
   -- before the first row
-  pub at_first : (rows : Rows R) (known : Option (List ℕ)) (text : List ℕ) → HasLeft remaining rows (map shown input.rows) → text ≡ header_line input.header
+  pub at_first : (rows : Rows R) (known : Option (List ℕ)) (text : List ℕ) → HasRowsLeft remaining rows (map shown input.rows) → text ≡ header_line input.header
       → IsUnderWay remaining differing input rows known known text no_rows
   at_first rows known text has is = record {
     read = [];
@@ -149,7 +149,7 @@ module _ {R : Type 0} (remaining : R → Option (List ℕ)) (differing : Bool) (
 
   -- all of the text was written, where none is left
   pub all_written : (rows : Rows R) (old now new : Option (List ℕ)) (text : List ℕ) (tally : Tally) (way : IsUnderWay remaining differing input rows old now text tally)
-      → map shown way.left ≡ [] → Appends now new text → IsPrinted differing (Ok input) tally old new
+      → map shown way.left ≡ [] → Appends now new text → IsRatedWhole differing (Ok input) tally old new
   all_written rows old now new text tally way none wrote =
       let all : input.rows ≡ way.read = way.rows_are ∙ ap (λ l. way.read ++ l) (none_left way.left none) ∙ append-nil way.read in
       record {
@@ -167,18 +167,18 @@ module _ {R : Type 0} (remaining : R → Option (List ℕ)) (differing : Bool) (
 
   -- one row more
   pub row_more : (rows more : Rows R) (old now : Option (List ℕ)) (text new_text : List ℕ) (tally new_tally : Tally) (way : IsUnderWay remaining differing input rows old now text tally)
-      → Takes remaining more (map shown way.left) true
-      → ((whole : Fields) → fields_of more.row ≡ shown whole → AddsRow input.bands (length input.header) input.columns differing whole text new_text tally new_tally)
+      → TakesNext remaining more (map shown way.left) true
+      → ((whole : Fields) → fields_of more.row ≡ shown whole → AddsRatedRow input.bands (length input.header) input.columns differing whole text new_text tally new_tally)
       → IsUnderWay remaining differing input more old now new_text new_tally
   row_more rows more old now text new_text tally new_tally way takes added =
       let (rest, first, has) = takes in
-      let (whole, below, left_is, row_is, rest_is) = first_left way.left (fields_of more.row) rest first in
+      let (whole, rated_below, left_is, row_is, rest_is) = first_left way.left (fields_of more.row) rest first in
       let adds = added whole row_is in
       let row : RatedRow = record { fields = whole; rating = adds.rating } in
       record {
         read = way.read ++ whole ∷ [];
-        left = below;
-        rows_are = way.rows_are ∙ ap (λ l. way.read ++ l) left_is ∙ sym (append_assoc way.read (whole ∷ []) below);
+        left = rated_below;
+        rows_are = way.rows_are ∙ ap (λ l. way.read ++ l) left_is ∙ sym (append_assoc way.read (whole ∷ []) rated_below);
         has = rw rest_is at has;
         rated = way.rated ++ row ∷ [];
         are_rated = record {
@@ -187,17 +187,17 @@ module _ {R : Type 0} (remaining : R → Option (List ℕ)) (differing : Bool) (
         };
         sent = way.sent;
         wrote = way.wrote;
-        text_is = ap (λ l. way.sent ++ l) adds.text ∙ sym (append_assoc way.sent text (line_of differing row.fields row.rating))
-            ∙ ap (λ l. l ++ line_of differing row.fields row.rating) way.text_is
+        text_is = ap (λ l. way.sent ++ l) adds.text ∙ sym (append_assoc way.sent text (rated_line differing row.fields row.rating))
+            ∙ ap (λ l. l ++ rated_line differing row.fields row.rating) way.text_is
             ∙ append_assoc (header_line input.header) _ _
-            ∙ ap (λ l. header_line input.header ++ l) (sym (flat_map-append (λ r. line_of differing r.fields r.rating) way.rated (row ∷ []) ∙ ap (λ l. flat_map (λ r. line_of differing r.fields r.rating) way.rated ++ l) (append-nil (line_of differing row.fields row.rating))));
+            ∙ ap (λ l. header_line input.header ++ l) (sym (flat_map-append (λ r. rated_line differing r.fields r.rating) way.rated (row ∷ []) ∙ ap (λ l. flat_map (λ r. rated_line differing r.fields r.rating) way.rated ++ l) (append-nil (rated_line differing row.fields row.rating))));
         tally_is = adds.tally ∙ ap (λ t. counted t adds.rating) way.tally_is
             ∙ sym (ap (λ l. fold counted no_rows l) (map-append (λ r. r.rating) way.rated (row ∷ [])) ∙ fold_push counted no_rows (map (λ r. r.rating) way.rated) adds.rating);
       }
 
   -- so much of the text so far was written
   pub sent_more : (rows : Rows R) (old now new : Option (List ℕ)) (text rest : List ℕ) (tally : Tally) → IsUnderWay remaining differing input rows old now text tally
-      → Sends now new text rest → IsUnderWay remaining differing input rows old new rest tally
+      → SendsFront now new text rest → IsUnderWay remaining differing input rows old new rest tally
   sent_more rows old now new text rest tally way sends = record {
     read = way.read;
     left = way.left;
@@ -215,7 +215,7 @@ module _ {R : Type 0} (remaining : R → Option (List ℕ)) (differing : Bool) (
 pub added : {X E : Type 0} (answer : Result X E) (bands : List Band) (width : ℕ) (columns : Columns) (differing : Bool) (fields : Fields) (old new : List ℕ) (old_tally new_tally : Tally) (rating : Rating)
     → IsRated bands width columns fields rating → (differing && is_right rating) ≡ false → OnOk answer (new ≡ (old ++ with_commas fields) ++ columns_text rating)
     → new_tally ≡ counted old_tally rating
-    → OnOk answer ((whole : Fields) → fields ≡ shown whole → AddsRow bands width columns differing whole old new old_tally new_tally)
+    → OnOk answer ((whole : Fields) → fields ≡ shown whole → AddsRatedRow bands width columns differing whole old new old_tally new_tally)
 added (Ok done) bands width columns differing fields old new old_tally new_tally rating rated printed is counts = λ whole fields_are. record {
   rating = rating;
   is_rated = rated_whole bands width columns whole rating (rw fields_are at rated);
@@ -225,20 +225,20 @@ added (Ok done) bands width columns differing fields old new old_tally new_tally
 added (Err why) bands width columns differing fields old new old_tally new_tally rating rated printed is counts = tt
 
 -- sent as far as it is
-pub sends_all : (old new : Option (List ℕ)) (text : List ℕ) → Appends old new text → Sends old new text []
+pub sends_all : (old new : Option (List ℕ)) (text : List ℕ) → Appends old new text → SendsFront old new text []
 sends_all old new text wrote = record { sent = text; wrote = wrote; is = sym (append-nil text) }
 
-pub sends_none : (known : Option (List ℕ)) (text : List ℕ) → Sends known known text text
+pub sends_none : (known : Option (List ℕ)) (text : List ℕ) → SendsFront known known text text
 sends_none known text = record { sent = []; wrote = nothing_yet known; is = refl }
 
 -- ---- how rating ends at a fault
 
 pub failed_ends : (differing : Bool) (meaning : Result RateInput RateFault) (old new : Option (List ℕ)) (answer : Result Tally RateFault) (why : RateFault) → IsErrAnd answer (λ met. met ≡ why)
-    → why ≡ fault.Output → IsInPart differing meaning old new → EndsBy differing meaning old new answer
+    → why ≡ fault.Output → IsInPart differing meaning old new → EndsRating differing meaning old new answer
 failed_ends differing meaning old new (Ok tally) why met is part = absurd met
 failed_ends differing meaning old new (Err told) why met is part = rw (met, is) part
 
-pub stops : (differing : Bool) (meaning : Result RateInput RateFault) (old new : Option (List ℕ)) (why : RateFault) → MayAlwaysCome why → Keeps old new ⊎ IsInPart differing meaning old new
+pub stops : (differing : Bool) (meaning : Result RateInput RateFault) (old new : Option (List ℕ)) (why : RateFault) → RateFaultMayAlwaysCome why → Keeps old new ⊎ IsInPart differing meaning old new
     → StopsBy differing meaning old new why
 stops differing meaning old new fault.Header may part = absurd may
 stops differing meaning old new fault.Output may part = absurd may
@@ -251,12 +251,12 @@ stops differing meaning old new (fault.Input (input_fault.Setup row)) may part =
 stops differing meaning old new (fault.Input (input_fault.Script row)) may part = absurd may
 
 pub stopped_ends : (differing : Bool) (meaning : Result RateInput RateFault) (old new : Option (List ℕ)) (answer : Result Tally RateFault) (why : RateFault) → IsErrAnd answer (λ met. met ≡ why)
-    → MayAlwaysCome why → Keeps old new ⊎ IsInPart differing meaning old new → EndsBy differing meaning old new answer
+    → RateFaultMayAlwaysCome why → Keeps old new ⊎ IsInPart differing meaning old new → EndsRating differing meaning old new answer
 stopped_ends differing meaning old new (Ok tally) why met may part = absurd met
 stopped_ends differing meaning old new (Err told) why met may part = rw met (stops differing meaning old new why may part)
 
 -- rows that can't be read
-pub rows_may : (why : TableFault) → MayAlwaysCome (of_rows why)
+pub rows_may : (why : TableFault) → RateFaultMayAlwaysCome (of_rows why)
 rows_may (table.Row refused) = tt
 rows_may table.Device = tt
 rows_may table.OutOfMemory = tt
@@ -266,45 +266,45 @@ rows_may table.OutOfMemory = tt
 over_header : (size : ℕ) → size ≤ MAX_SHOWN → nat_lt MAX_SHOWN size ≡ false
 over_header size within = not_less MAX_SHOWN size within
 
-header_whole : (whole : Fields) → size_of (shown whole) ≤ MAX_SHOWN → WholeOrOver (shown whole) whole MAX_SHOWN → shown whole ≡ whole
+header_whole : (whole : Fields) → row_size (shown whole) ≤ MAX_SHOWN → WholeOrOver (shown whole) whole MAX_SHOWN → shown whole ≡ whole
 header_whole whole within (inl same) = same
 header_whole whole within (inr over) = absurd (omega (arith, within, over.0))
 
-first_headed : (names : NamesWish) (bands : List Band) (first : Fields) (below : List Fields) (columns : Columns) → size_of first ≤ MAX_SHOWN → columns_in first names ≡ Some columns
-    → headed names bands (first ∷ below) ≡ Ok (record { bands = bands; header = first; columns = columns; rows = below })
-first_headed names bands first below columns within found = rw (over_header (size_of first) within, found) refl
+first_headed : (names : NamesWish) (bands : List Band) (first : Fields) (rated_below : List Fields) (columns : Columns) → row_size first ≤ MAX_SHOWN → columns_in first names ≡ Some columns
+    → headed names bands (first ∷ rated_below) ≡ Ok (record { bands = bands; header = first; columns = columns; rows = rated_below })
+first_headed names bands first rated_below columns within found = rw (over_header (row_size first) within, found) refl
 
 -- a header that has few bytes was not cut, and is followed by the rows below it
-headed_is : (names : NamesWish) (bands : List Band) (rows rest : List Fields) (first : Fields) (columns : Columns) → map shown rows ≡ first ∷ rest → size_of first ≤ MAX_SHOWN
+headed_is : (names : NamesWish) (bands : List Band) (rows rest : List Fields) (first : Fields) (columns : Columns) → map shown rows ≡ first ∷ rest → row_size first ≤ MAX_SHOWN
     → columns_in first names ≡ Some columns
-    → (below : List Fields) × (headed names bands rows ≡ Ok (record { bands = bands; header = first; columns = columns; rows = below })) × (rest ≡ map shown below)
+    → (rated_below : List Fields) × (headed names bands rows ≡ Ok (record { bands = bands; header = first; columns = columns; rows = rated_below })) × (rest ≡ map shown rated_below)
 headed_is names bands rows rest first columns is within found =
-    let (whole, below, rows_are, first_is, rest_is) = first_left rows first rest is in
+    let (whole, rated_below, rows_are, first_is, rest_is) = first_left rows first rest is in
     let same : first ≡ whole = first_is ∙ header_whole whole (rw first_is at within) (whole_or_over whole MAX_SHOWN) in
-    let all : rows ≡ first ∷ below = rows_are ∙ ap (λ l. l ∷ below) (sym same) in
-    (below, ap (λ l. headed names bands l) all ∙ first_headed names bands first below columns within found, rest_is)
+    let all : rows ≡ first ∷ rated_below = rows_are ∙ ap (λ l. l ∷ rated_below) (sym same) in
+    (rated_below, ap (λ l. headed names bands l) all ∙ first_headed names bands first rated_below columns within found, rest_is)
 
 -- the first row of a table whose long rows are cut, and those below it
 pub opened : {R : Type 0} (remaining : R → Option (List ℕ)) (names : NamesWish) (bands : List Band) (text : List ℕ) (rows : Rows R) (columns : Columns)
-    → Takes remaining rows (rows_of (cut_start MAX_SHOWN text)) true → size_of (fields_of rows.row) ≤ MAX_SHOWN → columns_in (fields_of rows.row) names ≡ Some columns
-    → (below : List Fields)
-    × (headed names bands (rows_of text) ≡ Ok (record { bands = bands; header = fields_of rows.row; columns = columns; rows = below })) × HasLeft remaining rows (map shown below)
+    → TakesNext remaining rows (rows_of (cut_start MAX_SHOWN text)) true → row_size (fields_of rows.row) ≤ MAX_SHOWN → columns_in (fields_of rows.row) names ≡ Some columns
+    → (rated_below : List Fields)
+    × (headed names bands (rows_of text) ≡ Ok (record { bands = bands; header = fields_of rows.row; columns = columns; rows = rated_below })) × HasRowsLeft remaining rows (map shown rated_below)
 opened remaining names bands text rows columns takes within found =
     let (rest, first, left) = takes in
-    let (below, is, rest_is) = headed_is names bands (rows_of text) rest (fields_of rows.row) columns (sym (table_cut 131069 text) ∙ first) within found in
-    (below, is, rw rest_is at left)
+    let (rated_below, is, rest_is) = headed_is names bands (rows_of text) rest (fields_of rows.row) columns (sym (table_cut 131069 text) ∙ first) within found in
+    (rated_below, is, rw rest_is at left)
 
 -- the bytes of a header, as it was printed
 
-pub within_printed : (text : List ℕ) (fields : Fields) → text ≡ with_commas fields → length text ≤ MAX_SHOWN → size_of fields ≤ MAX_SHOWN
+pub within_printed : (text : List ℕ) (fields : Fields) → text ≡ with_commas fields → length text ≤ MAX_SHOWN → row_size fields ≤ MAX_SHOWN
 within_printed text fields is within = rw is at within
 
-pub over_printed : (text : List ℕ) (fields : Fields) → text ≡ with_commas fields → MAX_SHOWN < length text → MAX_SHOWN < size_of fields
+pub over_printed : (text : List ℕ) (fields : Fields) → text ≡ with_commas fields → MAX_SHOWN < length text → MAX_SHOWN < row_size fields
 over_printed text fields is over = rw is at over
 
 -- a table without a header that counts
 
-header_by : (over : Bool) (bands : List Band) (header : Fields) (rows : List Fields) → (if over then Err fault.Header else below bands header rows None) ≡ Err fault.Header
+header_by : (over : Bool) (bands : List Band) (header : Fields) (rows : List Fields) → (if over then Err fault.Header else rated_below bands header rows None) ≡ Err fault.Header
 header_by true bands header rows = refl
 header_by false bands header rows = refl
 
@@ -313,26 +313,26 @@ no_header names bands text none = ap (λ l. headed names bands l) (none_left (ro
 
 nameless : (names : NamesWish) (bands : List Band) (whole : Fields) (more : List Fields) → columns_in (shown whole) names ≡ None → WholeOrOver (shown whole) whole MAX_SHOWN
     → headed names bands (whole ∷ more) ≡ Err fault.Header
-nameless names bands whole more none (inl same) = rw (rw same at none) (header_by (nat_lt MAX_SHOWN (size_of whole)) bands whole more)
-nameless names bands whole more none (inr over) = rw (less_is MAX_SHOWN (size_of whole) over.1) refl
+nameless names bands whole more none (inl same) = rw (rw same at none) (header_by (nat_lt MAX_SHOWN (row_size whole)) bands whole more)
+nameless names bands whole more none (inr over) = rw (less_is MAX_SHOWN (row_size whole) over.1) refl
 
 pub no_columns : {R : Type 0} (remaining : R → Option (List ℕ)) (names : NamesWish) (bands : List Band) (text : List ℕ) (rows : Rows R)
-    → Takes remaining rows (rows_of (cut_start MAX_SHOWN text)) true → columns_in (fields_of rows.row) names ≡ None → headed names bands (rows_of text) ≡ Err fault.Header
+    → TakesNext remaining rows (rows_of (cut_start MAX_SHOWN text)) true → columns_in (fields_of rows.row) names ≡ None → headed names bands (rows_of text) ≡ Err fault.Header
 no_columns remaining names bands text rows takes none =
     let (rest, first, left) = takes in
     let (whole, more, rows_are, first_is, rest_is) = first_left (rows_of text) (fields_of rows.row) rest (sym (table_cut 131069 text) ∙ first) in
     ap (λ l. headed names bands l) rows_are ∙ nameless names bands whole more (rw first_is at none) (whole_or_over whole MAX_SHOWN)
 
-over_by : (whole : Fields) → MAX_SHOWN < size_of (shown whole) → WholeOrOver (shown whole) whole MAX_SHOWN → MAX_SHOWN < size_of whole
+over_by : (whole : Fields) → MAX_SHOWN < row_size (shown whole) → WholeOrOver (shown whole) whole MAX_SHOWN → MAX_SHOWN < row_size whole
 over_by whole over (inl same) = rw same at over
 over_by whole over (inr both) = both.1
 
 pub long_header : {R : Type 0} (remaining : R → Option (List ℕ)) (names : NamesWish) (bands : List Band) (text : List ℕ) (rows : Rows R)
-    → Takes remaining rows (rows_of (cut_start MAX_SHOWN text)) true → MAX_SHOWN < size_of (fields_of rows.row) → headed names bands (rows_of text) ≡ Err fault.Header
+    → TakesNext remaining rows (rows_of (cut_start MAX_SHOWN text)) true → MAX_SHOWN < row_size (fields_of rows.row) → headed names bands (rows_of text) ≡ Err fault.Header
 long_header remaining names bands text rows takes over =
     let (rest, first, left) = takes in
     let (whole, more, rows_are, first_is, rest_is) = first_left (rows_of text) (fields_of rows.row) rest (sym (table_cut 131069 text) ∙ first) in
-    ap (λ l. headed names bands l) rows_are ∙ rw (less_is MAX_SHOWN (size_of whole) (over_by whole (rw first_is at over) (whole_or_over whole MAX_SHOWN))) refl
+    ap (λ l. headed names bands l) rows_are ∙ rw (less_is MAX_SHOWN (row_size whole) (over_by whole (rw first_is at over) (whole_or_over whole MAX_SHOWN))) refl
 
 pub take_front : (front back : List ℕ) (count : ℕ) → count ≡ length front → take count (front ++ back) ≡ front
 take_front front back count is = rw is (take-append_seam front back)
@@ -340,7 +340,7 @@ take_front front back count is = rw is (take-append_seam front back)
 -- the line of a row isn't printed
 pub hidden : (bands : List Band) (width : ℕ) (columns : Columns) (differing : Bool) (fields : Fields) (old new : List ℕ) (old_tally new_tally : Tally) (rating : Rating)
     → IsRated bands width columns fields rating → (differing && is_right rating) ≡ true → new ≡ old → new_tally ≡ counted old_tally rating
-    → (whole : Fields) → fields ≡ shown whole → AddsRow bands width columns differing whole old new old_tally new_tally
+    → (whole : Fields) → fields ≡ shown whole → AddsRatedRow bands width columns differing whole old new old_tally new_tally
 hidden bands width columns differing fields old new old_tally new_tally rating rated hides same counts = λ whole fields_are. record {
   rating = rating;
   is_rated = rated_whole bands width columns whole rating (rw fields_are at rated);
@@ -349,5 +349,5 @@ hidden bands width columns differing fields old new old_tally new_tally rating r
 }
 
 pub ends_same : (differing : Bool) (meaning other : Result RateInput RateFault) (old new : Option (List ℕ)) (answer : Result Tally RateFault) → meaning ≡ other
-    → EndsBy differing other old new answer → EndsBy differing meaning old new answer
-ends_same differing meaning other old new answer is ends = subst (λ m. EndsBy differing m old new answer) (sym is) ends
+    → EndsRating differing other old new answer → EndsRating differing meaning old new answer
+ends_same differing meaning other old new answer is ends = subst (λ m. EndsRating differing m old new answer) (sym is) ends

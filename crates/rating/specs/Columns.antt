@@ -22,13 +22,13 @@ abbrev pub sought : Fields → List ℕ → Option (Option ℕ)
 sought header name = found_once header name (place_from header name 0)
 
 -- the place of a name that the header must have
-abbrev pub needed : Fields → List ℕ → Option ℕ
-needed header name = option_and_then (λ place. place) (sought header name)
+abbrev pub needed_column : Fields → List ℕ → Option ℕ
+needed_column header name = option_and_then (λ place. place) (sought header name)
 
 -- by their usual names: the times before the switch and after it where both are there, else the time, else the end
 abbrev pub time_or_end : Fields → Option ℕ → Option TimeColumns
 time_or_end header (Some place) = Some (times.Time place)
-time_or_end header None = option_map (λ place. times.End place) (needed header (codes "end"))
+time_or_end header None = option_map (λ place. times.End place) (needed_column header (codes "end"))
 
 -- the same, by what there is of `before` and `after`
 abbrev pub split_or_other : Fields → Option ℕ → Option ℕ → Option TimeColumns
@@ -39,22 +39,22 @@ split_or_other header _ _ = option_and_then (time_or_end header) (sought header 
 abbrev pub times_in : Fields → TimesWish → Option TimeColumns
 times_in header ByUsualNames =
     option_and_then (λ before. option_and_then (split_or_other header before) (sought header (codes "after"))) (sought header (codes "before"))
-times_in header (ByTime name) = option_map (λ place. times.Time place) (needed header name)
-times_in header (ByEnd name) = option_map (λ place. times.End place) (needed header name)
+times_in header (ByTime name) = option_map (λ place. times.Time place) (needed_column header name)
+times_in header (ByEnd name) = option_map (λ place. times.End place) (needed_column header name)
 times_in header (BySplit before after) =
-    option_and_then (λ first. option_map (λ second. times.Split first second) (needed header after)) (needed header before)
+    option_and_then (λ first. option_map (λ second. times.Split first second) (needed_column header after)) (needed_column header before)
 
 -- the column of what was charged, where there is one
-abbrev pub paid_in : Fields → Option (List ℕ) → Option (Option ℕ)
-paid_in header None = sought header (codes "paid")
-paid_in header (Some name) = option_map (λ place. Some place) (needed header name)
+abbrev pub paid_column : Fields → Option (List ℕ) → Option (Option ℕ)
+paid_column header None = sought header (codes "paid")
+paid_column header (Some name) = option_map (λ place. Some place) (needed_column header name)
 
 -- the columns by these names; nothing where the header hasn't one that must be there, or has one twice
 unfoldable pub columns_in : Fields → NamesWish → Option Columns
 columns_in header names =
     option_and_then (λ called. option_and_then (λ answer. option_and_then (λ times.
     option_map (λ paid. record { called = called; answer = answer; times = times; paid = paid })
-    (paid_in header names.paid)) (times_in header names.times)) (needed header names.answer)) (needed header names.called)
+    (paid_column header names.paid)) (times_in header names.times)) (needed_column header names.answer)) (needed_column header names.called)
 
 -- the columns of times are in rows of so many fields
 abbrev pub HasTimes : ℕ → TimeColumns → Type 0
@@ -63,7 +63,7 @@ HasTimes width (times.End place) = place < width
 HasTimes width (times.Split before after) = (before < width) × (after < width)
 
 -- all columns do
-pub record HasColumns (width : ℕ) (columns : Columns) : Type 0 where
+pub record HasAllColumns (width : ℕ) (columns : Columns) : Type 0 where
   pub called : columns.called < width
   pub answer : columns.answer < width
   pub times : HasTimes width columns.times

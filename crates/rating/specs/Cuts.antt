@@ -21,16 +21,16 @@ closing st.InQuoted = 34 ∷ []
 closing _ = []
 
 -- what is passed on for a byte of a row in which there is room for so many more; none where the row was cut
-abbrev pub added : State → Option ℕ → ℕ → List ℕ
-added s None c = []
-added s (Some zero) c = closing s
-added s (Some (suc room)) c = c ∷ []
+abbrev pub passed_byte : State → Option ℕ → ℕ → List ℕ
+passed_byte s None c = []
+passed_byte s (Some zero) c = closing s
+passed_byte s (Some (suc room)) c = c ∷ []
 
 -- the same by what the machine does at the byte: the end of a row is always passed on, and quotes around a field take no room
 abbrev pub passed_on : Action → State → Option ℕ → ℕ → List ℕ
 passed_on act.EndRecord s room c = c ∷ []
-passed_on act.Copy s room c = added s room c
-passed_on act.EndField s room c = added s room c
+passed_on act.Copy s room c = passed_byte s room c
+passed_on act.EndField s room c = passed_byte s room c
 passed_on act.Skip s None c = []
 passed_on act.Skip s (Some room) c = c ∷ []
 
@@ -67,20 +67,20 @@ cut_start most [] = []
 cut_start most (c ∷ rest) = if c == 0xEF then c ∷ cut_second most (less (Some most)) rest else cut_from most st.StartRecord (Some most) (c ∷ rest)
 
 -- the state of the machine within a row
-abbrev pub state_of : Within → State
-state_of within.StartField = st.StartField
-state_of within.InField = st.InField
-state_of within.InQuoted = st.InQuoted
-state_of within.AfterQuote = st.AfterQuote
+abbrev pub cut_state_of : Within → State
+cut_state_of within.StartField = st.StartField
+cut_state_of within.InField = st.InField
+cut_state_of within.InQuoted = st.InQuoted
+cut_state_of within.AfterQuote = st.AfterQuote
 
 -- what is passed on of the rest of a table from a place
-abbrev pub passed : Place → List ℕ → List ℕ
-passed place.Start text = cut_start MAX_SHOWN text
-passed place.FirstMark text = cut_second MAX_SHOWN (less (Some MAX_SHOWN)) text
-passed place.SecondMark text = cut_third MAX_SHOWN (less (less (Some MAX_SHOWN))) text
-passed place.Between text = cut_from MAX_SHOWN st.StartRecord (Some MAX_SHOWN) text
-passed (place.InRow at room) text = cut_from MAX_SHOWN (state_of at) (Some room) text
-passed (place.InRest at) text = cut_from MAX_SHOWN (state_of at) None text
+abbrev pub passed_text : Place → List ℕ → List ℕ
+passed_text place.Start text = cut_start MAX_SHOWN text
+passed_text place.FirstMark text = cut_second MAX_SHOWN (less (Some MAX_SHOWN)) text
+passed_text place.SecondMark text = cut_third MAX_SHOWN (less (less (Some MAX_SHOWN))) text
+passed_text place.Between text = cut_from MAX_SHOWN st.StartRecord (Some MAX_SHOWN) text
+passed_text (place.InRow at room) text = cut_from MAX_SHOWN (cut_state_of at) (Some room) text
+passed_text (place.InRest at) text = cut_from MAX_SHOWN (cut_state_of at) None text
 
 -- between two rows, whatever ended the first
 abbrev pub IsBetween : State → Type 0
@@ -89,8 +89,8 @@ IsBetween s = (s ≡ st.StartRecord) ⊎ (s ≡ st.AfterCr)
 -- what the machine does at a byte within a row
 abbrev pub IsMove : Moves → State × Action → Type 0
 IsMove moves.EndsRow next = IsBetween next.0 × (next.1 ≡ act.EndRecord)
-IsMove (moves.Adds to) next = (next.0 ≡ state_of to) × ((next.1 ≡ act.Copy) ⊎ (next.1 ≡ act.EndField))
-IsMove (moves.Skips to) next = (next.0 ≡ state_of to) × (next.1 ≡ act.Skip)
+IsMove (moves.Adds to) next = (next.0 ≡ cut_state_of to) × ((next.1 ≡ act.Copy) ⊎ (next.1 ≡ act.EndField))
+IsMove (moves.Skips to) next = (next.0 ≡ cut_state_of to) × (next.1 ≡ act.Skip)
 
 -- so many bytes are passed on from a place, if no quote is among them
 abbrev pub CanPass : Place → ℕ → Type 0
@@ -108,5 +108,5 @@ bytes_of (Some c) = c ∷ []
 abbrev pub reader_of : {R : Type 0} → CutRows R → R
 reader_of rows = rows.reader
 
-abbrev pub place_of : {R : Type 0} → CutRows R → Place
-place_of rows = rows.place
+abbrev pub cut_place : {R : Type 0} → CutRows R → Place
+cut_place rows = rows.place

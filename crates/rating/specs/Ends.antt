@@ -4,8 +4,8 @@ use Rattle.std.specs.Io.KnownBytes.{Appends, Keeps}
 use Rattle.run_texts.specs.declared.input_fault.InputFault.TheVariants as input
 use Rattle.table_core.specs.Rows.{Fields}
 use Rattle.rating.specs.Fronts.{AppendsFront}
-use Rattle.rating.specs.Texts.{AreRated, IsRatedText, RateInput, RatedRow, text_of}
-use Rattle.rating.specs.Lines.{line_of}
+use Rattle.rating.specs.Texts.{AreRated, IsRatedText, RateInput, RatedRow, rated_text}
+use Rattle.rating.specs.Lines.{rated_line}
 use Rattle.rating.specs.Rated.{IsRated, Rating}
 use Rattle.rating.specs.Tallies.{counted}
 use Rattle.tariff_core.specs.Bands.{Band}
@@ -15,7 +15,7 @@ use Rattle.rating.specs.declared.fault.RateFault.TheVariants as fault
 use Rattle.rating.specs.declared.tally.Tally.{Tally}
 
 -- all of the text was printed
-pub record IsPrinted (differing : Bool) (meaning : Result RateInput RateFault) (tally : Tally) (old new : Option (List ℕ)) : Type 0 where
+pub record IsRatedWhole (differing : Bool) (meaning : Result RateInput RateFault) (tally : Tally) (old new : Option (List ℕ)) : Type 0 where
   pub printed : List ℕ
   pub is_text : IsRatedText differing meaning printed tally
   pub whole : Appends old new printed
@@ -29,7 +29,7 @@ pub record IsInPart (differing : Bool) (meaning : Result RateInput RateFault) (o
   pub rows_are : input.rows ≡ read ++ left
   pub rated : List RatedRow
   pub are_rated : AreRated input read rated
-  pub front : AppendsFront old new (text_of differing input.header rated)
+  pub front : AppendsFront old new (rated_text differing input.header rated)
 
 -- what was written at a fault: nothing, but where the output failed, or in the middle of the rows the input or memory, a front
 abbrev pub StopsBy : Bool → Result RateInput RateFault → Option (List ℕ) → Option (List ℕ) → RateFault → Type 0
@@ -39,22 +39,22 @@ StopsBy differing meaning old new (fault.Input input.OutOfMemory) = Keeps old ne
 StopsBy differing meaning old new why = (meaning ≡ Err why) × Keeps old new
 
 -- how rating ends where this is to be rated, and only the rows are printed that aren't right or all
-abbrev pub EndsBy : Bool → Result RateInput RateFault → Option (List ℕ) → Option (List ℕ) → Result Tally RateFault → Type 0
-EndsBy differing meaning old new (Ok tally) = IsPrinted differing meaning tally old new
-EndsBy differing meaning old new (Err why) = StopsBy differing meaning old new why
+abbrev pub EndsRating : Bool → Result RateInput RateFault → Option (List ℕ) → Option (List ℕ) → Result Tally RateFault → Type 0
+EndsRating differing meaning old new (Ok tally) = IsRatedWhole differing meaning tally old new
+EndsRating differing meaning old new (Err why) = StopsBy differing meaning old new why
 
 -- at any input: a fault of the input, which has status 1, comes before anything is written
-abbrev pub IsSilent : Option (List ℕ) → Option (List ℕ) → RateFault → Type 0
-IsSilent old new fault.Output = ⊤
-IsSilent old new (fault.Input input.Device) = ⊤
-IsSilent old new (fault.Input input.OutOfMemory) = ⊤
-IsSilent old new why = Keeps old new
+abbrev pub IsRatingSilent : Option (List ℕ) → Option (List ℕ) → RateFault → Type 0
+IsRatingSilent old new fault.Output = ⊤
+IsRatingSilent old new (fault.Input input.Device) = ⊤
+IsRatingSilent old new (fault.Input input.OutOfMemory) = ⊤
+IsRatingSilent old new why = Keeps old new
 
 -- a fault of a reader that failed, or of memory that ran out
-abbrev pub MayAlwaysCome : RateFault → Type 0
-MayAlwaysCome (fault.Input input.Device) = ⊤
-MayAlwaysCome (fault.Input input.OutOfMemory) = ⊤
-MayAlwaysCome why = ⊥
+abbrev pub RateFaultMayAlwaysCome : RateFault → Type 0
+RateFaultMayAlwaysCome (fault.Input input.Device) = ⊤
+RateFaultMayAlwaysCome (fault.Input input.OutOfMemory) = ⊤
+RateFaultMayAlwaysCome why = ⊥
 
 -- a fault that may come in the middle of the rows
 abbrev pub MayStop : RateFault → Type 0
@@ -64,19 +64,19 @@ MayStop (fault.Input input.OutOfMemory) = ⊤
 MayStop why = ⊥
 
 -- a row was rated: its line is behind the text, and it is counted
-pub record AddsRow (bands : List Band) (width : ℕ) (columns : Columns) (differing : Bool) (fields : Fields) (old_text new_text : List ℕ) (old_tally new_tally : Tally) : Type 0 where
+pub record AddsRatedRow (bands : List Band) (width : ℕ) (columns : Columns) (differing : Bool) (fields : Fields) (old_text new_text : List ℕ) (old_tally new_tally : Tally) : Type 0 where
   pub rating : Rating
   pub is_rated : IsRated bands width columns fields rating
-  pub text : new_text ≡ old_text ++ line_of differing fields rating
+  pub text : new_text ≡ old_text ++ rated_line differing fields rating
   pub tally : new_tally ≡ counted old_tally rating
 
 -- a front of a text was written, and this is the rest
-pub record Sends (old new : Option (List ℕ)) (text rest : List ℕ) : Type 0 where
+pub record SendsFront (old new : Option (List ℕ)) (text rest : List ℕ) : Type 0 where
   pub sent : List ℕ
   pub wrote : Appends old new sent
   pub is : text ≡ sent ++ rest
 
 -- the output failed within the text
-pub record IsCutOff (old new : Option (List ℕ)) (text : List ℕ) (why : RateFault) : Type 0 where
+pub record IsRatingCutOff (old new : Option (List ℕ)) (text : List ℕ) (why : RateFault) : Type 0 where
   pub why_is : why ≡ fault.Output
   pub front : AppendsFront old new text

@@ -13,6 +13,6 @@ of_rows table.OutOfMemory = fault.Input input.OutOfMemory
 of_rows _ = fault.Input input.Device
 
 -- what an input says, its fault told as one of `rate`
-abbrev pub told : {X : Type 0} → Result X InputFault → Result X RateFault
-told (Ok x) = Ok x
-told (Err why) = Err (fault.Input why)
+abbrev pub as_rate_fault : {X : Type 0} → Result X InputFault → Result X RateFault
+as_rate_fault (Ok x) = Ok x
+as_rate_fault (Err why) = Err (fault.Input why)

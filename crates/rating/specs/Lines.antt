@@ -10,12 +10,12 @@ use Rattle.rating.specs.declared.kind.RateKind.{RateKind}
 use Rattle.rating.specs.declared.kind.RateKind.TheVariants as kind
 
 -- the name of a fault
-abbrev pub name_of : RateKind → List ℕ
-name_of kind.Csv = codes "Csv"
-name_of kind.Number = codes "Number"
-name_of kind.Order = codes "Order"
-name_of kind.TooLong = codes "TooLong"
-name_of kind.NoRoute = codes "noroute"
+abbrev pub rate_kind_name : RateKind → List ℕ
+rate_kind_name kind.Csv = codes "Csv"
+rate_kind_name kind.Number = codes "Number"
+rate_kind_name kind.Order = codes "Order"
+rate_kind_name kind.TooLong = codes "TooLong"
+rate_kind_name kind.NoRoute = codes "noroute"
 
 -- the price less what was charged, with a minus where more was; empty where nothing is recorded
 abbrev pub difference : ℕ → Option ℕ → List ℕ
@@ -26,7 +26,7 @@ difference price (Some paid) = if nat_lt price paid then codes "-" ++ decimal (p
 abbrev pub columns_of : Rating → Fields
 columns_of (Priced prefix charge paid) =
     prefix ∷ decimal charge.before ∷ decimal charge.after ∷ decimal charge.price ∷ difference charge.price paid ∷ [] ∷ []
-columns_of (Faulty why) = [] ∷ [] ∷ [] ∷ [] ∷ [] ∷ name_of why ∷ []
+columns_of (Faulty why) = [] ∷ [] ∷ [] ∷ [] ∷ [] ∷ rate_kind_name why ∷ []
 
 -- their names
 abbrev pub names : Fields
@@ -43,7 +43,7 @@ charge_text charge = codes "," ++ (cell (decimal charge.before) ++ (codes "," ++
 -- the six columns as they are printed behind a comma, with the end of the line
 abbrev pub columns_text : Rating → List ℕ
 columns_text (Priced prefix charge paid) = cell prefix ++ (charge_text charge ++ (cell (difference charge.price paid) ++ codes ",\n"))
-columns_text (Faulty why) = codes ",,,,," ++ (cell (name_of why) ++ codes "\n")
+columns_text (Faulty why) = codes ",,,,," ++ (cell (rate_kind_name why) ++ codes "\n")
 
 -- the header again, with the six names
 abbrev pub header_line : Fields → List ℕ
@@ -59,9 +59,9 @@ abbrev pub shown : Fields → Fields
 shown fields = front MAX_SHOWN fields
 
 -- a row again, with its six columns
-abbrev pub row_line : Fields → Rating → List ℕ
-row_line fields rating = row_text default_writer (shown fields ++ columns_of rating)
+abbrev pub rating_line : Fields → Rating → List ℕ
+rating_line fields rating = row_text default_writer (shown fields ++ columns_of rating)
 
 -- the same where it is printed: where only rows are that differ or have a fault, a right one isn't
-abbrev pub line_of : Bool → Fields → Rating → List ℕ
-line_of differing fields rating = if differing && is_right rating then [] else row_line fields rating
+abbrev pub rated_line : Bool → Fields → Rating → List ℕ
+rated_line differing fields rating = if differing && is_right rating then [] else rating_line fields rating

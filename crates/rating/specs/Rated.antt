@@ -35,7 +35,7 @@ abbrev pub no_charge : Charge
 no_charge = record { before = 0; after = 0; price = 0 }
 
 -- the number has a route at the answer, and the call costs what its plan says
-pub record IsRouted (bands : List Band) (called : List ℕ) (answered : Answered) (paid : Option ℕ) (rating : Rating) : Type 0 where
+pub record IsRatedByRoute (bands : List Band) (called : List ℕ) (answered : Answered) (paid : Option ℕ) (rating : Rating) : Type 0 where
   pub prefix : List ℕ
   pub start : ℕ
   pub route : Route
@@ -46,7 +46,7 @@ pub record IsRouted (bands : List Band) (called : List ℕ) (answered : Answered
 abbrev pub IsPriced : List Band → List ℕ → Option Answered → Option ℕ → Rating → Type 0
 IsPriced bands called None paid rating = rating ≡ Priced [] no_charge paid
 IsPriced bands called (Some answered) paid rating =
-    IsRouted bands called answered paid rating ⊎ (HasNoRoute bands called × (rating ≡ Faulty kind.NoRoute))
+    IsRatedByRoute bands called answered paid rating ⊎ (HasNoRoute bands called × (rating ≡ Faulty kind.NoRoute))
 
 -- what a row comes to by a tariff, under a header of so many fields with these columns. It depends on nothing else
 abbrev pub IsRated : List Band → ℕ → Columns → Fields → Rating → Type 0

@@ -19,12 +19,12 @@ times_of (times.End name) = ByEnd name.now
 times_of (times.Split before after) = BySplit before.now after.now
 
 -- the names
-abbrev pub names_of : Names → NamesWish
-names_of names = record { called = names.called.now; answer = names.answer.now; times = times_of names.times; paid = option_map (λ name. name.now) names.paid }
+abbrev pub wished_names : Names → NamesWish
+wished_names names = record { called = names.called.now; answer = names.answer.now; times = times_of names.times; paid = option_map (λ name. name.now) names.paid }
 
 -- what is asked for
-abbrev pub wish_of : RateAsk → RateWish
-wish_of ask = record { names = names_of ask.names; differing = ask.differing; summary = ask.summary }
+abbrev pub rate_wish_of : RateAsk → RateWish
+rate_wish_of ask = record { names = wished_names ask.names; differing = ask.differing; summary = ask.summary }
 
 -- what a record says
 abbrev pub said_by : Call → CallSaid

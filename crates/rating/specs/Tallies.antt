@@ -22,15 +22,15 @@ counted tally (Priced prefix charge (Some paid)) = record {
 }
 
 -- some rows, one after the other
-abbrev pub tally_of : List Rating → Tally
-tally_of ratings = fold counted no_rows ratings
+abbrev pub tally_of_rows : List Rating → Tally
+tally_of_rows ratings = fold counted no_rows ratings
 
 -- whether all rows are right
 abbrev pub passes : Tally → Bool
 passes tally = tally.differing + tally.faults == 0
 
 -- a row adds 64 bits at most to each sum
-pub record IsBounded (tally : Tally) : Type 0 where
+pub record IsBoundedTally (tally : Tally) : Type 0 where
   pub differing : tally.differing + tally.faults ≤ tally.rows
   pub paid : tally.paid ≤ tally.rows * (2 ^ 64 - 1)
   pub price : tally.price ≤ tally.rows * (2 ^ 64 - 1)

@@ -3,16 +3,16 @@ use Rattle.std.specs.Prelude.{◌≡◌, ℕ, Bool, List, [], ◌∷◌, ◌++�
 use Rattle.std.specs.List.{flat_map}
 use Rattle.run_texts.specs.FirstParts.{first_part}
 use Rattle.run_texts.specs.Inputs.{tariff_in}
-use Rattle.table_core.specs.Judging.{after}
+use Rattle.table_core.specs.Judging.{and_then}
 use Rattle.table_core.specs.Rows.{Fields, rows_of}
 use Rattle.tariff_core.specs.Bands.{Band}
 use Rattle.rating.specs.Asks.{NamesWish}
-use Rattle.rating.specs.Calls.{size_of}
+use Rattle.rating.specs.Calls.{row_size}
 use Rattle.rating.specs.Columns.{columns_in}
-use Rattle.rating.specs.Faults.{told}
-use Rattle.rating.specs.Lines.{header_line, line_of}
+use Rattle.rating.specs.Faults.{as_rate_fault}
+use Rattle.rating.specs.Lines.{header_line, rated_line}
 use Rattle.rating.specs.Rated.{IsRated, Rating}
-use Rattle.rating.specs.Tallies.{tally_of}
+use Rattle.rating.specs.Tallies.{tally_of_rows}
 use Rattle.rating.specs.declared.call.TheConstants.{MAX_SHOWN}
 use Rattle.rating.specs.declared.columns.Columns.{Columns}
 use Rattle.rating.specs.declared.fault.RateFault.{RateFault}
@@ -27,18 +27,18 @@ pub record RateInput : Type 0 where
   pub rows : List Fields
 
 -- the rows below a header
-abbrev pub below : List Band → Fields → List Fields → Option Columns → Result RateInput RateFault
-below bands header rows None = Err fault.Header
-below bands header rows (Some columns) = Ok (record { bands = bands; header = header; columns = columns; rows = rows })
+abbrev pub rated_below : List Band → Fields → List Fields → Option Columns → Result RateInput RateFault
+rated_below bands header rows None = Err fault.Header
+rated_below bands header rows (Some columns) = Ok (record { bands = bands; header = header; columns = columns; rows = rows })
 
 -- the rows of a table, the first of which is its header, unless it has too many bytes
 abbrev pub headed : NamesWish → List Band → List Fields → Result RateInput RateFault
 headed names bands [] = Err fault.Header
-headed names bands (header ∷ rows) = if nat_lt MAX_SHOWN (size_of header) then Err fault.Header else below bands header rows (columns_in header names)
+headed names bands (header ∷ rows) = if nat_lt MAX_SHOWN (row_size header) then Err fault.Header else rated_below bands header rows (columns_in header names)
 
 -- an input: its first part, which is its tariff, and its header, judged in this order
-abbrev pub input_of : NamesWish → List ℕ → Result RateInput RateFault
-input_of names text = after (told (first_part text)) (λ first. after (told (tariff_in first.part)) (λ bands. headed names bands (rows_of first.rest)))
+abbrev pub rate_input_of : NamesWish → List ℕ → Result RateInput RateFault
+rate_input_of names text = and_then (as_rate_fault (first_part text)) (λ first. and_then (as_rate_fault (tariff_in first.part)) (λ bands. headed names bands (rows_of first.rest)))
 
 -- a row, and what it comes to
 pub record RatedRow : Type 0 where
@@ -55,12 +55,12 @@ pub record AreRated (input : RateInput) (rows : List Fields) (rated : List Rated
   pub each : All (IsRatedRow input) rated
 
 -- the text of rows that have been rated: the header, and a line of each row that is printed
-abbrev pub text_of : Bool → Fields → List RatedRow → List ℕ
-text_of differing header rated = header_line header ++ flat_map (λ row. line_of differing row.fields row.rating) rated
+abbrev pub rated_text : Bool → Fields → List RatedRow → List ℕ
+rated_text differing header rated = header_line header ++ flat_map (λ row. rated_line differing row.fields row.rating) rated
 
 -- what is counted of them
-abbrev pub count_of : List RatedRow → Tally
-count_of rated = tally_of (map (λ row. row.rating) rated)
+abbrev pub counts_of : List RatedRow → Tally
+counts_of rated = tally_of_rows (map (λ row. row.rating) rated)
 
 -- the text that is printed where this is to be rated, and what is counted
 pub record IsRatedText (differing : Bool) (meaning : Result RateInput RateFault) (printed : List ℕ) (tally : Tally) : Type 0 where
@@ -68,5 +68,5 @@ pub record IsRatedText (differing : Bool) (meaning : Result RateInput RateFault)
   pub is_input : meaning ≡ Ok input
   pub rated : List RatedRow
   pub are_rated : AreRated input input.rows rated
-  pub printed_is : printed ≡ text_of differing input.header rated
-  pub tally_is : tally ≡ count_of rated
+  pub printed_is : printed ≡ rated_text differing input.header rated
+  pub tally_is : tally ≡ counts_of rated

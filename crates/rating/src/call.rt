@@ -3,8 +3,8 @@
 ghost use Rattle.std.specs.Prelude.{◌≡◌, ◌<◌, ◌≤◌, length, unwrap_or, IfOk, IfSome};
 ghost use Rattle.std.specs.Result.{result_map_both};
 ghost use Rattle.csv.specs.Records.{fields_of};
-ghost use Rattle.rating.specs.Calls.{IsInRange, IsWithinDay, answered_in, call_in, called_in, moment_in, number_in, optional_in, paid_in, talk_in, talk_split, talk_until};
-ghost use Rattle.rating.specs.Columns.{HasColumns, HasTimes};
+ghost use Rattle.rating.specs.Calls.{AnsweredIsInRange, IsWithinDay, answered_in, call_in, called_in, needed_moment, needed_number, optional_number, charged_in, talk_in, talk_split, talk_until};
+ghost use Rattle.rating.specs.Columns.{HasAllColumns, HasTimes};
 ghost use Rattle.rating.specs.SaidOf.{said_by};
 
 use crate::RateKind;
@@ -51,9 +51,9 @@ impl<'a> Call<'a> {
     /// range, and else `Order` where the end is out of order.
     #[tactic(auto, unfolding(crate::specs::Calls::call_in))]
     pub(crate) fn read(row: &'a ByteRecord, columns: &Columns) -> Result<Call<'a>, RateKind>
-        requires { HasColumns (length (fields_of row.now)) columns.now }
+        requires { HasAllColumns (length (fields_of row.now)) columns.now }
         ensures value { result_map_both said_by (λ kind. kind) result ≡ call_in (fields_of row.now) columns.now }
-        ensures within { IfOk result (λ call. IfSome call.answered IsInRange) }
+        ensures within { IfOk result (λ call. IfSome call.answered AnsweredIsInRange) }
         ensures paid { IfOk result (λ call. unwrap_or call.paid 0 ≤ MAX_MONEY) }
     {
         let called = called(row, columns.called)?;
@@ -82,9 +82,9 @@ fn called(row: &ByteRecord, place: usize) -> Result<&[u8], RateKind>
 
 /// When the call was answered, if it was, and its time.
 fn read_answered(row: &ByteRecord, columns: &Columns) -> Result<Option<Answered>, RateKind>
-    requires { HasColumns (length (fields_of row.now)) columns.now }
+    requires { HasAllColumns (length (fields_of row.now)) columns.now }
     ensures value { result ≡ answered_in (fields_of row.now) columns.now }
-    ensures within { IfOk result (λ answered. IfSome answered IsInRange) }
+    ensures within { IfOk result (λ answered. IfSome answered AnsweredIsInRange) }
 {
     if is_blank(row, columns.answer) {
         return Ok(None);
@@ -138,7 +138,7 @@ fn talk_split(before: u32, after: u32) -> Result<Talk, RateKind>
 /// What was charged, where there is a column for it and it isn't empty.
 fn paid(row: &ByteRecord, place: Option<usize>) -> Result<Option<u64>, RateKind>
     requires { IfSome place (λ place. place < length (fields_of row.now)) }
-    ensures value { result ≡ paid_in (fields_of row.now) place }
+    ensures value { result ≡ charged_in (fields_of row.now) place }
     ensures within { IfOk result (λ paid. unwrap_or paid 0 ≤ MAX_MONEY) }
 {
     match place {
@@ -150,7 +150,7 @@ fn paid(row: &ByteRecord, place: Option<usize>) -> Result<Option<u64>, RateKind>
 /// The moment in a field.
 fn read_moment(row: &ByteRecord, place: usize) -> Result<u64, RateKind>
     requires { place < length (fields_of row.now) }
-    ensures value { result ≡ moment_in (fields_of row.now) place }
+    ensures value { result ≡ needed_moment (fields_of row.now) place }
     ensures within { IfOk result (λ at. at ≤ LAST_MOMENT) }
 {
     moment(field(row, place), LAST_MOMENT).ok_or(RateKind::Number)
@@ -159,7 +159,7 @@ fn read_moment(row: &ByteRecord, place: usize) -> Result<u64, RateKind>
 /// The number in a field, none where it is empty.
 fn optional(row: &ByteRecord, place: usize, most: u64) -> Result<Option<u64>, RateKind>
     requires { place < length (fields_of row.now) }
-    ensures value { result ≡ optional_in (fields_of row.now) place most }
+    ensures value { result ≡ optional_number (fields_of row.now) place most }
     ensures within { IfOk result (λ number. unwrap_or number 0 ≤ most) }
 {
     if is_blank(row, place) {
@@ -171,7 +171,7 @@ fn optional(row: &ByteRecord, place: usize, most: u64) -> Result<Option<u64>, Ra
 /// The number in a field.
 fn number(row: &ByteRecord, place: usize, most: u64) -> Result<u64, RateKind>
     requires { place < length (fields_of row.now) }
-    ensures value { result ≡ number_in (fields_of row.now) place most }
+    ensures value { result ≡ needed_number (fields_of row.now) place most }
     ensures within { IfOk result (λ number. number ≤ most) }
 {
     decimal(field(row, place), most).ok_or(RateKind::Number)

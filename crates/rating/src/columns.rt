@@ -2,9 +2,9 @@
 
 ghost use Rattle.std.specs.Prelude.{◌≡◌, ◌<◌, ◌≤◌, ◌+◌, ◌-◌, ◌^◌, length, drop, option_map, IfSome};
 ghost use Rattle.csv.specs.Records.{fields_of};
-ghost use Rattle.rating.specs.Columns.{HasColumns, HasTimes, columns_in, needed, paid_in, place_from, sought, times_in};
+ghost use Rattle.rating.specs.Columns.{HasAllColumns, HasTimes, columns_in, needed_column, paid_column, place_from, sought, times_in};
 ghost use Rattle.rating.specs.Asks.{ByUsualNames};
-ghost use Rattle.rating.specs.SaidOf.{names_of, times_of};
+ghost use Rattle.rating.specs.SaidOf.{wished_names, times_of};
 
 use crate::ask::{Names, Times};
 use csv::ByteRecord;
@@ -35,8 +35,8 @@ impl Columns {
     /// one twice.
     #[tactic(auto, unfolding(crate::specs::Columns::columns_in))]
     pub(crate) fn find(header: &ByteRecord, names: &Names<'_>) -> Option<Columns>
-        ensures value { result ≡ columns_in (fields_of header.now) (names_of names.now) }
-        ensures within { IfSome result (HasColumns (length (fields_of header.now))) }
+        ensures value { result ≡ columns_in (fields_of header.now) (wished_names names.now) }
+        ensures within { IfSome result (HasAllColumns (length (fields_of header.now))) }
     {
         let called = needed(header, names.called)?;
         let answer = needed(header, names.answer)?;
@@ -87,7 +87,7 @@ fn usual_times(header: &ByteRecord) -> Option<TimeColumns>
 /// The column of what was charged, where there is one.
 fn paid(header: &ByteRecord, name: Option<&str>) -> Option<Option<usize>>
     ensures value { result
-        ≡ paid_in (fields_of header.now) (option_map (λ name. name.now) name.entry) }
+        ≡ paid_column (fields_of header.now) (option_map (λ name. name.now) name.entry) }
     ensures within { IfSome result
         (λ paid. IfSome paid (λ place. place < length (fields_of header.now))) }
 {
@@ -99,7 +99,7 @@ fn paid(header: &ByteRecord, name: Option<&str>) -> Option<Option<usize>>
 
 /// The place of a name that the header must have once.
 fn needed(header: &ByteRecord, name: &str) -> Option<usize>
-    ensures value { result ≡ needed (fields_of header.now) name.now }
+    ensures value { result ≡ needed_column (fields_of header.now) name.now }
     ensures within { IfSome result (λ place. place < length (fields_of header.now)) }
 {
     sought(header, name)?

@@ -23,13 +23,13 @@ impl<R: Drop> Drop for CutRows<R> {
 }
 
 impl<R: Read> CutRows<R> {
-    ghost use Rattle.rating.specs.Cuts.{place_of, reader_of};
+    ghost use Rattle.rating.specs.Cuts.{cut_place, reader_of};
     ghost use Rattle.rating.specs.declared.place.Place.TheVariants as place;
 
     /// The table of a reader, from its start.
     pub(crate) fn new(reader: R) -> CutRows<R>
         ensures reader { reader_of result ≡ reader }
-        ensures place { place_of result ≡ place.Start }
+        ensures place { cut_place result ≡ place.Start }
     {
         CutRows {
             reader,
@@ -40,9 +40,9 @@ impl<R: Read> CutRows<R> {
 
 impl<R: Read> Read for CutRows<R> {
     ghost use Rattle.std.specs.Prelude.{option_map};
-    ghost use Rattle.rating.specs.Cuts.{passed, place_of, reader_of};
+    ghost use Rattle.rating.specs.Cuts.{passed_text, cut_place, reader_of};
 
-    ghost remaining = { λ rows. option_map (passed (place_of rows)) (R.remaining (reader_of rows)) };
+    ghost remaining = { λ rows. option_map (passed_text (cut_place rows)) (R.remaining (reader_of rows)) };
 
     fn read(&mut self, buf: &mut [u8]) -> Result<usize> {
         for _turn in 0..u64::MAX {

@@ -1,7 +1,7 @@
 //! Why a row has no price.
 
 ghost use Rattle.std.specs.Prelude.{◌≡◌};
-ghost use Rattle.rating.specs.Lines.{name_of};
+ghost use Rattle.rating.specs.Lines.{rate_kind_name};
 
 /// Why a row has no price. No other row is judged by it.
 #[derive(Clone, Copy, Debug, PartialEq, Eq)]
@@ -21,7 +21,7 @@ pub enum RateKind {
 impl RateKind {
     /// The name in the column `fault`.
     pub(crate) fn name(self) -> &'static str
-        ensures { result.now ≡ name_of self }
+        ensures { result.now ≡ rate_kind_name self }
     {
         match self {
             RateKind::Csv => "Csv",

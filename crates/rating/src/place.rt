@@ -4,7 +4,7 @@ ghost use Rattle.std.specs.Prelude.{◌≡◌, ◌≤◌, ◌++◌, ◌∷◌, L
 ghost use Rattle.csv.specs.Machine.{step};
 ghost use Rattle.csv.specs.Reading.{default_config};
 ghost use Rattle.csv.specs.declared.parser.State.TheVariants as st;
-ghost use Rattle.rating.specs.Cuts.{CanPass, IsMove, bytes_of, closing, cut_from, passed, state_of};
+ghost use Rattle.rating.specs.Cuts.{CanPass, IsMove, bytes_of, closing, cut_from, passed_text, cut_state_of};
 
 use crate::call::MAX_SHOWN;
 use memchr::{memchr, memrchr};
@@ -36,7 +36,7 @@ pub(crate) enum Moves {
 impl Within {
     /// What a byte does here.
     fn step(self, byte: u8) -> Moves
-        ensures { IsMove result (step default_config (state_of self) byte) }
+        ensures { IsMove result (step default_config (cut_state_of self) byte) }
     {
         match (self, byte) {
             (Within::InQuoted, b'"') => Moves::Skips(Within::AfterQuote),
@@ -51,7 +51,7 @@ impl Within {
 
     /// What stands for the rest of a row that is cut here.
     fn closing(self) -> Option<u8>
-        ensures { bytes_of result ≡ closing (state_of self) }
+        ensures { bytes_of result ≡ closing (cut_state_of self) }
     {
         match self {
             Within::InQuoted => Some(b'"'),
@@ -81,7 +81,7 @@ impl Place {
     /// The place behind a byte, and what is passed on for it.
     fn next(self, byte: u8) -> (Place, Option<u8>)
         ensures { (rest : List ℕ)
-            → passed self (byte ∷ rest) ≡ bytes_of result.1 ++ passed result.0 rest }
+            → passed_text self (byte ∷ rest) ≡ bytes_of result.1 ++ passed_text result.0 rest }
     {
         match (self, byte) {
             (Place::Start, 0xEF) => (Place::FirstMark, Some(byte)),
@@ -99,8 +99,8 @@ impl Place {
     /// Passes on a part of a table, at its front, and answers how many bytes are left of it.
     pub(crate) fn pass(&mut self, part: &mut [u8]) -> usize
         ensures within { result ≤ length part.new }
-        ensures passes { (rest : List ℕ) → passed self.old (part.old ++ rest)
-            ≡ take result part.new ++ passed self.new rest }
+        ensures passes { (rest : List ℕ) → passed_text self.old (part.old ++ rest)
+            ≡ take result part.new ++ passed_text self.new rest }
     {
         let start = self.skip(part);
         let mut kept = start;
@@ -119,8 +119,8 @@ impl Place {
     /// too long, so that they are passed on as they are. The answer is how many bytes they have.
     fn skip(&mut self, part: &[u8]) -> usize
         ensures within { result ≤ length part.now }
-        ensures passes { (rest : List ℕ) → passed self.old (part.now ++ rest)
-            ≡ take result part.now ++ passed self.new (drop result part.now ++ rest) }
+        ensures passes { (rest : List ℕ) → passed_text self.old (part.now ++ rest)
+            ≡ take result part.now ++ passed_text self.new (drop result part.now ++ rest) }
     {
         let plain = memchr(b'"', part).unwrap_or(part.len());
         let sure = plain.min(self.sure());
@@ -150,7 +150,7 @@ impl Place {
 fn between(byte: u8) -> (Place, Option<u8>)
     ensures { (rest : List ℕ)
         → cut_from MAX_SHOWN st.StartRecord (Some MAX_SHOWN) (byte ∷ rest)
-        ≡ bytes_of result.1 ++ passed result.0 rest }
+        ≡ bytes_of result.1 ++ passed_text result.0 rest }
 {
     if byte == b'\r' || byte == b'\n' {
         (Place::Between, Some(byte))
@@ -161,8 +161,8 @@ fn between(byte: u8) -> (Place, Option<u8>)
 
 /// The place behind a byte of a row that has room for so many, and what is passed on for it.
 fn in_row(within: Within, room: usize, byte: u8) -> (Place, Option<u8>)
-    ensures { (rest : List ℕ) → cut_from MAX_SHOWN (state_of within) (Some room) (byte ∷ rest)
-        ≡ bytes_of result.1 ++ passed result.0 rest }
+    ensures { (rest : List ℕ) → cut_from MAX_SHOWN (cut_state_of within) (Some room) (byte ∷ rest)
+        ≡ bytes_of result.1 ++ passed_text result.0 rest }
 {
     match within.step(byte) {
         Moves::EndsRow => (Place::Between, Some(byte)),
@@ -174,8 +174,8 @@ fn in_row(within: Within, room: usize, byte: u8) -> (Place, Option<u8>)
 
 /// The place behind a byte of the rest of a row, and what is passed on for it: what ends the row.
 fn in_rest(within: Within, byte: u8) -> (Place, Option<u8>)
-    ensures { (rest : List ℕ) → cut_from MAX_SHOWN (state_of within) None (byte ∷ rest)
-        ≡ bytes_of result.1 ++ passed result.0 rest }
+    ensures { (rest : List ℕ) → cut_from MAX_SHOWN (cut_state_of within) None (byte ∷ rest)
+        ≡ bytes_of result.1 ++ passed_text result.0 rest }
 {
     match within.step(byte) {
         Moves::EndsRow => (Place::Between, Some(byte)),

@@ -4,8 +4,8 @@ ghost use Rattle.std.specs.Prelude.{◌≡◌, ◌<◌, ◌≤◌, ◌+◌, leng
 ghost use Rattle.csv.specs.Records.{fields_of};
 ghost use Rattle.tariff_core.specs.declared.plan.TheConstants.{MAX_MONEY};
 ghost use Rattle.tariff_core.specs.declared.pricing.TheConstants.{MAX_PRICE};
-ghost use Rattle.rating.specs.Calls.{IsInRange, IsWithinDay, said_in, size_of};
-ghost use Rattle.rating.specs.Columns.{HasColumns};
+ghost use Rattle.rating.specs.Calls.{AnsweredIsInRange, IsWithinDay, said_in, row_size};
+ghost use Rattle.rating.specs.Columns.{HasAllColumns};
 ghost use Rattle.rating.specs.Rated.{IsPriced, IsRated, charge_by, differs, has_fault, is_right};
 ghost use Rattle.rating.specs.SaidOf.{rating_of};
 
@@ -60,8 +60,8 @@ pub(crate) fn rate_row<'a>(
     row: &'a ByteRecord,
     size: usize,
 ) -> Rated<'a>
-    requires size { size ≡ size_of (fields_of row.now) }
-    requires columns { HasColumns width columns.now }
+    requires size { size ≡ row_size (fields_of row.now) }
+    requires columns { HasAllColumns width columns.now }
     ensures { IsRated tariff.now width columns.now (fields_of row.now) (rating_of result) }
 {
     if size > MAX_ROW {
@@ -78,7 +78,7 @@ pub(crate) fn rate_row<'a>(
 
 /// What a call comes to.
 fn rate_call<'a>(tariff: &Tariff, call: &Call<'a>) -> Rated<'a>
-    requires { IfSome call.now.answered IsInRange }
+    requires { IfSome call.now.answered AnsweredIsInRange }
     ensures { IsPriced tariff.now call.now.called.now call.now.answered call.now.paid
         (rating_of result) }
 {

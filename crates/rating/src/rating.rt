@@ -3,14 +3,14 @@
 ghost use Rattle.std.specs.Prelude.{◌≡◌, ◌<◌, ◌+◌, ◌-◌, ◌^◌, ◌&&◌, length, map, IfErr, IfOk, IfSome, OnOk, Ok, List};
 ghost use Rattle.std.specs.Io.KnownBytes.{Appends};
 ghost use Rattle.csv.specs.Records.{fields_of};
-ghost use Rattle.table_core.specs.Rows.{Fields, HasLeft, rows_of};
-ghost use Rattle.rating.specs.Columns.{HasColumns};
-ghost use Rattle.rating.specs.Ends.{AddsRow, EndsBy, IsCutOff, IsSilent, MayStop, Sends};
+ghost use Rattle.table_core.specs.Rows.{Fields, HasRowsLeft, rows_of};
+ghost use Rattle.rating.specs.Columns.{HasAllColumns};
+ghost use Rattle.rating.specs.Ends.{AddsRatedRow, EndsRating, IsRatingCutOff, IsRatingSilent, MayStop, SendsFront};
 ghost use Rattle.rating.specs.Lines.{header_line, shown};
 ghost use Rattle.rating.specs.Rated.{is_right};
-ghost use Rattle.rating.specs.SaidOf.{names_of, rating_of};
-ghost use Rattle.rating.specs.Tallies.{IsBounded};
-ghost use Rattle.rating.specs.Texts.{headed, input_of};
+ghost use Rattle.rating.specs.SaidOf.{wished_names, rating_of};
+ghost use Rattle.rating.specs.Tallies.{IsBoundedTally};
+ghost use Rattle.rating.specs.Texts.{headed, rate_input_of};
 
 use crate::call::MAX_SHOWN;
 use crate::columns::Columns;
@@ -43,11 +43,11 @@ pub fn rate<I: Read + Drop, O: Write>(
     output: &mut O,
 ) -> Result<Tally, RateFault>
     ensures ends { IfSome (I.remaining input) (λ text.
-        EndsBy ask.now.differing (input_of (names_of ask.now.names) text)
+        EndsRating ask.now.differing (rate_input_of (wished_names ask.now.names) text)
         (O.contents output.old) (O.contents output.new) result) }
     ensures silent { IfErr result
-        (IsSilent (O.contents output.old) (O.contents output.new)) }
-    ensures bounded { IfOk result IsBounded }
+        (IsRatingSilent (O.contents output.old) (O.contents output.new)) }
+    ensures bounded { IfOk result IsBoundedTally }
 {
     let Ok(mut input) = BufReader::new(alloc, input) else {
         return Err(RateFault::Input(InputFault::OutOfMemory));
@@ -66,11 +66,11 @@ fn rate_records<I: Read + Drop, O: Write>(
     output: &mut O,
 ) -> Result<Tally, RateFault>
     ensures ends { IfSome (I.remaining records) (λ text.
-        EndsBy ask.now.differing (headed (names_of ask.now.names) tariff.now (rows_of text))
+        EndsRating ask.now.differing (headed (wished_names ask.now.names) tariff.now (rows_of text))
         (O.contents output.old) (O.contents output.new) result) }
     ensures silent { IfErr result
-        (IsSilent (O.contents output.old) (O.contents output.new)) }
-    ensures bounded { IfOk result IsBounded }
+        (IsRatingSilent (O.contents output.old) (O.contents output.new)) }
+    ensures bounded { IfOk result IsBoundedTally }
 {
     let mut rows = Rows::new(alloc, CutRows::new(records));
     if !rows.next_row()? {
@@ -111,14 +111,14 @@ impl Rater<'_> {
         text: &mut Vec<u8>,
         tally: &mut Tally,
     ) -> Result<(), AllocError>
-        requires columns { HasColumns self.now.width self.now.columns }
-        requires bounded { IsBounded tally.old }
+        requires columns { HasAllColumns self.now.width self.now.columns }
+        requires bounded { IsBoundedTally tally.old }
         requires room { tally.old.rows < 2 ^ 64 - 1 }
         ensures adds { OnOk result ((whole : Fields) → fields_of row.now ≡ shown whole
-            → AddsRow self.now.tariff.now self.now.width self.now.columns self.now.differing
+            → AddsRatedRow self.now.tariff.now self.now.width self.now.columns self.now.differing
             whole text.old.items text.new.items tally.old tally.new) }
         ensures one { OnOk result (tally.new.rows ≡ tally.old.rows + 1) }
-        ensures bounded { IsBounded tally.new }
+        ensures bounded { IsBoundedTally tally.new }
     {
         let start = text.len();
         push_fields(text, row)?;
@@ -148,11 +148,11 @@ fn rate_rows<I: Read + Drop, O: Write>(
     text: Vec<u8>,
     output: &mut O,
 ) -> Result<Tally, RateFault>
-    requires { HasColumns rater.now.width rater.now.columns }
+    requires { HasAllColumns rater.now.width rater.now.columns }
     ensures ends { (header : Fields) → (left : List Fields)
-        → HasLeft I.remaining rows (map shown left) → text.items ≡ header_line header
+        → HasRowsLeft I.remaining rows (map shown left) → text.items ≡ header_line header
         → length header ≡ rater.now.width
-        → EndsBy rater.now.differing (Ok (record {
+        → EndsRating rater.now.differing (Ok (record {
           bands = rater.now.tariff.now;
           header = header;
           columns = rater.now.columns;
@@ -160,7 +160,7 @@ fn rate_rows<I: Read + Drop, O: Write>(
         }))
         (O.contents output.old) (O.contents output.new) result }
     ensures stopped { IfErr result MayStop }
-    ensures bounded { IfOk result IsBounded }
+    ensures bounded { IfOk result IsBoundedTally }
 {
     let (mut rows, mut text) = (rows, text);
     let mut tally = Tally::new();
@@ -184,10 +184,10 @@ fn rate_rows<I: Read + Drop, O: Write>(
 
 /// Writes a text where it has `ENOUGH` bytes, and leaves the rest of it.
 fn send<O: Write>(output: &mut O, text: &mut Vec<u8>) -> Result<(), RateFault>
-    ensures sends { OnOk result (Sends (O.contents output.old) (O.contents output.new)
+    ensures sends { OnOk result (SendsFront (O.contents output.old) (O.contents output.new)
         text.old.items text.new.items) }
     ensures fault { IfErr result
-        (IsCutOff (O.contents output.old) (O.contents output.new) text.old.items) }
+        (IsRatingCutOff (O.contents output.old) (O.contents output.new) text.old.items) }
 {
     if text.len() >= ENOUGH {
         write_all(output, text.as_slice())?;
@@ -201,7 +201,7 @@ fn write_rest<O: Write>(output: &mut O, text: &[u8]) -> Result<(), RateFault>
     ensures wrote { OnOk result
         (Appends (O.contents output.old) (O.contents output.new) text.now) }
     ensures fault { IfErr result
-        (IsCutOff (O.contents output.old) (O.contents output.new) text.now) }
+        (IsRatingCutOff (O.contents output.old) (O.contents output.new) text.now) }
 {
     write_all(output, text)?;
     match output.flush() {
@@ -215,7 +215,7 @@ fn write_all<O: Write>(output: &mut O, text: &[u8]) -> Result<(), RateFault>
     ensures wrote { OnOk result
         (Appends (O.contents output.old) (O.contents output.new) text.now) }
     ensures fault { IfErr result
-        (IsCutOff (O.contents output.old) (O.contents output.new) text.now) }
+        (IsRatingCutOff (O.contents output.old) (O.contents output.new) text.now) }
 {
     if write_text(output, text) {
         Ok(())

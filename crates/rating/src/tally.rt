@@ -2,7 +2,7 @@
 
 ghost use Rattle.std.specs.Prelude.{◌≡◌, ◌<◌, ◌+◌, ◌-◌, ◌^◌};
 ghost use Rattle.rating.specs.SaidOf.{rating_of};
-ghost use Rattle.rating.specs.Tallies.{IsBounded, counted, no_rows, passes};
+ghost use Rattle.rating.specs.Tallies.{IsBoundedTally, counted, no_rows, passes};
 
 use crate::rated::Rated;
 
@@ -29,7 +29,7 @@ impl Tally {
     /// Before the first row.
     pub(crate) fn new() -> Tally
         ensures exact { result ≡ no_rows }
-        ensures bounded { IsBounded result }
+        ensures bounded { IsBoundedTally result }
     {
         Tally {
             rows: 0,
@@ -44,7 +44,7 @@ impl Tally {
 
     /// Whether all rows are right.
     pub fn passes(&self) -> bool
-        requires { IsBounded self.now }
+        requires { IsBoundedTally self.now }
         ensures { result ≡ passes self.now }
     {
         self.differing == 0 && self.faults == 0
@@ -52,11 +52,11 @@ impl Tally {
 
     /// One row more.
     pub(crate) fn count(&mut self, rated: &Rated<'_>)
-        requires bounded { IsBounded self.old }
+        requires bounded { IsBoundedTally self.old }
         requires room { self.old.rows < 2 ^ 64 - 1 }
         ensures exact { self.new ≡ counted self.old (rating_of rated.now) }
         ensures one { self.new.rows ≡ self.old.rows + 1 }
-        ensures bounded { IsBounded self.new }
+        ensures bounded { IsBoundedTally self.new }
     {
         self.rows += 1;
         match rated {

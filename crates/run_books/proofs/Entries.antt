@@ -4,7 +4,7 @@ use Rattle.std.specs.Prelude.{◌==◌, ◌&&◌, nat_le, slice_index_or}
 use Rattle.std.proofs.lemmas.Bool.{and_parts, eq-eqb, leb-true}
 use Rattle.account_core.specs.Asked.{Asked, Credits, Reserves, Settles, Returns, is_in_range}
 use Rattle.account_core.specs.Events.{EntryData}
-use Rattle.account_core.specs.Laws.{EntriesAreInRange, IsInRange}
+use Rattle.account_core.specs.Laws.{EntriesAreInRange, EntryIsInRange}
 use Rattle.book_texts.specs.Typed.{IsTyped, IsTypedAsked}
 use Rattle.entry_rows.specs.Fits.{FitsAsked, FitsEvent}
 use Rattle.runs_core.proofs.Listed.{all_passing}
@@ -57,7 +57,7 @@ module _ (Stood : Closed → ℕ → Knowing) (serves : RunEntriesAreServed Stoo
       → IsOpenedWithin workers (slice_index_or books place d) → IsTyped (slice_index_or books place d) → All FitsEvent (slice_index_or books place d).history
   history_fits place d within is opened typed =
       let book : Closed = slice_index_or books place d in
-      let in_range : All IsInRange book.history = ranges book.opening book.until book.history opened.opening (run.legal place d within) in
+      let in_range : All EntryIsInRange book.history = ranges book.opening book.until book.history opened.opening (run.legal place d within) in
       let on_time = history_timely place d within is in
       λ k e here. record {
         seat = let few = run.owned place d within k e here in omega (arith, few, opened.seats);

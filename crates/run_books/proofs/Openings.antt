@@ -11,7 +11,7 @@ use Rattle.entry_rows.specs.Fits.{IsMoment, IsMoney}
 use Rattle.runs_core.proofs.Listed.{all_unmapped}
 use Rattle.run_books.specs.Runs.{HasAccounts}
 use Rattle.run_values.proofs.Placing.{first_at}
-use Rattle.run_values.specs.Openings.{expires_in_time, is_in_range}
+use Rattle.run_values.specs.Openings.{expires_in_time, opening_is_in_range}
 use Rattle.run_values.specs.Setups.{Setup}
 use Rattle.run_values.specs.declared.directory.OpeningCredit.{OpeningCredit}
 use Rattle.runs_core.specs.Closing.{terms_shown}
@@ -32,7 +32,7 @@ record AreWithin (terms : Terms) : Type 0 where
   until : IfSome terms.until IsMoment
   seats : terms.seats ≤ 16
 
-terms_within : (limit workers : ℕ) (account : ℕ × OpeningCredit) → are_workers workers ≡ true → is_in_range account.1 ≡ true → AreWithin (terms_with limit workers account)
+terms_within : (limit workers : ℕ) (account : ℕ × OpeningCredit) → are_workers workers ≡ true → opening_is_in_range account.1 ≡ true → AreWithin (terms_with limit workers account)
 terms_within limit workers account may_be range =
     let (some, few) = and_parts (nat_le 1 workers) (nat_le workers 16) may_be in
     let (amount, until) = and_parts (nat_le account.1.amount 1000000000000000) (expires_in_time account.1.until) range in

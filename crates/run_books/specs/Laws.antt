@@ -3,7 +3,7 @@ use Rattle.std.specs.Prelude.{◌≡◌, ◌≤◌, ◌+◌, ◌*◌, ℕ, Bool,
 use Rattle.book_texts.specs.Audits.{Audited, GivesAudit, audited}
 use Rattle.book_texts.specs.BookTexts.{book_text, version_of}
 use Rattle.book_texts.specs.Books.{books_of}
-use Rattle.book_texts.specs.Printable.{ArePrintable, row_count, told_by}
+use Rattle.book_texts.specs.Printable.{ArePrintable, row_count, account_of_book}
 use Rattle.book_texts.specs.RunTexts.{IsRunText}
 use Rattle.run_books.specs.Runs.{IsRecorded}
 use Rattle.run_values.specs.Setups.{Setup}
@@ -13,15 +13,15 @@ use Rattle.shared_account.specs.Refusals.{Knowing}
 use Rattle.table_core.specs.Rows.{rows_of}
 
 -- the text of the table of books, whose tariff has billing steps or not
-abbrev pub text_of : Bool → List Closed → List ℕ
-text_of steps books = book_text (version_of steps books) books
+abbrev pub books_text : Bool → List Closed → List ℕ
+books_text steps books = book_text (version_of steps books) books
 
 -- the table of books, of which this many rows are taken, is read back to the opening and the history of each. Whatever audit there is of it, its wrong rows shown or not, says yes for each account, in order, and shows no row; or, where lines are asked for, it says the lines of the books
 pub record PassTheAudit (most : ℕ) (books : List Closed) : Type 0 where
-  pub read : (steps : Bool) → books_of most (rows_of (text_of steps books)) ≡ Ok (map told_by books)
-  pub verdicts : (steps shown : Bool) (audit : Audited) → GivesAudit most false shown (rows_of (text_of steps books)) (Ok audit)
+  pub read : (steps : Bool) → books_of most (rows_of (books_text steps books)) ≡ Ok (map account_of_book books)
+  pub verdicts : (steps shown : Bool) (audit : Audited) → GivesAudit most false shown (rows_of (books_text steps books)) (Ok audit)
       → audit ≡ audited shown (map (λ book. (book.account, None)) books)
-  pub lines : (steps shown : Bool) (audit : Audited) → most ≤ 18446744073709551615 → GivesAudit most true shown (rows_of (text_of steps books)) (Ok audit)
+  pub lines : (steps shown : Bool) (audit : Audited) → most ≤ 18446744073709551615 → GivesAudit most true shown (rows_of (books_text steps books)) (Ok audit)
       → (audit.passes ≡ true) × IsRunText books audit.lines
 
 -- the books of a run can be printed into a table that has room for their rows

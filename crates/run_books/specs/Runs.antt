@@ -5,7 +5,7 @@ use Rattle.std.specs.Map.{keys_of}
 use Rattle.std.specs.Ordering.{nat_cmp}
 use Rattle.book_texts.specs.Typed.{IsTyped}
 use Rattle.run_books.specs.Timely.{AreTimely}
-use Rattle.run_values.specs.Openings.{is_in_range}
+use Rattle.run_values.specs.Openings.{opening_is_in_range}
 use Rattle.run_values.specs.Setups.{Setup}
 use Rattle.run_values.specs.declared.post.Answer.{Answer}
 use Rattle.run_values.specs.declared.directory.OpeningCredit.{OpeningCredit}
@@ -18,7 +18,7 @@ use Rattle.shared_account.specs.Refusals.{Knowing}
 -- accounts by rising number, each with an opening credit in its range
 pub record HasAccounts (accounts : List (ℕ × OpeningCredit)) : Type 0 where
   pub ordered : IsStrictlySortedBy nat_cmp (keys_of accounts)
-  pub range : All (λ account. is_in_range account.1 ≡ true) accounts
+  pub range : All (λ account. opening_is_in_range account.1 ≡ true) accounts
 
 -- the books of a run whose table can be read back, where it has room for its rows: each number in it has its range
 pub record IsRecorded (Stood : Closed → ℕ → Knowing) (setup : Setup) (workers : ℕ) (given : List (ℕ × Body)) (books : List Closed) : Type 0 where

@@ -5,7 +5,7 @@ use Rattle.call_records.specs.Records.{Run}
 use Rattle.run_command.proofs.PlayLemmas.{Rounds}
 use Rattle.run_command.specs.Answers.{IsTextOf}
 use Rattle.run_command.specs.Listening.{Listens}
-use Rattle.run_command.specs.Refused.{refusals_in}
+use Rattle.run_command.specs.Refused.{refusals_counted_in}
 use Rattle.run_command.specs.declared.listening.Listener.{Listener}
 use Rattle.run_options.specs.Options.{is_trace}
 use Rattle.run_options.specs.declared.options.RunOutput.{RunOutput}
@@ -40,14 +40,14 @@ keeps_heard before_this old (answers ∷ next ∷ heard) new keeps rounds =
     ∙ ap (λ kept. kept ++ more) (rounds.1.hears_them.kept keeps) ∙ append_assoc old.heard.items answers more
 
 -- and it has counted the refusals in all of it
-pub counts_heard : (before_this : List Answer) (old : Listener) (heard : List (List Answer)) (new : Listener) (so_far : List Answer) → old.refusals ≡ refusals_in so_far
-    → ListenedRounds before_this old heard new → new.refusals ≡ refusals_in (so_far ++ all_heard heard)
+pub counts_heard : (before_this : List Answer) (old : Listener) (heard : List (List Answer)) (new : Listener) (so_far : List Answer) → old.refusals ≡ refusals_counted_in so_far
+    → ListenedRounds before_this old heard new → new.refusals ≡ refusals_counted_in (so_far ++ all_heard heard)
 counts_heard before_this old [] new so_far are rounds = absurd rounds
 counts_heard before_this old (answers ∷ []) new so_far are rounds =
-    rounds.0.hears_them.counted so_far are ∙ ap (λ more. refusals_in (so_far ++ more)) (sym (append-nil answers))
+    rounds.0.hears_them.counted so_far are ∙ ap (λ more. refusals_counted_in (so_far ++ more)) (sym (append-nil answers))
 counts_heard before_this old (answers ∷ next ∷ heard) new so_far are rounds =
     counts_heard (before_this ++ answers) rounds.0 (next ∷ heard) new (so_far ++ answers) (rounds.1.hears_them.counted so_far are) rounds.3
-    ∙ ap (λ l. refusals_in l) (append_assoc so_far answers (all_heard (next ∷ heard)))
+    ∙ ap (λ l. refusals_counted_in l) (append_assoc so_far answers (all_heard (next ∷ heard)))
 
 -- a text of what was kept is one of what was heard, where it is a trace
 pub text_of_heard : (of : RunOutput) (run : Run) (kept heard : List Answer) (text : List ℕ) → (is_trace of ≡ true → kept ≡ heard) → IsTextOf of run kept text → IsTextOf of run heard text

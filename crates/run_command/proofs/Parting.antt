@@ -7,9 +7,9 @@ use Rattle.std.proofs.lemmas.List.Sums.{sum_by-append}
 use Rattle.std.specs.List.{flat_map, sum_by}
 use Rattle.book_texts.specs.RunTexts.{AreLinesOf, LinesSaid}
 use Rattle.call_records.specs.declared.call_record.CallRecord.{CallRecord}
-use Rattle.run_command.specs.InParts.{AreKept, ArePlayed, IsInParts, IsKeptPart, IsPartsText, IsPlayedPart, Keeps, KeepsBooks, KeepsCalls, PartSaid, joined, own_books, with_part}
-use Rattle.run_command.specs.Played.{IsPlayed, run_of}
-use Rattle.run_command.specs.Refused.{added, counted, with_refusals}
+use Rattle.run_command.specs.InParts.{AreKept, ArePlayed, IsInParts, IsKeptPart, IsPartsText, IsPlayedPart, KeepsPart, KeepsBooks, KeepsCalls, PartSaid, joined_parts, own_books, with_part}
+use Rattle.run_command.specs.Played.{IsPlayedRun, run_of}
+use Rattle.run_command.specs.Refused.{added_up, refusals_counted, with_refusals}
 use Rattle.run_command.specs.declared.parts.Part.{Part}
 use Rattle.run_command.specs.declared.playing.Played.{Played}
 use Rattle.run_command.specs.declared.refusals.Refusals.{Refusals}
@@ -25,16 +25,16 @@ use Rattle.shared_account.specs.Closed.{Closed}
 
 -- ---- refusals are added up
 
-counted_both : (count more : ℕ) → counted (counted count + more) ≡ counted (count + more)
+counted_both : (count more : ℕ) → refusals_counted (refusals_counted count + more) ≡ refusals_counted (count + more)
 counted_both count more = omega arith
 
-one_field : (f : Refusals → ℕ) (all : List Refusals) (one : Refusals) → counted (counted (sum_by f all) + f one) ≡ counted (sum_by f (all ++ one ∷ []))
+one_field : (f : Refusals → ℕ) (all : List Refusals) (one : Refusals) → refusals_counted (refusals_counted (sum_by f all) + f one) ≡ refusals_counted (sum_by f (all ++ one ∷ []))
 one_field f all one =
     let sum : sum_by f (all ++ one ∷ []) ≡ sum_by f all + sum_by f (one ∷ []) = sum_by-append f all (one ∷ []) in
     let alone : sum_by f (one ∷ []) ≡ f one = omega arith in
-    counted_both (sum_by f all) (f one) ∙ ap counted (sym (sum ∙ ap (λ n. sum_by f all + n) alone))
+    counted_both (sum_by f all) (f one) ∙ ap refusals_counted (sym (sum ∙ ap (λ n. sum_by f all + n) alone))
 
-added_more : (all : List Refusals) (one : Refusals) → with_refusals (added all) one ≡ added (all ++ one ∷ [])
+added_more : (all : List Refusals) (one : Refusals) → with_refusals (added_up all) one ≡ added_up (all ++ one ∷ [])
 added_more all one = rw (
   one_field (λ r. r.gate_closed) all one,
   one_field (λ r. r.out_of_range) all one,
@@ -46,14 +46,14 @@ added_more all one = rw (
 
 -- ---- the parts are joined
 
-added_part : (front : List PartSaid) (last : PartSaid) → with_part (joined front) last ≡ joined (front ++ last ∷ [])
+added_part : (front : List PartSaid) (last : PartSaid) → with_part (joined_parts front) last ≡ joined_parts (front ++ last ∷ [])
 added_part front last =
     let books : flat_map (λ (p : PartSaid). p.books) (front ++ last ∷ []) ≡ flat_map (λ (p : PartSaid). p.books) front ++ last.books =
     flat_map-append (λ (p : PartSaid). p.books) front (last ∷ []) ∙ ap (λ l. flat_map (λ (p : PartSaid). p.books) front ++ l) (append-nil last.books) in
     let calls : flat_map (λ (p : PartSaid). p.calls) (front ++ last ∷ []) ≡ flat_map (λ (p : PartSaid). p.calls) front ++ last.calls =
     flat_map-append (λ (p : PartSaid). p.calls) front (last ∷ []) ∙ ap (λ l. flat_map (λ (p : PartSaid). p.calls) front ++ l) (append-nil last.calls) in
-    let refusals : with_refusals (added (map (λ (p : PartSaid). p.refusals) front)) last.refusals ≡ added (map (λ (p : PartSaid). p.refusals) (front ++ last ∷ [])) =
-    added_more (map (λ (p : PartSaid). p.refusals) front) last.refusals ∙ ap added (sym (map-append (λ (p : PartSaid). p.refusals) front (last ∷ []))) in
+    let refusals : with_refusals (added_up (map (λ (p : PartSaid). p.refusals) front)) last.refusals ≡ added_up (map (λ (p : PartSaid). p.refusals) (front ++ last ∷ [])) =
+    added_more (map (λ (p : PartSaid). p.refusals) front) last.refusals ∙ ap added_up (sym (map-append (λ (p : PartSaid). p.refusals) front (last ∷ []))) in
     rw (books, calls, refusals) refl
 
 -- what is kept of parts, of which this is the last
@@ -62,7 +62,7 @@ record IsLast (output : RunOutput) (said : List PartSaid) (done : List Part) (pa
   last : PartSaid
   is : said ≡ front ++ last ∷ []
   kept : AreKept output front done
-  keeps : Keeps output last part
+  keeps : KeepsPart output last part
 
 last_kept : (output : RunOutput) (said : List PartSaid) (done : List Part) (part : Part) → AreKept output said (done ++ part ∷ []) → IsLast output said done part
 last_kept output [] [] part are = absurd are
@@ -77,26 +77,26 @@ last_kept output (said ∷ rest) (first ∷ done) part are =
 pub record AreJoined (parts rest : List Part) (whole : Part) : Type 0 where
   pub done : List Part
   pub split : done ++ rest ≡ parts
-  pub keeps : (output : RunOutput) (said : List PartSaid) → AreKept output said done → Keeps output (joined said) whole
+  pub keeps : (output : RunOutput) (said : List PartSaid) → AreKept output said done → KeepsPart output (joined_parts said) whole
 
 pub joined_next : (parts : List Part) (part : Part) (rest : List Part) (whole new : Part)
-    → ((output : RunOutput) (said later : PartSaid) → Keeps output said whole → Keeps output later part → Keeps output (with_part said later) new)
+    → ((output : RunOutput) (said later : PartSaid) → KeepsPart output said whole → KeepsPart output later part → KeepsPart output (with_part said later) new)
     → AreJoined parts (part ∷ rest) whole → AreJoined parts rest new
 joined_next parts part rest whole new adds are = record {
   done = are.done ++ part ∷ [];
   split = append_assoc are.done (part ∷ []) rest ∙ are.split;
   keeps = λ output said kept.
       let last = last_kept output said are.done part kept in
-      let Is : PartSaid → Type 0 = λ s. Keeps output s new in
-      subst (λ (l : List PartSaid). Is (joined l)) (sym last.is) (subst Is (added_part last.front last.last) (adds output (joined last.front) last.last (are.keeps output last.front last.kept) last.keeps));
+      let Is : PartSaid → Type 0 = λ s. KeepsPart output s new in
+      subst (λ (l : List PartSaid). Is (joined_parts l)) (sym last.is) (subst Is (added_part last.front last.last) (adds output (joined_parts last.front) last.last (are.keeps output last.front last.kept) last.keeps));
 }
 
-none_kept : (output : RunOutput) (whole : Part) → Keeps output (joined []) whole → (said : List PartSaid) → AreKept output said [] → Keeps output (joined said) whole
+none_kept : (output : RunOutput) (whole : Part) → KeepsPart output (joined_parts []) whole → (said : List PartSaid) → AreKept output said [] → KeepsPart output (joined_parts said) whole
 none_kept output whole is [] kept = is
 none_kept output whole is (said ∷ rest) kept = absurd kept
 
 -- nothing is joined yet
-pub none_joined : (parts rest : List Part) (whole : Part) → rest ≡ parts → ((output : RunOutput) → Keeps output (joined []) whole) → AreJoined parts rest whole
+pub none_joined : (parts rest : List Part) (whole : Part) → rest ≡ parts → ((output : RunOutput) → KeepsPart output (joined_parts []) whole) → AreJoined parts rest whole
 none_joined parts rest whole all none = record { done = []; split = all; keeps = λ output said kept. none_kept output whole (none output) said kept }
 
 -- nothing is left to join
@@ -105,14 +105,14 @@ none_left [] none = refl
 none_left (part ∷ rest) none = absurd (omega (arith, none))
 
 -- all are joined
-pub all_joined : (parts rest : List Part) (whole : Part) → rest ≡ [] → AreJoined parts rest whole → (output : RunOutput) (said : List PartSaid) → AreKept output said parts → Keeps output (joined said) whole
+pub all_joined : (parts rest : List Part) (whole : Part) → rest ≡ [] → AreJoined parts rest whole → (output : RunOutput) (said : List PartSaid) → AreKept output said parts → KeepsPart output (joined_parts said) whole
 all_joined parts rest whole none are output said kept =
     let all : are.done ≡ parts = sym (append-nil are.done) ∙ ap (λ (l : List Part). are.done ++ l) (sym none) ∙ are.split in
     are.keeps output said (subst (λ (p : List Part). AreKept output said p) (sym all) kept)
 
 -- what is kept of a part that was played
 pub kept_part : (ask : RunAsk) (setup : Setup) (firsts : List ℕ) (number : ℕ) (rows : List ScriptRow) (played : Played) (calls : List CallRecord) (kept : Part) → are_workers ask.workers ≡ true
-    → IsPlayed ask setup rows played → KeepsCalls ask.output (run_of setup played) calls → KeepsBooks ask.output (own_books firsts number played.books.items) kept.lines kept.books.items
+    → IsPlayedRun ask setup rows played → KeepsCalls ask.output (run_of setup played) calls → KeepsBooks ask.output (own_books firsts number played.books.items) kept.lines kept.books.items
     → kept.calls.items ≡ calls → kept.refusals ≡ played.listener.refusals → IsKeptPart ask setup firsts number rows kept
 kept_part ask setup firsts number rows played calls kept workers is calls_are books_are same_calls same_refusals = record {
   said = record { books = own_books firsts number played.books.items; calls = calls; refusals = played.listener.refusals };
@@ -178,8 +178,8 @@ module _ (ask : RunAsk) (setup : Setup) (firsts : List ℕ) (rows : ℕ → List
 pub in_parts : (asked : ℕ) (ask : RunAsk) (setup : Setup) (rows : List ScriptRow) (firsts : List ℕ) (scripts : List (List ScriptRow)) (parts : List Part) (whole : Part) (text : List ℕ)
     → 1 + length firsts ≡ part_count asked (length setup.accounts)
     → AreParts firsts (payer_of (with_digits setup.subscribers) (map script_event rows)) rows scripts → ArePlayed ask setup firsts scripts parts
-    → ((output : RunOutput) (said : List PartSaid) → AreKept output said parts → Keeps output (joined said) whole)
-    → ((said : PartSaid) → Keeps ask.output said whole → IsPartsText ask.output setup.tariff said.books said.calls text) → IsInParts asked ask setup rows text whole.refusals
+    → ((output : RunOutput) (said : List PartSaid) → AreKept output said parts → KeepsPart output (joined_parts said) whole)
+    → ((said : PartSaid) → KeepsPart ask.output said whole → IsPartsText ask.output setup.tariff said.books said.calls text) → IsInParts asked ask setup rows text whole.refusals
 in_parts asked ask setup rows firsts scripts parts whole text count divided played joins printed =
     let payer = payer_of (with_digits setup.subscribers) (map script_event rows) in
     let own : (part : ℕ) → part < length parts → get_or scripts part [] ≡ part_rows firsts payer rows part =
@@ -194,6 +194,6 @@ in_parts asked ask setup rows firsts scripts parts whole text count divided play
       parts = said.said;
       all = said.count ∙ played.count ∙ divided.count;
       each = λ part d within. let same : 0 + part ≡ part = omega arith in subst (λ n. IsPlayedPart ask setup firsts n (part_rows firsts payer rows n) (get_or said.said part d)) same (said.each part d within);
-      printed = printed (joined said.said) keeps;
+      printed = printed (joined_parts said.said) keeps;
       refused = keeps.refusals;
     }

@@ -7,8 +7,8 @@ use Rattle.run_texts.specs.Views.{script_event}
 use Rattle.run_texts.specs.declared.script.ScriptRow.{ScriptRow}
 use Rattle.script_player.specs.Chains.{Chain}
 use Rattle.script_player.specs.Plays.{IsPlayed, Play}
-use Rattle.script_player.specs.Posts.{Begins, items_of, opening_of, recharges_in, recharges_of}
-use Rattle.script_player.specs.Runs.{Hears, LivesByItsDeeds, fresh}
+use Rattle.script_player.specs.Posts.{Begins, items_of, opening_item_of, recharges_in, recharge_items_of}
+use Rattle.script_player.specs.Runs.{Hears, LivesByItsDeeds, fresh_play}
 use Rattle.ssf_core.specs.declared.config.SsfConfig.{SsfConfig}
 use Rattle.run_values.specs.declared.post.Answer.{Answer}
 use Rattle.run_values.specs.declared.post.Body.{Body}
@@ -33,8 +33,8 @@ each_hears before_this old (answers ∷ next ∷ heard) new running rounds =
 
 pub play_of : (config : SsfConfig) (delay : ℕ) (taken left rows : List ScriptRow) (heard : List (List Answer)) (given : List (ℕ × Body)) (play : Play) → left ≡ [] → taken ++ left ≡ rows
     → HearsItsRounds config delay rows heard play → LivesByItsDeeds config delay (taken ++ left) play → play.ended ≡ true → play.network.given ≡ given
-    → ((call : ℕ) → IsPlayed config call given) → ((call : ℕ) → Begins (opening_of call taken) (items_of call given))
-    → recharges_in given ≡ recharges_of taken → IsPlayOf config delay rows heard given
+    → ((call : ℕ) → IsPlayed config call given) → ((call : ℕ) → Begins (opening_item_of call taken) (items_of call given))
+    → recharges_in given ≡ recharge_items_of taken → IsPlayOf config delay rows heard given
 play_of config delay taken left rows heard given play none all rounds lives ended gives calls begins recharges =
     let same : taken ≡ rows = sym (append-nil taken) ∙ ap (λ (l : List ScriptRow). taken ++ l) (sym none) ∙ all in
     let Is : List ScriptRow → Type 0 = λ r. IsPlayOf config delay r heard given in
@@ -44,7 +44,7 @@ play_of config delay taken left rows heard given play none all rounds lives ende
     subst Is same
     (record {
       play = play;
-      reached = record { heard = heard; has_heard = chained [] (fresh config delay taken) heard play own };
+      reached = record { heard = heard; has_heard = chained [] (fresh_play config delay taken) heard play own };
       heard_are = refl;
       rounds = own;
       lives = subst Lives (all ∙ sym same) lives;
@@ -64,7 +64,7 @@ given_by ask config other delay rows taken left heard given asked_for same after
     record { config = other; asked_for = subst Asked (sym same) asked_for; rows = rows; says = refl; play = subst Plays after plays }
 
 -- the rounds of a player, by its plan as it is after them
-pub rounds_of : (config other : SsfConfig) (delay now : ℕ) (rows : List ScriptRow) (old : Play) (heard : List (List Answer)) (new : Play) → old ≡ fresh config delay rows → other ≡ config → now ≡ delay
+pub rounds_of : (config other : SsfConfig) (delay now : ℕ) (rows : List ScriptRow) (old : Play) (heard : List (List Answer)) (new : Play) → old ≡ fresh_play config delay rows → other ≡ config → now ≡ delay
     → Rounds (λ before answers after. before.ended ≡ false → Hears before answers after) [] old heard new → HearsItsRounds other now rows heard new
 rounds_of config other delay now rows old heard new is same_config same_delay rounds =
     let From : Play → Type 0 = λ p. Rounds Hears [] p heard new in

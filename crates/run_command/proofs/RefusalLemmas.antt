@@ -5,7 +5,7 @@ use Rattle.std.proofs.lemmas.List.{length-append, take_more}
 use Rattle.std.proofs.lemmas.List.Elements.{filter-append}
 use Rattle.account_core.specs.declared.fault.AccountFault.{AccountFault}
 use Rattle.account_core.specs.declared.fault.AccountFault.TheVariants as fault
-use Rattle.run_command.specs.Refused.{counted, how_many, is_by, one_more, refusals_in}
+use Rattle.run_command.specs.Refused.{refusals_counted, how_many, is_by, one_refusal_more, refusals_counted_in}
 use Rattle.run_values.specs.declared.post.Answer.{Answer}
 
 one_of : (is : Bool) (answer : Answer) → length (cond is (answer ∷ []) []) ≡ cond is 1 0
@@ -18,11 +18,11 @@ many_more why heard answer =
     ap length (filter-append p heard (answer ∷ [])) ∙ length-append (filter p heard) (filter p (answer ∷ []))
     ∙ ap (λ n. how_many why heard + n) (one_of (p answer) answer)
 
-counted_more : (count : ℕ) → counted (counted count + 1) ≡ counted (count + 1)
+counted_more : (count : ℕ) → refusals_counted (refusals_counted count + 1) ≡ refusals_counted (count + 1)
 counted_more count = omega arith
 
 -- an answer without a refusal
-pub not_refused : (heard : List Answer) (answer : Answer) → answer.refused ≡ None → refusals_in heard ≡ refusals_in (heard ++ answer ∷ [])
+pub not_refused : (heard : List Answer) (answer : Answer) → answer.refused ≡ None → refusals_counted_in heard ≡ refusals_counted_in (heard ++ answer ∷ [])
 not_refused heard answer none = rw (
   many_more fault.GateClosed heard answer,
   many_more fault.OutOfRange heard answer,
@@ -34,7 +34,7 @@ not_refused heard answer none = rw (
 ) (simp add-zero)
 
 -- an answer with one
-pub refused_more : (heard : List Answer) (answer : Answer) (why : AccountFault) → answer.refused ≡ Some why → one_more (refusals_in heard) why ≡ refusals_in (heard ++ answer ∷ [])
+pub refused_more : (heard : List Answer) (answer : Answer) (why : AccountFault) → answer.refused ≡ Some why → one_refusal_more (refusals_counted_in heard) why ≡ refusals_counted_in (heard ++ answer ∷ [])
 refused_more heard answer why is = rw (
   many_more fault.GateClosed heard answer,
   many_more fault.OutOfRange heard answer,
@@ -45,13 +45,13 @@ refused_more heard answer why is = rw (
   is,
 ) (by why)
   where
-    by : (one : AccountFault) → one_more (refusals_in heard) one ≡ record {
-      gate_closed = counted (how_many fault.GateClosed heard + cond (is_by fault.GateClosed (Some one)) 1 0);
-      out_of_range = counted (how_many fault.OutOfRange heard + cond (is_by fault.OutOfRange (Some one)) 1 0);
-      not_open = counted (how_many fault.NotOpen heard + cond (is_by fault.NotOpen (Some one)) 1 0);
-      call_used = counted (how_many fault.CallUsed heard + cond (is_by fault.CallUsed (Some one)) 1 0);
-      history_full = counted (how_many fault.HistoryFull heard + cond (is_by fault.HistoryFull (Some one)) 1 0);
-      out_of_memory = counted (how_many fault.OutOfMemory heard + cond (is_by fault.OutOfMemory (Some one)) 1 0);
+    by : (one : AccountFault) → one_refusal_more (refusals_counted_in heard) one ≡ record {
+      gate_closed = refusals_counted (how_many fault.GateClosed heard + cond (is_by fault.GateClosed (Some one)) 1 0);
+      out_of_range = refusals_counted (how_many fault.OutOfRange heard + cond (is_by fault.OutOfRange (Some one)) 1 0);
+      not_open = refusals_counted (how_many fault.NotOpen heard + cond (is_by fault.NotOpen (Some one)) 1 0);
+      call_used = refusals_counted (how_many fault.CallUsed heard + cond (is_by fault.CallUsed (Some one)) 1 0);
+      history_full = refusals_counted (how_many fault.HistoryFull heard + cond (is_by fault.HistoryFull (Some one)) 1 0);
+      out_of_memory = refusals_counted (how_many fault.OutOfMemory heard + cond (is_by fault.OutOfMemory (Some one)) 1 0);
     }
     by fault.GateClosed = rw (counted_more (how_many fault.GateClosed heard)) (simp add-zero)
     by fault.OutOfRange = rw (counted_more (how_many fault.OutOfRange heard)) (simp add-zero)
@@ -62,7 +62,7 @@ refused_more heard answer why is = rw (
 
 -- an answer more of those that are heard
 pub answer_more : (answers : List Answer) (i : ℕ) (answer : Answer) (heard : List Answer) → i < length answers → answer ≡ get_or answers i answer
-    → refusals_in ((heard ++ take i answers) ++ answer ∷ []) ≡ refusals_in (heard ++ take (i + 1) answers)
+    → refusals_counted_in ((heard ++ take i answers) ++ answer ∷ []) ≡ refusals_counted_in (heard ++ take (i + 1) answers)
 answer_more answers i answer heard within is =
-    ap (λ l. refusals_in l) (append_assoc heard (take i answers) (answer ∷ [])
+    ap (λ l. refusals_counted_in l) (append_assoc heard (take i answers) (answer ∷ [])
     ∙ ap (λ l. heard ++ l) (ap (λ a. take i answers ++ a ∷ []) is ∙ sym (take_more answers i answer within)))

@@ -13,7 +13,7 @@ use Rattle.run_records.specs.Starts.{HasItsParties, HasItsStart, HaveTheirPartie
 use Rattle.run_values.specs.declared.post.Body.{Body}
 use Rattle.run_values.specs.declared.post.Body.TheVariants as body
 use Rattle.script_player.specs.Plays.{IsPlayed}
-use Rattle.script_player.specs.Posts.{is_of, items_of, post_of, posts_of}
+use Rattle.script_player.specs.Posts.{is_of_call, items_of, post_of, posts_of}
 use Rattle.ssf_core.specs.Happenings.{sent_in}
 use Rattle.ssf_core.specs.Laws.{InitialDpIsFirst, IsNoInitialDp}
 use Rattle.ssf_core.specs.declared.config.SsfConfig.{SsfConfig}
@@ -78,7 +78,7 @@ Starts call start at (body.Recharge account amount until) = ⊤
 abbrev StartsItem : ℕ → Option (ℕ × Number × Number) → ℕ × Body → Type 0
 StartsItem call start item = Starts call start item.0 item.1
 
-later_body : (call : ℕ) (start : Option (ℕ × Number × Number)) (at : ℕ) (what : Body) → (is_of call what ≡ true → IsLater what) → Starts call start at what
+later_body : (call : ℕ) (start : Option (ℕ × Number × Number)) (at : ℕ) (what : Body) → (is_of_call call what ≡ true → IsLater what) → Starts call start at what
 later_body call start at (body.Ssf other (message.InitialDp third calling called)) later = λ same. absurd (later same)
 later_body call start at (body.Ssf other (message.EventReport event leg mode)) later = tt
 later_body call start at (body.Ssf other (message.ChargingReport active report)) later = tt
@@ -89,7 +89,7 @@ later_body call start at (body.Recharge account amount until) later = tt
 later_start : (call : ℕ) (start : Option (ℕ × Number × Number)) (items : List (ℕ × Body)) → All IsLaterItem (items_of call items) → All (StartsItem call start) items
 unfolding IsLaterItem
 later_start call start items later = λ k d within.
-    later_body call start (slice_index_or items k d).0 (slice_index_or items k d).1 (all_passing (λ (item : ℕ × Body). is_of call item.1) IsLaterItem items later k d within)
+    later_body call start (slice_index_or items k d).0 (slice_index_or items k d).1 (all_passing (λ (item : ℕ × Body). is_of_call call item.1) IsLaterItem items later k d within)
 
 -- the start of a call, where a message of its own, or of another call, goes before these items
 abbrev told : Bool → ℕ → SsfMsg → List (ℕ × Body) → ℕ → Option (ℕ × Number × Number)

@@ -18,9 +18,9 @@ use Rattle.run_values.specs.declared.post.Answer.{Answer}
 use Rattle.run_values.specs.declared.post.Body.{Body}
 use Rattle.run_values.specs.declared.post.Body.TheVariants as body
 use Rattle.script_player.specs.Plays.{IsPlayed}
-use Rattle.script_player.specs.Posts.{is_of, is_recharge, items_of, post_of, posts_of, recharge_of, recharges_in, recharges_of}
+use Rattle.script_player.specs.Posts.{is_of_call, is_recharge, items_of, post_of, posts_of, recharge_of, recharges_in, recharge_items_of}
 use Rattle.ssf_core.specs.Happenings.{sent_in}
-use Rattle.ssf_core.specs.Laws.{IsInRange, ReportsAreInRange}
+use Rattle.ssf_core.specs.Laws.{ItemIsInRange, ReportsAreInRange}
 use Rattle.ssf_core.specs.declared.config.SsfConfig.{SsfConfig}
 use Rattle.ssf_core.specs.declared.item.Item.{Item}
 use Rattle.ssf_core.specs.declared.item.Item.TheVariants as sent
@@ -44,7 +44,7 @@ report_fits (info.Switch since (Some interval)) is =
 IsTimelyItem : ℕ × Body → Type 0
 IsTimelyItem item = IsTimely item.1
 
-post_timely : (call at : ℕ) (item : Item) → IsInRange item → All IsTimelyItem (post_of call at item)
+post_timely : (call at : ℕ) (item : Item) → ItemIsInRange item → All IsTimelyItem (post_of call at item)
 unfolding IsTimelyItem
 post_timely call at (sent.Msg (message.ChargingReport active report)) range =
     All-cons IsTimelyItem (at, body.Ssf call (message.ChargingReport active report)) [] (report_fits report range) (All-nil IsTimelyItem)
@@ -56,11 +56,11 @@ post_timely call at (sent.Msg message.Ended) range = All-cons IsTimelyItem (at, 
 post_timely call at sent.Proceed range = All-nil IsTimelyItem
 post_timely call at (sent.Clear cause) range = All-nil IsTimelyItem
 
-posts_timely : (call : ℕ) (outs : List Out) → All (λ out. IsInRange out.item) outs → All IsTimelyItem (posts_of call outs)
+posts_timely : (call : ℕ) (outs : List Out) → All (λ out. ItemIsInRange out.item) outs → All IsTimelyItem (posts_of call outs)
 posts_timely call [] range = All-nil IsTimelyItem
 posts_timely call (out ∷ outs) range =
-    All-append IsTimelyItem (post_of call out.at out.item) (posts_of call outs) (post_timely call out.at out.item (All-head (λ (o : Out). IsInRange o.item) out outs range))
-    (posts_timely call outs (All-tail (λ (o : Out). IsInRange o.item) out outs range))
+    All-append IsTimelyItem (post_of call out.at out.item) (posts_of call outs) (post_timely call out.at out.item (All-head (λ (o : Out). ItemIsInRange o.item) out outs range))
+    (posts_timely call outs (All-tail (λ (o : Out). ItemIsInRange o.item) out outs range))
 
 played_timely : ReportsAreInRange → (config : SsfConfig) (call : ℕ) (given : List (ℕ × Body)) → IsPlayed config call given → All IsTimelyItem (items_of call given)
 played_timely reports config call given played =
@@ -80,15 +80,15 @@ recharge_timely at (happening.Meets call event) is = All-nil IsTimelyItem
 recharge_timely at (happening.Recharge account amount until) is =
     All-cons IsTimelyItem (at, body.Recharge account amount until) [] (until_timely until is) (All-nil IsTimelyItem)
 
-recharges_timely : (rows : List ScriptRow) → All (λ row. is_in_time (happens_of row.what) ≡ true) rows → All IsTimelyItem (recharges_of rows)
+recharges_timely : (rows : List ScriptRow) → All (λ row. is_in_time (happens_of row.what) ≡ true) rows → All IsTimelyItem (recharge_items_of rows)
 recharges_timely [] is = All-nil IsTimelyItem
 recharges_timely (row ∷ rows) is =
     let P : ScriptRow → Type 0 = λ r. is_in_time (happens_of r.what) ≡ true in
-    All-append IsTimelyItem (recharge_of row.at row.what) (recharges_of rows) (recharge_timely row.at row.what (All-head P row rows is)) (recharges_timely rows (All-tail P row rows is))
+    All-append IsTimelyItem (recharge_of row.at row.what) (recharge_items_of rows) (recharge_timely row.at row.what (All-head P row rows is)) (recharges_timely rows (All-tail P row rows is))
 
 -- ---- all that is given
 
-body_timely : (what : Body) → ((call : ℕ) → is_of call what ≡ true → IsTimely what) → (is_recharge what ≡ true → IsTimely what) → IsTimely what
+body_timely : (what : Body) → ((call : ℕ) → is_of_call call what ≡ true → IsTimely what) → (is_recharge what ≡ true → IsTimely what) → IsTimely what
 body_timely (body.Ssf call msg) of_call of_account = of_call call (eq-eqb call call refl)
 body_timely (body.Recharge account amount until) of_call of_account = of_account refl
 
@@ -96,9 +96,9 @@ pub given_timely : ReportsAreInRange → (config : SsfConfig) (delay : ℕ) (row
     → All (λ row. is_in_time (happens_of row.what) ≡ true) rows → AreTimely given
 unfolding IsTimelyItem
 given_timely reports config delay rows heard given play in_time = λ k d within.
-    let recharged : All IsTimelyItem (recharges_in given) = All-same IsTimelyItem (recharges_in given) (recharges_of rows) play.recharges (recharges_timely rows in_time) in
+    let recharged : All IsTimelyItem (recharges_in given) = All-same IsTimelyItem (recharges_in given) (recharge_items_of rows) play.recharges (recharges_timely rows in_time) in
     body_timely (slice_index_or given k d).1
-    (λ call. all_passing (λ (item : ℕ × Body). is_of call item.1) IsTimelyItem given (played_timely reports config call given (play.calls call)) k d within)
+    (λ call. all_passing (λ (item : ℕ × Body). is_of_call call item.1) IsTimelyItem given (played_timely reports config call given (play.calls call)) k d within)
     (all_passing (λ (item : ℕ × Body). is_recharge item.1) IsTimelyItem given recharged k d within)
 
 -- rows that say a script in time are so

@@ -5,12 +5,12 @@ use Rattle.std.proofs.Math.Seq.{take-append_seam}
 use Rattle.std.proofs.lemmas.List.{get_or-map, length-map}
 use Rattle.std.specs.Prelude.{IfOk, Result}
 use Rattle.run_command.specs.InParts.{ArePlayed, IsKeptPart}
-use Rattle.run_command.specs.Turns.{HasPlayed, IsInOrder}
+use Rattle.run_command.specs.Turns.{HasPlayedPart, IsInOrder}
 use Rattle.run_command.specs.declared.error.RunError.{RunError}
 use Rattle.run_command.specs.declared.parts.Part.{Part}
 use Rattle.run_command.specs.declared.turns.Turn.{Turn}
 use Rattle.run_options.specs.declared.options.RunAsk.{RunAsk}
-use Rattle.run_texts.specs.Views.{are_in_order}
+use Rattle.run_texts.specs.Views.{rows_are_in_order}
 use Rattle.run_texts.specs.declared.script.ScriptRow.{ScriptRow}
 use Rattle.run_values.specs.Setups.{Setup}
 use Rattle.tariff_core.specs.declared.times.TheConstants.{LAST_MOMENT}
@@ -29,7 +29,7 @@ module _ {V : Type 0} (inside : V → List ScriptRow) (script_of : Turn → V) (
       ∙ ap inside (get_or-map script_of before part d (script_of d) within) ∙ same (get_or before part d)
 
   its_part : (after : List Turn) (parts : List Part) (part : ℕ) (d : Part) (t : Turn) → length after ≡ length before → map (λ turn. turn.played) after ≡ map kept_as parts → part < length parts
-      → ((k : ℕ) (e : Turn) → k < length before → HasPlayed ask setup firsts k (get_or before k e) (get_or after k e))
+      → ((k : ℕ) (e : Turn) → k < length before → HasPlayedPart ask setup firsts k (get_or before k e) (get_or after k e))
       → IsKeptPart ask setup firsts part (get_or (map inside scripts) part []) (get_or parts part d)
   its_part after parts part d t as_many kept within each =
       let played : List (Result Part RunError) = map (λ turn. turn.played) after in
@@ -43,7 +43,7 @@ module _ {V : Type 0} (inside : V → List ScriptRow) (script_of : Turn → V) (
       subst (λ rows. IsKeptPart ask setup firsts part rows (get_or parts part d)) (sym (its_rows part t here)) (subst Is is (each part t here).kept)
 
   from_any : (after : List Turn) (parts : List Part) (part : ℕ) (d : Part) → part < length parts → length after ≡ length before → map (λ turn. turn.played) after ≡ map kept_as parts
-      → ((k : ℕ) (e : Turn) → k < length before → HasPlayed ask setup firsts k (get_or before k e) (get_or after k e))
+      → ((k : ℕ) (e : Turn) → k < length before → HasPlayedPart ask setup firsts k (get_or before k e) (get_or after k e))
       → IsKeptPart ask setup firsts part (get_or (map inside scripts) part []) (get_or parts part d)
   from_any [] parts part d within as_many kept each =
       let all : 0 ≡ length parts = ap length kept ∙ length-map parts kept_as in
@@ -51,7 +51,7 @@ module _ {V : Type 0} (inside : V → List ScriptRow) (script_of : Turn → V) (
   from_any (turn ∷ after) parts part d within as_many kept each = its_part (turn ∷ after) parts part d turn as_many kept within each
 
   pub all_played : (after : List Turn) (parts : List Part) → length after ≡ length before → map (λ turn. turn.played) after ≡ map kept_as parts
-      → ((k : ℕ) (e : Turn) → k < length before → HasPlayed ask setup firsts k (get_or before k e) (get_or after k e))
+      → ((k : ℕ) (e : Turn) → k < length before → HasPlayedPart ask setup firsts k (get_or before k e) (get_or after k e))
       → ArePlayed ask setup firsts (map inside scripts) parts
   all_played after parts as_many kept each =
       let many = length-map after (λ turn. turn.played) in
@@ -66,11 +66,11 @@ module _ {V : Type 0} (inside : V → List ScriptRow) (script_of : Turn → V) (
 
 -- the rows of each turn are in range and in order, where those of each script are
 pub all_in_order : {V : Type 0} (inside : V → List ScriptRow) (script_of : Turn → V) → ((turn : Turn) → inside (script_of turn) ≡ turn.script.items) → (turns : List Turn) (scripts : List V)
-    → map script_of turns ≡ scripts → All (λ rows. All (λ row. row.at ≤ LAST_MOMENT) (inside rows)) scripts → All (λ rows. are_in_order 0 (inside rows) ≡ true) scripts → All IsInOrder turns
+    → map script_of turns ≡ scripts → All (λ rows. All (λ row. row.at ≤ LAST_MOMENT) (inside rows)) scripts → All (λ rows. rows_are_in_order 0 (inside rows) ≡ true) scripts → All IsInOrder turns
 all_in_order inside script_of same turns scripts are in_range in_order = λ k d within.
     let there : k < length (map script_of turns) = let many = length-map turns script_of in omega (arith, within, many) in
     let In_range : List ScriptRow → Type 0 = λ rows. All (λ row. row.at ≤ LAST_MOMENT) rows in
-    let In_order : List ScriptRow → Type 0 = λ rows. are_in_order 0 rows ≡ true in
+    let In_order : List ScriptRow → Type 0 = λ rows. rows_are_in_order 0 rows ≡ true in
     let own : All (λ rows. In_range (inside rows)) (map script_of turns) = subst (λ (s : List _). All (λ rows. In_range (inside rows)) s) (sym are) in_range in
     let ordered : All (λ rows. In_order (inside rows)) (map script_of turns) = subst (λ (s : List _). All (λ rows. In_order (inside rows)) s) (sym are) in_order in
     let is = ap inside (get_or-map script_of turns k d (script_of d) within) ∙ same (get_or turns k d) in

@@ -8,13 +8,13 @@ use Rattle.run_command.specs.Books.{AreBooksOf}
 use Rattle.run_command.specs.InParts.{IsRunInParts}
 use Rattle.run_command.specs.Laws.{CallsHavePaid, PassTheirAudits}
 use Rattle.run_command.specs.Plays.{IsGivenBy}
-use Rattle.run_command.specs.Refused.{refusals_in}
+use Rattle.run_command.specs.Refused.{refusals_counted_in}
 use Rattle.run_options.specs.Options.{played_parts}
 use Rattle.run_options.specs.declared.options.PartsAsk.{PartsAsk}
 use Rattle.run_options.specs.declared.options.RunAsk.{RunAsk}
 use Rattle.run_options.specs.declared.options.RunOutput.{RunOutput}
 use Rattle.run_options.specs.declared.options.RunOutput.TheVariants as output
-use Rattle.run_texts.specs.InputFaults.{Refuses}
+use Rattle.run_texts.specs.InputFaults.{RefusesInput}
 use Rattle.run_texts.specs.Inputs.{RunInput, input_of}
 use Rattle.run_command.specs.declared.error.RunError.{RunError}
 use Rattle.run_command.specs.declared.refusals.Refusals.{Refusals}
@@ -53,7 +53,7 @@ pub record IsRunOf (ask : RunAsk) (input : List ℕ) (ran : RunSaid) : Type 0 wh
   pub books : List Closed
   pub are_books : AreBooksOf ask said given heard books
   pub printed : IsTextOf ask.output (record { setup = are_books.setup; given = given; books = books }) (all_heard heard) ran.text
-  pub refused : ran.refusals ≡ refusals_in (all_heard heard)
+  pub refused : ran.refusals ≡ refusals_counted_in (all_heard heard)
   -- a long audit of the table of the books says yes for each account, and so does a short one where that takes as many rows
   pub passes : ask.output ≡ output.Book → PassTheirAudits books
   -- the records of its calls have paid what the calls of its books have, a call without a route nothing, and a call without a forfeit the price of its times by its route
@@ -65,26 +65,26 @@ IsRunSaid None ask input ran = IsRunOf ask input ran
 IsRunSaid (Some parts) ask input ran = IsRunInParts parts.count ask input ran.text ran.refusals
 
 -- what can end a run of so many workers: `Workers` where there can't be so many, and only then; no gate closes
-abbrev pub MayEnd : ℕ → RunFault → Type 0
-MayEnd workers run.OutOfMemory = ⊤
-MayEnd workers run.Workers = are_workers workers ≡ false
-MayEnd workers run.GateClosed = ⊥
-MayEnd workers _ = are_workers workers ≡ true
+abbrev pub MayEndRun : ℕ → RunFault → Type 0
+MayEndRun workers run.OutOfMemory = ⊤
+MayEndRun workers run.Workers = are_workers workers ≡ false
+MayEndRun workers run.GateClosed = ⊥
+MayEndRun workers _ = are_workers workers ≡ true
 
 -- the same of an error of the run
 abbrev pub MayFail : ℕ → RunError → Type 0
-MayFail workers (error.Run fault) = MayEnd workers fault
+MayFail workers (error.Run fault) = MayEndRun workers fault
 MayFail workers (error.Input why) = ⊥
 
 -- a run over this input was ended by a fault
 pub record IsEnded (workers : ℕ) (input : List ℕ) (fault : RunFault) : Type 0 where
   pub said : RunInput
   pub read : input_of input ≡ Ok said
-  pub may : MayEnd workers fault
+  pub may : MayEndRun workers fault
 
 -- an answer to the input: what a run says, or the first fault of the input, or else a fault of the run. A failed reader and out of memory may come at any
 abbrev pub IsRunAnswer : RunAsk → List ℕ → Result RunSaid RunError → Type 0
 IsRunAnswer ask input (Ok ran) = IsRunSaid (played_parts ask) ask input ran
 IsRunAnswer ask input (Err (error.Run run.OutOfMemory)) = ⊤
 IsRunAnswer ask input (Err (error.Run fault)) = IsEnded ask.workers input fault
-IsRunAnswer ask input (Err (error.Input why)) = Refuses why (input_of input)
+IsRunAnswer ask input (Err (error.Input why)) = RefusesInput why (input_of input)

@@ -11,7 +11,7 @@ use Rattle.moment_texts.specs.declared.clock.Clock.{Clock}
 use Rattle.run_command.specs.Books.{AreBooksOf}
 use Rattle.run_command.specs.Laws.{CallsHavePaid}
 use Rattle.run_command.specs.Plays.{IsGivenBy}
-use Rattle.run_command.specs.Refused.{added, refusals_in, with_refusals}
+use Rattle.run_command.specs.Refused.{added_up, refusals_counted_in, with_refusals}
 use Rattle.run_command.specs.declared.parts.Part.{Part}
 use Rattle.run_command.specs.declared.refusals.Refusals.{Refusals}
 use Rattle.run_options.specs.declared.options.RunAsk.{RunAsk}
@@ -42,11 +42,11 @@ abbrev pub with_part : PartSaid → PartSaid → PartSaid
 with_part said later = record { books = said.books ++ later.books; calls = said.calls ++ later.calls; refusals = with_refusals said.refusals later.refusals }
 
 -- what all parts come to together, in order
-abbrev pub joined : List PartSaid → PartSaid
-joined parts = record {
+abbrev pub joined_parts : List PartSaid → PartSaid
+joined_parts parts = record {
   books = flat_map (λ part. part.books) parts;
   calls = flat_map (λ part. part.calls) parts;
-  refusals = added (map (λ part. part.refusals) parts);
+  refusals = added_up (map (λ part. part.refusals) parts);
 }
 
 -- the books of the accounts of a part
@@ -67,7 +67,7 @@ pub record IsPartOf (ask : RunAsk) (said : RunInput) (firsts : List ℕ) (part :
   pub are_books : AreBooksOf ask said given heard books
   pub own : kept.books ≡ own_books firsts part books
   pub calls : KeepsCalls ask.output (record { setup = are_books.setup; given = given; books = books }) kept.calls
-  pub refused : kept.refusals ≡ refusals_in (all_heard heard)
+  pub refused : kept.refusals ≡ refusals_counted_in (all_heard heard)
   -- the records of its calls have paid what the calls of its books have, a call without a route nothing, and a call without a forfeit the price of its times by its route
   pub paid : CallsHavePaid (record { setup = are_books.setup; given = given; books = books })
 
@@ -96,7 +96,7 @@ pub record IsRunInParts (asked : ℕ) (ask : RunAsk) (input text : List ℕ) (re
   pub all : length parts ≡ 1 + length firsts
   pub each : (part : ℕ) (d : PartSaid) → part < length parts → IsPartOf ask said firsts part (slice_index_or parts part d)
   pub printed : IsPartsText ask.output said.tariff (flat_map (λ part. part.books) parts) (flat_map (λ part. part.calls) parts) text
-  pub refused : refusals ≡ added (map (λ part. part.refusals) parts)
+  pub refused : refusals ≡ added_up (map (λ part. part.refusals) parts)
 
 -- ---- of the rows of a script, over a setup
 
@@ -110,7 +110,7 @@ pub record IsPlayedPart (ask : RunAsk) (setup : Setup) (firsts : List ℕ) (part
   pub run : IsRun StoodIn setup ask.workers given (all_heard heard) books
   pub own : kept.books ≡ own_books firsts part books
   pub calls : KeepsCalls ask.output (record { setup = setup; given = given; books = books }) kept.calls
-  pub refused : kept.refusals ≡ refusals_in (all_heard heard)
+  pub refused : kept.refusals ≡ refusals_counted_in (all_heard heard)
 
 -- what the code keeps of books: themselves, or their lines, where they are printed
 abbrev pub KeepsBooks : RunOutput → List Closed → LinesSaid → List Closed → Type 0
@@ -119,7 +119,7 @@ KeepsBooks (output.Calls clock) books lines kept = Unit {0}
 KeepsBooks _ books lines kept = AreLinesOf books lines
 
 -- what it keeps of a part, or of all
-pub record Keeps (output : RunOutput) (said : PartSaid) (part : Part) : Type 0 where
+pub record KeepsPart (output : RunOutput) (said : PartSaid) (part : Part) : Type 0 where
   pub books : KeepsBooks output said.books part.lines part.books.items
   pub calls : part.calls.items ≡ said.calls
   pub refusals : part.refusals ≡ said.refusals
@@ -127,14 +127,14 @@ pub record Keeps (output : RunOutput) (said : PartSaid) (part : Part) : Type 0 w
 -- the same of each part
 abbrev pub AreKept : RunOutput → List PartSaid → List Part → Type 0
 AreKept output [] [] = Unit {0}
-AreKept output (said ∷ rest) (part ∷ parts) = Keeps output said part × AreKept output rest parts
+AreKept output (said ∷ rest) (part ∷ parts) = KeepsPart output said part × AreKept output rest parts
 AreKept output _ _ = ⊥
 
 -- a part with these rows was played, and this is kept of it
 pub record IsKeptPart (ask : RunAsk) (setup : Setup) (firsts : List ℕ) (part : ℕ) (rows : List ScriptRow) (kept : Part) : Type 0 where
   pub said : PartSaid
   pub is : IsPlayedPart ask setup firsts part rows said
-  pub keeps : Keeps ask.output said kept
+  pub keeps : KeepsPart ask.output said kept
 
 -- a part for each of these scripts
 pub record ArePlayed (ask : RunAsk) (setup : Setup) (firsts : List ℕ) (scripts : List (List ScriptRow)) (parts : List Part) : Type 0 where
@@ -150,4 +150,4 @@ pub record IsInParts (asked : ℕ) (ask : RunAsk) (setup : Setup) (rows : List S
   pub each : (part : ℕ) (d : PartSaid) → part < length parts
       → IsPlayedPart ask setup firsts part (part_rows firsts (payer_of (with_digits setup.subscribers) (map script_event rows)) rows part) (slice_index_or parts part d)
   pub printed : IsPartsText ask.output setup.tariff (flat_map (λ part. part.books) parts) (flat_map (λ part. part.calls) parts) text
-  pub refused : refusals ≡ added (map (λ part. part.refusals) parts)
+  pub refused : refusals ≡ added_up (map (λ part. part.refusals) parts)

@@ -24,7 +24,7 @@ use Rattle.shared_account.specs.Closed.{Closed}
 use Rattle.shared_account.specs.Seen.{StoodIn}
 
 -- an input of at most 1,000 accounts, which rise, each with an opening in its range, and whose recharges are in time, as those that are read are
-pub record IsInRange (said : RunInput) : Type 0 where
+pub record InputIsInRange (said : RunInput) : Type 0 where
   pub accounts : HasAccounts said.setup.accounts
   pub few : length said.setup.accounts ≤ MAX_ACCOUNTS
   pub recharges : All (λ event. is_in_time event.what ≡ true) said.script
@@ -37,7 +37,7 @@ pub record PassTheirAudits (books : List Closed) : Type 0 where
 -- so does that of the books of a run over it
 abbrev pub PlayedBooksPass : Type 0
 PlayedBooksPass =
-    (ask : RunAsk) (said : RunInput) (given : List (ℕ × Body)) (heard : List (List Answer)) (books : List Closed) → are_workers ask.workers ≡ true → IsInRange said
+    (ask : RunAsk) (said : RunInput) (given : List (ℕ × Body)) (heard : List (List Answer)) (books : List Closed) → are_workers ask.workers ≡ true → InputIsInRange said
     → IsGivenBy ask said.script heard given → AreBooksOf ask said given heard books → All IsTyped books → PassTheirAudits books
 
 -- what the records of a run's calls say of what was paid

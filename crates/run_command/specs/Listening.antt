@@ -1,6 +1,6 @@
 -- A player that counts the refusals in the answers that it hears, and may keep the answers.
 use Rattle.std.specs.Prelude.{◌≡◌, ◌++◌, true, false, List}
-use Rattle.run_command.specs.Refused.{refusals_in}
+use Rattle.run_command.specs.Refused.{refusals_counted_in}
 use Rattle.run_command.specs.declared.listening.Listener.{Listener}
 use Rattle.run_values.specs.declared.post.Answer.{Answer}
 use Rattle.script_player.specs.Runs.{Hears}
@@ -10,4 +10,4 @@ pub record Listens (before : Listener) (answers : List Answer) (after : Listener
   pub plays : before.player.ended ≡ false → Hears before.player answers after.player
   pub keeps : after.keeps ≡ before.keeps
   pub kept : before.keeps ≡ true → after.heard.items ≡ before.heard.items ++ answers
-  pub counted : (heard : List Answer) → before.refusals ≡ refusals_in heard → after.refusals ≡ refusals_in (heard ++ answers)
+  pub counted : (heard : List Answer) → before.refusals ≡ refusals_counted_in heard → after.refusals ≡ refusals_counted_in (heard ++ answers)

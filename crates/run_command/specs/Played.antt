@@ -4,7 +4,7 @@ use Rattle.book_texts.specs.Typed.{IsTyped}
 use Rattle.call_records.specs.Records.{Run}
 use Rattle.run_command.specs.Answers.{IsTextOf, RunSaid}
 use Rattle.run_command.specs.Plays.{IsGivenBy}
-use Rattle.run_command.specs.Refused.{refusals_in}
+use Rattle.run_command.specs.Refused.{refusals_counted_in}
 use Rattle.run_command.specs.Tables.{AreTextsOf, TablesSaid, clock_of}
 use Rattle.run_command.specs.declared.playing.Played.{Played}
 use Rattle.run_options.specs.Options.{is_trace}
@@ -27,12 +27,12 @@ abbrev pub run_of : Setup → Played → Run
 run_of setup played = record { setup = setup; given = played.listener.player.network.given; books = played.books.items }
 
 -- what was given is the play of these rows, and the books are those of a run in this setup; the answers are kept for a trace, and their refusals are counted
-pub record IsPlayed (ask : RunAsk) (setup : Setup) (rows : List ScriptRow) (played : Played) : Type 0 where
+pub record IsPlayedRun (ask : RunAsk) (setup : Setup) (rows : List ScriptRow) (played : Played) : Type 0 where
   pub heard : List (List Answer)
   pub given_by : IsGivenBy ask (map script_event rows) heard (run_of setup played).given
   pub run : IsRun StoodIn setup ask.workers (run_of setup played).given (all_heard heard) (run_of setup played).books
   pub kept : is_trace ask.output ≡ true → played.listener.heard.items ≡ all_heard heard
-  pub counted : played.listener.refusals ≡ refusals_in (all_heard heard)
+  pub counted : played.listener.refusals ≡ refusals_counted_in (all_heard heard)
 
 -- rows were played that aren't in parts, and this was said
 pub record IsWhole (ask : RunAsk) (setup : Setup) (rows : List ScriptRow) (ran : RunSaid) : Type 0 where
@@ -43,7 +43,7 @@ pub record IsWhole (ask : RunAsk) (setup : Setup) (rows : List ScriptRow) (ran :
   pub books : List Closed
   pub run : IsRun StoodIn setup ask.workers given (all_heard heard) books
   pub printed : IsTextOf ask.output (record { setup = setup; given = given; books = books }) (all_heard heard) ran.text
-  pub refused : ran.refusals ≡ refusals_in (all_heard heard)
+  pub refused : ran.refusals ≡ refusals_counted_in (all_heard heard)
   pub typed : ask.output ≡ output.Book → All IsTyped books
 
 -- the same of all texts of one play
@@ -55,5 +55,5 @@ pub record AreWhole (ask : RunAsk) (setup : Setup) (rows : List ScriptRow) (tabl
   pub books : List Closed
   pub run : IsRun StoodIn setup ask.workers given (all_heard heard) books
   pub printed : AreTextsOf (clock_of ask.output) (record { setup = setup; given = given; books = books }) (all_heard heard) tables
-  pub refused : tables.refusals ≡ refusals_in (all_heard heard)
+  pub refused : tables.refusals ≡ refusals_counted_in (all_heard heard)
   pub typed : All IsTyped books

@@ -5,8 +5,8 @@ use Rattle.run_texts.specs.Happenings.{ScriptEvent}
 use Rattle.run_texts.specs.Views.{script_event}
 use Rattle.run_texts.specs.declared.script.ScriptRow.{ScriptRow}
 use Rattle.script_player.specs.Plays.{IsPlayed, Play}
-use Rattle.script_player.specs.Posts.{Begins, items_of, opening_of, recharges_in, recharges_of}
-use Rattle.script_player.specs.Runs.{Hears, IsReached, LivesByItsDeeds, fresh}
+use Rattle.script_player.specs.Posts.{Begins, items_of, opening_item_of, recharges_in, recharge_items_of}
+use Rattle.script_player.specs.Runs.{Hears, IsReached, LivesByItsDeeds, fresh_play}
 use Rattle.ssf_core.specs.declared.config.SsfConfig.{SsfConfig}
 use Rattle.run_values.specs.declared.post.Answer.{Answer}
 use Rattle.run_values.specs.declared.post.Body.{Body}
@@ -14,7 +14,7 @@ use Rattle.runs_core.specs.Hearing.{HearsRounds}
 
 -- a fresh player of these rows has heard answers round by round, in each round one for each item of the round before, up to the round in which it ended
 abbrev pub HearsItsRounds : SsfConfig → ℕ → List ScriptRow → List (List Answer) → Play → Type 0
-HearsItsRounds config delay rows heard play = HearsRounds (λ (p : Play). p.network.given) (λ (p : Play). p.ended) Hears [] (fresh config delay rows) heard play
+HearsItsRounds config delay rows heard play = HearsRounds (λ (p : Play). p.network.given) (λ (p : Play). p.ended) Hears [] (fresh_play config delay rows) heard play
 
 -- the play of these rows with gsmSSFs of this configuration, to which operations come after this delay, where these answers are heard
 pub record IsPlayOf (config : SsfConfig) (delay : ℕ) (rows : List ScriptRow) (heard : List (List Answer)) (given : List (ℕ × Body)) : Type 0 where
@@ -30,9 +30,9 @@ pub record IsPlayOf (config : SsfConfig) (delay : ℕ) (rows : List ScriptRow) (
   pub lives : LivesByItsDeeds config delay rows play
   -- and so what a gsmSSF sends along a trace, in order, from the row on that starts the call
   pub calls : (call : ℕ) → IsPlayed config call given
-  pub begins : (call : ℕ) → Begins (opening_of call rows) (items_of call given)
+  pub begins : (call : ℕ) → Begins (opening_item_of call rows) (items_of call given)
   -- and the recharges of the rows, in order
-  pub recharges : recharges_in given ≡ recharges_of rows
+  pub recharges : recharges_in given ≡ recharge_items_of rows
 
 -- the configuration that was asked for
 pub record IsAskedFor (ask : RunAsk) (config : SsfConfig) : Type 0 where

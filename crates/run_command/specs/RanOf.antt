@@ -4,5 +4,5 @@ use Rattle.run_command.specs.Answers.{RunSaid}
 use Rattle.run_command.specs.declared.running.Ran.{Ran}
 
 -- its text and its refusals
-abbrev pub said_of : Ran → RunSaid
-said_of ran = record { text = string_bytes ran.text; refusals = ran.refusals }
+abbrev pub run_said_of : Ran → RunSaid
+run_said_of ran = record { text = string_bytes ran.text; refusals = ran.refusals }

@@ -1,11 +1,11 @@
 -- What a run begins with.
 use Rattle.std.specs.Prelude.{◌≡◌, ℕ, List, Ok, map, ⊤}
 use Rattle.run_command.specs.Books.{IsSetupOf}
-use Rattle.run_command.specs.Laws.{IsInRange}
+use Rattle.run_command.specs.Laws.{InputIsInRange}
 use Rattle.run_command.specs.declared.error.RunError.{RunError}
 use Rattle.run_command.specs.declared.error.RunError.TheVariants as error
 use Rattle.run_options.specs.declared.options.RunAsk.{RunAsk}
-use Rattle.run_texts.specs.InputFaults.{Refuses}
+use Rattle.run_texts.specs.InputFaults.{RefusesInput}
 use Rattle.run_texts.specs.Inputs.{RunInput, input_of}
 use Rattle.run_texts.specs.Views.{script_event}
 use Rattle.run_texts.specs.declared.script.ScriptRow.{ScriptRow}
@@ -17,11 +17,11 @@ pub record IsStartOf (ask : RunAsk) (input : List ℕ) (setup : Setup) (rows : L
   pub said : RunInput
   pub read : input_of input ≡ Ok said
   pub of_input : IsSetupOf ask said setup
-  pub range : IsInRange said
+  pub range : InputIsInRange said
   pub says : map script_event rows ≡ said.script
 
 -- why a run of this input doesn't begin: the first fault of the input. A failed reader and out of memory may come at any
 abbrev pub MayNotStart : List ℕ → RunError → Type 0
-MayNotStart input (error.Input why) = Refuses why (input_of input)
+MayNotStart input (error.Input why) = RefusesInput why (input_of input)
 MayNotStart input (error.Run run.OutOfMemory) = ⊤
 MayNotStart input (error.Run why) = ⊥

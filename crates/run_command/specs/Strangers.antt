@@ -1,13 +1,13 @@
 -- The calls of numbers that no subscriber has.
 use Rattle.std.specs.Prelude.{◌≡◌, ℕ, List, [], ◌∷◌, Ok, if◌then◌else◌, is_some}
 use Rattle.std.specs.List.{flat_map}
-use Rattle.run_parts.specs.Parts.{account_of}
+use Rattle.run_parts.specs.Parts.{account_of_digits}
 use Rattle.run_texts.specs.Happenings.{Happens, Meets, Recharges, ScriptEvent, Starts}
 use Rattle.run_texts.specs.Inputs.{RunInput, input_of}
 
 -- the call that starts so, where no subscriber has its calling number
 abbrev pub stranger_of : List (List ℕ × ℕ) → Happens → List ℕ
-stranger_of subscribers (Starts call calling called) = if is_some (account_of calling subscribers) then [] else call ∷ []
+stranger_of subscribers (Starts call calling called) = if is_some (account_of_digits calling subscribers) then [] else call ∷ []
 stranger_of subscribers (Meets call event) = []
 stranger_of subscribers (Recharges account amount until) = []
 

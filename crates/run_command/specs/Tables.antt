@@ -7,7 +7,7 @@ use Rattle.run_command.specs.Answers.{IsRunAnswer, IsTextOf}
 use Rattle.run_command.specs.Books.{AreBooksOf}
 use Rattle.run_command.specs.Laws.{CallsHavePaid, PassTheirAudits}
 use Rattle.run_command.specs.Plays.{IsGivenBy}
-use Rattle.run_command.specs.Refused.{refusals_in}
+use Rattle.run_command.specs.Refused.{refusals_counted_in}
 use Rattle.run_command.specs.declared.error.RunError.{RunError}
 use Rattle.run_command.specs.declared.refusals.Refusals.{Refusals}
 use Rattle.run_command.specs.declared.tables.RunTables.{RunTables}
@@ -64,7 +64,7 @@ pub record AreTablesOf (ask : RunAsk) (input : List ℕ) (tables : TablesSaid) :
   pub books : List Closed
   pub are_books : AreBooksOf ask said given heard books
   pub printed : AreTextsOf (clock_of ask.output) (record { setup = are_books.setup; given = given; books = books }) (all_heard heard) tables
-  pub refused : tables.refusals ≡ refusals_in (all_heard heard)
+  pub refused : tables.refusals ≡ refusals_counted_in (all_heard heard)
   -- a long audit of the table of the books says yes for each account, and so does a short one where that takes as many rows
   pub passes : PassTheirAudits books
   -- the records of its calls have paid what the calls of its books have, a call without a route nothing, and a call without a forfeit the price of its times by its route

@@ -4,10 +4,10 @@ ghost use Rattle.std.specs.Prelude.{◌≡◌, ◌≤◌, ◌==◌, [], All, IfO
 ghost use Rattle.std.specs.List.{filter};
 ghost use Rattle.book_texts.specs.RunTexts.{AreLinesOf};
 ghost use Rattle.run_command.specs.Answers.{MayFail};
-ghost use Rattle.run_command.specs.InParts.{AreKept, IsInParts, IsKeptPart, IsMergedText, IsPartsText, Keeps, KeepsBooks, KeepsCalls, PartSaid, joined, own_books, with_part};
+ghost use Rattle.run_command.specs.InParts.{AreKept, IsInParts, IsKeptPart, IsMergedText, IsPartsText, KeepsPart, KeepsBooks, KeepsCalls, PartSaid, joined_parts, own_books, with_part};
 ghost use Rattle.run_options.specs.declared.options.RunOutput.{RunOutput};
 ghost use Rattle.run_options.specs.Options.{ask_of};
-ghost use Rattle.run_texts.specs.Views.{are_in_order};
+ghost use Rattle.run_texts.specs.Views.{rows_are_in_order};
 
 use crate::playing::{Played, play};
 use crate::turns::play_all;
@@ -50,7 +50,7 @@ pub(crate) fn run_in_parts<R: Wait + Threads + Sync>(
     script: Vec<ScriptRow>,
 ) -> Result<Ran, RunError>
     requires in_range { All (λ row. row.at ≤ LAST_MOMENT) script.items }
-    requires in_order { are_in_order 0 script.items ≡ true }
+    requires in_order { rows_are_in_order 0 script.items ≡ true }
     ensures ran { IfOk result (λ ran.
         IsInParts asked.count (ask_of options.now) setup.now script.items
         (string_bytes ran.text) ran.refusals) }
@@ -77,7 +77,7 @@ pub(crate) fn play_part<R: Wait + Threads + Sync>(
     script: Vec<ScriptRow>,
 ) -> Result<Part, RunError>
     requires in_range { All (λ row. row.at ≤ LAST_MOMENT) script.items }
-    requires in_order { are_in_order 0 script.items ≡ true }
+    requires in_order { rows_are_in_order 0 script.items ≡ true }
     ensures part { IfOk result (IsKeptPart
         (ask_of options.now) setup.now firsts.now number script.items) }
     ensures fault { IfErr result (MayFail options.now.workers) }
@@ -152,7 +152,7 @@ fn lines_alone(alloc: Global, books: Vec<Book>) -> Result<(RunLines, Vec<Book>),
 /// What all parts come to together, in order.
 fn join(alloc: Global, parts: Vec<Part>) -> Result<Part, AllocError>
     ensures { IfOk result (λ whole. (output : RunOutput) (said : List PartSaid)
-        → AreKept output said parts.items → Keeps output (joined said) whole) }
+        → AreKept output said parts.items → KeepsPart output (joined_parts said) whole) }
 {
     let mut whole = Part {
         lines: RunLines::new(alloc),
@@ -170,8 +170,8 @@ impl Part {
     /// Puts what is kept of a later part behind this.
     fn add(&mut self, more: Part) -> Result<(), AllocError>
         ensures { OnOk result ((output : RunOutput) (said later : PartSaid)
-            → Keeps output said self.old → Keeps output later more
-            → Keeps output (with_part said later) self.new) }
+            → KeepsPart output said self.old → KeepsPart output later more
+            → KeepsPart output (with_part said later) self.new) }
     {
         let Part {
             lines,
@@ -194,7 +194,7 @@ fn print_joined(
     setup: &RunSetup,
     whole: Part,
 ) -> Result<String, AllocError>
-    ensures { IfOk result (λ text. (said : PartSaid) → Keeps output said whole
+    ensures { IfOk result (λ text. (said : PartSaid) → KeepsPart output said whole
         → IsPartsText output setup.now.tariff said.books said.calls (string_bytes text)) }
 {
     let Part {

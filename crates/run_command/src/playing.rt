@@ -2,9 +2,9 @@
 
 ghost use Rattle.std.specs.Prelude.{◌≡◌, ◌≤◌, All, IfOk, IfErr, true};
 ghost use Rattle.run_command.specs.Answers.{MayFail};
-ghost use Rattle.run_command.specs.Played.{IsPlayed};
+ghost use Rattle.run_command.specs.Played.{IsPlayedRun};
 ghost use Rattle.run_options.specs.Options.{ask_of};
-ghost use Rattle.run_texts.specs.Views.{are_in_order};
+ghost use Rattle.run_texts.specs.Views.{rows_are_in_order};
 ghost use Rattle.runs_core.specs.Teams.{are_workers};
 
 use crate::listening::Listener;
@@ -38,9 +38,9 @@ pub(crate) fn play<R: Wait + Threads + Sync>(
     script: Vec<ScriptRow>,
 ) -> Result<Played, RunError>
     requires in_range { All (λ row. row.at ≤ LAST_MOMENT) script.items }
-    requires in_order { are_in_order 0 script.items ≡ true }
+    requires in_order { rows_are_in_order 0 script.items ≡ true }
     ensures workers { IfOk result (λ _. are_workers options.now.workers ≡ true) }
-    ensures played { IfOk result (IsPlayed (ask_of options.now) setup.now script.items) }
+    ensures played { IfOk result (IsPlayedRun (ask_of options.now) setup.now script.items) }
     ensures fault { IfErr result (MayFail options.now.workers) }
 {
     let player = ScriptPlayer::new(alloc, script, options.ssf, options.delay)?;

@@ -1,7 +1,7 @@
 //! How often the accounts of a run refused what they were asked.
 
 ghost use Rattle.std.specs.Prelude.{◌≡◌, ◌++◌, List};
-ghost use Rattle.run_command.specs.Refused.{none_refused, one_more, refusals_in, with_refusals};
+ghost use Rattle.run_command.specs.Refused.{none_refused, one_refusal_more, refusals_counted_in, with_refusals};
 ghost use Rattle.run_values.specs.declared.post.Answer.{Answer};
 
 use account_core::AccountFault;
@@ -42,8 +42,8 @@ impl Refusals {
 
     /// Counts the refusals of more answers.
     pub(crate) fn hear(&mut self, answers: &[Answer])
-        ensures { (heard : List Answer) → self.old ≡ refusals_in heard
-            → self.new ≡ refusals_in (heard ++ answers.now) }
+        ensures { (heard : List Answer) → self.old ≡ refusals_counted_in heard
+            → self.new ≡ refusals_counted_in (heard ++ answers.now) }
     {
         for answer in answers {
             if let Some(fault) = answer.refused {
@@ -66,7 +66,7 @@ impl Refusals {
 
     /// Counts a refusal.
     fn count(&mut self, fault: AccountFault)
-        ensures { self.new ≡ one_more self.old fault }
+        ensures { self.new ≡ one_refusal_more self.old fault }
     {
         match fault {
             AccountFault::GateClosed => self.gate_closed = self.gate_closed.saturating_add(1),

@@ -4,10 +4,10 @@ ghost use Rattle.std.specs.Prelude.{◌≡◌, ◌≤◌, All, IfOk, IfErr, OnOk
 ghost use Rattle.std.specs.Result.{result_map_both};
 ghost use Rattle.run_command.specs.Answers.{IsRunAnswer, IsTextOf, MayFail};
 ghost use Rattle.run_command.specs.Played.{IsWhole, run_of};
-ghost use Rattle.run_command.specs.RanOf.{said_of};
+ghost use Rattle.run_command.specs.RanOf.{run_said_of};
 ghost use Rattle.book_texts.specs.Typed.{IsTyped};
 ghost use Rattle.run_options.specs.Options.{ask_of};
-ghost use Rattle.run_texts.specs.Views.{are_in_order};
+ghost use Rattle.run_texts.specs.Views.{rows_are_in_order};
 
 use crate::parts::run_in_parts;
 use crate::playing::{Played, play};
@@ -49,7 +49,7 @@ pub fn run<R: Wait + Threads + Sync>(
     input: &[u8],
 ) -> Result<Ran, RunError>
     ensures { IsRunAnswer (ask_of options.now) input.now
-        (result_map_both said_of (λ error. error) result) }
+        (result_map_both run_said_of (λ error. error) result) }
 {
     let Start { setup, script } = set_up(alloc, options, input)?;
     laws::played_books_pass();
@@ -69,9 +69,9 @@ fn run_whole<R: Wait + Threads + Sync>(
     script: Vec<ScriptRow>,
 ) -> Result<Ran, RunError>
     requires in_range { All (λ row. row.at ≤ LAST_MOMENT) script.items }
-    requires in_order { are_in_order 0 script.items ≡ true }
+    requires in_order { rows_are_in_order 0 script.items ≡ true }
     ensures ran { IfOk result (λ ran.
-        IsWhole (ask_of options.now) setup.now script.items (said_of ran)) }
+        IsWhole (ask_of options.now) setup.now script.items (run_said_of ran)) }
     ensures fault { IfErr result (MayFail options.now.workers) }
 {
     let played = play(rt, alloc, options, setup, script)?;

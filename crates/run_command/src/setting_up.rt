@@ -3,7 +3,7 @@
 ghost use Rattle.std.specs.Prelude.{◌≡◌, ◌≤◌, All, IfErr, IfOk, true};
 ghost use Rattle.run_command.specs.Starts.{IsStartOf, MayNotStart};
 ghost use Rattle.run_options.specs.Options.{ask_of};
-ghost use Rattle.run_texts.specs.Views.{are_in_order};
+ghost use Rattle.run_texts.specs.Views.{rows_are_in_order};
 
 use crate::RunError;
 use account_core::MAX_LIMIT;
@@ -28,7 +28,7 @@ pub(crate) fn set_up(alloc: Global, options: &RunOptions, input: &[u8]) -> Resul
     ensures start { IfOk result (λ start.
         IsStartOf (ask_of options.now) input.now start.setup start.script.items) }
     ensures in_range { IfOk result (λ start. All (λ row. row.at ≤ LAST_MOMENT) start.script.items) }
-    ensures in_order { IfOk result (λ start. are_in_order 0 start.script.items ≡ true) }
+    ensures in_order { IfOk result (λ start. rows_are_in_order 0 start.script.items ≡ true) }
     ensures fault { IfErr result (MayNotStart input.now) }
 {
     let texts = read_texts(alloc, input)?;

@@ -8,7 +8,7 @@ ghost use Rattle.run_command.specs.Played.{AreWhole, run_of};
 ghost use Rattle.run_command.specs.Tables.{AreTextsOf, IsTablesAnswer, clock_of, tables_said};
 ghost use Rattle.run_options.specs.Options.{ask_of};
 ghost use Rattle.run_options.specs.declared.options.RunOutput.TheVariants as output;
-ghost use Rattle.run_texts.specs.Views.{are_in_order};
+ghost use Rattle.run_texts.specs.Views.{rows_are_in_order};
 
 use crate::playing::{Played, play};
 use crate::running::print;
@@ -67,7 +67,7 @@ fn play_tables<R: Wait + Threads + Sync>(
     script: Vec<ScriptRow>,
 ) -> Result<RunTables, RunError>
     requires in_range { All (λ row. row.at ≤ LAST_MOMENT) script.items }
-    requires in_order { are_in_order 0 script.items ≡ true }
+    requires in_order { rows_are_in_order 0 script.items ≡ true }
     ensures tables { IfOk result (λ tables.
         AreWhole (ask_of options.now) setup.now script.items (tables_said tables)) }
     ensures fault { IfErr result (MayFail options.now.workers) }

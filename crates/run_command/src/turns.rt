@@ -3,10 +3,10 @@
 ghost use Rattle.std.specs.Prelude.{◌≡◌, ◌≤◌, ◌<◌, ℕ, All, IfErr, IfOk, Ok, length, map, slice_index_or, true};
 ghost use Rattle.run_command.specs.Answers.{MayFail};
 ghost use Rattle.run_command.specs.InParts.{ArePlayed};
-ghost use Rattle.run_command.specs.Turns.{HasPlayed, IsInOrder};
+ghost use Rattle.run_command.specs.Turns.{HasPlayedPart, IsInOrder};
 ghost use Rattle.run_command.specs.declared.turns.Turn.{Turn};
 ghost use Rattle.run_options.specs.Options.{ask_of};
-ghost use Rattle.run_texts.specs.Views.{are_in_order};
+ghost use Rattle.run_texts.specs.Views.{rows_are_in_order};
 
 use crate::RunError;
 use crate::parts::{Part, play_part};
@@ -42,7 +42,7 @@ pub(crate) fn play_all<R: Wait + Threads + Sync>(
     scripts: Vec<Vec<ScriptRow>>,
 ) -> Result<Vec<Part>, RunError>
     requires in_range { All (λ rows. All (λ row. row.at ≤ LAST_MOMENT) rows.items) scripts.items }
-    requires in_order { All (λ rows. are_in_order 0 rows.items ≡ true) scripts.items }
+    requires in_order { All (λ rows. rows_are_in_order 0 rows.items ≡ true) scripts.items }
     ensures parts { IfOk result (λ parts. ArePlayed (ask_of options.now) setup.now firsts.now
         (map (λ rows. rows.items) scripts.items) parts.items) }
     ensures fault { IfErr result (MayFail options.now.workers) }
@@ -79,12 +79,12 @@ fn play_turns<R: Wait + Threads + Sync>(
 )
     requires { All IsInOrder turns.old }
     ensures { (part : ℕ) (d : Turn) → part < length turns.old
-        → HasPlayed (ask_of options.now) setup.now firsts.now part
+        → HasPlayedPart (ask_of options.now) setup.now firsts.now part
         (slice_index_or turns.old part d) (slice_index_or turns.new part d) }
 {
     let play = move |number: usize, turn: &mut Turn|
         requires { IsInOrder turn.now }
-        ensures { HasPlayed (ask_of options.entry.now) setup.entry.now firsts.entry.now number
+        ensures { HasPlayedPart (ask_of options.entry.now) setup.entry.now firsts.entry.now number
             turn.entry.now turn.exit.now }
     { turn.play(rt, alloc, options, setup, firsts, number) };
     thread::for_each_mut(rt, turns, threads.max(1) as usize, &play);
@@ -102,7 +102,7 @@ impl Turn {
         number: usize,
     )
         requires { IsInOrder self.old }
-        ensures { HasPlayed (ask_of options.now) setup.now firsts.now number self.old self.new }
+        ensures { HasPlayedPart (ask_of options.now) setup.now firsts.now number self.old self.new }
     {
         let script = mem::replace(&mut self.script, Vec::new(alloc));
         self.played = play_part(rt, alloc, options, setup, firsts, number, script);

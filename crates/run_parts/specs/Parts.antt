@@ -26,12 +26,12 @@ part_of firsts payer (Meets call event) = part_by firsts (payer call) call
 part_of firsts payer (Recharges account amount until) = part_of_account firsts account
 
 -- the account of a subscriber, among the digits of all with their accounts
-abbrev pub account_of : List ℕ → List (List ℕ × ℕ) → Option ℕ
-account_of digits = lookup (λ other. bytes_eq other digits)
+abbrev pub account_of_digits : List ℕ → List (List ℕ × ℕ) → Option ℕ
+account_of_digits digits = lookup (λ other. bytes_eq other digits)
 
 -- the account of a call, where this starts it
 abbrev pub payer_by : List (List ℕ × ℕ) → ℕ → Happens → Option ℕ
-payer_by subscribers call (Starts other calling called) = if other == call then account_of calling subscribers else None
+payer_by subscribers call (Starts other calling called) = if other == call then account_of_digits calling subscribers else None
 payer_by subscribers call (Meets other event) = None
 payer_by subscribers call (Recharges account amount until) = None
 

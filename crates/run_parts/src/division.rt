@@ -6,7 +6,7 @@ ghost use Rattle.std.specs.List.Sorted.{IsStrictlySortedBy};
 ghost use Rattle.std.specs.Ordering.{nat_cmp};
 ghost use Rattle.run_parts.specs.Parts.{AreParts, part_by, part_count, part_of, payer_of};
 ghost use Rattle.run_values.specs.Setups.{has_account};
-ghost use Rattle.run_texts.specs.Views.{are_in_order, happens_of, script_event, with_digits};
+ghost use Rattle.run_texts.specs.Views.{rows_are_in_order, happens_of, script_event, with_digits};
 
 use crate::firsts::Firsts;
 use crate::payers::payers_in;
@@ -47,8 +47,8 @@ pub fn divide(
         script.items (map (λ rows. rows.items) division.scripts.items)) }
     ensures in_range { IfOk result (λ division. All (λ row. row.at ≤ LAST_MOMENT) script.items
         → All (λ rows. All (λ row. row.at ≤ LAST_MOMENT) rows.items) division.scripts.items) }
-    ensures in_order { IfOk result (λ division. are_in_order 0 script.items ≡ true
-        → All (λ rows. are_in_order 0 rows.items ≡ true) division.scripts.items) }
+    ensures in_order { IfOk result (λ division. rows_are_in_order 0 script.items ≡ true
+        → All (λ rows. rows_are_in_order 0 rows.items ≡ true) division.scripts.items) }
 {
     let payers = payers_in(alloc, setup, script.as_slice())?;
     let weights = weights_in(alloc, setup, &payers, script.as_slice())?;

@@ -6,7 +6,7 @@ use Rattle.std.proofs.lemmas.List.Elements.{All-head, All-tail}
 use Rattle.std.specs.List.{All}
 use Rattle.account_core.specs.Asked.{Asked, Credits, Reserves, Settles, Returns, call_of}
 use Rattle.account_core.specs.Events.{EntryData}
-use Rattle.account_core.specs.Known.{CallFacts, Deed, Ends, Forfeits, Grants, Reports, Rests, deed, deed_of, known, known_after}
+use Rattle.account_core.specs.Known.{CallFacts, EntryDeed, Ends, Forfeits, Grants, Reports, Rests, deed, deed_of, known, known_after}
 use Rattle.account_core.specs.declared.entry.Reply.{Reply}
 use Rattle.account_core.specs.declared.entry.Reply.TheVariants as reply
 use Rattle.tariff_core.specs.Rates.{Rates}
@@ -19,7 +19,7 @@ IfReserves R (Settles call number info) = Unit {0}
 IfReserves R (Returns call) = Unit {0}
 
 -- of a grant this holds of its plan
-abbrev IfGrants : (Rates → Type 0) → Deed → Type 0
+abbrev IfGrants : (Rates → Type 0) → EntryDeed → Type 0
 IfGrants Q (Grants plan units) = Q plan
 IfGrants Q (Reports info) = Unit {0}
 IfGrants Q Forfeits = Unit {0}
@@ -64,7 +64,7 @@ module _ (Q : Rates → Type 0) (before : CallFacts) (plan : Rates) (earlier : (
   first_of offered None none holds is = let same : offered ≡ plan = cc in subst Q same holds
   first_of offered (Some its) had holds is = let same : its ≡ plan = cc in subst Q same (earlier its had)
 
-  plan_has : (d : Deed) → IfGrants Q d → (known_after before d).plan ≡ Some plan → Q plan
+  plan_has : (d : EntryDeed) → IfGrants Q d → (known_after before d).plan ≡ Some plan → Q plan
   plan_has (Grants offered units) holds is = first_of offered before.plan refl holds is
   plan_has (Reports info) holds is = earlier plan is
   plan_has Forfeits holds is = earlier plan is

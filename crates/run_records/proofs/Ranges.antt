@@ -14,7 +14,7 @@ use Rattle.call_records.specs.Standings.{past_in, past_of}
 use Rattle.call_records.specs.declared.call_record.CallRecord.{CallRecord}
 use Rattle.run_books.proofs.Openings.{opened_within}
 use Rattle.run_records.proofs.Unrouted.{all_found}
-use Rattle.run_records.specs.Laws.{IsInRange, IsServedRun, RecordsAreInRange}
+use Rattle.run_records.specs.Laws.{RecordIsInRange, IsServedRun, RecordsAreInRange}
 use Rattle.shared_account.specs.Closed.{Closed}
 use Rattle.shared_account.specs.Refusals.{Knowing}
 use Rattle.tariff_core.specs.Rates.{Rates}
@@ -67,7 +67,7 @@ module _ (Stood : Closed → ℕ → Knowing) (laws : TariffLaws) (run : Run) (i
   money None call within = omega arith
   money (Some plan) call within = within
 
-  in_range : (call : CallRecord) → IsRecord run call → IsInRange call
+  in_range : (call : CallRecord) → IsRecord run call → RecordIsInRange call
   in_range call record_is =
       let past = past_sound call.account in
       let h : List EntryData = past_of call.account run.books in

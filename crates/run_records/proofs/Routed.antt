@@ -7,7 +7,7 @@ use Rattle.account_core.specs.Events.{EntryData}
 use Rattle.account_core.specs.TariffLaws.{TariffLaws}
 use Rattle.account_core.specs.Known.{CallFacts, known, paid_if_granted}
 use Rattle.call_records.proofs.LawLemmas.{ungranted_pays_nothing}
-use Rattle.call_records.specs.Calls.{reports_of}
+use Rattle.call_records.specs.Calls.{call_reports_of}
 use Rattle.call_records.specs.Records.{IsPrefixOf, IsRecord, Run, outcome_of}
 use Rattle.call_records.specs.Standings.{past_of, standing_of}
 use Rattle.call_records.specs.declared.call_record.CallRecord.{CallRecord}
@@ -32,7 +32,7 @@ use Rattle.tariff_core.specs.Routes.{IsRoute}
 -- ---- a call that was granted something and has no forfeit
 
 forfeits : (account : Option ℕ) (has_route : Bool) (call : ℕ) (given : List (ℕ × Body)) (h : List EntryData) → is_none account ≡ false → has_route ≡ true
-    → is_some (known call h).plan ≡ true → (known call h).forfeited ≡ true → outcome_of account has_route (reports_of call given) (standing_of call h) ≡ outcome.Forfeit
+    → is_some (known call h).plan ≡ true → (known call h).forfeited ≡ true → outcome_of account has_route (call_reports_of call given) (standing_of call h) ≡ outcome.Forfeit
 forfeits account has_route call given h there has granted forfeited = rw (there, has, granted, forfeited) refl
 
 priced : (call : CallFacts) (plan : Rates) → call.plan ≡ Some plan → call.forfeited ≡ false → unwrap_or (paid_if_granted call) 0 ≡ price_at plan call.times

@@ -63,10 +63,10 @@ CallsPayTheirRoute Stood =
     (run : Run) (call : CallRecord) → IsServedRun Stood run → HaveTheirStarts run.given → IsRecord run call → call.outcome ≢ outcome.Forfeit → IsUntalked call ⊎ PaysItsRoute run call
 
 -- the times of a record are a day at most, and what it has paid is 0 to `MAX_MONEY`
-pub record IsInRange (call : CallRecord) : Type 0 where
+pub record RecordIsInRange (call : CallRecord) : Type 0 where
   pub times : call.times.before + call.times.after ≤ DAY
   pub paid : call.paid ≤ MAX_MONEY
 
 -- each record of a run is in range
 abbrev pub RecordsAreInRange : (Closed → ℕ → Knowing) → Type 0
-RecordsAreInRange Stood = (run : Run) (call : CallRecord) → IsServedRun Stood run → IsRecord run call → IsInRange call
+RecordsAreInRange Stood = (run : Run) (call : CallRecord) → IsServedRun Stood run → IsRecord run call → RecordIsInRange call

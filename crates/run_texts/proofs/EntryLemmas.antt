@@ -13,8 +13,8 @@ use Rattle.table_core.specs.declared.fault.RowKind.TheVariants as kind
 use Rattle.run_values.specs.Setups.{Listing, account_of, has_account, subscriber_fault, with_subscriber}
 use Rattle.run_values.specs.declared.setup_fault.SetupFault.{SetupFault}
 use Rattle.run_values.specs.declared.setup_fault.SetupFault.TheVariants as fault
-use Rattle.run_texts.specs.Entries.{Refuses, told_of}
-use Rattle.run_texts.specs.Setups.{Setup, has_subscriber, name_subscriber}
+use Rattle.run_texts.specs.Entries.{RefusesEntry, entry_fault_of}
+use Rattle.run_texts.specs.Setups.{TableSetup, has_subscriber, name_subscriber}
 use Rattle.run_texts.specs.Views.{setup_in, with_digits}
 
 with_digits-inserted : (subscribers : List (Number × ℕ)) (number : Number) (account : ℕ)
@@ -40,9 +40,9 @@ subscriber_named number (first ∷ subscribers) =
     found_or (bytes_eq (digits_of first.0) (digits_of number)) first.1 (account_of number subscribers) (has_subscriber (digits_of number) (with_digits subscribers))
     (subscriber_named number subscribers)
 
-module _ (next : Setup) where
+module _ (next : TableSetup) where
   refusal : (named known : Bool) (why : SetupFault) → (why ≢ fault.OutOfMemory → subscriber_fault named known ≡ Some why)
-      → Refuses (told_of why) (if named then Err kind.Repeated else if known then Ok next else Err kind.Unknown)
+      → RefusesEntry (entry_fault_of why) (if named then Err kind.Repeated else if known then Ok next else Err kind.Unknown)
   refusal named known fault.OutOfMemory is = tt
   refusal true known fault.Repeated is = refl
   refusal true known fault.Unknown is = cc (is (λ same. cc))
@@ -61,7 +61,7 @@ module _ (next : Setup) where
 
 pub subscriber_refused : (listing : Listing) (number : Number) (account : ℕ) (why : SetupFault)
     → (why ≢ fault.OutOfMemory → subscriber_fault (is_some (account_of number listing.subscribers)) (has_account account listing.accounts) ≡ Some why)
-    → Refuses (told_of why) (name_subscriber (setup_in listing) (digits_of number) account)
+    → RefusesEntry (entry_fault_of why) (name_subscriber (setup_in listing) (digits_of number) account)
 subscriber_refused listing number account why is =
     refusal _ (has_subscriber (digits_of number) (with_digits listing.subscribers)) (has_account account listing.accounts) why
     (λ other. ap (λ named. subscriber_fault named (has_account account listing.accounts)) (sym (subscriber_named number listing.subscribers)) ∙ is other)

@@ -6,7 +6,7 @@ use Rattle.std.specs.Io.KnownBytes.{Consumes, IsAtEnd, Keeps}
 use Rattle.std.proofs.BufReadLemmas.{take_through-append, take_through-nil}
 use Rattle.std.proofs.lemmas.Bool.Decides.{nat_tests}
 use Rattle.run_texts.specs.FirstParts.{Division, ReadsLine, division_of, first_part, first_part_by, with_front}
-use Rattle.run_texts.specs.Parts.{begun_by, is_divider, lines_of}
+use Rattle.run_texts.specs.Parts.{with_first_byte, is_divider, lines_of}
 use Rattle.run_texts.specs.declared.input_fault.InputFault.TheVariants as fault
 
 -- ---- readers
@@ -32,12 +32,12 @@ keeps_keeps (Some xs) (Some ys) (Some zs) one two = two ∙ one
 -- ---- the first line
 
 first_line : (ends : Bool) (c : ℕ) (text : List ℕ)
-    → (if ends then (c ∷ []) ∷ lines_of text else begun_by c (lines_of text))
+    → (if ends then (c ∷ []) ∷ lines_of text else with_first_byte c (lines_of text))
     ≡ (if ends then c ∷ [] else c ∷ take_through 10 text) ∷ lines_of (if ends then text else drop_through 10 text)
 unfolding lines_of
 first_line true c text = refl
 first_line false c [] = refl
-first_line false c (d ∷ text) = ap (begun_by c) (first_line (d == 10) d text)
+first_line false c (d ∷ text) = ap (with_first_byte c) (first_line (d == 10) d text)
 
 -- of a text that isn't empty it is what comes up to the first LF
 lines_through : (c : ℕ) (text : List ℕ) → lines_of (c ∷ text) ≡ take_through 10 (c ∷ text) ∷ lines_of (drop_through 10 (c ∷ text))

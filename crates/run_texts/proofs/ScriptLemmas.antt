@@ -8,8 +8,8 @@ use Rattle.std.proofs.lemmas.List.{map-append, reverse-append, reverse-reverse}
 use Rattle.std.proofs.lemmas.Bool.{and_parts}
 use Rattle.run_texts.specs.Happenings.{ScriptEvent, Happens, Meets, Recharges, Starts}
 use Rattle.run_texts.specs.Scripts.{is_started, starts}
-use Rattle.run_texts.specs.Starts.{HasCalls, Notes}
-use Rattle.run_texts.specs.Views.{are_in_order, script_event}
+use Rattle.run_texts.specs.Starts.{HasCalls, NotesStart}
+use Rattle.run_texts.specs.Views.{rows_are_in_order, script_event}
 use Rattle.run_texts.specs.declared.script.ScriptRow.{ScriptRow}
 
 abbrev Fields : Type 0
@@ -30,13 +30,13 @@ no_more : (old : Bool) → old ≡ (old || false)
 no_more true = refl
 no_more false = refl
 
-call_more : (before after : BTreeSet ℕ) (what : Happens) (q : ℕ) (is : Bool) → Notes what before after → contains nat_cmp before q ≡ is
+call_more : (before after : BTreeSet ℕ) (what : Happens) (q : ℕ) (is : Bool) → NotesStart what before after → contains nat_cmp before q ≡ is
     → contains nat_cmp after q ≡ (is || starts q what)
 call_more before after (Starts call calling called) q is notes has = rw (notes.0 q, is_eq-nat_cmp call q, has) (one_more (call == q) is)
 call_more before after (Meets call event) q is notes has = rw (notes, has) (no_more is)
 call_more before after (Recharges account amount until) q is notes has = rw (notes, has) (no_more is)
 
-calls_more : (before after : BTreeSet ℕ) (event : ScriptEvent) (earlier : List ScriptEvent) → Notes event.what before after → HasCalls before earlier → HasCalls after (event ∷ earlier)
+calls_more : (before after : BTreeSet ℕ) (event : ScriptEvent) (earlier : List ScriptEvent) → NotesStart event.what before after → HasCalls before earlier → HasCalls after (event ∷ earlier)
 calls_more before after event earlier notes has q = call_more before after event.what q (is_started q earlier) notes (has q)
 
 -- ---- the rows so far, newest first
@@ -50,7 +50,7 @@ events_more rows row = map-append script_event rows (row ∷ [])
 pub earlier_more : (rows : List ScriptRow) (row : ScriptRow) → earlier_of (rows ++ row ∷ []) ≡ script_event row ∷ earlier_of rows
 earlier_more rows row = rw (events_more rows row) (reverse-append (map script_event rows) (script_event row ∷ []))
 
-pub calls_after : (before after : BTreeSet ℕ) (rows : List ScriptRow) (row : ScriptRow) → Notes (script_event row).what before after → HasCalls before (earlier_of rows)
+pub calls_after : (before after : BTreeSet ℕ) (rows : List ScriptRow) (row : ScriptRow) → NotesStart (script_event row).what before after → HasCalls before (earlier_of rows)
     → HasCalls after (earlier_of (rows ++ row ∷ []))
 calls_after before after rows row notes has = rw (earlier_more rows row) (calls_more before after (script_event row) (earlier_of rows) notes has)
 
@@ -69,12 +69,12 @@ in_turn : (a b : Bool) → a ≡ true → b ≡ true → (a && b) ≡ true
 in_turn true b one two = two
 in_turn false b one two = cc
 
-pub order_more : (start : ℕ) (rows : List ScriptRow) (row : ScriptRow) → are_in_order start rows ≡ true → end_of start rows ≤ row.at
-    → are_in_order start (rows ++ row ∷ []) ≡ true
+pub order_more : (start : ℕ) (rows : List ScriptRow) (row : ScriptRow) → rows_are_in_order start rows ≡ true → end_of start rows ≤ row.at
+    → rows_are_in_order start (rows ++ row ∷ []) ≡ true
 order_more start [] row ordered after = in_turn (nat_le start row.at) true (grind (arith, nat_tests, after)) refl
 order_more start (first ∷ rows) row ordered after =
-    let parts = and_parts (nat_le start first.at) (are_in_order first.at rows) ordered in
-    in_turn (nat_le start first.at) (are_in_order first.at (rows ++ row ∷ [])) parts.0 (order_more first.at rows row parts.1 after)
+    let parts = and_parts (nat_le start first.at) (rows_are_in_order first.at rows) ordered in
+    in_turn (nat_le start first.at) (rows_are_in_order first.at (rows ++ row ∷ [])) parts.0 (order_more first.at rows row parts.1 after)
 
 -- ---- the rows
 

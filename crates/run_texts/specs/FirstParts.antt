@@ -2,7 +2,7 @@
 use Rattle.std.specs.Prelude.{◌≡◌, ◌+◌, ◌<◌, ℕ, List, [], ◌∷◌, ◌++◌, length, drop, Option, Some, None, Result, Ok, Err, ⊤, if◌then◌else◌, nat_lt, option_map}
 use Rattle.std.specs.Io.BufRead.{drop_through, take_through}
 use Rattle.std.specs.Io.KnownBytes.{Consumes, IsAtEnd, Keeps}
-use Rattle.run_texts.specs.InputFaults.{Refuses}
+use Rattle.run_texts.specs.InputFaults.{RefusesInput}
 use Rattle.run_texts.specs.Parts.{is_divider, lines_of}
 use Rattle.run_texts.specs.declared.input_fault.InputFault.{InputFault}
 use Rattle.run_texts.specs.declared.input_fault.InputFault.TheVariants as fault
@@ -43,7 +43,7 @@ first_part text = first_part_by text (division_of (lines_of text))
 -- the part was read of a text, and what is behind its divider is left
 abbrev pub Divides : List ℕ → Option (List ℕ) → Result (List ℕ) InputFault → Type 0
 Divides text left (Ok part) = (rest : List ℕ) × (left ≡ Some rest) × (first_part text ≡ Ok (record { part = part; rest = rest }))
-Divides text left (Err why) = Refuses why (first_part text)
+Divides text left (Err why) = RefusesInput why (first_part text)
 
 -- the first line of a text was read, and what is behind it is left; or it has more bytes than these
 abbrev pub ReadsLine : ℕ → List ℕ → Option (List ℕ) → Option (List ℕ) → Type 0
@@ -56,7 +56,7 @@ TakesByte old new None = IsAtEnd old × Keeps old new
 TakesByte old new (Some byte) = Consumes old new (byte ∷ [])
 
 -- a fault of a reader that failed, or of memory that ran out
-abbrev pub MayAlwaysCome : InputFault → Type 0
-MayAlwaysCome fault.Device = ⊤
-MayAlwaysCome fault.OutOfMemory = ⊤
-MayAlwaysCome why = ⊥
+abbrev pub InputFaultMayAlwaysCome : InputFault → Type 0
+InputFaultMayAlwaysCome fault.Device = ⊤
+InputFaultMayAlwaysCome fault.OutOfMemory = ⊤
+InputFaultMayAlwaysCome why = ⊥

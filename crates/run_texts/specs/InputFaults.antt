@@ -31,12 +31,12 @@ of_script table.Device = input.Device
 of_script table.OutOfMemory = input.OutOfMemory
 
 -- a fault of the input is the one that its meaning has; a failed reader and out of memory may come at any
-abbrev pub Refuses : {Y : Type 0} → InputFault → Result Y InputFault → Type 0
-Refuses input.Device meaning = ⊤
-Refuses input.OutOfMemory meaning = ⊤
-Refuses why meaning = meaning ≡ Err why
+abbrev pub RefusesInput : {Y : Type 0} → InputFault → Result Y InputFault → Type 0
+RefusesInput input.Device meaning = ⊤
+RefusesInput input.OutOfMemory meaning = ⊤
+RefusesInput why meaning = meaning ≡ Err why
 
 -- an answer, seen by `view`, is what is meant
-abbrev pub Gives : {X Y : Type 0} → (X → Y) → Result X InputFault → Result Y InputFault → Type 0
-Gives view (Ok x) meaning = meaning ≡ Ok (view x)
-Gives view (Err why) meaning = Refuses why meaning
+abbrev pub GivesInput : {X Y : Type 0} → (X → Y) → Result X InputFault → Result Y InputFault → Type 0
+GivesInput view (Ok x) meaning = meaning ≡ Ok (view x)
+GivesInput view (Err why) meaning = RefusesInput why meaning

@@ -3,14 +3,14 @@ use Rattle.std.specs.Prelude.{◌==◌, ◌||◌, ◌∷◌, ◌++◌, ℕ, Bool
 use Rattle.std.specs.Str.{bytes_eq}
 
 -- the lines with c put before the first of them
-abbrev pub begun_by : ℕ → List (List ℕ) → List (List ℕ)
-begun_by c [] = (c ∷ []) ∷ []
-begun_by c (line ∷ lines) = (c ∷ line) ∷ lines
+abbrev pub with_first_byte : ℕ → List (List ℕ) → List (List ℕ)
+with_first_byte c [] = (c ∷ []) ∷ []
+with_first_byte c (line ∷ lines) = (c ∷ line) ∷ lines
 
 -- the lines of a text, each with the LF that ends it; only the last may have none
 unfoldable pub lines_of : List ℕ → List (List ℕ)
 lines_of [] = []
-lines_of (c ∷ text) = if c == 10 then (c ∷ []) ∷ lines_of text else begun_by c (lines_of text)
+lines_of (c ∷ text) = if c == 10 then (c ∷ []) ∷ lines_of text else with_first_byte c (lines_of text)
 
 -- whether a line divides two parts: `%%` alone, ended by LF, CR LF or the end of the text
 abbrev pub is_divider : List ℕ → Bool

@@ -4,7 +4,7 @@ use Rattle.cap_values.specs.declared.leg.Leg.TheVariants as leg
 use Rattle.ssf_core.specs.declared.item.BcsmEvent.{BcsmEvent}
 use Rattle.ssf_core.specs.declared.item.BcsmEvent.TheVariants as bcsm
 use Rattle.table_core.specs.Fields.{has_word, is_blank, number_in}
-use Rattle.table_core.specs.Judging.{after}
+use Rattle.table_core.specs.Judging.{and_then}
 use Rattle.table_core.specs.Rows.{Fields}
 use Rattle.table_core.specs.Tables.{TableForm, table_form, table_of}
 use Rattle.table_core.specs.declared.fault.RowFault.{RowFault}
@@ -22,8 +22,8 @@ use Rattle.tariff_core.specs.declared.times.TheConstants.{LAST_MOMENT}
 -- ---- words
 
 -- the word in a row
-abbrev pub word_in : List (List ℕ) → Result Word RowKind
-word_in fields =
+abbrev pub row_word_in : List (List ℕ) → Result Word RowKind
+row_word_in fields =
     if has_word fields 2 (codes "start") then Ok word.Start else
     if has_word fields 2 (codes "answer") then Ok (word.Event bcsm.Answer) else
     if has_word fields 2 (codes "busy") then Ok (word.Event bcsm.Busy) else
@@ -36,20 +36,20 @@ word_in fields =
 -- ---- fields; the last, z, is there under the second header alone, and empty elsewhere
 
 -- what happens, where the fields that must be empty are
-abbrev pub when_blank : Bool → Happens → Result Happens RowKind
-when_blank blank what = if blank then Ok what else Err kind.Empty
+abbrev pub row_when_blank : Bool → Happens → Result Happens RowKind
+row_when_blank blank what = if blank then Ok what else Err kind.Empty
 
 -- a call: any number of 64 bits
 abbrev pub call_in : List (List ℕ) → Result ℕ RowKind
 call_in fields = number_in fields 1 18446744073709551615
 
 -- a call starts: x is the calling and y the called party
-abbrev pub start_in : List (List ℕ) → Result Happens RowKind
-start_in fields = after (call_in fields) (λ call. after (party_in fields 3) (λ calling. after (party_in fields 4) (λ called. when_blank (is_blank fields 5) (Starts call calling called))))
+abbrev pub start_row_in : List (List ℕ) → Result Happens RowKind
+start_row_in fields = and_then (call_in fields) (λ call. and_then (party_in fields 3) (λ calling. and_then (party_in fields 4) (λ called. row_when_blank (is_blank fields 5) (Starts call calling called))))
 
 -- an event of a call that has no more to say
-abbrev pub event_in : List (List ℕ) → BcsmEvent → Result Happens RowKind
-event_in fields event = after (call_in fields) (λ call. when_blank (is_blank fields 3 && is_blank fields 4 && is_blank fields 5) (Meets call event))
+abbrev pub event_row_in : List (List ℕ) → BcsmEvent → Result Happens RowKind
+event_row_in fields event = and_then (call_in fields) (λ call. row_when_blank (is_blank fields 3 && is_blank fields 4 && is_blank fields 5) (Meets call event))
 
 -- the party that hangs up: the calling one at leg 1, the called one at leg 2
 abbrev pub leg_of : ℕ → Result BcsmEvent RowKind
@@ -57,35 +57,35 @@ leg_of number = if number == 1 then Ok (bcsm.Disconnect leg.One) else if number 
 
 -- a party of a call hangs up: x is its leg
 abbrev pub disconnect_in : List (List ℕ) → Result Happens RowKind
-disconnect_in fields = after (call_in fields) (λ call. after (number_in fields 3 2) (λ number. after (leg_of number) (λ event. when_blank (is_blank fields 4 && is_blank fields 5) (Meets call event))))
+disconnect_in fields = and_then (call_in fields) (λ call. and_then (number_in fields 3 2) (λ number. and_then (leg_of number) (λ event. row_when_blank (is_blank fields 4 && is_blank fields 5) (Meets call event))))
 
 -- without a call, the account x is recharged by the amount y, and z is its last moment from then on, or empty
-abbrev pub recharge_in : List (List ℕ) → Result Happens RowKind
-recharge_in fields =
-    after (account_in fields 3) (λ account. after (amount_in fields 4) (λ amount. after (until_in fields 5) (λ until.
-    when_blank (is_blank fields 1) (Recharges account amount until))))
+abbrev pub recharge_row_in : List (List ℕ) → Result Happens RowKind
+recharge_row_in fields =
+    and_then (account_in fields 3) (λ account. and_then (amount_in fields 4) (λ amount. and_then (until_in fields 5) (λ until.
+    row_when_blank (is_blank fields 1) (Recharges account amount until))))
 
 -- what happens in a row with this word
 abbrev pub happens_in : List (List ℕ) → Word → Result Happens RowKind
-happens_in fields word.Start = start_in fields
-happens_in fields (word.Event event) = event_in fields event
+happens_in fields word.Start = start_row_in fields
+happens_in fields (word.Event event) = event_row_in fields event
 happens_in fields word.Disconnect = disconnect_in fields
-happens_in fields word.Recharge = recharge_in fields
+happens_in fields word.Recharge = recharge_row_in fields
 
 -- what happens in a row, and its moment of 0 to 10^12
 abbrev pub read_in : List (List ℕ) → Result ScriptEvent RowKind
-read_in fields = after (word_in fields) (λ word. after (moment_in fields 0 LAST_MOMENT) (λ at. after (happens_in fields word) (λ what. Ok (record { at = at; what = what }))))
+read_in fields = and_then (row_word_in fields) (λ word. and_then (moment_in fields 0 LAST_MOMENT) (λ at. and_then (happens_in fields word) (λ what. Ok (record { at = at; what = what }))))
 
 -- ---- rows; the earlier ones newest first
 
 -- the rows from the first on
 abbrev pub first_to_last : {E : Type 0} → Result (List ScriptEvent) E → Result (List ScriptEvent) E
-first_to_last events = after events (λ newest_first. Ok (reverse newest_first))
+first_to_last events = and_then events (λ newest_first. Ok (reverse newest_first))
 
 -- the moment of the row before, 0 at the first
-abbrev pub last_moment : List ScriptEvent → ℕ
-last_moment [] = 0
-last_moment (event ∷ earlier) = event.at
+abbrev pub last_row_moment : List ScriptEvent → ℕ
+last_row_moment [] = 0
+last_row_moment (event ∷ earlier) = event.at
 
 -- whether a call starts
 abbrev pub starts : ℕ → Happens → Bool
@@ -105,12 +105,12 @@ judged_by accounts earlier event (Meets call met) = if is_started call earlier t
 judged_by accounts earlier event (Recharges account amount until) = if has_account account accounts then Ok event else Err kind.Unknown
 
 -- a row may come after the earlier ones; no moment lies below the one before
-abbrev pub judged : List (ℕ × OpeningCredit) → List ScriptEvent → ScriptEvent → Result ScriptEvent RowKind
-judged accounts earlier event = if nat_lt event.at (last_moment earlier) then Err kind.Order else judged_by accounts earlier event event.what
+abbrev pub judged_row : List (ℕ × OpeningCredit) → List ScriptEvent → ScriptEvent → Result ScriptEvent RowKind
+judged_row accounts earlier event = if nat_lt event.at (last_row_moment earlier) then Err kind.Order else judged_by accounts earlier event event.what
 
 -- what a row says, after the earlier rows
 unfoldable pub row_at : List (ℕ × OpeningCredit) → List ScriptEvent → List (List ℕ) → Result ScriptEvent RowKind
-row_at accounts earlier fields = after (read_in fields) (judged accounts earlier)
+row_at accounts earlier fields = and_then (read_in fields) (judged_row accounts earlier)
 
 -- the headers of a script, the older one first
 abbrev pub script_headers : List Fields
@@ -122,7 +122,7 @@ script_headers =
 abbrev pub script_form : List (ℕ × OpeningCredit) → TableForm (List ScriptEvent) RowKind RowFault
 script_form accounts =
     table_form script_headers 1000000 []
-    (λ header earlier fields. after (row_at accounts earlier fields) (λ event. Ok (event ∷ earlier)))
+    (λ header earlier fields. and_then (row_at accounts earlier fields) (λ event. Ok (event ∷ earlier)))
 
 -- what a script says, where these are the accounts of the setup
 abbrev pub script_of : List (ℕ × OpeningCredit) → List (List (List ℕ)) → Result (List ScriptEvent) RowFault

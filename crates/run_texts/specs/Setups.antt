@@ -7,7 +7,7 @@ use Rattle.std.specs.Ordering.{nat_cmp}
 use Rattle.std.specs.Str.{bytes_eq}
 use Rattle.cap_values.specs.Numbers.{is_number}
 use Rattle.table_core.specs.Fields.{field_in, has_word, is_blank, number_in}
-use Rattle.table_core.specs.Judging.{after}
+use Rattle.table_core.specs.Judging.{and_then}
 use Rattle.table_core.specs.Rows.{Fields}
 use Rattle.table_core.specs.Tables.{TableForm, table_form, table_of}
 use Rattle.table_core.specs.declared.fault.RowFault.{RowFault}
@@ -20,7 +20,7 @@ use Rattle.tariff_core.specs.declared.plan.TheConstants.{MAX_MONEY}
 use Rattle.tariff_core.specs.declared.times.TheConstants.{LAST_MOMENT}
 
 -- accounts in ascending order, each a number and its opening credit, and subscribers in the order of their digits, each with its account
-pub record Setup : Type 0 where
+pub record TableSetup : Type 0 where
   pub accounts : List (ℕ × OpeningCredit)
   pub subscribers : List (List ℕ × ℕ)
 
@@ -49,32 +49,32 @@ until_in fields place = optional_moment_in fields place LAST_MOMENT
 -- ---- rows; the fourth field is there under the second header alone, and empty elsewhere
 
 -- an account more, at its place in the order: its number isn't named before
-abbrev pub name_account : Setup → ℕ → OpeningCredit → Result Setup RowKind
+abbrev pub name_account : TableSetup → ℕ → OpeningCredit → Result TableSetup RowKind
 name_account earlier account opening =
     if has_account account earlier.accounts then Err kind.Repeated else Ok (record earlier { accounts = insert_entry nat_cmp earlier.accounts account opening })
 
 -- a subscriber more, at its place in the order: its digits aren't named before, and its account is
-abbrev pub name_subscriber : Setup → List ℕ → ℕ → Result Setup RowKind
+abbrev pub name_subscriber : TableSetup → List ℕ → ℕ → Result TableSetup RowKind
 name_subscriber earlier digits account =
     if has_subscriber digits earlier.subscribers then Err kind.Repeated else
     if has_account account earlier.accounts then Ok (record earlier { subscribers = insert_entry (slice_cmp nat_cmp) earlier.subscribers digits account })
     else Err kind.Unknown
 
 -- `account,NUMBER,OPENING,UNTIL`, one of the 1,000 that a run may have
-abbrev pub account_row : Setup → List (List ℕ) → Result Setup RowKind
+abbrev pub account_row : TableSetup → List (List ℕ) → Result TableSetup RowKind
 account_row earlier fields =
     if nat_le 1000 (length earlier.accounts) then Err kind.TooManyRows else
-    after (account_in fields 1) (λ account. after (amount_in fields 2) (λ amount. after (until_in fields 3) (λ until.
+    and_then (account_in fields 1) (λ account. and_then (amount_in fields 2) (λ amount. and_then (until_in fields 3) (λ until.
     name_account earlier account (record { amount = amount; until = until }))))
 
 -- `subscriber,DIGITS,ACCOUNT,`
-abbrev pub subscriber_row : Setup → List (List ℕ) → Result Setup RowKind
+abbrev pub subscriber_row : TableSetup → List (List ℕ) → Result TableSetup RowKind
 subscriber_row earlier fields =
-    after (party_in fields 1) (λ digits. after (account_in fields 2) (λ account.
+    and_then (party_in fields 1) (λ digits. and_then (account_in fields 2) (λ account.
     if is_blank fields 3 then name_subscriber earlier digits account else Err kind.Empty))
 
 -- what was named before a row, and what the row names
-unfoldable pub row_at : Setup → List (List ℕ) → Result Setup RowKind
+unfoldable pub row_at : TableSetup → List (List ℕ) → Result TableSetup RowKind
 row_at earlier fields =
     if has_word fields 0 (codes "account") then account_row earlier fields else
     if has_word fields 0 (codes "subscriber") then subscriber_row earlier fields else Err kind.What
@@ -85,11 +85,11 @@ setup_headers =
     (codes "kind" ∷ codes "key" ∷ codes "value" ∷ []) ∷ (codes "kind" ∷ codes "key" ∷ codes "value" ∷ codes "until" ∷ []) ∷ []
 
 -- one of these headers, and 10,000 rows at most; each names what comes to the earlier ones
-abbrev pub setup_form : TableForm Setup RowKind RowFault
+abbrev pub setup_form : TableForm TableSetup RowKind RowFault
 setup_form =
     table_form setup_headers 10000 (record { accounts = []; subscribers = [] })
     (λ header earlier fields. row_at earlier fields)
 
 -- the setup of a table
-abbrev pub setup_of : List (List (List ℕ)) → Result Setup RowFault
-setup_of rows = table_of setup_form rows
+abbrev pub table_setup_of : List (List (List ℕ)) → Result TableSetup RowFault
+table_setup_of rows = table_of setup_form rows

@@ -10,7 +10,7 @@ abbrev pub HasCalls : BTreeSet ℕ → List ScriptEvent → Type 0
 HasCalls set earlier = (call : ℕ) → contains nat_cmp set call ≡ is_started call earlier
 
 -- a call that starts comes into the set
-abbrev pub Notes : Happens → BTreeSet ℕ → BTreeSet ℕ → Type 0
-Notes (Starts call calling called) old new = Updates nat_cmp old new call true
-Notes (Meets call event) old new = new ≡ old
-Notes (Recharges account amount until) old new = new ≡ old
+abbrev pub NotesStart : Happens → BTreeSet ℕ → BTreeSet ℕ → Type 0
+NotesStart (Starts call calling called) old new = Updates nat_cmp old new call true
+NotesStart (Meets call event) old new = new ≡ old
+NotesStart (Recharges account amount until) old new = new ≡ old

@@ -4,7 +4,7 @@ use Rattle.cap_values.specs.NumberDigits.{digits_of}
 use Rattle.cap_values.specs.declared.number.Number.{Number}
 use Rattle.run_texts.specs.Happenings.{ScriptEvent, Happens, Meets, Recharges, Starts}
 use Rattle.run_texts.specs.Parts.{Texts}
-use Rattle.run_texts.specs.Setups.{Setup}
+use Rattle.run_texts.specs.Setups.{TableSetup}
 use Rattle.run_texts.specs.declared.input.Parts.{Parts}
 use Rattle.run_texts.specs.declared.script.Happening.{Happening}
 use Rattle.run_texts.specs.declared.script.Happening.TheVariants as happening
@@ -20,7 +20,7 @@ abbrev pub with_digits : List (Number × ℕ) → List (List ℕ × ℕ)
 with_digits subscribers = map (λ subscriber. (digits_of subscriber.0, subscriber.1)) subscribers
 
 -- what a directory says of a setup
-abbrev pub setup_in : Listing → Setup
+abbrev pub setup_in : Listing → TableSetup
 setup_in listing = record { accounts = listing.accounts; subscribers = with_digits listing.subscribers }
 
 -- what happens, as plain data
@@ -34,6 +34,6 @@ abbrev pub script_event : ScriptRow → ScriptEvent
 script_event row = record { at = row.at; what = happens_of row.what }
 
 -- no moment lies below the one before it, nor the first one below the start
-abbrev pub are_in_order : ℕ → List ScriptRow → Bool
-are_in_order start [] = true
-are_in_order start (row ∷ rows) = nat_le start row.at && are_in_order row.at rows
+abbrev pub rows_are_in_order : ℕ → List ScriptRow → Bool
+rows_are_in_order start [] = true
+rows_are_in_order start (row ∷ rows) = nat_le start row.at && rows_are_in_order row.at rows

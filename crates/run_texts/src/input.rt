@@ -3,15 +3,15 @@
 ghost use Rattle.std.specs.Prelude.{◌≡◌, ◌≤◌, ◌==◌, ◌<◌, ◌∷◌, [], true, map, All, IfOk, length, take, drop, IfNone, IfSome};
 ghost use Rattle.std.specs.List.{position};
 ghost use Rattle.std.specs.Option.{option_map};
-ghost use Rattle.run_texts.specs.InputFaults.{Gives};
-ghost use Rattle.run_texts.specs.Inputs.{input_in, input_of, tariff_in, told};
+ghost use Rattle.run_texts.specs.InputFaults.{GivesInput};
+ghost use Rattle.run_texts.specs.Inputs.{input_in, input_of, tariff_in, as_input_fault};
 ghost use Rattle.run_texts.specs.Scripts.{script_of};
-ghost use Rattle.run_texts.specs.Setups.{setup_of};
+ghost use Rattle.run_texts.specs.Setups.{table_setup_of};
 ghost use Rattle.run_texts.specs.Happenings.{is_in_time};
-ghost use Rattle.run_texts.specs.Views.{are_in_order, happens_of, script_event, setup_in, texts_of_parts};
+ghost use Rattle.run_texts.specs.Views.{rows_are_in_order, happens_of, script_event, setup_in, texts_of_parts};
 ghost use Rattle.run_texts.specs.Parts.{is_divider, lines_of, parts_of, texts_of};
 ghost use Rattle.table_core.specs.Rows.{rows_of};
-ghost use Rattle.run_values.specs.Setups.{IsWithin};
+ghost use Rattle.run_values.specs.Setups.{ListingIsWithin};
 ghost use Rattle.run_texts.specs.declared.input_fault.InputFault.TheVariants as out;
 
 use crate::{InputFault, ScriptRow, script, setup};
@@ -32,13 +32,13 @@ pub struct RunTexts {
 
 /// Reads an input of three parts. The first fault is told, the parts judged in order.
 pub fn read_texts(alloc: Global, input: &[u8]) -> Result<RunTexts, InputFault>
-    ensures means { Gives input_in result (input_of input.now) }
-    ensures within { IfOk result (λ texts. IsWithin texts.directory) }
+    ensures means { GivesInput input_in result (input_of input.now) }
+    ensures within { IfOk result (λ texts. ListingIsWithin texts.directory) }
     ensures in_range { IfOk result
         (λ texts. All (λ row. row.at ≤ LAST_MOMENT) texts.script.items) }
     ensures in_time { IfOk result
         (λ texts. All (λ row. is_in_time (happens_of row.what) ≡ true) texts.script.items) }
-    ensures in_order { IfOk result (λ texts. are_in_order 0 texts.script.items ≡ true) }
+    ensures in_order { IfOk result (λ texts. rows_are_in_order 0 texts.script.items ≡ true) }
 {
     let Parts {
         tariff,
@@ -57,7 +57,7 @@ pub fn read_texts(alloc: Global, input: &[u8]) -> Result<RunTexts, InputFault>
 
 /// Reads a tariff alone. Its first fault is told as that of an input.
 pub fn read_tariff(alloc: Global, text: &[u8]) -> Result<Tariff, InputFault>
-    ensures { Gives (λ tariff. tariff) result (tariff_in text.now) }
+    ensures { GivesInput (λ tariff. tariff) result (tariff_in text.now) }
 {
     match Tariff::read(alloc, text) {
         Ok(tariff) => Ok(tariff),
@@ -67,8 +67,8 @@ pub fn read_tariff(alloc: Global, text: &[u8]) -> Result<Tariff, InputFault>
 
 /// Reads a setup alone. Its first fault is told as that of an input.
 pub fn read_directory(alloc: Global, text: &[u8]) -> Result<Directory, InputFault>
-    ensures means { Gives setup_in result (told out.Setup (setup_of (rows_of text.now))) }
-    ensures within { IfOk result IsWithin }
+    ensures means { GivesInput setup_in result (as_input_fault out.Setup (table_setup_of (rows_of text.now))) }
+    ensures within { IfOk result ListingIsWithin }
 {
     match setup::read_setup(alloc, text) {
         Ok(directory) => Ok(directory),
@@ -81,12 +81,12 @@ fn read_script(
     directory: &Directory,
     text: &[u8],
 ) -> Result<Vec<ScriptRow>, InputFault>
-    ensures means { Gives (λ rows. map script_event rows.items) result
-        (told out.Script (script_of directory.now.accounts (rows_of text.now))) }
+    ensures means { GivesInput (λ rows. map script_event rows.items) result
+        (as_input_fault out.Script (script_of directory.now.accounts (rows_of text.now))) }
     ensures in_range { IfOk result (λ rows. All (λ row. row.at ≤ LAST_MOMENT) rows.items) }
     ensures in_time { IfOk result (λ rows.
         All (λ row. is_in_time (happens_of row.what) ≡ true) rows.items) }
-    ensures in_order { IfOk result (λ rows. are_in_order 0 rows.items ≡ true) }
+    ensures in_order { IfOk result (λ rows. rows_are_in_order 0 rows.items ≡ true) }
 {
     match script::read_script(alloc, directory, text) {
         Ok(script) => Ok(script),

@@ -3,7 +3,7 @@
 ghost use Rattle.std.specs.Prelude.{◌≤◌, length, IfErr, IfOk, IfSome};
 ghost use Rattle.std.specs.Option.{option_map};
 ghost use Rattle.std.specs.Result.{result_map_both};
-ghost use Rattle.run_texts.specs.FirstParts.{Divides, MayAlwaysCome, ReadsLine, TakesByte};
+ghost use Rattle.run_texts.specs.FirstParts.{Divides, InputFaultMayAlwaysCome, ReadsLine, TakesByte};
 
 use crate::InputFault;
 use crate::input::is_divider;
@@ -48,7 +48,7 @@ pub fn read_line<I: Read>(
     ensures reads { IfOk result (λ read. IfSome (I.remaining input.old) (λ text.
         ReadsLine most text (I.remaining input.new) (option_map (λ line. line.items) read))) }
     ensures within { IfOk result (λ read. IfSome read (λ line. length line.items ≤ most)) }
-    ensures fault { IfErr result MayAlwaysCome }
+    ensures fault { IfErr result InputFaultMayAlwaysCome }
 {
     let mut line = Vec::new(alloc);
     for _turn in 0..u64::MAX {
@@ -69,7 +69,7 @@ pub fn read_line<I: Read>(
 /// The next byte of an input, none at its end.
 fn read_byte<I: Read>(input: &mut I) -> Result<Option<u8>, InputFault>
     ensures takes { IfOk result (TakesByte (I.remaining input.old) (I.remaining input.new)) }
-    ensures fault { IfErr result MayAlwaysCome }
+    ensures fault { IfErr result InputFaultMayAlwaysCome }
 {
     let mut byte = [0];
     for _turn in 0..u64::MAX {
@@ -85,7 +85,7 @@ fn read_byte<I: Read>(input: &mut I) -> Result<Option<u8>, InputFault>
 
 /// The fault of an input that failed.
 fn fault_of(error: &Error) -> InputFault
-    ensures { MayAlwaysCome result }
+    ensures { InputFaultMayAlwaysCome result }
 {
     match error.kind() {
         ErrorKind::OutOfMemory => InputFault::OutOfMemory,

@@ -2,12 +2,12 @@
 
 ghost use Rattle.std.specs.Prelude.{◌≡◌, ◌≤◌, All, IfOk, IfSome, OnOk, length, map, true};
 ghost use Rattle.std.specs.Result.{result_map_both};
-ghost use Rattle.run_texts.specs.Scripts.{judged_by, last_moment, row_at, script_of, call_in, disconnect_in, event_in, happens_in, leg_of, read_in, recharge_in, start_in, when_blank, word_in};
-ghost use Rattle.run_texts.specs.Starts.{HasCalls, Notes};
+ghost use Rattle.run_texts.specs.Scripts.{judged_by, last_row_moment, row_at, script_of, call_in, disconnect_in, event_row_in, happens_in, leg_of, read_in, recharge_row_in, start_row_in, row_when_blank, row_word_in};
+ghost use Rattle.run_texts.specs.Starts.{HasCalls, NotesStart};
 ghost use Rattle.run_texts.specs.Happenings.{is_in_time};
-ghost use Rattle.run_texts.specs.Views.{are_in_order, script_event, happens_of};
+ghost use Rattle.run_texts.specs.Views.{rows_are_in_order, script_event, happens_of};
 ghost use Rattle.csv.specs.Records.{fields_of};
-ghost use Rattle.table_core.specs.Faults.{Gives};
+ghost use Rattle.table_core.specs.Faults.{GivesTable};
 ghost use Rattle.table_core.specs.Rows.{rows_of};
 
 use crate::fields::{account, amount, is_left_out, party, until};
@@ -44,12 +44,12 @@ pub fn read_script<I: Read + Drop>(
     reader: I,
 ) -> Result<Vec<ScriptRow>, TableFault>
     ensures means { IfSome (I.remaining reader) (λ text.
-        Gives (λ rows. map script_event rows.items) result
+        GivesTable (λ rows. map script_event rows.items) result
         (script_of directory.now.accounts (rows_of text))) }
     ensures in_range { IfOk result (λ rows. All (λ row. row.at ≤ LAST_MOMENT) rows.items) }
     ensures in_time { IfOk result (λ rows.
         All (λ row. is_in_time (happens_of row.what) ≡ true) rows.items) }
-    ensures in_order { IfOk result (λ rows. are_in_order 0 rows.items ≡ true) }
+    ensures in_order { IfOk result (λ rows. rows_are_in_order 0 rows.items ≡ true) }
 {
     let headers: &[&[&str]] = &[
         &["moment", "call", "what", "x", "y"],
@@ -80,7 +80,7 @@ fn judge(
     row: &ByteRecord,
 ) -> Result<ScriptRow, RowKind>
     requires { 5 ≤ length (fields_of row.now) }
-    ensures says { (earlier : _) → HasCalls calls.now earlier → last ≡ last_moment earlier
+    ensures says { (earlier : _) → HasCalls calls.now earlier → last ≡ last_row_moment earlier
         → result_map_both script_event (λ kind. kind) result
         ≡ row_at directory.now.accounts earlier (fields_of row.now) }
     ensures in_range { IfOk result (λ row. row.at ≤ LAST_MOMENT) }
@@ -124,7 +124,7 @@ fn check(directory: &Directory, calls: &BTreeSet<u64>, what: Happening) -> Resul
 
 /// Puts a call that starts into the set.
 fn note(calls: &mut BTreeSet<u64>, what: Happening) -> Result<(), AllocError>
-    ensures { OnOk result (Notes (happens_of what) calls.old calls.new) }
+    ensures { OnOk result (NotesStart (happens_of what) calls.old calls.new) }
 {
     if let Happening::Start { call, .. } = what {
         calls.insert(call)?;
@@ -209,7 +209,7 @@ fn read_call(row: &ByteRecord) -> Result<u64, RowKind>
 fn read_start(row: &ByteRecord) -> Result<Happening, RowKind>
     requires { 5 ≤ length (fields_of row.now) }
     ensures says { result_map_both happens_of (λ kind. kind) result
-        ≡ start_in (fields_of row.now) }
+        ≡ start_row_in (fields_of row.now) }
     ensures in_time { IfOk result (λ what. is_in_time (happens_of what) ≡ true) }
 {
     let call = read_call(row)?;
@@ -226,7 +226,7 @@ fn read_start(row: &ByteRecord) -> Result<Happening, RowKind>
 fn read_event(row: &ByteRecord, event: BcsmEvent) -> Result<Happening, RowKind>
     requires { 5 ≤ length (fields_of row.now) }
     ensures says { result_map_both happens_of (λ kind. kind) result
-        ≡ event_in (fields_of row.now) event }
+        ≡ event_row_in (fields_of row.now) event }
     ensures in_time { IfOk result (λ what. is_in_time (happens_of what) ≡ true) }
 {
     let call = read_call(row)?;
@@ -250,7 +250,7 @@ fn read_disconnect(row: &ByteRecord) -> Result<Happening, RowKind>
 /// What happens, where the fields that must be empty are.
 fn when_blank(blank: bool, what: Happening) -> Result<Happening, RowKind>
     ensures says { result_map_both happens_of (λ kind. kind) result
-        ≡ when_blank blank (happens_of what) }
+        ≡ row_when_blank blank (happens_of what) }
     ensures same { IfOk result (λ made. made ≡ what) }
 {
     if blank { Ok(what) } else { Err(RowKind::Empty) }
@@ -269,7 +269,7 @@ fn disconnect(leg: u64) -> Result<BcsmEvent, RowKind>
 fn read_recharge(row: &ByteRecord) -> Result<Happening, RowKind>
     requires { 5 ≤ length (fields_of row.now) }
     ensures says { result_map_both happens_of (λ kind. kind) result
-        ≡ recharge_in (fields_of row.now) }
+        ≡ recharge_row_in (fields_of row.now) }
     ensures in_time { IfOk result (λ what. is_in_time (happens_of what) ≡ true) }
 {
     let account = account(row, 3)?;
@@ -299,7 +299,7 @@ enum Word {
 /// The word in a row, its third field.
 fn read_word(row: &ByteRecord) -> Result<Word, RowKind>
     requires { 5 ≤ length (fields_of row.now) }
-    ensures { result ≡ word_in (fields_of row.now) }
+    ensures { result ≡ row_word_in (fields_of row.now) }
 {
     if is_word(row, 2, "start") {
         Ok(Word::Start)

@@ -1,13 +1,13 @@
 //! The setup table of a run: its accounts and its subscribers.
 
 ghost use Rattle.std.specs.Prelude.{◌≡◌, ◌≤◌, ◌+◌, IfOk, IfSome, OnOk, length};
-ghost use Rattle.run_texts.specs.Entries.{Enters, told_of};
-ghost use Rattle.run_texts.specs.Setups.{account_row, row_at, setup_of, subscriber_row};
+ghost use Rattle.run_texts.specs.Entries.{Enters, entry_fault_of};
+ghost use Rattle.run_texts.specs.Setups.{account_row, row_at, table_setup_of, subscriber_row};
 ghost use Rattle.run_texts.specs.Views.{setup_in};
 ghost use Rattle.csv.specs.Records.{fields_of};
-ghost use Rattle.table_core.specs.Faults.{Gives};
+ghost use Rattle.table_core.specs.Faults.{GivesTable};
 ghost use Rattle.table_core.specs.Rows.{rows_of};
-ghost use Rattle.run_values.specs.Setups.{IsWithin};
+ghost use Rattle.run_values.specs.Setups.{ListingIsWithin};
 ghost use Rattle.run_texts.specs.declared.setup.EntryFault.TheVariants as out;
 
 use crate::fields::{account, amount, is_left_out, party, until};
@@ -33,8 +33,8 @@ const MAX_ROWS: u32 = 10_000;
 /// account. `Header` is the fault of row 1.
 pub fn read_setup<I: Read + Drop>(alloc: Global, reader: I) -> Result<Directory, TableFault>
     ensures means { IfSome (I.remaining reader)
-        (λ text. Gives setup_in result (setup_of (rows_of text))) }
-    ensures within { IfOk result IsWithin }
+        (λ text. GivesTable setup_in result (table_setup_of (rows_of text))) }
+    ensures within { IfOk result ListingIsWithin }
 {
     let headers: &[&[&str]] = &[
         &["kind", "key", "value"],
@@ -129,7 +129,7 @@ impl From<RowKind> for EntryFault {
 }
 
 impl From<SetupFault> for EntryFault {
-    ghost from_gives = { λ why fault. fault ≡ told_of why };
+    ghost from_gives = { λ why fault. fault ≡ entry_fault_of why };
 
     fn from(fault: SetupFault) -> EntryFault {
         match fault {

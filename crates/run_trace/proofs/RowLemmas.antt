@@ -8,7 +8,7 @@ use Rattle.std.specs.Prelude.{slice_get}
 use Rattle.std.specs.Slice.{IsItemAt}
 use Rattle.moment_texts.specs.declared.clock.Clock.{Clock}
 use Rattle.run_trace.specs.Said.{operation_said, refused_said, stray_said}
-use Rattle.run_trace.specs.Tables.{answer_rows, header, post_rows, row, rows_from, service_rows, trace_text}
+use Rattle.run_trace.specs.Tables.{answer_rows, trace_header, post_rows, trace_row, rows_from, service_rows, trace_text}
 use Rattle.run_values.specs.declared.post.Answer.{Answer}
 use Rattle.run_values.specs.declared.post.Body.{Body}
 
@@ -36,7 +36,7 @@ rows_more clock answers given i post text within is so_far =
     let count : 0 + length front ≡ i = omega (arith, length-take-le i given le) in
     let last : rows_from clock answers 0 (front ++ post ∷ []) ≡ rows_from clock answers 0 front ++ post_rows clock i post (slice_get answers i) =
     rows_last clock answers 0 front post ∙ ap (λ n. rows_from clock answers 0 front ++ rows_at clock answers n post) count in
-    rw (so_far, take_more given i post within, ← is, last) (append_assoc header (rows_from clock answers 0 front) (post_rows clock i post (slice_get answers i)))
+    rw (so_far, take_more given i post within, ← is, last) (append_assoc trace_header (rows_from clock answers 0 front) (post_rows clock i post (slice_get answers i)))
 
 -- the operations of an answer, whether the post was stray and the fault, one after the other
 pub answer_joined : (head : List ℕ) (answer : Answer) (old after_operations after_stray new : List ℕ) → after_operations ≡ old ++ service_rows head (map operation_said answer.ops.items)
@@ -44,7 +44,7 @@ pub answer_joined : (head : List ℕ) (answer : Answer) (old after_operations af
     → new ≡ old ++ answer_rows head (Some answer)
 answer_joined head answer old after_operations after_stray new operations stray refused =
     let operations_said = map operation_said answer.ops.items in
-    let one = row head (codes "service") in
+    let one = trace_row head (codes "service") in
     rw (refused, stray, operations, flat_map-append one operations_said (stray_said answer.stray ++ refused_said answer.refused), flat_map-append one (stray_said answer.stray) (refused_said answer.refused))
     (simp append_assoc)
 

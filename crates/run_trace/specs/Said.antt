@@ -1,7 +1,7 @@
 -- What a row of a trace says.
 use Rattle.std.specs.Prelude.{ℕ, Bool, true, false, Option, Some, None, List, [], ◌∷◌, ◌++◌, codes, map}
 use Rattle.std.specs.Fmt.{decimal}
-use Rattle.account_core.specs.Faults.{name_of}
+use Rattle.account_core.specs.Faults.{account_fault_name}
 use Rattle.account_core.specs.declared.fault.AccountFault.{AccountFault}
 use Rattle.cap_values.specs.Codes.{leg_code}
 use Rattle.cap_values.specs.NumberDigits.{digits_of}
@@ -102,7 +102,7 @@ stray_said false = []
 -- the fault that an ask of an account got
 abbrev pub refused_said : Option AccountFault → List Said
 refused_said None = []
-refused_said (Some fault) = record (alone (codes "refused")) { x1 = name_of fault } ∷ []
+refused_said (Some fault) = record (alone (codes "refused")) { x1 = account_fault_name fault } ∷ []
 
 -- what the service says to a post: the operations of its answer, in order, then whether it was stray, and the fault
 abbrev pub answer_said : Answer → List Said

@@ -2,7 +2,7 @@
 
 ghost use Rattle.std.specs.Prelude.{◌≡◌, ◌++◌, Some, map, OnOk, string_bytes};
 ghost use Rattle.run_trace.specs.Said.{message_said, operation_said, post_said, refused_said, report_said, stray_said, event_word, leg_number, mode_word, release_word, state_word};
-ghost use Rattle.run_trace.specs.Tables.{answer_rows, call_of, row, said_text, sender_of, service_rows};
+ghost use Rattle.run_trace.specs.Tables.{answer_rows, call_of_post, trace_row, said_text, sender_of, service_rows};
 
 use account_core::AccountFault;
 use cap_values::{Event, Leg, Mode, ScfOp, SsfMsg};
@@ -14,7 +14,7 @@ use tariff_core::TimeInfo;
 
 /// The call of a post, if it has one.
 pub(crate) fn call_of(body: &Body) -> Option<u64>
-    ensures { result ≡ call_of body.now }
+    ensures { result ≡ call_of_post body.now }
 {
     match *body {
         Body::Ssf { call, .. } => Some(call),
@@ -30,7 +30,7 @@ pub(crate) fn write_post(
     body: &Body,
 ) -> Result<(), AllocError>
     ensures { OnOk result (string_bytes text.new ≡ string_bytes text.old
-        ++ row head.now (sender_of body.now) (post_said clock body.now)) }
+        ++ trace_row head.now (sender_of body.now) (post_said clock body.now)) }
 {
     match *body {
         Body::Ssf { msg, .. } => {

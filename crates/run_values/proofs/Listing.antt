@@ -16,7 +16,7 @@ use Rattle.std.proofs.lemmas.Slice.Eq.{bytes_eq-Decides}
 use Rattle.cap_values.specs.NumberDigits.{by_digits, digits_of}
 use Rattle.cap_values.specs.declared.number.Number.{Number}
 use Rattle.run_values.proofs.Judging.{ends, lookup-alike, lookup-append, one_more, passes, stops}
-use Rattle.run_values.specs.Openings.{is_in_range}
+use Rattle.run_values.specs.Openings.{opening_is_in_range}
 use Rattle.run_values.specs.Setups.{account_fault, account_of, first_fault, has_account, opening_of, subscriber_fault}
 use Rattle.run_values.specs.declared.directory.OpeningCredit.{OpeningCredit}
 use Rattle.run_values.specs.declared.setup_fault.SetupFault.{SetupFault}
@@ -133,7 +133,7 @@ account_items = record {
   agrees = same_number;
   alike = number_alike;
   judge = λ named account. account_fault named account.1;
-  is_new = λ named account. new_account (is_in_range account.1) named;
+  is_new = λ named account. new_account (opening_is_in_range account.1) named;
 }
 
 -- what a map of the accounts finds

@@ -14,5 +14,5 @@ expires_in_time None = true
 expires_in_time (Some until) = nat_le until LAST_MOMENT
 
 -- whether an opening credit is 0 to `MAX_MONEY`, and its last moment in time
-abbrev pub is_in_range : OpeningCredit → Bool
-is_in_range opening = nat_le opening.amount MAX_MONEY && expires_in_time opening.until
+abbrev pub opening_is_in_range : OpeningCredit → Bool
+opening_is_in_range opening = nat_le opening.amount MAX_MONEY && expires_in_time opening.until

@@ -4,8 +4,8 @@ use Rattle.run_values.specs.declared.setup_fault.SetupFault.{SetupFault}
 use Rattle.run_values.specs.declared.setup_fault.SetupFault.TheVariants as fault
 
 -- the name of a fault
-abbrev pub name_of : SetupFault → List ℕ
-name_of fault.Repeated = codes "Repeated"
-name_of fault.Unknown = codes "Unknown"
-name_of fault.OutOfRange = codes "OutOfRange"
-name_of fault.OutOfMemory = codes "OutOfMemory"
+abbrev pub setup_fault_name : SetupFault → List ℕ
+setup_fault_name fault.Repeated = codes "Repeated"
+setup_fault_name fault.Unknown = codes "Unknown"
+setup_fault_name fault.OutOfRange = codes "OutOfRange"
+setup_fault_name fault.OutOfMemory = codes "OutOfMemory"

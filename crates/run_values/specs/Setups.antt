@@ -10,7 +10,7 @@ use Rattle.cap_values.specs.NumberDigits.{by_digits, digits_of}
 use Rattle.cap_values.specs.declared.number.Number.{Number}
 use Rattle.dialogue_core.specs.declared.config.ServiceConfig.{ServiceConfig}
 use Rattle.tariff_core.specs.Bands.{Band}
-use Rattle.run_values.specs.Openings.{is_in_range}
+use Rattle.run_values.specs.Openings.{opening_is_in_range}
 use Rattle.run_values.specs.declared.directory.OpeningCredit.{OpeningCredit}
 use Rattle.run_values.specs.declared.setup_fault.SetupFault.{SetupFault}
 use Rattle.run_values.specs.declared.setup_fault.SetupFault.TheVariants as fault
@@ -41,7 +41,7 @@ counts_fault limit accounts subscribers =
 
 -- an account has an opening credit in its range, and a number that isn't named before
 abbrev pub account_fault : Bool → OpeningCredit → Option SetupFault
-account_fault is_named opening = if is_in_range opening then if is_named then Some fault.Repeated else None else Some fault.OutOfRange
+account_fault is_named opening = if opening_is_in_range opening then if is_named then Some fault.Repeated else None else Some fault.OutOfRange
 
 -- what is wrong with an account after earlier ones
 abbrev pub judge_account : List (ℕ × OpeningCredit) → ℕ × OpeningCredit → Option SetupFault
@@ -90,7 +90,7 @@ abbrev pub with_subscriber : Listing → Number → ℕ → Listing
 with_subscriber listing number account = record listing { subscribers = insert_entry by_digits listing.subscribers number account }
 
 -- a run may have `MAX_ACCOUNTS` accounts and `MAX_SUBSCRIBERS` subscribers at most
-pub record IsWithin (listing : Listing) : Type 0 where
+pub record ListingIsWithin (listing : Listing) : Type 0 where
   pub accounts : length listing.accounts ≤ MAX_ACCOUNTS
   pub subscribers : length listing.subscribers ≤ MAX_SUBSCRIBERS
 

@@ -4,7 +4,7 @@ ghost use Rattle.std.specs.Prelude.{◌≡◌, ◌≢◌, ◌+◌, None, Some, t
 ghost use Rattle.std.specs.List.Sorted.{IsStrictlySortedBy};
 ghost use Rattle.std.specs.Map.{keys_of};
 ghost use Rattle.std.specs.Ordering.{nat_cmp};
-ghost use Rattle.run_values.specs.Openings.{is_in_range};
+ghost use Rattle.run_values.specs.Openings.{opening_is_in_range};
 ghost use Rattle.run_values.specs.Setups.{account_fault, account_of, has_account, nothing, subscriber_fault, with_account, with_subscriber};
 
 use crate::SetupFault;
@@ -25,7 +25,7 @@ pub struct Directory {
 impl Model for Directory {
     ghost use Rattle.std.specs.Prelude.{◌≡◌, true, All};
     ghost use Rattle.std.specs.Map.{values_of};
-    ghost use Rattle.run_values.specs.Openings.{is_in_range};
+    ghost use Rattle.run_values.specs.Openings.{opening_is_in_range};
     ghost use Rattle.run_values.specs.Setups.{Listing};
 
     ghost Value = { Listing };
@@ -35,7 +35,7 @@ impl Model for Directory {
       subscribers = d.subscribers.entries;
     } };
 
-    ghost invariant = { λ d. All (λ opening. is_in_range opening ≡ true)
+    ghost invariant = { λ d. All (λ opening. opening_is_in_range opening ≡ true)
         (values_of d.accounts.entries) };
 }
 
@@ -123,7 +123,7 @@ impl Directory {
         ensures ordered { IfOk result
             (λ parts. IsStrictlySortedBy nat_cmp (keys_of parts.0.items)) }
         ensures range { IfOk result
-            (λ parts. All (λ account. is_in_range account.1 ≡ true) parts.0.items) }
+            (λ parts. All (λ account. opening_is_in_range account.1 ≡ true) parts.0.items) }
         ensures subscribers { IfOk result (λ parts. parts.1.entries ≡ self.subscribers) }
     {
         let Directory {
@@ -162,7 +162,7 @@ pub struct OpeningCredit {
 impl OpeningCredit {
     /// Whether the amount is at most `MAX_MONEY`, and the last moment at most `LAST_MOMENT`.
     pub(crate) fn is_in_range(&self) -> bool
-        ensures { result ≡ is_in_range self.now }
+        ensures { result ≡ opening_is_in_range self.now }
     {
         let expires_in_time = match self.until {
             Some(until) => until <= LAST_MOMENT,

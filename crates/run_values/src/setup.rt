@@ -5,9 +5,9 @@ ghost use Rattle.std.specs.List.{HoldsAt};
 ghost use Rattle.std.specs.List.Sorted.{IsStrictlySortedBy};
 ghost use Rattle.std.specs.Map.{keys_of};
 ghost use Rattle.std.specs.Ordering.{nat_cmp};
-ghost use Rattle.run_values.specs.Openings.{is_in_range};
+ghost use Rattle.run_values.specs.Openings.{opening_is_in_range};
 ghost use Rattle.run_values.specs.Setups.{place_of};
-ghost use Rattle.run_values.specs.Setups.{AreAscending, IsWithin, account_of, counts_fault, items_fault, opening_of, setup_fault};
+ghost use Rattle.run_values.specs.Setups.{AreAscending, ListingIsWithin, account_of, counts_fault, items_fault, opening_of, setup_fault};
 
 use crate::{Directory, OpeningCredit, SetupFault};
 use account_core::{MAX_LIMIT, MIN_LIMIT};
@@ -41,7 +41,7 @@ impl Model for RunSetup {
     ghost use Rattle.std.specs.Map.{keys_of};
     ghost use Rattle.std.specs.Ordering.{nat_cmp};
     ghost use Rattle.run_values.specs.Setups.{Setup};
-    ghost use Rattle.run_values.specs.Openings.{is_in_range};
+    ghost use Rattle.run_values.specs.Openings.{opening_is_in_range};
 
     ghost Value = { Setup };
 
@@ -54,7 +54,7 @@ impl Model for RunSetup {
     } };
 
     ghost invariant = { λ s. IsStrictlySortedBy nat_cmp (keys_of s.accounts.items)
-        × All (λ account. is_in_range account.1 ≡ true) s.accounts.items };
+        × All (λ account. opening_is_in_range account.1 ≡ true) s.accounts.items };
 }
 
 impl RunSetup {
@@ -102,7 +102,7 @@ impl RunSetup {
         service: ServiceConfig,
         limit: u32,
     ) -> Result<RunSetup, AllocError>
-        requires within { IsWithin directory }
+        requires within { ListingIsWithin directory }
         requires least { MIN_LIMIT ≤ limit }
         requires most { limit ≤ MAX_LIMIT }
         ensures accounts { IfOk result (λ setup. setup.accounts ≡ directory.accounts) }
@@ -142,7 +142,7 @@ impl RunSetup {
     pub fn accounts(&self) -> &[(u32, OpeningCredit)]
         ensures value { result.now ≡ self.now.accounts }
         ensures ordered { IsStrictlySortedBy nat_cmp (keys_of self.now.accounts) }
-        ensures range { All (λ account. is_in_range account.1 ≡ true) self.now.accounts }
+        ensures range { All (λ account. opening_is_in_range account.1 ≡ true) self.now.accounts }
     {
         self.accounts.as_slice()
     }

@@ -1,7 +1,7 @@
 //! Why a run can't be set up.
 
 ghost use Rattle.std.specs.Prelude.{◌≡◌, Some};
-ghost use Rattle.run_values.specs.SetupFaults.{name_of};
+ghost use Rattle.run_values.specs.SetupFaults.{setup_fault_name};
 ghost use Rattle.run_values.specs.declared.setup_fault.SetupFault.TheVariants as out;
 
 use std::alloc::{AllocError, AllocFailed};
@@ -26,7 +26,7 @@ pub enum SetupFault {
 }
 
 impl fmt::Display for SetupFault {
-    ghost output = { λ fault. Some (name_of fault) };
+    ghost output = { λ fault. Some (setup_fault_name fault) };
 
     fn fmt<W: fmt::Write>(&self, f: &mut fmt::Formatter<W>) -> fmt::Result {
         match self {

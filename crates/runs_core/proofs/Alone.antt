@@ -12,12 +12,12 @@ use Rattle.run_values.specs.declared.post.Body.{Body}
 use Rattle.run_values.specs.declared.post.Body.TheVariants.{Ssf, Recharge}
 use Rattle.run_values.specs.declared.post.Post.{Post}
 use Rattle.shared_account.specs.Closed.{Closed}
-use Rattle.shared_account.specs.Own.{is_of, own}
+use Rattle.shared_account.specs.Own.{asks_of_call, own}
 use Rattle.shared_account.specs.Refusals.{Knowing}
 use Rattle.shared_account.specs.Seen.{CallsOfOneSeatAreAlone, IsBySeat, StoodIn}
 use Rattle.workers_core.proofs.Refusing.{never_refused}
 use Rattle.workers_core.specs.Laws.{EntriesComeFromPosts}
-use Rattle.workers_core.specs.Served.{AreServed, IsServed, Report, begun_by, begun_of, held_in, held_of, reported_in, reports_of, settled_in, settles_of}
+use Rattle.workers_core.specs.Served.{AreServed, IsServed, Report, begun_by, begun_of, held_in, held_calls_of, reported_in, reports_of, settled_in, settles_of}
 use Rattle.runs_core.proofs.InBooks.{lists_worked}
 use Rattle.runs_core.proofs.Listed.{all_joined, all_part, all_passing, all_pieces, all_unmapped}
 use Rattle.runs_core.proofs.Sendings.{agrees}
@@ -65,19 +65,19 @@ module _ (workers worker : ℕ) where
 
   -- ---- its entries
 
-  one_its : (asked : Asked) (call : ℕ) → All Its (held_in asked) → All ItsReport (settled_in asked) → is_of call asked ≡ true → call % workers ≡ worker
+  one_its : (asked : Asked) (call : ℕ) → All Its (held_in asked) → All ItsReport (settled_in asked) → asks_of_call call asked ≡ true → call % workers ≡ worker
   one_its (Credits amount until) call held settled is = absurd (cc)
   one_its (Reserves other plan wanted least at) call held settled is = subst Its (agrees other call is) (All-head Its other [] held)
   one_its (Settles other number info) call held settled is = subst Its (agrees other call is) (All-head ItsReport (number, other, info) [] settled)
   one_its (Returns other) call held settled is = subst Its (agrees other call is) (All-head Its other [] held)
 
   mine_its : (account : ℕ) (posts : List Post) (mine : List EntryData) → IsServed account posts mine → All (λ post. worker_of workers post.body ≡ worker) posts
-      → All (λ event. (call : ℕ) → is_of call event.asked ≡ true → call % workers ≡ worker) mine
+      → All (λ event. (call : ℕ) → asks_of_call call event.asked ≡ true → call % workers ≡ worker) mine
   mine_its account posts mine served goes =
       let begun : All Its (begun_of posts) = all_joined Its (λ (post : Post). begun_by post.body) posts (λ k d within. begun_its (slice_index_or posts k d).body (goes k d within)) in
       let reported : All ItsReport (reports_of posts) =
       all_joined ItsReport (λ (post : Post). reported_in post.number post.body) posts (λ k d within. reported_its (slice_index_or posts k d).number (slice_index_or posts k d).body (goes k d within)) in
-      let held = all_pieces Its (λ (event : EntryData). held_in event.asked) mine (λ k d within. All-contains Its (begun_of posts) (slice_index_or (held_of mine) k d) begun (served.calls k d within)) in
+      let held = all_pieces Its (λ (event : EntryData). held_in event.asked) mine (λ k d within. All-contains Its (begun_of posts) (slice_index_or (held_calls_of mine) k d) begun (served.calls k d within)) in
       let settled = all_pieces ItsReport (λ (event : EntryData). settled_in event.asked) mine (all_part ItsReport (settles_of mine) (reports_of posts) served.settles reported) in
       λ k d within call is. one_its (slice_index_or mine k d).asked call (held k d within) (settled k d within) is
 
@@ -101,7 +101,7 @@ calls_of_one Stood come setup workers given answers books run = λ place d withi
     let mine : IsServed served.0 its.posts (own seat book.history) =
     let S : List EntryData → Type 0 = λ m. IsServed served.0 its.posts m in
     subst S (get_or-map (λ (b : Closed). own seat b.history) books place d [] within) served.1 in
-    let By : EntryData → Type 0 = λ other. (c : ℕ) → is_of c other.asked ≡ true → c % workers ≡ seat in
+    let By : EntryData → Type 0 = λ other. (c : ℕ) → asks_of_call c other.asked ≡ true → c % workers ≡ seat in
     let all = mine_its workers seat served.0 its.posts (own seat book.history) mine (posts_its workers seat given its.posts its.share) in
     sym (all_passing (λ (other : EntryData). other.seat == seat) By book.history all k e here (eq-eqb seat seat refl) call is)
 

@@ -12,7 +12,7 @@ use Rattle.shared_account.specs.Seats.{Reads}
 use Rattle.shared_account.specs.Terms.{Terms}
 use Rattle.runs_core.proofs.Columns.{AreEven, column, column_of, even_at, laid, laid_even, laid_many}
 use Rattle.runs_core.proofs.Numbers.{numbered_at, teams_even}
-use Rattle.runs_core.specs.Closing.{AreBooksOf, AreNumberedFrom, IsInBooks, lists_of, terms_shown}
+use Rattle.runs_core.specs.Closing.{AreBooksOfSeats, AreNumberedFrom, IsInBooks, lists_of, terms_shown}
 
 -- the account of a book at a place was this
 record HasStood (Stood : Closed → ℕ → Knowing) (books : List Closed) (place number : ℕ) (mine : List EntryData) (refusal : Refusal) : Type 0 where
@@ -22,7 +22,7 @@ record HasStood (Stood : Closed → ℕ → Knowing) (books : List Closed) (plac
   pub stood : Stood book number mine refusal
 
 module _ {K S T : Type 0} (read : Reads K T) (Was : T → Knowing) (Stood : Closed → ℕ → Knowing) (terms : S → Terms) where
-  pub books_legal : (accounts : List S) (rows : List (List T)) (books : List Closed) → AreBooksOf read Was Stood (map terms accounts) rows books
+  pub books_legal : (accounts : List S) (rows : List (List T)) (books : List Closed) → AreBooksOfSeats read Was Stood (map terms accounts) rows books
       → All (λ book. IsLegal book.opening book.until book.history) books
   books_legal [] rows [] are = All-nil (λ book. IsLegal book.opening book.until book.history)
   books_legal [] rows (book ∷ books) are = absurd are
@@ -31,7 +31,7 @@ module _ {K S T : Type 0} (read : Reads K T) (Was : T → Knowing) (Stood : Clos
   books_legal (account ∷ accounts) (row ∷ rows) (book ∷ books) are =
       All-cons (λ book. IsLegal book.opening book.until book.history) book books are.0.legal (books_legal accounts rows books are.2)
 
-  pub books_shown : (workers : ℕ) (accounts : List S) (rows : List (List T)) (books : List Closed) → AreBooksOf read Was Stood (map terms accounts) rows books
+  pub books_shown : (workers : ℕ) (accounts : List S) (rows : List (List T)) (books : List Closed) → AreBooksOfSeats read Was Stood (map terms accounts) rows books
       → All (λ account. (terms account).seats ≡ workers) accounts → map (terms_shown workers) books ≡ map terms accounts
   books_shown workers [] rows [] are seats = refl
   books_shown workers [] rows (book ∷ books) are seats = absurd are
@@ -48,7 +48,7 @@ module _ {K S T : Type 0} (read : Reads K T) (Was : T → Knowing) (Stood : Clos
       rw (its, books_shown workers accounts rows books are.2 (All-tail (λ a. (terms a).seats ≡ workers) account accounts seats)) refl
 
   -- there are no entries but those of the workers
-  pub books_owned : (workers : ℕ) (accounts : List S) (rows : List (List T)) (books : List Closed) → AreBooksOf read Was Stood (map terms accounts) rows books → AreEven workers rows
+  pub books_owned : (workers : ℕ) (accounts : List S) (rows : List (List T)) (books : List Closed) → AreBooksOfSeats read Was Stood (map terms accounts) rows books → AreEven workers rows
       → All (λ book. All (λ event. event.seat < workers) book.history) books
   books_owned workers [] rows [] are even = All-nil (λ book. All (λ event. event.seat < workers) book.history)
   books_owned workers [] rows (book ∷ books) are even = absurd are
@@ -60,7 +60,7 @@ module _ {K S T : Type 0} (read : Reads K T) (Was : T → Knowing) (Stood : Clos
       All-cons (λ book. All (λ event. event.seat < workers) book.history) book books its (books_owned workers accounts rows books are.2 even.1)
 
   -- a worker's own entries are those of its seats
-  listed : (workers worker : ℕ) → worker < workers → (d : T) (accounts : List S) (rows : List (List T)) (books : List Closed) → AreBooksOf read Was Stood (map terms accounts) rows books → AreEven workers rows
+  listed : (workers worker : ℕ) → worker < workers → (d : T) (accounts : List S) (rows : List (List T)) (books : List Closed) → AreBooksOfSeats read Was Stood (map terms accounts) rows books → AreEven workers rows
       → length rows ≡ length accounts → lists_of worker books ≡ map read.mine (column d worker rows)
   listed workers worker below d [] [] [] are even many = refl
   listed workers worker below d [] (row ∷ rows) [] are even many = absurd (omega (arith, many))
@@ -73,14 +73,14 @@ module _ {K S T : Type 0} (read : Reads K T) (Was : T → Knowing) (Stood : Clos
       are.0.merged.each worker (omega (arith, there, length-map row read.mine)) ∙ get_or-map read.mine row worker d [] there in
       rw (one, listed workers worker below d accounts rows books are.2 even.1 (omega (arith, many))) refl
 
-  none_listed : (worker : ℕ) (accounts : List S) (rows : List (List T)) (books : List Closed) → AreBooksOf read Was Stood (map terms accounts) rows books → length accounts ≡ 0
+  none_listed : (worker : ℕ) (accounts : List S) (rows : List (List T)) (books : List Closed) → AreBooksOfSeats read Was Stood (map terms accounts) rows books → length accounts ≡ 0
       → lists_of worker books ≡ []
   none_listed worker [] rows [] are none = refl
   none_listed worker [] rows (book ∷ books) are none = absurd are
   none_listed worker (account ∷ accounts) rows books are none = absurd (omega (arith, none))
 
   -- and the books show what these knew
-  stood_at : (accounts : List S) (rows : List (List T)) (books : List Closed) (place worker : ℕ) (seat : T) (mine : List EntryData) (refusal : Refusal) → AreBooksOf read Was Stood (map terms accounts) rows books
+  stood_at : (accounts : List S) (rows : List (List T)) (books : List Closed) (place worker : ℕ) (seat : T) (mine : List EntryData) (refusal : Refusal) → AreBooksOfSeats read Was Stood (map terms accounts) rows books
       → length rows ≡ length accounts → place < length rows → worker < length (slice_index_or rows place []) → seat ≡ slice_index_or (slice_index_or rows place []) worker seat → Was seat mine refusal
       → HasStood Stood books place (read.number seat) mine refusal
   stood_at accounts [] books place worker seat mine refusal are many within below is was = absurd (omega (arith, within))
@@ -93,7 +93,7 @@ module _ {K S T : Type 0} (read : Reads K T) (Was : T → Knowing) (Stood : Clos
       let there = stood_at accounts rows books place worker seat mine refusal are.2 (omega (arith, many)) (omega (arith, within)) below is was in
       record { book = there.book; within = omega (arith, there.within); book_is = there.book_is; stood = there.stood }
 
-  lists_by : (accounts : List S) (rows : List (List T)) (books : List Closed) (worker : ℕ) (teams : List (List T)) (team : List T) → AreBooksOf read Was Stood (map terms accounts) rows books
+  lists_by : (accounts : List S) (rows : List (List T)) (books : List Closed) (worker : ℕ) (teams : List (List T)) (team : List T) → AreBooksOfSeats read Was Stood (map terms accounts) rows books
       → AreEven (length teams) rows → length rows ≡ length accounts → worker < length teams → ((d : T) → column d worker rows ≡ team) → length team ≡ length accounts
       → lists_of worker books ≡ map read.mine team
   lists_by accounts rows books worker teams [] are high many below its wide = none_listed worker accounts rows books are (sym wide)
@@ -101,7 +101,7 @@ module _ {K S T : Type 0} (read : Reads K T) (Was : T → Knowing) (Stood : Clos
       listed (length teams) worker below seat accounts rows books are high many ∙ ap (map read.mine) (its seat)
 
   pub in_books : (key : S → K) (accounts : List S) (teams rows : List (List T)) (books : List Closed) (worker : ℕ) → rows ≡ laid (replicate (length accounts) []) teams
-      → All (λ team. map read.key team ≡ map key accounts) teams → AreNumberedFrom read 0 teams → AreBooksOf read Was Stood (map terms accounts) rows books → worker < length teams
+      → All (λ team. map read.key team ≡ map key accounts) teams → AreNumberedFrom read 0 teams → AreBooksOfSeats read Was Stood (map terms accounts) rows books → worker < length teams
       → IsInBooks read Was Stood books worker (slice_index_or teams worker [])
   in_books key accounts teams rows books worker is keys numbered are below =
       let even = teams_even read.key key accounts teams keys in

@@ -11,7 +11,7 @@ use Rattle.run_values.specs.declared.post.Answer.{Answer}
 use Rattle.run_values.specs.declared.post.Body.{Body}
 use Rattle.runs_core.proofs.Joins.{joined_at, joined_length, joined_next, joined_none}
 use Rattle.runs_core.proofs.Sendings.{agrees, differs, numbered-append}
-use Rattle.runs_core.specs.Crews.{joined}
+use Rattle.runs_core.specs.Crews.{joined_lists}
 use Rattle.runs_core.specs.Hearing.{AnswersEach, AreAnswers, HearsMore, HearsRounds, all_heard, answers_to}
 use Rattle.runs_core.specs.Shares.{Item, numbered, worker_of}
 use Rattle.runs_core.specs.declared.run_fault.RunFault.{RunFault}
@@ -49,7 +49,7 @@ answers_to-append workers worker (item ∷ given) added (answer ∷ answers) mor
 
 -- the answers to a round after those to all before
 pub answers_more : (workers : ℕ) (given added : List (ℕ × Body)) (answers more : List Answer) (lists replies : List (List Answer)) → AreAnswers workers 0 given answers lists
-    → AreAnswers workers (length given) added more replies → AreAnswers workers 0 (given ++ added) (answers ++ more) (joined lists replies)
+    → AreAnswers workers (length given) added more replies → AreAnswers workers 0 (given ++ added) (answers ++ more) (joined_lists lists replies)
 answers_more workers given added answers more lists replies before are =
     let here : length given ≡ 0 + length given = omega (arith) in
     record {
@@ -196,7 +196,7 @@ round_last given ended hears before_this old (first ∷ second ∷ heard) betwee
 
 -- the answers by the links before a place have come, and were put down
 pub record AreHeard {L V : Type 0} (heard_by : L → List Answer) (inside : V → List Answer) (old : List L) (at : ℕ) (now : List L) (lists : List V) : Type 0 where
-  pub joined_so : map heard_by now ≡ joined (map heard_by old) (map inside lists)
+  pub joined_so : map heard_by now ≡ joined_lists (map heard_by old) (map inside lists)
   pub count : at ≡ length lists
 
 pub none_heard : {L V : Type 0} (heard_by : L → List Answer) (inside : V → List Answer) (old : List L) (at : ℕ) (lists : List V) → at ≡ 0 → lists ≡ [] → AreHeard heard_by inside old at old lists
@@ -212,7 +212,7 @@ one_heard heard_by inside old at now lists more None (Ok done) link new many bel
     let within : length (map inside lists) < length (map heard_by old) = omega (arith, below, many, was.count, length-map lists inside, length-map old heard_by) in
     let here : at ≡ length (map inside lists) = was.count ∙ sym (length-map lists inside) in
     record {
-      joined_so = joined_next heard_by (map heard_by old) (map inside lists) comes.0 at now link new was.joined_so here within is comes.1 ∙ ap (joined (map heard_by old)) (sym comes.2);
+      joined_so = joined_next heard_by (map heard_by old) (map inside lists) comes.0 at now link new was.joined_so here within is comes.1 ∙ ap (joined_lists (map heard_by old)) (sym comes.2);
       count = ap (λ n. n + 1) here ∙ sym (length-append (map inside lists) (comes.0 ∷ [])) ∙ sym (ap length comes.2) ∙ length-map more inside;
     }
 one_heard heard_by inside old at now lists more None (Err why) link new many below is before comes none = absurd (cc)

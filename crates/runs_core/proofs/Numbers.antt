@@ -6,7 +6,7 @@ use Rattle.std.proofs.lemmas.List.{length-append, length-map, length-replicate}
 use Rattle.std.proofs.lemmas.List.Elements.{All-cons, All-head, All-map, All-nil, All-push, All-tail}
 use Rattle.std.proofs.lemmas.Bool.{and_parts}
 use Rattle.runs_core.proofs.Columns.{AreEven, dealt_many, laid, map_dealt}
-use Rattle.runs_core.specs.Closing.{AreAllThere, AreNumberedFrom, AreOf}
+use Rattle.runs_core.specs.Closing.{AreAllThere, AreNumberedFrom, AreSeatsOf}
 use Rattle.runs_core.specs.Dealing.{dealt}
 use Rattle.runs_core.specs.Teams.{terms_of, terms_with}
 use Rattle.shared_account.specs.Seats.{Reads, are_numbered}
@@ -82,7 +82,7 @@ rows_rise {T = T} read many teams numbered even =
     subst (λ n. AreRising n (map (map read.number) (laid (replicate many []) teams))) here
     (rising_laid read 0 (replicate many []) teams (none_rising read.number many) numbered long)
 
-of_dealt : {K T : Type 0} (key_of : T → K) (keys : List K) (rows : List (List T)) (team : List T) → AreOf key_of keys rows → map key_of team ≡ keys → AreOf key_of keys (dealt rows team)
+of_dealt : {K T : Type 0} (key_of : T → K) (keys : List K) (rows : List (List T)) (team : List T) → AreSeatsOf key_of keys rows → map key_of team ≡ keys → AreSeatsOf key_of keys (dealt rows team)
 of_dealt key_of [] [] team are same = tt
 of_dealt key_of [] (row ∷ rows) team are same = absurd are
 of_dealt key_of (key ∷ keys) [] team are same = absurd are
@@ -92,18 +92,18 @@ of_dealt key_of (key ∷ keys) (row ∷ rows) (seat ∷ team) are same =
     let rest : map key_of team ≡ keys = cc in
     (All-push (λ s. key_of s ≡ key) row seat are.0 first, of_dealt key_of keys rows team are.1 rest)
 
-of_laid : {K T : Type 0} (key_of : T → K) (keys : List K) (rows teams : List (List T)) → AreOf key_of keys rows → All (λ team. map key_of team ≡ keys) teams → AreOf key_of keys (laid rows teams)
+of_laid : {K T : Type 0} (key_of : T → K) (keys : List K) (rows teams : List (List T)) → AreSeatsOf key_of keys rows → All (λ team. map key_of team ≡ keys) teams → AreSeatsOf key_of keys (laid rows teams)
 of_laid key_of keys rows [] are all = are
 of_laid key_of keys rows (team ∷ teams) are all =
     of_laid key_of keys (dealt rows team) teams (of_dealt key_of keys rows team are (All-head (λ t. map key_of t ≡ keys) team teams all)) (All-tail (λ t. map key_of t ≡ keys) team teams all)
 
-of_none : {K S T : Type 0} (key_of : T → K) (key : S → K) (accounts : List S) → AreOf key_of (map key accounts) (replicate (length accounts) [])
+of_none : {K S T : Type 0} (key_of : T → K) (key : S → K) (accounts : List S) → AreSeatsOf key_of (map key accounts) (replicate (length accounts) [])
 of_none key_of key [] = tt
 of_none key_of key (account ∷ accounts) = (All-nil (λ s. key_of s ≡ key account), of_none key_of key accounts)
 
 -- each row is of its account
 pub rows_of : {K S T : Type 0} (key_of : T → K) (key : S → K) (accounts : List S) (teams : List (List T)) → All (λ team. map key_of team ≡ map key accounts) teams
-    → AreOf key_of (map key accounts) (laid (replicate (length accounts) []) teams)
+    → AreSeatsOf key_of (map key accounts) (laid (replicate (length accounts) []) teams)
 rows_of key_of key accounts teams all = of_laid key_of (map key accounts) (replicate (length accounts) []) teams (of_none key_of key accounts) all
 
 -- a team has a seat of each account

@@ -9,7 +9,7 @@ use Rattle.shared_account.specs.Refusals.{Knowing}
 use Rattle.shared_account.specs.Seats.{Reads}
 use Rattle.shared_account.specs.Terms.{Terms}
 use Rattle.workers_core.proofs.Chaining.{answered_still}
-use Rattle.workers_core.specs.Chains.{IsAnswered, at_first, seat_numbers}
+use Rattle.workers_core.specs.Chains.{AnswersItsPosts, at_first, seat_numbers}
 use Rattle.workers_core.specs.Handled.{AnswerView, answer_view}
 use Rattle.workers_core.specs.Refusals.{WasAt}
 use Rattle.run_values.specs.Setups.{Setup}
@@ -24,9 +24,9 @@ use Rattle.runs_core.specs.declared.run_fault.RunFault.{RunFault}
 
 -- what a worker has left, as the books show it
 shown_by : {K T : Type 0} (read : Reads K T) (Was : T → Knowing) (Stood : Closed → ℕ → Knowing) (keys : List K) (setup : Setup) (worker : ℕ) (posts : List Post) (answers : List AnswerView) (team : List T) (books : List Closed)
-    → IsLeft read Was keys setup worker posts answers team → IsInBooks read Was Stood books worker team → IsAnswered (refuses_in Stood books worker) setup worker posts answers (lists_of worker books)
+    → IsLeft read Was keys setup worker posts answers team → IsInBooks read Was Stood books worker team → AnswersItsPosts (refuses_in Stood books worker) setup worker posts answers (lists_of worker books)
 shown_by read Was Stood keys setup worker posts answers team books left shown =
-    let Its : List (List EntryData) → Type 0 = λ lists. IsAnswered (refuses_in Stood books worker) setup worker posts answers lists in
+    let Its : List (List EntryData) → Type 0 = λ lists. AnswersItsPosts (refuses_in Stood books worker) setup worker posts answers lists in
     subst Its (sym shown.lists) (record {
       talks = left.answered.talks;
       chain = answered_still (WasAt Was team) (StoodAt Stood books worker) shown.stood setup (seat_numbers worker setup) posts answers (at_first setup) _ left.answered.chain;
@@ -48,7 +48,7 @@ run_so given ended hears read Was Stood keys setup workers many old new teams te
     each_heard = has.are_answers.numbers;
     answered = λ worker below.
         let posts = slice_index_or has.handled worker [] in
-        let Its : List Answer → Type 0 = λ told. IsAnswered (refuses_in Stood books worker) setup worker posts (map answer_view told) (lists_of worker books) in
+        let Its : List Answer → Type 0 = λ told. AnswersItsPosts (refuses_in Stood books worker) setup worker posts (map answer_view told) (lists_of worker books) in
         record {
           posts = posts;
           share = has.shares.each worker below;

@@ -11,7 +11,7 @@ use Rattle.std.proofs.lemmas.List.Elements.{filter-append}
 use Rattle.run_values.specs.declared.post.Body.{Body}
 use Rattle.run_values.specs.declared.post.Post.{Post}
 use Rattle.runs_core.proofs.Joins.{joined_at, joined_length}
-use Rattle.runs_core.specs.Crews.{joined}
+use Rattle.runs_core.specs.Crews.{joined_lists}
 use Rattle.runs_core.specs.Shares.{AreShares, HaveHandled, Item, item_at, item_of, numbered, share, share_from, worker_of}
 
 numbered-push : (number : ℕ) (given : List (ℕ × Body)) (next : ℕ × Body) → numbered number (given ++ next ∷ []) ≡ numbered number given ++ item_at (number + length given) next ∷ []
@@ -119,7 +119,7 @@ share-append workers given added worker =
 
 -- a round more
 pub handled_more : (workers : ℕ) (given added : List (ℕ × Body)) (handled shares : List (List Post)) → HaveHandled workers given handled → AreShares workers (length given) added shares
-    → HaveHandled workers (given ++ added) (joined handled shares)
+    → HaveHandled workers (given ++ added) (joined_lists handled shares)
 handled_more workers given added handled shares before are = record {
   count = joined_length handled shares ∙ before.count;
   each = λ worker below. ap (map item_of) (joined_at handled shares worker (are.count ∙ sym before.count))

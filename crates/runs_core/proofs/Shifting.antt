@@ -1,6 +1,6 @@
 -- The first of what is left is done, and is last in what is done.
 use Rattle.std.proofs.Common.{◌≡◌, ◌<◌, List, [], ◌∷◌, ◌++◌, length, arith, map, refl, ap, sym, ◌∙◌}
-use Rattle.runs_core.specs.Closing.{AreOf}
+use Rattle.runs_core.specs.Closing.{AreSeatsOf}
 use Rattle.std.proofs.lemmas.List.{append-nil, append_assoc, map-append}
 
 pub one_shifted : {X Y Z : Type 0} (f : X → Z) (g : Y → Z) (done : List X) (one : X) (next : Y) (rest : List Y) (all : List Z)
@@ -13,7 +13,7 @@ none_left f g done [] all none before = sym (append-nil (map f done)) ∙ before
 none_left f g done (y ∷ rest) all none before = absurd (cc)
 
 -- without accounts there are no rows
-pub empty_rows : {K T V : Type 0} (key_of : T → K) (inside : V → List T) (rows : List V) → AreOf key_of [] (map inside rows) → rows ≡ []
+pub empty_rows : {K T V : Type 0} (key_of : T → K) (inside : V → List T) (rows : List V) → AreSeatsOf key_of [] (map inside rows) → rows ≡ []
 empty_rows key_of inside [] are = refl
 empty_rows key_of inside (row ∷ rows) are = absurd are
 

@@ -35,20 +35,20 @@ abbrev pub ShowsAll : {K T : Type 0} → Reads K T → (T → Knowing) → (Clos
 ShowsAll read Was Stood row book = All (λ seat. (mine : List EntryData) (refusal : Refusal) → Was seat mine refusal → Stood book (read.number seat) mine refusal) row
 
 -- these are the books of accounts that were made with these terms and closed with these rows of seats
-abbrev pub AreBooksOf : {K T : Type 0} → Reads K T → (T → Knowing) → (Closed → ℕ → Knowing) → List Terms → List (List T) → List Closed → Type 0
-AreBooksOf read Was Stood [] rows [] = Unit {0}
-AreBooksOf read Was Stood [] rows (book ∷ books) = ⊥
-AreBooksOf read Was Stood (terms ∷ accounts) rows [] = ⊥
-AreBooksOf read Was Stood (terms ∷ accounts) [] (book ∷ books) = ⊥
-AreBooksOf read Was Stood (terms ∷ accounts) (row ∷ rows) (book ∷ books) =
-    IsBookOf terms (map read.mine row) book × ShowsAll read Was Stood row book × AreBooksOf read Was Stood accounts rows books
+abbrev pub AreBooksOfSeats : {K T : Type 0} → Reads K T → (T → Knowing) → (Closed → ℕ → Knowing) → List Terms → List (List T) → List Closed → Type 0
+AreBooksOfSeats read Was Stood [] rows [] = Unit {0}
+AreBooksOfSeats read Was Stood [] rows (book ∷ books) = ⊥
+AreBooksOfSeats read Was Stood (terms ∷ accounts) rows [] = ⊥
+AreBooksOfSeats read Was Stood (terms ∷ accounts) [] (book ∷ books) = ⊥
+AreBooksOfSeats read Was Stood (terms ∷ accounts) (row ∷ rows) (book ∷ books) =
+    IsBookOf terms (map read.mine row) book × ShowsAll read Was Stood row book × AreBooksOfSeats read Was Stood accounts rows books
 
 -- each row of seats is of its account
-abbrev pub AreOf : {K T : Type 0} → (T → K) → List K → List (List T) → Type 0
-AreOf key_of [] [] = Unit {0}
-AreOf key_of [] (row ∷ rows) = ⊥
-AreOf key_of (key ∷ keys) [] = ⊥
-AreOf key_of (key ∷ keys) (row ∷ rows) = All (λ seat. key_of seat ≡ key) row × AreOf key_of keys rows
+abbrev pub AreSeatsOf : {K T : Type 0} → (T → K) → List K → List (List T) → Type 0
+AreSeatsOf key_of [] [] = Unit {0}
+AreSeatsOf key_of [] (row ∷ rows) = ⊥
+AreSeatsOf key_of (key ∷ keys) [] = ⊥
+AreSeatsOf key_of (key ∷ keys) (row ∷ rows) = All (λ seat. key_of seat ≡ key) row × AreSeatsOf key_of keys rows
 
 -- each row of seats' numbers is that of all seats of an account, in order, where the accounts have so many
 abbrev pub AreAllThere : List ℕ → List (List ℕ) → Type 0

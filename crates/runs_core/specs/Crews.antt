@@ -14,10 +14,10 @@ use Rattle.shared_account.specs.Seats.{Reads}
 use Rattle.runs_core.specs.declared.crew.Crew.{Crew}
 
 -- each list goes on with the list at its place
-abbrev pub joined : {X : Type 0} → List (List X) → List (List X) → List (List X)
-joined [] more = []
-joined (xs ∷ lists) [] = xs ∷ lists
-joined (xs ∷ lists) (ys ∷ more) = (xs ++ ys) ∷ joined lists more
+abbrev pub joined_lists : {X : Type 0} → List (List X) → List (List X) → List (List X)
+joined_lists [] more = []
+joined_lists (xs ∷ lists) [] = xs ∷ lists
+joined_lists (xs ∷ lists) (ys ∷ more) = (xs ++ ys) ∷ joined_lists lists more
 
 -- how many workers there are
 abbrev pub count_of : {S G T : Type 0} → Crew S G T → ℕ
@@ -37,11 +37,11 @@ pub record IsServedRound {K S G T : Type 0} (account_number : S → ℕ) (key : 
   pub own : List Post
   pub others : List (List Post)
   pub are_shares : AreShares (count_of old) first added (own ∷ others)
-  pub sent : map sent_by new.links.items ≡ joined (map sent_by old.links.items) others
+  pub sent : map sent_by new.links.items ≡ joined_lists (map sent_by old.links.items) others
   pub mine : List Answer
   pub goes_on : GoesOn account_number key read Was old.worker own (map answer_view mine) new.worker
   pub replies : List (List Answer)
-  pub heard : map heard_by new.links.items ≡ joined (map heard_by old.links.items) replies
+  pub heard : map heard_by new.links.items ≡ joined_lists (map heard_by old.links.items) replies
   pub are_answers : AreAnswers (count_of old) first added answers (mine ∷ replies)
   pub count : count_of new ≡ count_of old
 

@@ -3,7 +3,7 @@ use Rattle.std.specs.Prelude.{◌≡◌, ◌++◌, ◌<◌, ◌==◌, ℕ, Bool,
 use Rattle.account_core.specs.declared.fault.AccountFault.{AccountFault}
 use Rattle.shared_account.specs.Closed.{Closed}
 use Rattle.shared_account.specs.Refusals.{Knowing}
-use Rattle.workers_core.specs.Chains.{IsAnswered, refusals_in}
+use Rattle.workers_core.specs.Chains.{AnswersItsPosts, refusals_in}
 use Rattle.workers_core.specs.Handled.{answer_view}
 use Rattle.run_values.specs.Setups.{Setup}
 use Rattle.run_values.specs.declared.post.Answer.{Answer}
@@ -53,7 +53,7 @@ HearsRounds {D} given ended hears before_this old (answers ∷ next ∷ heard) n
 pub record IsAnsweredBy (Stood : Closed → ℕ → Knowing) (setup : Setup) (workers : ℕ) (given : List (ℕ × Body)) (answers : List Answer) (books : List Closed) (worker : ℕ) : Type 0 where
   pub posts : List Post
   pub share : map item_of posts ≡ share workers given worker
-  pub answered : IsAnswered (refuses_in Stood books worker) setup worker posts (map answer_view (answers_to workers worker given answers)) (lists_of worker books)
+  pub answered : AnswersItsPosts (refuses_in Stood books worker) setup worker posts (map answer_view (answers_to workers worker given answers)) (lists_of worker books)
 
 -- the refusal of each post that a worker handled, or none, as the answers say
 pub record HaveRefused (workers : ℕ) (given : List (ℕ × Body)) (answers : List Answer) (lists : List (List (Option AccountFault))) : Type 0 where

@@ -11,13 +11,13 @@ run_fault_of worker.OutOfMemory = fault.OutOfMemory
 run_fault_of worker.GateClosed = fault.GateClosed
 
 -- the name of a fault
-abbrev pub name_of : RunFault → List ℕ
-name_of fault.OutOfMemory = codes "OutOfMemory"
-name_of fault.Workers = codes "Workers"
-name_of fault.GateClosed = codes "GateClosed"
-name_of fault.Mismatch = codes "Mismatch"
-name_of fault.Channel = codes "Channel"
-name_of fault.Thread = codes "Thread"
+abbrev pub run_fault_name : RunFault → List ℕ
+run_fault_name fault.OutOfMemory = codes "OutOfMemory"
+run_fault_name fault.Workers = codes "Workers"
+run_fault_name fault.GateClosed = codes "GateClosed"
+run_fault_name fault.Mismatch = codes "Mismatch"
+run_fault_name fault.Channel = codes "Channel"
+run_fault_name fault.Thread = codes "Thread"
 
 -- a step that asks no gate: it fails neither by a gate nor for the number of workers
 abbrev pub AsksNoGate : {X : Type 0} → Result X RunFault → Type 0

@@ -3,7 +3,7 @@ use Rattle.std.specs.Prelude.{◌≡◌, ◌+◌, ◌&&◌, ℕ, Bool, nat_le, t
 use Rattle.shared_account.specs.Refusals.{Knowing}
 use Rattle.shared_account.specs.Seats.{Reads, are_all}
 use Rattle.shared_account.specs.Terms.{Terms}
-use Rattle.workers_core.specs.Chains.{IsAnswered}
+use Rattle.workers_core.specs.Chains.{AnswersItsPosts}
 use Rattle.workers_core.specs.Handled.{AnswerView}
 use Rattle.workers_core.specs.Refusals.{RefusesAt}
 use Rattle.run_values.specs.Setups.{Setup}
@@ -44,4 +44,4 @@ AreFresh read keys number (team ∷ teams) = IsFresh read keys number team × Ar
 pub record IsLeft {K T : Type 0} (read : Reads K T) (Was : T → Knowing) (keys : List K) (setup : Setup) (number : ℕ) (posts : List Post) (answers : List AnswerView) (team : List T) : Type 0 where
   pub of_accounts : map read.key team ≡ keys
   pub numbered : All (λ seat. read.number seat ≡ number) team
-  pub answered : IsAnswered (RefusesAt Was team) setup number posts answers (map read.mine team)
+  pub answered : AnswersItsPosts (RefusesAt Was team) setup number posts answers (map read.mine team)

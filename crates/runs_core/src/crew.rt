@@ -2,7 +2,7 @@
 
 ghost use Rattle.std.specs.Prelude.{◌≡◌, ◌++◌, ◌∷◌, ◌⊎◌, [], List, length, map, None, Some, IfErr, IfOk, IfSome, OnOk};
 ghost use Rattle.std.specs.Vec.Iter.{into_iter_items};
-ghost use Rattle.runs_core.specs.Crews.{count_of, joined};
+ghost use Rattle.runs_core.specs.Crews.{count_of, joined_lists};
 ghost use Rattle.runs_core.specs.Goings.{GoesOn};
 ghost use Rattle.runs_core.specs.RunFaults.{AsksNoGate, MayAskGate};
 ghost use Rattle.runs_core.specs.Sending.{heard_by, promises_of, sent_by};
@@ -54,12 +54,12 @@ impl<S: Shared, G: Gate> Crew<'_, S, G> {
         requires works { self.old.failed ≡ None }
         requires count { length (into_iter_items shares) ≡ length self.old.links.items }
         ensures posts { OnOk result (map sent_by self.new.links.items
-            ≡ joined (map sent_by self.old.links.items)
+            ≡ joined_lists (map sent_by self.old.links.items)
             (map (λ share. share.items) (into_iter_items shares))) }
         ensures goes_on { IfOk result (λ replies. GoesOn (number_by S.terms) S.key S.reads S.was
             self.old.worker mine.items (map answer_view replies.first.items) self.new.worker) }
         ensures heard { IfOk result (λ replies. map heard_by self.new.links.items
-            ≡ joined (map heard_by self.old.links.items)
+            ≡ joined_lists (map heard_by self.old.links.items)
             (map (λ list. list.items) replies.others.items)) }
         ensures others { IfOk result (λ replies.
             length replies.others.items ≡ length self.old.links.items) }
@@ -92,7 +92,7 @@ impl<S: Shared, G: Gate> Crew<'_, S, G> {
         requires works { self.old.failed ≡ None }
         requires count { length (into_iter_items shares) ≡ length self.old.links.items }
         ensures posts { OnOk result (map sent_by self.new.links.items
-            ≡ joined (map sent_by self.old.links.items)
+            ≡ joined_lists (map sent_by self.old.links.items)
             (map (λ share. share.items) (into_iter_items shares))) }
         ensures goes_on { IfOk result (λ answers. GoesOn (number_by S.terms) S.key S.reads S.was
             self.old.worker mine.items (map answer_view answers.items) self.new.worker) }
@@ -117,7 +117,7 @@ fn send_all<S: Shared, R: Wait, G: Gate>(
     shares: IntoIter<Vec<Post>>,
 ) -> Result<(), RunFault>
     requires count { length (into_iter_items shares) ≡ length links.old.items }
-    ensures posts { OnOk result (map sent_by links.new.items ≡ joined (map sent_by links.old.items)
+    ensures posts { OnOk result (map sent_by links.new.items ≡ joined_lists (map sent_by links.old.items)
         (map (λ share. share.items) (into_iter_items shares))) }
     ensures heard { map heard_by links.new.items ≡ map heard_by links.old.items }
     ensures promises { promises_of links.new.items ≡ promises_of links.old.items }
@@ -141,7 +141,7 @@ fn hear_all<S: Shared, R: Wait, G: Gate>(
 ) -> Result<(), RunFault>
     requires none { lists.old.items ≡ [] }
     ensures heard { OnOk result (map heard_by links.new.items
-        ≡ joined (map heard_by links.old.items) (map (λ list. list.items) lists.new.items)) }
+        ≡ joined_lists (map heard_by links.old.items) (map (λ list. list.items) lists.new.items)) }
     ensures lists { OnOk result (length lists.new.items ≡ length links.old.items) }
     ensures posts { map sent_by links.new.items ≡ map sent_by links.old.items }
     ensures promises { promises_of links.new.items ≡ promises_of links.old.items }

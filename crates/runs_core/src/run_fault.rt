@@ -1,7 +1,7 @@
 //! What can end a run without books.
 
 ghost use Rattle.std.specs.Prelude.{◌≡◌, Some};
-ghost use Rattle.runs_core.specs.RunFaults.{name_of, run_fault_of};
+ghost use Rattle.runs_core.specs.RunFaults.{run_fault_name, run_fault_of};
 ghost use Rattle.runs_core.specs.declared.run_fault.RunFault.TheVariants as out;
 
 use std::alloc::{AllocError, AllocFailed};
@@ -27,7 +27,7 @@ pub enum RunFault {
 }
 
 impl fmt::Display for RunFault {
-    ghost output = { λ fault. Some (name_of fault) };
+    ghost output = { λ fault. Some (run_fault_name fault) };
 
     fn fmt<W: fmt::Write>(&self, f: &mut fmt::Formatter<W>) -> fmt::Result {
         match self {

@@ -3,7 +3,7 @@
 ghost use Rattle.std.specs.Prelude.{◌≡◌, ◌≤◌, ◌<◌, ◌↔◌, [], ℕ, true, false, length, map, None, IfErr, IfOk, IfSome, OnOk, All, slice_index_or};
 ghost use Rattle.std.specs.Map.{keys_of};
 ghost use Rattle.std.specs.Vec.Iter.{into_iter_items};
-ghost use Rattle.runs_core.specs.Closing.{AreAllThere, AreBooksOf, AreNumberedFrom, AreOf, IsInBooks, ShowsAll, terms_shown};
+ghost use Rattle.runs_core.specs.Closing.{AreAllThere, AreBooksOfSeats, AreNumberedFrom, AreSeatsOf, IsInBooks, ShowsAll, terms_shown};
 ghost use Rattle.runs_core.specs.Crews.{HasPlayed, count_of};
 ghost use Rattle.runs_core.specs.Goings.{HasAnswered};
 ghost use Rattle.runs_core.specs.Hearing.{HasLeft};
@@ -293,11 +293,11 @@ fn close_each<S: Shared>(
     accounts: Vec<S>,
     rows: Vec<Vec<S::Seat>>,
 ) -> Result<Vec<Book>, RunFault>
-    requires rows { AreOf S.reads.key (map S.key accounts.items)
+    requires rows { AreSeatsOf S.reads.key (map S.key accounts.items)
         (map (λ row. row.items) rows.items) }
     requires all { AreAllThere (map (λ account. (S.terms account).seats) accounts.items)
         (map (λ row. map S.reads.number row.items) rows.items) }
-    ensures books { IfOk result (λ books. AreBooksOf S.reads S.was S.stood
+    ensures books { IfOk result (λ books. AreBooksOfSeats S.reads S.was S.stood
         (map S.terms accounts.items) (map (λ row. row.items) rows.items) books.items) }
     ensures fault { AsksNoGate result }
 {

@@ -9,10 +9,10 @@ use Rattle.ssf_core.specs.Calls.{View}
 use Rattle.ssf_core.specs.declared.config.SsfConfig.{SsfConfig}
 use Rattle.ssf_core.specs.declared.item.Out.{Out}
 use Rattle.run_values.specs.declared.post.Body.{Body}
-use Rattle.script_player.specs.Beginnings.{HasBegun}
+use Rattle.script_player.specs.Beginnings.{IsTriggered}
 use Rattle.script_player.specs.Dues.{AreDues, HasTimer, Replaces, ssf_of}
-use Rattle.script_player.specs.Inputs.{IsGiven, IsNext}
-use Rattle.script_player.specs.Networks.{AreTold, Feeds, IsTold, Shown}
+use Rattle.script_player.specs.Inputs.{IsGiven, IsNextTimer}
+use Rattle.script_player.specs.Networks.{HaveGiven, Feeds, HasGiven, Shown}
 use Rattle.script_player.specs.Posts.{posts_of}
 use Rattle.script_player.specs.Steps.{GetsSsf, GivesTo, StartsCall}
 use Rattle.script_player.specs.declared.network.Sent.{Sent}
@@ -25,15 +25,15 @@ use Rattle.script_player.proofs.Keepings.{dues_on, sets_by, timer_of}
 abbrev pub shown : SsfConfig → BTreeMap ℕ View → List (ℕ × Body) → Bool → Shown
 shown config calls given whole = record { config = config; ssfs = calls.entries; given = given; whole = whole }
 
-told_of : (config : SsfConfig) (before after : BTreeMap ℕ View) (now call : ℕ) (given : List (ℕ × Body)) (input : Input) (fed : Sent) → AreTold config before given
-    → (feeds : Feeds before after now call input fed) → IsTold config call given feeds.moves.old
+told_of : (config : SsfConfig) (before after : BTreeMap ℕ View) (now call : ℕ) (given : List (ℕ × Body)) (input : Input) (fed : Sent) → HaveGiven config before given
+    → (feeds : Feeds before after now call input fed) → HasGiven config call given feeds.moves.old
 told_of config before after now call given input fed are feeds = rw feeds.moves.was at (are.told call)
 
 -- the moments go on with a gsmSSF that is given an input
 pub dues_fed : (config : SsfConfig) (before after : BTreeMap ℕ View) (dues kept : BTreeSet (ℕ × ℕ)) (now call : ℕ) (given : List (ℕ × Body)) (input : Input) (fed : Sent)
-    → AreTold config before given → AreDues before.entries dues → Feeds before after now call input fed → Replaces dues kept call fed.before fed.after → AreDues after.entries kept
+    → HaveGiven config before given → AreDues before.entries dues → Feeds before after now call input fed → Replaces dues kept call fed.before fed.after → AreDues after.entries kept
 dues_fed config before after dues kept now call given input fed told are feeds replaces =
-    let own : IsTold config call given feeds.moves.old = told_of config before after now call given input fed told feeds in
+    let own : HasGiven config call given feeds.moves.old = told_of config before after now call given input fed told feeds in
     let further = feeds.moves.goes_on.from own.trace own.stands in
     dues_on before.entries after.entries dues kept call fed.before fed.after feeds.moves.new further.further are replaces (sets_by before after call feeds.moves.new feeds.moves.updates)
     feeds.is_next further.stands
@@ -56,10 +56,10 @@ pub gives_none : (before : Shown) (calls : BTreeMap ℕ View) (now call : ℕ) (
 gives_none before calls now call input was absent = rw (was, absent) refl
 
 -- where time has passed for a call, no timer of it is left due
-pub waited : (config : SsfConfig) (before after : BTreeMap ℕ View) (now call at : ℕ) (given : List (ℕ × Body)) (input : Input) (fed : Sent) → AreTold config before given
+pub waited : (config : SsfConfig) (before after : BTreeMap ℕ View) (now call at : ℕ) (given : List (ℕ × Body)) (input : Input) (fed : Sent) → HaveGiven config before given
     → Feeds before after now call input fed → input ≡ what.Wait → HasTimer after.entries call at → now < at
 waited config before after now call at given input fed told feeds wait timer =
-    let own : IsTold config call given feeds.moves.old = told_of config before after now call given input fed told feeds in
+    let own : HasGiven config call given feeds.moves.old = told_of config before after now call given input fed told feeds in
     let P : Input → Type 0 = λ i. IsGiven feeds.moves.old feeds.moves.new now i fed.sent.items in
     waited_next feeds.moves.old feeds.moves.new now at own.trace fed.sent.items own.stands (subst P wait feeds.is_given)
     (timer_of after.entries call at feeds.moves.new feeds.moves.updates.1 timer)
@@ -75,14 +75,14 @@ without (Some view) none = cc
 
 -- the moments go on with a gsmSSF that is new
 pub dues_begun : (before after : BTreeMap ℕ View) (dues kept : BTreeSet (ℕ × ℕ)) (config : SsfConfig) (now call : ℕ) (calling called : Number) (view : View) (sent : List Out) (next : Option ℕ)
-    → AreDues before.entries dues → is_some (get nat_cmp before call) ≡ false → Updates nat_cmp before after call (Some view) → HasBegun config now call calling called view sent
-    → IsNext view next → Replaces dues kept call None next → AreDues after.entries kept
+    → AreDues before.entries dues → is_some (get nat_cmp before call) ≡ false → Updates nat_cmp before after call (Some view) → IsTriggered config now call calling called view sent
+    → IsNextTimer view next → Replaces dues kept call None next → AreDues after.entries kept
 dues_begun before after dues kept config now call calling called view sent next are none updates begun is_next replaces =
     dues_on before.entries after.entries dues kept call None next view begun.trace are replaces (sets_by before after call view updates) is_next begun.stands
     (λ at timer. absurd (no_timer before call at (without (get nat_cmp before call) none) timer))
 
 pub starts_new : (before after : Shown) (calls now_calls : BTreeMap ℕ View) (now call : ℕ) (calling called : Number) (view : View) (sent : List Out) → before.ssfs ≡ calls.entries
-    → after.ssfs ≡ now_calls.entries → is_some (get nat_cmp calls call) ≡ false → Updates nat_cmp calls now_calls call (Some view) → HasBegun before.config now call calling called view sent
+    → after.ssfs ≡ now_calls.entries → is_some (get nat_cmp calls call) ≡ false → Updates nat_cmp calls now_calls call (Some view) → IsTriggered before.config now call calling called view sent
     → after.given ≡ before.given ++ posts_of call sent → after.config ≡ before.config → after.whole ≡ before.whole → StartsCall now call calling called before after
 starts_new before after calls now_calls now call calling called view sent was is none updates begun posts config whole =
     rw (was, without (get nat_cmp calls call) none) (record {

@@ -10,8 +10,8 @@ use Rattle.script_player.specs.Lives.{Does, DoesDeed, HasLived, delivery_deed, h
 use Rattle.script_player.specs.Networks.{Shown}
 use Rattle.script_player.specs.Plays.{Play}
 use Rattle.script_player.specs.Rounds.{IsTurn}
-use Rattle.script_player.specs.Runs.{Hears, IsReached, deeds_in, deeds_of_run, deeds_of_turn, fresh}
-use Rattle.script_player.specs.Steps.{Delivers, Happens, PlaysRow, Waits}
+use Rattle.script_player.specs.Runs.{Hears, IsReached, deeds_in, deeds_of_run, deeds_of_turn, fresh_play}
+use Rattle.script_player.specs.Steps.{Delivers, HappensAt, PlaysRow, Waits}
 use Rattle.ssf_core.specs.declared.deliveries.Delivery.{Delivery}
 use Rattle.script_player.proofs.Livings.{has_lived}
 
@@ -21,7 +21,7 @@ chain_append {S} Step before between after [] ys first second =
     subst P first second
 chain_append Step before between after (x ∷ xs) ys first second = (first.0, (first.1.0, chain_append Step first.0 between after xs ys first.1.1 second))
 
-happens_does : (at : ℕ) (what : Happening) (before after : Shown) → Happens at what before after → Does at (happening_deed what) before after
+happens_does : (at : ℕ) (what : Happening) (before after : Shown) → HappensAt at what before after → Does at (happening_deed what) before after
 happens_does at (happening.Start call calling called) before after happens = happens
 happens_does at (happening.Meets call event) before after happens = happens
 happens_does at (happening.Recharge account amount until) before after happens = happens
@@ -59,4 +59,4 @@ run_does before after (answers ∷ heard) chain =
 pub run_lived : (config : SsfConfig) (delay : ℕ) (rows : List ScriptRow) (play : Play) (run : IsReached config delay rows play) (call : ℕ)
     → HasLived config (deeds_in config delay rows play run) call play.network.given
 run_lived config delay rows play run call =
-    has_lived config call (fresh config delay rows).network play.network (deeds_in config delay rows play run) refl refl refl (run_does (fresh config delay rows) play run.heard run.has_heard)
+    has_lived config call (fresh_play config delay rows).network play.network (deeds_in config delay rows play run) refl refl refl (run_does (fresh_play config delay rows) play run.heard run.has_heard)

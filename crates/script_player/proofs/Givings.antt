@@ -6,7 +6,7 @@ use Rattle.ssf_core.specs.Happenings.{Happening}
 use Rattle.ssf_core.specs.declared.config.SsfConfig.{SsfConfig}
 use Rattle.ssf_core.specs.declared.fault.SsfFault.{SsfFault}
 use Rattle.ssf_core.specs.declared.item.Out.{Out}
-use Rattle.script_player.specs.Inputs.{GoesOnBy, IsGiven, IsNext}
+use Rattle.script_player.specs.Inputs.{GoesOnBy, IsGiven, IsNextTimer}
 use Rattle.script_player.specs.declared.network.Input.{Input}
 use Rattle.script_player.specs.declared.network.Input.TheVariants as input
 use Rattle.script_player.proofs.Goings.{Backwards}
@@ -42,10 +42,10 @@ one_next config trace (Some one) (Some other) first second =
     ap (λ (at : ℕ). Some at) same
 
 -- the next timers of a gsmSSF that stands for a trace are one
-pub same_next : (view : View) (trace : List Happening) (one other : Option ℕ) → Stands view trace → IsNext view one → IsNext view other → one ≡ other
+pub same_next : (view : View) (trace : List Happening) (one other : Option ℕ) → Stands view trace → IsNextTimer view one → IsNextTimer view other → one ≡ other
 same_next view trace one other stands first second = one_next view.config trace one other (first.least trace stands) (second.least trace stands)
 
-quiet_next : (before after : View) (now at : ℕ) (trace : List Happening) (sent : List Out) → after.config ≡ before.config → Advances before after now trace sent → IsNext after (Some at) → now < at
+quiet_next : (before after : View) (now at : ℕ) (trace : List Happening) (sent : List Out) → after.config ≡ before.config → Advances before after now trace sent → IsNextTimer after (Some at) → now < at
 quiet_next before after now at trace sent same advances next =
     let least = next.least advances.timed advances.stands in
     let P : SsfConfig → Type 0 = λ config. IsNextDue config advances.timed (Some at) in
@@ -53,7 +53,7 @@ quiet_next before after now at trace sent same advances next =
     advances.runs.quiet due.0.0 at due.0.1
 
 -- once time has passed, no timer is left due
-pub waited_next : (before after : View) (now at : ℕ) (trace : List Happening) (sent : List Out) → Stands before trace → IsGiven before after now input.Wait sent → IsNext after (Some at) → now < at
+pub waited_next : (before after : View) (now at : ℕ) (trace : List Happening) (sent : List Out) → Stands before trace → IsGiven before after now input.Wait sent → IsNextTimer after (Some at) → now < at
 waited_next before after now at trace sent stands given next =
     elim (cases_lt now before.last) [
       | inl early ↦

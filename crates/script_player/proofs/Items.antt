@@ -8,7 +8,7 @@ use Rattle.ssf_core.specs.declared.item.Item.TheVariants as sent
 use Rattle.ssf_core.specs.declared.item.Out.{Out}
 use Rattle.run_values.specs.declared.post.Body.{Body}
 use Rattle.run_values.specs.declared.post.Body.TheVariants as body
-use Rattle.script_player.specs.Posts.{is_of, is_recharge, items_of, post_of, posts_of, recharges_in}
+use Rattle.script_player.specs.Posts.{is_of_call, is_recharge, items_of, post_of, posts_of, recharges_in}
 
 pub posts_of-append : (call : ℕ) (first second : List Out) → posts_of call (first ++ second) ≡ posts_of call first ++ posts_of call second
 posts_of-append call [] second = refl
@@ -32,7 +32,7 @@ own_post call at (sent.Clear cause) = refl
 pub own_posts : (call : ℕ) (outs : List Out) → items_of call (posts_of call outs) ≡ posts_of call outs
 own_posts call [] = refl
 own_posts call (out ∷ outs) =
-    filter-append (λ (item : ℕ × Body). is_of call item.1) (post_of call out.at out.item) (posts_of call outs) ∙ rw (own_post call out.at out.item, own_posts call outs) refl
+    filter-append (λ (item : ℕ × Body). is_of_call call item.1) (post_of call out.at out.item) (posts_of call outs) ∙ rw (own_post call out.at out.item, own_posts call outs) refl
 
 other_post : (call other at : ℕ) (item : Item) → (call == other) ≡ false → items_of other (post_of call at item) ≡ []
 other_post call other at (sent.Msg msg) apart = rw apart refl
@@ -42,16 +42,16 @@ other_post call other at (sent.Clear cause) apart = refl
 pub other_posts : (call other : ℕ) (outs : List Out) → (call == other) ≡ false → items_of other (posts_of call outs) ≡ []
 other_posts call other [] apart = refl
 other_posts call other (out ∷ outs) apart =
-    filter-append (λ (item : ℕ × Body). is_of other item.1) (post_of call out.at out.item) (posts_of call outs)
+    filter-append (λ (item : ℕ × Body). is_of_call other item.1) (post_of call out.at out.item) (posts_of call outs)
     ∙ rw (other_post call other out.at out.item apart, other_posts call other outs apart) refl
 
 -- the items of a call where others' come
 pub items_of-other : (call other : ℕ) (given : List (ℕ × Body)) (outs : List Out) → (call == other) ≡ false → items_of other (given ++ posts_of call outs) ≡ items_of other given
 items_of-other call other given outs apart =
-    filter-append (λ (item : ℕ × Body). is_of other item.1) given (posts_of call outs) ∙ rw (other_posts call other outs apart) (append-nil (items_of other given))
+    filter-append (λ (item : ℕ × Body). is_of_call other item.1) given (posts_of call outs) ∙ rw (other_posts call other outs apart) (append-nil (items_of other given))
 
 pub items_of-own : (call : ℕ) (given : List (ℕ × Body)) (outs : List Out) → items_of call (given ++ posts_of call outs) ≡ items_of call given ++ posts_of call outs
-items_of-own call given outs = filter-append (λ (item : ℕ × Body). is_of call item.1) given (posts_of call outs) ∙ rw (own_posts call outs) refl
+items_of-own call given outs = filter-append (λ (item : ℕ × Body). is_of_call call item.1) given (posts_of call outs) ∙ rw (own_posts call outs) refl
 
 no_recharge : (call at : ℕ) (item : Item) → recharges_in (post_of call at item) ≡ []
 no_recharge call at (sent.Msg msg) = refl

@@ -9,7 +9,7 @@ use Rattle.std.specs.Prelude.{MatchOption}
 use Rattle.ssf_core.specs.Calls.{Stands, View}
 use Rattle.ssf_core.specs.Happenings.{Happening}
 use Rattle.script_player.specs.Dues.{AreDues, HasTimer, Replaces, pair_cmp, ssf_of}
-use Rattle.script_player.specs.Inputs.{IsNext}
+use Rattle.script_player.specs.Inputs.{IsNextTimer}
 use Rattle.script_player.specs.Steps.{Sets}
 use Rattle.script_player.proofs.Givings.{same_next}
 use Rattle.script_player.proofs.Tellings.{apart_at}
@@ -85,22 +85,22 @@ pub timer_was : (before after : List (ℕ × View)) (call other at : ℕ) (view 
 timer_was before after call other at view sets apart timer = record { view = timer.view; is = sym (sets.others other apart) ∙ timer.is; next = timer.next }
 
 -- the timer of a call's gsmSSF is that of this one
-pub timer_of : (ssfs : List (ℕ × View)) (call at : ℕ) (view : View) → ssf_of ssfs call ≡ Some view → HasTimer ssfs call at → IsNext view (Some at)
+pub timer_of : (ssfs : List (ℕ × View)) (call at : ℕ) (view : View) → ssf_of ssfs call ≡ Some view → HasTimer ssfs call at → IsNextTimer view (Some at)
 timer_of ssfs call at view is timer =
     let same : timer.view ≡ view = cc (is, timer.is) in
-    let P : View → Type 0 = λ v. IsNext v (Some at) in
+    let P : View → Type 0 = λ v. IsNextTimer v (Some at) in
     subst P same timer.next
 
 -- either this moment is put in, or it isn't
-held_own : (here : Bool) (after : List (ℕ × View)) (call at moment : ℕ) (view : View) → (moment == at) ≡ here → ssf_of after call ≡ Some view → IsNext view (Some moment)
+held_own : (here : Bool) (after : List (ℕ × View)) (call at moment : ℕ) (view : View) → (moment == at) ≡ here → ssf_of after call ≡ Some view → IsNextTimer view (Some moment)
     → ((Some moment ≡ Some at → ⊥) → ⊥) → HasTimer after call at
 held_own true after call at moment view is own next other =
-    let P : ℕ → Type 0 = λ m. IsNext view (Some m) in
+    let P : ℕ → Type 0 = λ m. IsNextTimer view (Some m) in
     record { view = view; is = own; next = subst P (eqb-true moment at is) next }
 held_own false after call at moment view is own next other = absurd (other (λ same. grind (arith, nat_tests)))
 
 held_by : (before after : List (ℕ × View)) (dues kept : BTreeSet (ℕ × ℕ)) (call at : ℕ) (old new : Option ℕ) (view : View) → AreDues before dues → Replaces dues kept call old new
-    → ssf_of after call ≡ Some view → IsNext view new → (HasTimer before call at → old ≡ Some at) → contains pair_cmp kept (at, call) ≡ true → HasTimer after call at
+    → ssf_of after call ≡ Some view → IsNextTimer view new → (HasTimer before call at → old ≡ Some at) → contains pair_cmp kept (at, call) ≡ true → HasTimer after call at
 held_by before after dues kept call at old None view are replaces own next was has =
     let only = replaces.only at has (λ none. cc) in
     absurd (only.1 (was (are.held at call only.0)))
@@ -108,7 +108,7 @@ held_by before after dues kept call at old (Some moment) view are replaces own n
     held_own _ after call at moment view refl own next (λ apart. let only = replaces.only at has apart in only.1 (was (are.held at call only.0)))
 
 held_on : (here : Bool) (before after : List (ℕ × View)) (dues kept : BTreeSet (ℕ × ℕ)) (call other at : ℕ) (old new : Option ℕ) (view : View) → (call == other) ≡ here → AreDues before dues
-    → Replaces dues kept call old new → Sets before after call view → IsNext view new → ((moment : ℕ) → HasTimer before call moment → old ≡ Some moment)
+    → Replaces dues kept call old new → Sets before after call view → IsNextTimer view new → ((moment : ℕ) → HasTimer before call moment → old ≡ Some moment)
     → contains pair_cmp kept (at, other) ≡ true → HasTimer after other at
 held_on true before after dues kept call other at old new view is are replaces sets next was has =
     let P : ℕ → Type 0 = λ c. HasTimer after c at in
@@ -118,19 +118,19 @@ held_on false before after dues kept call other at old new view is are replaces 
     timer_stays before after call other at view sets is (are.held at other (sym (replaces.others at other is) ∙ has))
 
 each_on : (here : Bool) (before after : List (ℕ × View)) (dues kept : BTreeSet (ℕ × ℕ)) (call other at : ℕ) (old new : Option ℕ) (view : View) (trace : List Happening) → (call == other) ≡ here
-    → AreDues before dues → Replaces dues kept call old new → Sets before after call view → IsNext view new → Stands view trace → HasTimer after other at
+    → AreDues before dues → Replaces dues kept call old new → Sets before after call view → IsNextTimer view new → Stands view trace → HasTimer after other at
     → contains pair_cmp kept (at, other) ≡ true
 each_on true before after dues kept call other at old new view trace is are replaces sets next stands timer =
     let P : ℕ → Type 0 = λ c. HasTimer after c at in
     let Q : ℕ → Type 0 = λ c. contains pair_cmp kept (at, c) ≡ true in
-    let own : IsNext view (Some at) = timer_of after call at view sets.own (subst P (sym (eqb-true call other is)) timer) in
+    let own : IsNextTimer view (Some at) = timer_of after call at view sets.own (subst P (sym (eqb-true call other is)) timer) in
     subst Q (eqb-true call other is) (replaces.added at (same_next view trace new (Some at) stands next own))
 each_on false before after dues kept call other at old new view trace is are replaces sets next stands timer =
     replaces.others at other is ∙ are.each at other (timer_was before after call other at view sets is timer)
 
 -- the gsmSSF of a call changes, and its moment with it
 pub dues_on : (before after : List (ℕ × View)) (dues kept : BTreeSet (ℕ × ℕ)) (call : ℕ) (old new : Option ℕ) (view : View) (trace : List Happening) → AreDues before dues
-    → Replaces dues kept call old new → Sets before after call view → IsNext view new → Stands view trace → ((moment : ℕ) → HasTimer before call moment → old ≡ Some moment)
+    → Replaces dues kept call old new → Sets before after call view → IsNextTimer view new → Stands view trace → ((moment : ℕ) → HasTimer before call moment → old ≡ Some moment)
     → AreDues after kept
 dues_on before after dues kept call old new view trace are replaces sets next stands was = record {
   held = λ at other has. held_on _ before after dues kept call other at old new view refl are replaces sets next was has;

@@ -12,10 +12,10 @@ use Rattle.script_player.specs.Beginnings.{begun_trace}
 use Rattle.script_player.specs.Chains.{Chain}
 use Rattle.script_player.specs.Dues.{ssf_of}
 use Rattle.script_player.specs.Inputs.{GoesOnBy, IsGiven}
-use Rattle.script_player.specs.Lives.{Befalls, BefallsDeed, Deed, Does, DoesDeed, Giving, HasLived, Life, LivesOn, Recharging, Starting, sent_by, taken}
+use Rattle.script_player.specs.Lives.{Befalls, BefallsDeed, Deed, Does, DoesDeed, Giving, HasLived, Life, LivesOn, Recharging, Starting, sent_in_life, taken_or_refused}
 use Rattle.script_player.specs.Networks.{Shown}
 use Rattle.script_player.specs.Posts.{items_of, posts_of}
-use Rattle.script_player.specs.Steps.{GetsSsf, Gives, Sends}
+use Rattle.script_player.specs.Steps.{GetsSsf, FeedsSsf, SendsItems}
 use Rattle.script_player.specs.declared.network.Input.{Input}
 use Rattle.script_player.specs.declared.network.Input.TheVariants as what
 use Rattle.script_player.proofs.Items.{items_of-other, items_of-own, posts_of-append, same_true}
@@ -51,7 +51,7 @@ grown call given before after sent same sends = items_of-own call given sent ∙
 -- a trace whose timers have run, which a gsmSSF stands for once it was given an input
 abbrev Timed : View → View → ℕ → Input → List Happening → List Out → Type 0
 Timed before after now input trace sent = (timed : List Happening) × (RunsUntil before.config now trace timed
-    × (Stands after (taken before.config now input timed) × (sent_in (taken before.config now input timed) ≡ sent_in trace ++ sent)))
+    × (Stands after (taken_or_refused before.config now input timed) × (sent_in (taken_or_refused before.config now input timed) ≡ sent_in trace ++ sent)))
 
 timed_by : (before after : View) (now : ℕ) (input : Input) (trace : List Happening) (sent : List Out) → GoesOnBy before after now input trace sent → Timed before after now input trace sent
 timed_by before after now (what.Operate op) trace sent goes = (goes.1.timed, (goes.1.runs, (goes.1.stands, goes.1.sends)))
@@ -81,7 +81,7 @@ lives_late : (old new : View) (now call : ℕ) (input : Input) (given : List (�
 lives_late old new now call input given sent life late is_given alive =
     let timed : Timed old new now input life.trace sent = timed_by old new now input life.trace sent (is_given.goes_on late life.trace alive.stands) in
     let is : old.last ≡ life.last = alive.same_last in
-    let trace : List Happening = taken old.config now input timed.0 in (
+    let trace : List Happening = taken_or_refused old.config now input timed.0 in (
       record { last = now; trace = trace },
       (
         record { backwards = λ behind. absurd (omega arith); moment = λ still. refl; trace = λ still. (timed.0, (timed.1.0, refl)) },
@@ -144,10 +144,10 @@ agrees_apart config call before after life apart agrees =
 apart_not : (call : ℕ) (before after : Shown) → after ≡ before → IsApart call before after
 apart_not call before after same = (ap (λ (shown : Shown). ssf_of shown.ssfs call) same, ap (λ (shown : Shown). items_of call shown.given) same)
 
-apart_sends : (call other : ℕ) (before after : Shown) (view : View) (sent : List Out) → (other == call) ≡ false → Sends before after other view sent → IsApart call before after
+apart_sends : (call other : ℕ) (before after : Shown) (view : View) (sent : List Out) → (other == call) ≡ false → SendsItems before after other view sent → IsApart call before after
 apart_sends call other before after view sent apart sends = (sends.sets.others call apart, ap (items_of call) sends.posts ∙ items_of-other other call before.given sent apart)
 
-apart_gives : (found : Option View) (call other at : ℕ) (input : Input) (before after : Shown) → (other == call) ≡ false → MatchOption found (after ≡ before) (Gives before after at other input)
+apart_gives : (found : Option View) (call other at : ℕ) (input : Input) (before after : Shown) → (other == call) ≡ false → MatchOption found (after ≡ before) (FeedsSsf before after at other input)
     → IsApart call before after
 apart_gives None call other at input before after apart gives = apart_not call before after gives
 apart_gives (Some view) call other at input before after apart gives = apart_sends call other before after gives.new gives.sent apart gives.sends
@@ -158,7 +158,7 @@ apart_starts None call other at calling called before after apart starts = apart
 apart_starts (Some view) call other at calling called before after apart starts = apart_not call before after starts
 
 own_given : (found : Option View) (life : Option Life) (config : SsfConfig) (call at : ℕ) (input : Input) (before after : Shown) → ssf_of before.ssfs call ≡ found
-    → MatchOption found (after ≡ before) (Gives before after at call input) → Agrees config call before.given found life → MakesNow config call life at (Giving call input) after
+    → MatchOption found (after ≡ before) (FeedsSsf before after at call input) → Agrees config call before.given found life → MakesNow config call life at (Giving call input) after
 own_given None None config call at input before after is gives agrees =
     let P : Option View → Type 0 = λ found. Agrees config call before.given found None in
     (None, (refl, agrees_apart config call before after None (apart_not call before after gives) (subst P (sym is) agrees)))
@@ -224,7 +224,7 @@ makes at (Recharging account amount until) config call before after life same do
       ap (λ (shown : Shown). items_of call shown.given) does ∙ items_of-recharged call before.given at account amount until,
     ) agrees)
 
-given_config : (found : Option View) (at call : ℕ) (input : Input) (before after : Shown) → MatchOption found (after ≡ before) (Gives before after at call input) → after.config ≡ before.config
+given_config : (found : Option View) (at call : ℕ) (input : Input) (before after : Shown) → MatchOption found (after ≡ before) (FeedsSsf before after at call input) → after.config ≡ before.config
 given_config None at call input before after gives = ap (λ (shown : Shown). shown.config) gives
 given_config (Some view) at call input before after gives = gives.sends.same_config
 
@@ -250,7 +250,7 @@ lives_through config call before after (deed ∷ deeds) life chain same agrees =
     let rest = lives_through config call chain.0 after deeds step.0 chain.1.1 (does_config deed.0 deed.1 before chain.0 chain.1.0 ∙ same) step.1.1 in
     (rest.0, ((step.0, (step.1.0, rest.1.0)), rest.1.1))
 
-told_by : (config : SsfConfig) (call : ℕ) (given : List (ℕ × Body)) (found : Option View) (life : Option Life) → Agrees config call given found life → items_of call given ≡ posts_of call (sent_by life)
+told_by : (config : SsfConfig) (call : ℕ) (given : List (ℕ × Body)) (found : Option View) (life : Option Life) → Agrees config call given found life → items_of call given ≡ posts_of call (sent_in_life life)
 told_by config call given None None agrees = agrees
 told_by config call given (Some view) (Some life) agrees = agrees.same
 told_by config call given None (Some life) agrees = absurd agrees

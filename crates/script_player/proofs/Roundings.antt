@@ -15,10 +15,10 @@ use Rattle.script_player.specs.Dues.{IsFirstDue, ssf_of}
 use Rattle.ssf_core.specs.Moments.{in_reach, sooner}
 use Rattle.script_player.specs.Networks.{Shown}
 use Rattle.script_player.specs.Plays.{Play, play_at}
-use Rattle.script_player.specs.Rounds.{IsEnd, IsRound, IsTurn, next_of}
+use Rattle.script_player.specs.Rounds.{IsEnd, IsRound, IsTurn, next_moment_of}
 use Rattle.script_player.specs.Rows.{next_row}
-use Rattle.script_player.specs.Runs.{HasHeard, Hears, IsReached, fresh}
-use Rattle.script_player.specs.Steps.{Delivers, DeliversDue, GetsSsf, Gives, Happens, PlaysDue, PlaysRow, RunsTimers, Waits}
+use Rattle.script_player.specs.Runs.{HasHeard, Hears, IsReached, fresh_play}
+use Rattle.script_player.specs.Steps.{Delivers, DeliversDue, GetsSsf, FeedsSsf, HappensAt, PlaysDue, PlaysRow, RunsTimers, Waits}
 use Rattle.ssf_core.specs.declared.deliveries.Delivery.{Delivery}
 use Rattle.script_player.specs.declared.network.Input.{Input}
 use Rattle.script_player.specs.declared.network.Input.TheVariants as what
@@ -27,7 +27,7 @@ use Rattle.script_player.proofs.Endings.{delivery_past, none_left, timer_past}
 
 -- ---- a network stays whole
 
-gives_whole : (found : Option View) (now call : ℕ) (input : Input) (before after : Shown) → MatchOption found (after ≡ before) (Gives before after now call input) → after.whole ≡ before.whole
+gives_whole : (found : Option View) (now call : ℕ) (input : Input) (before after : Shown) → MatchOption found (after ≡ before) (FeedsSsf before after now call input) → after.whole ≡ before.whole
 gives_whole None now call input before after gives = rw gives refl
 gives_whole (Some view) now call input before after gives = gives.sends.same_whole
 
@@ -36,7 +36,7 @@ starts_whole : (found : Option View) (now call : ℕ) (calling called : Number) 
 starts_whole None now call calling called before after starts = starts.sends.same_whole
 starts_whole (Some view) now call calling called before after starts = rw starts refl
 
-happens_whole : (at : ℕ) (what : Happening) (before after : Shown) → Happens at what before after → after.whole ≡ before.whole
+happens_whole : (at : ℕ) (what : Happening) (before after : Shown) → HappensAt at what before after → after.whole ≡ before.whole
 happens_whole at (happening.Start call calling called) before after happens = starts_whole (ssf_of before.ssfs call) at call calling called before after happens
 happens_whole at (happening.Meets call event) before after happens = gives_whole (ssf_of before.ssfs call) at call (what.Meet event) before after happens
 happens_whole at (happening.Recharge account amount until) before after happens = rw happens refl
@@ -67,13 +67,13 @@ heard_whole before after [] chain = rw chain refl
 heard_whole before after (answers ∷ heard) chain = heard_whole chain.0 after heard chain.1.1 ∙ turn_whole chain.1.0.more before chain.0 answers chain.1.0.turn
 
 pub reached_whole : (config : SsfConfig) (delay : ℕ) (rows : List ScriptRow) (play : Play) → IsReached config delay rows play → play.network.whole ≡ true
-reached_whole config delay rows play reached = heard_whole (fresh config delay rows) play reached.heard reached.has_heard
+reached_whole config delay rows play reached = heard_whole (fresh_play config delay rows) play reached.heard reached.has_heard
 
 -- ---- a round
 
 -- a round of a player, of what its parts did
 pub round_is : (network delivered played after : Shown) (queue left : List Delivery) (delay : ℕ) (rows : List ScriptRow) (taken next : ℕ) (ended : Bool) (answers : List Answer) (due : Option ℕ) (now : ℕ)
-    → ended ≡ false → network.whole ≡ true → (network.whole ≡ true → IsFirstDue network.ssfs due) → next_of (play_at network queue delay rows taken ended) answers due ≡ Some now
+    → ended ≡ false → network.whole ≡ true → (network.whole ≡ true → IsFirstDue network.ssfs due) → next_moment_of (play_at network queue delay rows taken ended) answers due ≡ Some now
     → DeliversDue now network delivered (queue ++ deliveries_of delay network.given answers) left → PlaysDue now delivered played (drop taken rows) (drop next rows)
     → (played.whole ≡ true → RunsTimers now played after) → IsRound (play_at network queue delay rows taken ended) (play_at after left delay rows next ended) answers
 round_is network delivered played after queue left delay rows taken next ended answers due now running whole first at delivers plays runs = record {
@@ -93,7 +93,7 @@ round_is network delivered played after queue left delay rows taken next ended a
 -- the end of a player
 pub end_is : (network : Shown) (queue left : List Delivery) (delay : ℕ) (rows : List ScriptRow) (taken : ℕ) (ended : Bool) (answers : List Answer) (due : Option ℕ)
     → All (λ (row : ScriptRow). row.at ≤ 1000000000000) rows → network.whole ≡ true
-    → (network.whole ≡ true → IsFirstDue network.ssfs due) → next_of (play_at network queue delay rows taken ended) answers due ≡ None → left ≡ queue ++ deliveries_of delay network.given answers
+    → (network.whole ≡ true → IsFirstDue network.ssfs due) → next_moment_of (play_at network queue delay rows taken ended) answers due ≡ None → left ≡ queue ++ deliveries_of delay network.given answers
     → IsEnd (play_at network queue delay rows taken ended) (play_at network left delay rows taken true) answers
 end_is network queue left delay rows taken ended answers due in_range whole first none waits =
     let row = next_row (drop taken rows) in
@@ -112,7 +112,7 @@ end_is network queue left delay rows taken ended answers due in_range whole firs
 -- the next moment of a player, of what its parts give
 pub next_is : (network : Shown) (queue waiting : List Delivery) (delay : ℕ) (rows : List ScriptRow) (taken : ℕ) (ended : Bool) (answers : List Answer) (row delivery due moment : Option ℕ)
     → moment ≡ in_reach (sooner (sooner row delivery) due) → row ≡ next_row (drop taken rows) → delivery ≡ next_delivery waiting → waiting ≡ queue ++ deliveries_of delay network.given answers
-    → moment ≡ next_of (play_at network queue delay rows taken ended) answers due
+    → moment ≡ next_moment_of (play_at network queue delay rows taken ended) answers due
 next_is network queue waiting delay rows taken ended answers row delivery due moment is of_row of_delivery waits = is ∙ rw (of_row, of_delivery, waits) refl
 
 -- ---- the run
@@ -120,7 +120,7 @@ next_is network queue waiting delay rows taken ended answers row delivery due mo
 pub heard_more : (config : SsfConfig) (delay : ℕ) (rows : List ScriptRow) (heard : List (List Answer)) (answers : List Answer) (before after : Play) (more : Bool) → before.ended ≡ false
     → IsTurn more before after answers → HasHeard config delay rows heard before → HasHeard config delay rows (heard ++ answers ∷ []) after
 heard_more config delay rows heard answers before after more running turn has =
-    chain_more Hears (fresh config delay rows) before after heard answers has (record { running = running; more = more; turn = turn })
+    chain_more Hears (fresh_play config delay rows) before after heard answers has (record { running = running; more = more; turn = turn })
 
 pub reached_more : (config same : SsfConfig) (delay : ℕ) (rows : List ScriptRow) (answers : List Answer) (before after : Play) (more : Bool) → same ≡ config → before.ended ≡ false
     → IsTurn more before after answers → IsReached config delay rows before → IsReached same delay rows after

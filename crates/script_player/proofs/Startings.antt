@@ -3,10 +3,10 @@ use Rattle.std.proofs.Common.{◌≡◌, ℕ, Option, Some, Result, Ok, List, []
 use Rattle.std.proofs.lemmas.List.{append_cancel_left}
 use Rattle.cap_values.specs.declared.message.SsfMsg.TheVariants as message
 use Rattle.cap_values.specs.declared.number.Number.{Number}
-use Rattle.ssf_core.specs.Calls.{AreExpiries, IsExpiry, Stands, Takes, View, with_input}
+use Rattle.ssf_core.specs.Calls.{AreExpiries, IsExpiry, Stands, TakesAt, View, with_input}
 use Rattle.ssf_core.specs.Happenings.{Expired, Happening, Took, What, sent_at, sent_in}
 use Rattle.ssf_core.specs.Inputs.{invokes, triggers}
-use Rattle.ssf_core.specs.Phases.{Initial, Phase, Requested, Unused}
+use Rattle.ssf_core.specs.Phases.{Initial, SsfPhase, Requested, Unused}
 use Rattle.ssf_core.specs.Table.{Effect, goes, on_input}
 use Rattle.ssf_core.specs.Traces.{HasEffect, IsTrace, MayFollow, due_in, phase_after}
 use Rattle.ssf_core.specs.declared.config.SsfConfig.{SsfConfig}
@@ -14,15 +14,15 @@ use Rattle.ssf_core.specs.declared.fault.SsfFault.{SsfFault}
 use Rattle.ssf_core.specs.declared.item.Item.{Item}
 use Rattle.ssf_core.specs.declared.item.Item.TheVariants as item
 use Rattle.ssf_core.specs.declared.item.Out.{Out}
-use Rattle.script_player.specs.Beginnings.{HasBegun}
+use Rattle.script_player.specs.Beginnings.{IsTriggered}
 
 -- the timer of an expiry is due at a moment, in a phase
-abbrev IsDueIn : SsfConfig → List Happening → Phase → What → ℕ → Type 0
+abbrev IsDueIn : SsfConfig → List Happening → SsfPhase → What → ℕ → Type 0
 IsDueIn config trace phase (Took input) d = ⊥
 IsDueIn config trace phase (Expired timer) d = due_in config trace phase timer ≡ Some d
 
 -- no timer is due
-abbrev NoneDue : SsfConfig → List Happening → Phase → Type 0
+abbrev NoneDue : SsfConfig → List Happening → SsfPhase → Type 0
 NoneDue config trace phase = (what : What) (d : ℕ) → IsDueIn config trace phase what d → ⊥
 
 expiry_due : (config : SsfConfig) (trace : List Happening) (at : ℕ) (what : What) (sent : List Item) → NoneDue config trace (phase_after config trace) → IsExpiry what
@@ -39,11 +39,11 @@ none_fired config trace (e ∷ fired) none are is =
 
 -- an input is taken or refused, by what it is
 abbrev TakesWhat : View → View → ℕ → What → List Happening → List Out → Option SsfFault → Type 0
-TakesWhat before after now (Took input) trace sent why = Takes before after now input trace sent why
+TakesWhat before after now (Took input) trace sent why = TakesAt before after now input trace sent why
 TakesWhat before after now (Expired timer) trace sent why = ⊥
 
 -- what the table does at an input
-abbrev Answers : List Happening → Phase → ℕ → What → Effect → Type 0
+abbrev Answers : List Happening → SsfPhase → ℕ → What → Effect → Type 0
 Answers trace phase now (Took input) effect = on_input trace phase now input ≡ Ok effect
 Answers trace phase now (Expired timer) effect = ⊥
 
@@ -80,13 +80,13 @@ pub has_begun : (config : SsfConfig) (fresh invoked triggered : View) (now call 
     → triggered.config ≡ config → triggered.last ≡ now → TakesWhat fresh invoked now invoke [] first why → Answers [] Unused now invoke (goes [] Requested)
     → ((trace : List Happening) → Stands invoked trace → TakesWhat invoked triggered now trigger trace second other)
     → ((trace : List Happening) → Answers trace Requested now trigger (goes (item.Msg (message.InitialDp call calling called) ∷ []) Initial))
-    → invoke ≡ Took invokes → trigger ≡ Took (triggers call calling called) → HasBegun config now call calling called triggered second
+    → invoke ≡ Took invokes → trigger ≡ Took (triggers call calling called) → IsTriggered config now call calling called triggered second
 has_begun config fresh invoked triggered now call calling called first second why other invoke trigger same moment takes answers then answered first_is then_is =
     let one = taken_at fresh invoked now invoke [] first why (goes [] Requested) (unused_due fresh.config) takes answers in
     let trace : List Happening = record { at = now; what = invoke; sent = [] } ∷ [] in
     let phase : phase_after invoked.config trace ≡ Requested = requested_after invoked.config now invoke [] answers in
-    let N : Phase → Type 0 = λ p. NoneDue invoked.config trace p in
-    let A : Phase → Type 0 = λ p. Answers trace p now trigger (goes (item.Msg (message.InitialDp call calling called) ∷ []) Initial) in
+    let N : SsfPhase → Type 0 = λ p. NoneDue invoked.config trace p in
+    let A : SsfPhase → Type 0 = λ p. Answers trace p now trigger (goes (item.Msg (message.InitialDp call calling called) ∷ []) Initial) in
     let two =
     taken_at invoked triggered now trigger trace second other (goes (item.Msg (message.InitialDp call calling called) ∷ []) Initial)
     (subst N (sym phase) (requested_due invoked.config trace)) (then trace one.0) (subst A (sym phase) (answered trace)) in

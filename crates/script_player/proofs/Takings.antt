@@ -11,7 +11,7 @@ use Rattle.run_values.specs.declared.post.Body.{Body}
 use Rattle.run_values.specs.declared.post.Body.TheVariants as body
 use Rattle.script_player.specs.Networks.{Grows, Shown}
 use Rattle.script_player.specs.Playing.{IsKept}
-use Rattle.script_player.specs.Posts.{Begins, first_of, initial, is_of, is_recharge, items_of, opening_of, recharge_of, recharges_in, recharges_of, start_of}
+use Rattle.script_player.specs.Posts.{Begins, first_item_of, initial, is_of_call, is_recharge, items_of, opening_item_of, recharge_of, recharges_in, recharge_items_of, start_item_of}
 use Rattle.script_player.specs.Rows.{Adds, AddsRow, FollowsRows, TakesRow, unless_begun}
 use Rattle.script_player.proofs.Items.{same_true}
 
@@ -41,27 +41,27 @@ adds_row before after at (happening.Recharge account amount until) takes = recor
 
 -- ---- the rows taken, and one more
 
-recharges_of-append : (first second : List ScriptRow) → recharges_of (first ++ second) ≡ recharges_of first ++ recharges_of second
-recharges_of-append [] second = refl
-recharges_of-append (row ∷ first) second =
-    rw (recharges_of-append first second) (sym (append_assoc (recharge_of row.at row.what) (recharges_of first) (recharges_of second)))
+recharge_items_of-append : (first second : List ScriptRow) → recharge_items_of (first ++ second) ≡ recharge_items_of first ++ recharge_items_of second
+recharge_items_of-append [] second = refl
+recharge_items_of-append (row ∷ first) second =
+    rw (recharge_items_of-append first second) (sym (append_assoc (recharge_of row.at row.what) (recharge_items_of first) (recharge_items_of second)))
 
-recharges_of-more : (rows : List ScriptRow) (at : ℕ) (what : Happening) → recharges_of (rows ++ record { at = at; what = what } ∷ []) ≡ recharges_of rows ++ recharge_of at what
-recharges_of-more rows at what = recharges_of-append rows (record { at = at; what = what } ∷ []) ∙ rw (append-nil (recharge_of at what)) refl
+recharge_items_of-more : (rows : List ScriptRow) (at : ℕ) (what : Happening) → recharge_items_of (rows ++ record { at = at; what = what } ∷ []) ≡ recharge_items_of rows ++ recharge_of at what
+recharge_items_of-more rows at what = recharge_items_of-append rows (record { at = at; what = what } ∷ []) ∙ rw (append-nil (recharge_of at what)) refl
 
-first_of-none : (item : Option (ℕ × Body)) → first_of item None ≡ item
-first_of-none None = refl
-first_of-none (Some item) = refl
+first_item_of-none : (item : Option (ℕ × Body)) → first_item_of item None ≡ item
+first_item_of-none None = refl
+first_item_of-none (Some item) = refl
 
-first_of-assoc : (one two three : Option (ℕ × Body)) → first_of one (first_of two three) ≡ first_of (first_of one two) three
-first_of-assoc None two three = refl
-first_of-assoc (Some item) two three = refl
+first_item_of-assoc : (one two three : Option (ℕ × Body)) → first_item_of one (first_item_of two three) ≡ first_item_of (first_item_of one two) three
+first_item_of-assoc None two three = refl
+first_item_of-assoc (Some item) two three = refl
 
-opening_of-more : (call : ℕ) (rows : List ScriptRow) (at : ℕ) (what : Happening)
-    → opening_of call (rows ++ record { at = at; what = what } ∷ []) ≡ first_of (opening_of call rows) (start_of call at what)
-opening_of-more call [] at what = first_of-none (start_of call at what)
-opening_of-more call (row ∷ rows) at what =
-    rw (opening_of-more call rows at what) (first_of-assoc (start_of call row.at row.what) (opening_of call rows) (start_of call at what))
+opening_item_of-more : (call : ℕ) (rows : List ScriptRow) (at : ℕ) (what : Happening)
+    → opening_item_of call (rows ++ record { at = at; what = what } ∷ []) ≡ first_item_of (opening_item_of call rows) (start_item_of call at what)
+opening_item_of-more call [] at what = first_item_of-none (start_item_of call at what)
+opening_item_of-more call (row ∷ rows) at what =
+    rw (opening_item_of-more call rows at what) (first_item_of-assoc (start_item_of call row.at row.what) (opening_item_of call rows) (start_item_of call at what))
 
 -- ---- what was given still follows them
 
@@ -69,18 +69,18 @@ begins_on : (opening : Option (ℕ × Body)) (call : ℕ) (before after : Shown)
 begins_on None call before after grows begun = grows.none_begins call begun
 begins_on (Some item) call before after grows begun = (
   begun.0 ++ items_of call grows.added,
-  ap (items_of call) grows.grown ∙ filter-append (λ (other : ℕ × Body). is_of call other.1) before.given grows.added ∙ rw begun.1 refl,
+  ap (items_of call) grows.grown ∙ filter-append (λ (other : ℕ × Body). is_of_call call other.1) before.given grows.added ∙ rw begun.1 refl,
 )
 
 pub follows_grown : (taken : List ScriptRow) (before after : Shown) → Grows before after → FollowsRows taken before.given → FollowsRows taken after.given
 follows_grown taken before after grows follows = record {
-  begun = λ call. begins_on (opening_of call taken) call before after grows (follows.begun call);
+  begun = λ call. begins_on (opening_item_of call taken) call before after grows (follows.begun call);
   recharged = grows.same_recharges ∙ follows.recharged;
 }
 
 pub items_of-recharged : (call : ℕ) (given : List (ℕ × Body)) (at account amount : ℕ) (until : Option ℕ) → items_of call (given ++ (at, body.Recharge account amount until) ∷ []) ≡ items_of call given
 items_of-recharged call given at account amount until =
-    filter-append (λ (item : ℕ × Body). is_of call item.1) given ((at, body.Recharge account amount until) ∷ []) ∙ append-nil (items_of call given)
+    filter-append (λ (item : ℕ × Body). is_of_call call item.1) given ((at, body.Recharge account amount until) ∷ []) ∙ append-nil (items_of call given)
 
 -- the items of a call where another one may start
 items_of-unless : (other call at : ℕ) (calling called : Number) (items : List (ℕ × Body)) → (other == call) ≡ false
@@ -94,36 +94,36 @@ recharges_in-unless call at calling called (first ∷ items) = refl
 
 -- a call starts: it begins by this item, unless it has begun
 begins_own : (opening : Option (ℕ × Body)) (call : ℕ) (given : List (ℕ × Body)) (item : ℕ × Body) → items_of call (item ∷ []) ≡ item ∷ [] → Begins opening (items_of call given)
-    → Begins (first_of opening (Some item)) (items_of call (given ++ unless_begun (items_of call given) item))
+    → Begins (first_item_of opening (Some item)) (items_of call (given ++ unless_begun (items_of call given) item))
 begins_own None call given item own begun =
-    rw begun ([], filter-append (λ (other : ℕ × Body). is_of call other.1) given (item ∷ []) ∙ rw (begun, own) refl)
+    rw begun ([], filter-append (λ (other : ℕ × Body). is_of_call call other.1) given (item ∷ []) ∙ rw (begun, own) refl)
 begins_own (Some first) call given item own begun =
     rw begun.1 (begun.0, ap (items_of call) (append-nil given) ∙ begun.1)
 
 begins_other : (opening : Option (ℕ × Body)) (other call at : ℕ) (calling called : Number) (given : List (ℕ × Body)) → (other == call) ≡ false → Begins opening (items_of call given)
-    → Begins (first_of opening None) (items_of call (given ++ unless_begun (items_of other given) (initial at other calling called)))
+    → Begins (first_item_of opening None) (items_of call (given ++ unless_begun (items_of other given) (initial at other calling called)))
 begins_other opening other call at calling called given apart begun =
     let same : items_of call (given ++ unless_begun (items_of other given) (initial at other calling called)) ≡ items_of call given =
-    filter-append (λ (item : ℕ × Body). is_of call item.1) given (unless_begun (items_of other given) (initial at other calling called))
+    filter-append (λ (item : ℕ × Body). is_of_call call item.1) given (unless_begun (items_of other given) (initial at other calling called))
     ∙ rw (items_of-unless other call at calling called (items_of other given) apart) (append-nil (items_of call given)) in
-    rw (first_of-none opening, same) begun
+    rw (first_item_of-none opening, same) begun
 
 begins_started : (here : Bool) (opening : Option (ℕ × Body)) (other call at : ℕ) (calling called : Number) (given : List (ℕ × Body)) → (other == call) ≡ here → Begins opening (items_of call given)
-    → Begins (first_of opening (start_of call at (happening.Start other calling called))) (items_of call (given ++ unless_begun (items_of other given) (initial at other calling called)))
+    → Begins (first_item_of opening (start_item_of call at (happening.Start other calling called))) (items_of call (given ++ unless_begun (items_of other given) (initial at other calling called)))
 begins_started true opening other call at calling called given is begun =
-    let P : ℕ → Type 0 = λ o. Begins (first_of opening (Some (initial at call calling called))) (items_of call (given ++ unless_begun (items_of o given) (initial at o calling called))) in
+    let P : ℕ → Type 0 = λ o. Begins (first_item_of opening (Some (initial at call calling called))) (items_of call (given ++ unless_begun (items_of o given) (initial at o calling called))) in
     let own : items_of call (initial at call calling called ∷ []) ≡ initial at call calling called ∷ [] = rw (same_true call) refl in
     rw is (subst P (sym (eqb-true other call is)) (begins_own opening call given (initial at call calling called) own begun))
 begins_started false opening other call at calling called given is begun = rw is (begins_other opening other call at calling called given is begun)
 
-begun_row : (taken : List ScriptRow) (before after : Shown) (at : ℕ) (what : Happening) (call : ℕ) → AddsRow before after at what → Begins (opening_of call taken) (items_of call before.given)
-    → Begins (first_of (opening_of call taken) (start_of call at what)) (items_of call after.given)
+begun_row : (taken : List ScriptRow) (before after : Shown) (at : ℕ) (what : Happening) (call : ℕ) → AddsRow before after at what → Begins (opening_item_of call taken) (items_of call before.given)
+    → Begins (first_item_of (opening_item_of call taken) (start_item_of call at what)) (items_of call after.given)
 begun_row taken before after at (happening.Start other calling called) call adds begun =
-    rw adds (begins_started _ (opening_of call taken) other call at calling called before.given refl begun)
+    rw adds (begins_started _ (opening_item_of call taken) other call at calling called before.given refl begun)
 begun_row taken before after at (happening.Meets other event) call adds begun =
-    rw (first_of-none (opening_of call taken)) (begins_on (opening_of call taken) call before after adds begun)
+    rw (first_item_of-none (opening_item_of call taken)) (begins_on (opening_item_of call taken) call before after adds begun)
 begun_row taken before after at (happening.Recharge account amount until) call adds begun =
-    rw (first_of-none (opening_of call taken), adds, items_of-recharged call before.given at account amount until) begun
+    rw (first_item_of-none (opening_item_of call taken), adds, items_of-recharged call before.given at account amount until) begun
 
 recharged_row : (before after : Shown) (at : ℕ) (what : Happening) → AddsRow before after at what → recharges_in after.given ≡ recharges_in before.given ++ recharge_of at what
 recharged_row before after at (happening.Start call calling called) adds =
@@ -137,8 +137,8 @@ recharged_row before after at (happening.Recharge account amount until) adds =
 pub follows_row : (taken : List ScriptRow) (row : ScriptRow) (before after : Shown) → TakesRow before after row.at row.what → FollowsRows taken before.given
     → FollowsRows (taken ++ row ∷ []) after.given
 follows_row taken row before after takes follows = record {
-  begun = λ call. rw (opening_of-more call taken row.at row.what) (begun_row taken before after row.at row.what call takes.adds (follows.begun call));
-  recharged = recharged_row before after row.at row.what takes.adds ∙ rw (follows.recharged, recharges_of-more taken row.at row.what) refl;
+  begun = λ call. rw (opening_item_of-more call taken row.at row.what) (begun_row taken before after row.at row.what call takes.adds (follows.begun call));
+  recharged = recharged_row before after row.at row.what takes.adds ∙ rw (follows.recharged, recharge_items_of-more taken row.at row.what) refl;
 }
 
 -- the same, of the first rows of a script

@@ -15,8 +15,8 @@ use Rattle.ssf_core.specs.declared.config.SsfConfig.{SsfConfig}
 use Rattle.ssf_core.specs.declared.item.Item.TheVariants as item
 use Rattle.ssf_core.specs.declared.item.Out.{Out}
 use Rattle.run_values.specs.declared.post.Body.{Body}
-use Rattle.script_player.specs.Beginnings.{HasBegun}
-use Rattle.script_player.specs.Networks.{AreTold, GoesOn, Grows, IsTold, Moves, Shown}
+use Rattle.script_player.specs.Beginnings.{IsTriggered}
+use Rattle.script_player.specs.Networks.{HaveGiven, SsfGoesOn, Grows, HasGiven, MovesSsf, Shown}
 use Rattle.script_player.specs.Plays.{IsPlayed}
 use Rattle.script_player.specs.Posts.{initial, items_of, posts_of}
 use Rattle.script_player.specs.Rows.{Starts, unless_begun}
@@ -24,7 +24,7 @@ use Rattle.script_player.proofs.Items.{items_of-other, items_of-own, posts_in_ra
 
 -- what is told of a call, whether it has a gsmSSF or not
 abbrev IsToldOf : SsfConfig → List (ℕ × Body) → ℕ → Option View → Type 0
-IsToldOf config given call found = MatchOption found (items_of call given ≡ []) (IsTold config call given)
+IsToldOf config given call found = MatchOption found (items_of call given ≡ []) (HasGiven config call given)
 
 pub apart_at : (call other : ℕ) → (call == other) ≡ false → is_at (nat_cmp call) other ≡ false
 apart_at call other apart = grind (arith, nat_tests)
@@ -38,8 +38,8 @@ front_none : (front rest : List (ℕ × Body)) → front ++ rest ≡ [] → fron
 front_none [] rest none = refl
 front_none (item ∷ front) rest none = cc
 
-told_further : (config : SsfConfig) (call : ℕ) (given : List (ℕ × Body)) (old new : View) (sent : List Out) → IsTold config call given old → GoesOn old new sent
-    → IsTold config call (given ++ posts_of call sent) new
+told_further : (config : SsfConfig) (call : ℕ) (given : List (ℕ × Body)) (old new : View) (sent : List Out) → HasGiven config call given old → SsfGoesOn old new sent
+    → HasGiven config call (given ++ posts_of call sent) new
 told_further config call given old new sent told on =
     let sends = on.from told.trace told.stands in
     record {
@@ -51,10 +51,10 @@ told_further config call given old new sent told on =
     }
 
 moved_by : (here : Bool) (config : SsfConfig) (before after : BTreeMap ℕ View) (call other : ℕ) (given : List (ℕ × Body)) (sent : List Out) → (call == other) ≡ here
-    → AreTold config before given → Moves before after call sent → IsToldOf config (given ++ posts_of call sent) other (get nat_cmp after other)
+    → HaveGiven config before given → MovesSsf before after call sent → IsToldOf config (given ++ posts_of call sent) other (get nat_cmp after other)
 moved_by true config before after call other given sent is are moves =
     let P : ℕ → Type 0 = λ c. IsToldOf config (given ++ posts_of call sent) c (get nat_cmp after c) in
-    let told : IsTold config call given moves.old = rw moves.was at (are.told call) in
+    let told : HasGiven config call given moves.old = rw moves.was at (are.told call) in
     subst P (eqb-true call other is) (rw moves.updates.1 (told_further config call given moves.old moves.new sent told moves.goes_on))
 moved_by false config before after call other given sent is are moves =
     rw (moves.updates.2 other (apart_at call other is))
@@ -62,19 +62,19 @@ moved_by false config before after call other given sent is are moves =
 
 -- a gsmSSF goes on, and its messages are posted
 pub told_moved : (config : SsfConfig) (before after : BTreeMap ℕ View) (call : ℕ) (given : List (ℕ × Body)) (sent : List Out)
-    → AreTold config before given → Moves before after call sent → AreTold config after (given ++ posts_of call sent)
+    → HaveGiven config before given → MovesSsf before after call sent → HaveGiven config after (given ++ posts_of call sent)
 told_moved config before after call given sent are moves = record {
   told = λ other. moved_by _ config before after call other given sent refl are moves;
   in_range =
-      let told : IsTold config call given moves.old = rw moves.was at (are.told call) in
+      let told : HasGiven config call given moves.old = rw moves.was at (are.told call) in
       All-append (λ (item : ℕ × Body). item.0 ≤ 2000000000000) given (posts_of call sent) are.in_range (posts_in_range call sent (moves.goes_on.from told.trace told.stands).in_range);
 }
 
 -- a call with a gsmSSF has items
 pub has_some : (config : SsfConfig) (before after : BTreeMap ℕ View) (call : ℕ) (given : List (ℕ × Body)) (sent : List Out)
-    → AreTold config before given → Moves before after call sent → items_of call given ≡ [] → ⊥
+    → HaveGiven config before given → MovesSsf before after call sent → items_of call given ≡ [] → ⊥
 has_some config before after call given sent are moves none =
-    let told : IsTold config call given moves.old = rw moves.was at (are.told call) in
+    let told : HasGiven config call given moves.old = rw moves.was at (are.told call) in
     told.some none
 
 none_begins_by : (here : Bool) (call other : ℕ) (given : List (ℕ × Body)) (sent : List Out) → (call == other) ≡ here → (items_of call given ≡ [] → ⊥) → items_of other given ≡ []
@@ -115,7 +115,7 @@ played_by config call given (Some view) told =
     record { trace = told.trace; is_trace = subst P told.same_config told.stands.is_trace; same = told.same }
 
 -- what was given of each call was played
-pub played : (config : SsfConfig) (calls : BTreeMap ℕ View) (given : List (ℕ × Body)) → AreTold config calls given → (call : ℕ) → IsPlayed config call given
+pub played : (config : SsfConfig) (calls : BTreeMap ℕ View) (given : List (ℕ × Body)) → HaveGiven config calls given → (call : ℕ) → IsPlayed config call given
 played config calls given are call = played_by config call given (get nat_cmp calls call) (are.told call)
 
 -- ---- a call starts
@@ -130,12 +130,12 @@ starts_not_by config None given call item told has = cc
 starts_not_by config (Some view) given call item told has = rw (begun_already (items_of call given) item told.some) (sym (append-nil given))
 
 -- a call that has a gsmSSF has started already
-pub starts_not : (config : SsfConfig) (calls : BTreeMap ℕ View) (given : List (ℕ × Body)) (call : ℕ) (item : ℕ × Body) → AreTold config calls given → is_some (get nat_cmp calls call) ≡ true
+pub starts_not : (config : SsfConfig) (calls : BTreeMap ℕ View) (given : List (ℕ × Body)) (call : ℕ) (item : ℕ × Body) → HaveGiven config calls given → is_some (get nat_cmp calls call) ≡ true
     → Starts given given call item
 starts_not config calls given call item are has = starts_not_by config (get nat_cmp calls call) given call item (are.told call) has
 
 told_begun : (config : SsfConfig) (now call : ℕ) (calling called : Number) (given : List (ℕ × Body)) (view : View) (sent : List Out) → items_of call given ≡ []
-    → HasBegun config now call calling called view sent → IsTold config call (given ++ posts_of call sent) view
+    → IsTriggered config now call calling called view sent → HasGiven config call (given ++ posts_of call sent) view
 told_begun config now call calling called given view sent none begun =
     let own : items_of call (given ++ posts_of call sent) ≡ posts_of call sent = items_of-own call given sent ∙ rw none refl in
     record {
@@ -147,7 +147,7 @@ told_begun config now call calling called given view sent none begun =
     }
 
 started_by : (here : Bool) (config : SsfConfig) (before after : BTreeMap ℕ View) (now call other : ℕ) (calling called : Number) (given : List (ℕ × Body)) (view : View) (sent : List Out)
-    → (call == other) ≡ here → AreTold config before given → items_of call given ≡ [] → Updates nat_cmp before after call (Some view) → HasBegun config now call calling called view sent
+    → (call == other) ≡ here → HaveGiven config before given → items_of call given ≡ [] → Updates nat_cmp before after call (Some view) → IsTriggered config now call calling called view sent
     → IsToldOf config (given ++ posts_of call sent) other (get nat_cmp after other)
 started_by true config before after now call other calling called given view sent is are none updates begun =
     let P : ℕ → Type 0 = λ c. IsToldOf config (given ++ posts_of call sent) c (get nat_cmp after c) in
@@ -169,8 +169,8 @@ none_yet config given call (Some view) told without = cc
 
 -- a call without a gsmSSF gets one
 pub told_started : (config : SsfConfig) (before after : BTreeMap ℕ View) (now call : ℕ) (calling called : Number) (given : List (ℕ × Body)) (view : View) (sent : List Out) → now ≤ 2000000000000
-    → AreTold config before given → is_some (get nat_cmp before call) ≡ false → Updates nat_cmp before after call (Some view) → HasBegun config now call calling called view sent
-    → AreTold config after (given ++ posts_of call sent)
+    → HaveGiven config before given → is_some (get nat_cmp before call) ≡ false → Updates nat_cmp before after call (Some view) → IsTriggered config now call calling called view sent
+    → HaveGiven config after (given ++ posts_of call sent)
 told_started config before after now call calling called given view sent order are without updates begun =
     let none : items_of call given ≡ [] = none_yet config given call (get nat_cmp before call) (are.told call) without in
     record {
@@ -182,7 +182,7 @@ told_started config before after now call calling called given view sent order a
 
 -- its first message is given
 pub starts_now : (config : SsfConfig) (before : BTreeMap ℕ View) (now call : ℕ) (calling called : Number) (given after : List (ℕ × Body)) (view : View) (sent : List Out)
-    → AreTold config before given → is_some (get nat_cmp before call) ≡ false → HasBegun config now call calling called view sent → after ≡ given ++ posts_of call sent
+    → HaveGiven config before given → is_some (get nat_cmp before call) ≡ false → IsTriggered config now call calling called view sent → after ≡ given ++ posts_of call sent
     → Starts given after call (initial now call calling called)
 starts_now config before now call calling called given after view sent are without begun is =
     let none : items_of call given ≡ [] = none_yet config given call (get nat_cmp before call) (are.told call) without in

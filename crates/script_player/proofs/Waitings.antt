@@ -10,7 +10,7 @@ use Rattle.ssf_core.specs.Calls.{View}
 use Rattle.script_player.specs.Chains.{Chain}
 use Rattle.script_player.specs.Dues.{AreDueBy, HasTimer, is_among, ssf_of}
 use Rattle.script_player.specs.Networks.{Grows, Shown}
-use Rattle.script_player.specs.Steps.{Gives, RunsTimers, Waits}
+use Rattle.script_player.specs.Steps.{FeedsSsf, RunsTimers, Waits}
 use Rattle.script_player.specs.declared.network.Input.{Input}
 use Rattle.script_player.specs.declared.network.Input.TheVariants as what
 use Rattle.script_player.proofs.Chainings.{chain_more}
@@ -36,7 +36,7 @@ waited_none now before all left same are = record {
       subst P (sym same) ((are whole).all call (at, (timer, order)));
 }
 
-timer_was_by : (found : Option View) (now call other at : ℕ) (input : Input) (before after : Shown) → MatchOption found (after ≡ before) (Gives before after now call input)
+timer_was_by : (found : Option View) (now call other at : ℕ) (input : Input) (before after : Shown) → MatchOption found (after ≡ before) (FeedsSsf before after now call input)
     → (call == other) ≡ false → HasTimer after.ssfs other at → HasTimer before.ssfs other at
 timer_was_by None now call other at input before after gives apart timer =
     let P : Shown → Type 0 = λ shown. HasTimer shown.ssfs other at in

@@ -16,7 +16,7 @@ begun_trace at call calling called =
     ∷ record { at = at; what = Took invokes; sent = [] } ∷ []
 
 -- a gsmSSF was invoked and triggered at a moment: all that it has sent is InitialDp
-pub record HasBegun (config : SsfConfig) (at call : ℕ) (calling called : Number) (view : View) (sent : List Out) : Type 0 where
+pub record IsTriggered (config : SsfConfig) (at call : ℕ) (calling called : Number) (view : View) (sent : List Out) : Type 0 where
   pub same_config : view.config ≡ config
   pub moment : view.last ≡ at
   pub trace : List Happening

@@ -7,7 +7,7 @@ use Rattle.std.specs.Map.{lookup}
 use Rattle.std.specs.Ordering.{nat_cmp, ordering_then}
 use Rattle.std.specs.declared.cmp.Ordering.{Ordering}
 use Rattle.ssf_core.specs.Calls.{View}
-use Rattle.script_player.specs.Inputs.{IsNext}
+use Rattle.script_player.specs.Inputs.{IsNextTimer}
 
 -- the gsmSSF of a call, where it has one
 abbrev pub ssf_of : List (ℕ × View) → ℕ → Option View
@@ -17,7 +17,7 @@ ssf_of ssfs call = lookup (is_at (nat_cmp call)) ssfs
 pub record HasTimer (ssfs : List (ℕ × View)) (call at : ℕ) : Type 0 where
   pub view : View
   pub is : ssf_of ssfs call ≡ Some view
-  pub next : IsNext view (Some at)
+  pub next : IsNextTimer view (Some at)
 
 -- the gsmSSF of a call has a timer that is due by a moment
 abbrev pub IsDueBy : List (ℕ × View) → ℕ → ℕ → Type 0

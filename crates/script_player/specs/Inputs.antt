@@ -1,7 +1,7 @@
 -- What an input does to one gsmSSF, and when its next timer is due.
 use Rattle.std.specs.Prelude.{◌≡◌, ◌<◌, ◌≤◌, ℕ, Option, List, []}
 use Rattle.std.specs.Option.{ForSome}
-use Rattle.ssf_core.specs.Calls.{Advances, IsNextDue, Stands, Takes, View}
+use Rattle.ssf_core.specs.Calls.{Advances, IsNextDue, Stands, TakesAt, View}
 use Rattle.ssf_core.specs.Happenings.{Happening}
 use Rattle.ssf_core.specs.Inputs.{meets, operates}
 use Rattle.ssf_core.specs.declared.fault.SsfFault.{SsfFault}
@@ -11,8 +11,8 @@ use Rattle.script_player.specs.declared.network.Input.TheVariants as input
 
 -- a trace goes on by an input: the timers run, and then the operation or the event is taken or refused as the table says; where time passes the timers run
 abbrev pub GoesOnBy : View → View → ℕ → Input → List Happening → List Out → Type 0
-GoesOnBy before after now (input.Operate op) trace sent = (fault : Option SsfFault) × Takes before after now (operates op) trace sent fault
-GoesOnBy before after now (input.Meet event) trace sent = (fault : Option SsfFault) × Takes before after now (meets event) trace sent fault
+GoesOnBy before after now (input.Operate op) trace sent = (fault : Option SsfFault) × TakesAt before after now (operates op) trace sent fault
+GoesOnBy before after now (input.Meet event) trace sent = (fault : Option SsfFault) × TakesAt before after now (meets event) trace sent fault
 GoesOnBy before after now input.Wait trace sent = Advances before after now trace sent
 
 -- a gsmSSF is given an input at a moment, and sends this; for a moment behind its last one it stays as it is and sends nothing
@@ -23,6 +23,6 @@ pub record IsGiven (before after : View) (now : ℕ) (input : Input) (sent : Lis
   pub goes_on : before.last ≤ now → (trace : List Happening) → Stands before trace → GoesOnBy before after now input trace sent
 
 -- the next timer of a gsmSSF is due at a moment, which isn't behind it, or none runs
-pub record IsNext (view : View) (due : Option ℕ) : Type 0 where
+pub record IsNextTimer (view : View) (due : Option ℕ) : Type 0 where
   pub least : (trace : List Happening) → Stands view trace → IsNextDue view.config trace due
   pub ahead : ForSome due (λ at. view.last ≤ at)

@@ -66,16 +66,16 @@ pub record Life : Type 0 where
   pub trace : List Happening
 
 -- a trace whose timers have run, once an input is taken or refused
-abbrev pub taken : SsfConfig → ℕ → Input → List Happening → List Happening
-taken config now (input.Operate op) timed = with_input now (operates op) timed (on_input timed (phase_after config timed) now (operates op))
-taken config now (input.Meet event) timed = with_input now (meets event) timed (on_input timed (phase_after config timed) now (meets event))
-taken config now input.Wait timed = timed
+abbrev pub taken_or_refused : SsfConfig → ℕ → Input → List Happening → List Happening
+taken_or_refused config now (input.Operate op) timed = with_input now (operates op) timed (on_input timed (phase_after config timed) now (operates op))
+taken_or_refused config now (input.Meet event) timed = with_input now (meets event) timed (on_input timed (phase_after config timed) now (meets event))
+taken_or_refused config now input.Wait timed = timed
 
 -- a life goes on by an input: the timers run until its moment, and it is taken or refused as the table says; behind the last moment nothing happens
 pub record LivesOn (config : SsfConfig) (now : ℕ) (input : Input) (before after : Life) : Type 0 where
   pub backwards : now < before.last → after ≡ before
   pub moment : before.last ≤ now → after.last ≡ now
-  pub trace : before.last ≤ now → (timed : List Happening) × (RunsUntil config now before.trace timed × (after.trace ≡ taken config now input timed))
+  pub trace : before.last ≤ now → (timed : List Happening) × (RunsUntil config now before.trace timed × (after.trace ≡ taken_or_refused config now input timed))
 
 -- a deed, as the gsmSSF of a call meets it: the first start begins its life, an input of its own carries it on, and nothing else does anything to it
 abbrev pub Befalls : SsfConfig → ℕ → Option Life → ℕ → Deed → Option Life → Type 0
@@ -91,12 +91,12 @@ abbrev pub BefallsDeed : SsfConfig → ℕ → Option Life → ℕ × Deed → O
 BefallsDeed config call before deed after = Befalls config call before deed.0 deed.1 after
 
 -- all that was sent in a life
-abbrev pub sent_by : Option Life → List Out
-sent_by None = []
-sent_by (Some life) = sent_in life.trace
+abbrev pub sent_in_life : Option Life → List Out
+sent_in_life None = []
+sent_in_life (Some life) = sent_in life.trace
 
 -- what was given of a call is what its gsmSSF has sent in the life that these deeds have made
 pub record HasLived (config : SsfConfig) (deeds : List (ℕ × Deed)) (call : ℕ) (given : List (ℕ × Body)) : Type 0 where
   pub life : Option Life
   pub lived : Chain (BefallsDeed config call) None deeds life
-  pub same : items_of call given ≡ posts_of call (sent_by life)
+  pub same : items_of call given ≡ posts_of call (sent_in_life life)

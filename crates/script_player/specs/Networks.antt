@@ -7,7 +7,7 @@ use Rattle.ssf_core.specs.Happenings.{Happening, sent_in}
 use Rattle.ssf_core.specs.declared.config.SsfConfig.{SsfConfig}
 use Rattle.ssf_core.specs.declared.item.Out.{Out}
 use Rattle.run_values.specs.declared.post.Body.{Body}
-use Rattle.script_player.specs.Inputs.{IsGiven, IsNext}
+use Rattle.script_player.specs.Inputs.{IsGiven, IsNextTimer}
 use Rattle.script_player.specs.Posts.{items_of, posts_of, recharges_in}
 use Rattle.script_player.specs.declared.network.Sent.{Sent}
 use Rattle.script_player.specs.declared.network.Input.{Input}
@@ -21,7 +21,7 @@ pub record Shown : Type 0 where
   pub whole : Bool
 
 -- the gsmSSF of a call stands for a trace whose messages are the items of the call, of which there are some
-pub record IsTold (config : SsfConfig) (call : ℕ) (given : List (ℕ × Body)) (view : View) : Type 0 where
+pub record HasGiven (config : SsfConfig) (call : ℕ) (given : List (ℕ × Body)) (view : View) : Type 0 where
   pub same_config : view.config ≡ config
   pub trace : List Happening
   pub stands : Stands view trace
@@ -29,8 +29,8 @@ pub record IsTold (config : SsfConfig) (call : ℕ) (given : List (ℕ × Body))
   pub some : items_of call given ≡ [] → ⊥
 
 -- each gsmSSF is told so; a call without one has no items
-pub record AreTold (config : SsfConfig) (calls : BTreeMap ℕ View) (given : List (ℕ × Body)) : Type 0 where
-  pub told : (call : ℕ) → MatchOption (get nat_cmp calls call) (items_of call given ≡ []) (IsTold config call given)
+pub record HaveGiven (config : SsfConfig) (calls : BTreeMap ℕ View) (given : List (ℕ × Body)) : Type 0 where
+  pub told : (call : ℕ) → MatchOption (get nat_cmp calls call) (items_of call given ≡ []) (HasGiven config call given)
   pub in_range : All (λ item. item.0 ≤ HORIZON) given
 
 -- from a trace that it stands for, a gsmSSF goes on and sends this
@@ -41,24 +41,24 @@ pub record SendsFrom (after : View) (trace : List Happening) (sent : List Out) :
   pub in_range : All (λ out. out.at ≤ HORIZON) sent
 
 -- a gsmSSF goes on and sends this
-pub record GoesOn (before after : View) (sent : List Out) : Type 0 where
+pub record SsfGoesOn (before after : View) (sent : List Out) : Type 0 where
   pub same_config : after.config ≡ before.config
   pub from : (trace : List Happening) → Stands before trace → SendsFrom after trace sent
 
 -- the gsmSSF of a call goes on and sends this, and the others stay
-pub record Moves (before after : BTreeMap ℕ View) (call : ℕ) (sent : List Out) : Type 0 where
+pub record MovesSsf (before after : BTreeMap ℕ View) (call : ℕ) (sent : List Out) : Type 0 where
   pub old : View
   pub new : View
   pub was : get nat_cmp before call ≡ Some old
   pub updates : Updates nat_cmp before after call (Some new)
-  pub goes_on : GoesOn old new sent
+  pub goes_on : SsfGoesOn old new sent
 
 -- the gsmSSF of a call is given an input, and its next timer was due then, and is due then
 pub record Feeds (before after : BTreeMap ℕ View) (now call : ℕ) (input : Input) (fed : Sent) : Type 0 where
-  pub moves : Moves before after call fed.sent.items
+  pub moves : MovesSsf before after call fed.sent.items
   pub is_given : IsGiven moves.old moves.new now input fed.sent.items
-  pub was_next : IsNext moves.old fed.before
-  pub is_next : IsNext moves.new fed.after
+  pub was_next : IsNextTimer moves.old fed.before
+  pub is_next : IsNextTimer moves.new fed.after
 
 -- what was given stays and grows; no recharge is added, and no call begins
 pub record Grows (before after : Shown) : Type 0 where

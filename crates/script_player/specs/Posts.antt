@@ -23,9 +23,9 @@ posts_of call [] = []
 posts_of call (out ∷ outs) = post_of call out.at out.item ++ posts_of call outs
 
 -- a message of this call
-abbrev pub is_of : ℕ → Body → Bool
-is_of call (body.Ssf other msg) = other == call
-is_of call (body.Recharge account amount until) = false
+abbrev pub is_of_call : ℕ → Body → Bool
+is_of_call call (body.Ssf other msg) = other == call
+is_of_call call (body.Recharge account amount until) = false
 
 -- a recharge
 abbrev pub is_recharge : Body → Bool
@@ -34,7 +34,7 @@ is_recharge (body.Recharge account amount until) = true
 
 -- the items of a call, in order
 abbrev pub items_of : ℕ → List (ℕ × Body) → List (ℕ × Body)
-items_of call items = filter (λ item. is_of call item.1) items
+items_of call items = filter (λ item. is_of_call call item.1) items
 
 -- the items that are recharges, in order
 abbrev pub recharges_in : List (ℕ × Body) → List (ℕ × Body)
@@ -47,29 +47,29 @@ recharge_of at (happening.Meets call event) = []
 recharge_of at (happening.Recharge account amount until) = (at, body.Recharge account amount until) ∷ []
 
 -- the recharges that rows say, in order
-abbrev pub recharges_of : List ScriptRow → List (ℕ × Body)
-recharges_of [] = []
-recharges_of (row ∷ rows) = recharge_of row.at row.what ++ recharges_of rows
+abbrev pub recharge_items_of : List ScriptRow → List (ℕ × Body)
+recharge_items_of [] = []
+recharge_items_of (row ∷ rows) = recharge_of row.at row.what ++ recharge_items_of rows
 
 -- the first message of a call that starts
 abbrev pub initial : ℕ → ℕ → Number → Number → ℕ × Body
 initial at call calling called = (at, body.Ssf call (message.InitialDp call calling called))
 
 -- the item by which a row lets a call begin, if the row starts it
-abbrev pub start_of : ℕ → ℕ → Happening → Option (ℕ × Body)
-start_of call at (happening.Start other calling called) = if other == call then Some (initial at call calling called) else None
-start_of call at (happening.Meets other event) = None
-start_of call at (happening.Recharge account amount until) = None
+abbrev pub start_item_of : ℕ → ℕ → Happening → Option (ℕ × Body)
+start_item_of call at (happening.Start other calling called) = if other == call then Some (initial at call calling called) else None
+start_item_of call at (happening.Meets other event) = None
+start_item_of call at (happening.Recharge account amount until) = None
 
 -- the first of two, where there is one
-abbrev pub first_of : Option (ℕ × Body) → Option (ℕ × Body) → Option (ℕ × Body)
-first_of None second = second
-first_of (Some item) second = Some item
+abbrev pub first_item_of : Option (ℕ × Body) → Option (ℕ × Body) → Option (ℕ × Body)
+first_item_of None second = second
+first_item_of (Some item) second = Some item
 
 -- the item by which a call begins: that of the first row that starts it
-abbrev pub opening_of : ℕ → List ScriptRow → Option (ℕ × Body)
-opening_of call [] = None
-opening_of call (row ∷ rows) = first_of (start_of call row.at row.what) (opening_of call rows)
+abbrev pub opening_item_of : ℕ → List ScriptRow → Option (ℕ × Body)
+opening_item_of call [] = None
+opening_item_of call (row ∷ rows) = first_item_of (start_item_of call row.at row.what) (opening_item_of call rows)
 
 -- items begin with this one; there are none where there is none to begin with
 abbrev pub Begins : Option (ℕ × Body) → List (ℕ × Body) → Type 0

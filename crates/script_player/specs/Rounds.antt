@@ -18,15 +18,15 @@ abbrev pub waiting : Play → List Answer → List Delivery
 waiting play answers = play.queue ++ deliveries_of play.delay play.network.given answers
 
 -- the least of the moments of the next row, of the next delivery, and at which a timer is due, where a gsmSSF takes it
-abbrev pub next_of : Play → List Answer → Option ℕ → Option ℕ
-next_of play answers due = in_reach (sooner (sooner (next_row play.left) (next_delivery (waiting play answers))) due)
+abbrev pub next_moment_of : Play → List Answer → Option ℕ → Option ℕ
+next_moment_of play answers due = in_reach (sooner (sooner (next_row play.left) (next_delivery (waiting play answers))) due)
 
 -- a round of one moment: the deliveries that are due, then the rows of the moment, then the timers
 pub record IsRound (before after : Play) (answers : List Answer) : Type 0 where
   pub due : Option ℕ
   pub first_due : IsFirstDue before.network.ssfs due
   pub now : ℕ
-  pub next : next_of before answers due ≡ Some now
+  pub next : next_moment_of before answers due ≡ Some now
   pub delivered : Shown
   pub played : Shown
   pub delivers : DeliversDue now before.network delivered (waiting before answers) after.queue

@@ -6,7 +6,7 @@ use Rattle.run_texts.specs.declared.script.ScriptRow.{ScriptRow}
 use Rattle.run_values.specs.declared.post.Body.{Body}
 use Rattle.run_values.specs.declared.post.Body.TheVariants as body
 use Rattle.script_player.specs.Networks.{Grows, Shown}
-use Rattle.script_player.specs.Posts.{Begins, initial, items_of, opening_of, recharges_in, recharges_of}
+use Rattle.script_player.specs.Posts.{Begins, initial, items_of, opening_item_of, recharges_in, recharge_items_of}
 
 -- the moment of the first row
 abbrev pub next_row : List ScriptRow → Option ℕ
@@ -41,5 +41,5 @@ pub record TakesRow (before after : Shown) (at : ℕ) (what : Happening) : Type 
 
 -- what was given follows the rows taken: each call begins as its first row says, and the recharges are those of the rows
 pub record FollowsRows (taken : List ScriptRow) (given : List (ℕ × Body)) : Type 0 where
-  pub begun : (call : ℕ) → Begins (opening_of call taken) (items_of call given)
-  pub recharged : recharges_in given ≡ recharges_of taken
+  pub begun : (call : ℕ) → Begins (opening_item_of call taken) (items_of call given)
+  pub recharged : recharges_in given ≡ recharge_items_of taken

@@ -9,8 +9,8 @@ use Rattle.script_player.specs.Plays.{Play}
 use Rattle.script_player.specs.Rounds.{IsTurn}
 
 -- a play before its first round: all rows are left, and nothing has happened
-abbrev pub fresh : SsfConfig → ℕ → List ScriptRow → Play
-fresh config delay rows =
+abbrev pub fresh_play : SsfConfig → ℕ → List ScriptRow → Play
+fresh_play config delay rows =
     record { network = record { config = config; ssfs = []; given = []; whole = true }; queue = []; delay = delay; taken = []; left = rows; ended = false }
 
 -- answers are heard: a play that hasn't ended has a round, or ends
@@ -21,7 +21,7 @@ pub record Hears (before : Play) (answers : List Answer) (after : Play) : Type 0
 
 -- the play that a fresh one of these rows comes to, with gsmSSFs of this configuration and this delay, where it hears these answers, round by round
 abbrev pub HasHeard : SsfConfig → ℕ → List ScriptRow → List (List Answer) → Play → Type 0
-HasHeard config delay rows heard play = Chain Hears (fresh config delay rows) heard play
+HasHeard config delay rows heard play = Chain Hears (fresh_play config delay rows) heard play
 
 -- ---- the deeds of a run
 
@@ -43,7 +43,7 @@ pub record IsReached (config : SsfConfig) (delay : ℕ) (rows : List ScriptRow) 
 
 -- what was given in it, in order
 abbrev pub deeds_in : (config : SsfConfig) (delay : ℕ) (rows : List ScriptRow) (play : Play) → IsReached config delay rows play → List (ℕ × Deed)
-deeds_in config delay rows play run = deeds_of_run run.heard (fresh config delay rows) play run.has_heard
+deeds_in config delay rows play run = deeds_of_run run.heard (fresh_play config delay rows) play run.has_heard
 
 -- what was given of each call is what its gsmSSF has sent in the life that the deeds of the run have made
 abbrev pub LivesByItsDeeds : SsfConfig → ℕ → List ScriptRow → Play → Type 0

@@ -10,7 +10,7 @@ use Rattle.run_texts.specs.declared.script.ScriptRow.{ScriptRow}
 use Rattle.ssf_core.specs.Calls.{View}
 use Rattle.ssf_core.specs.declared.item.Out.{Out}
 use Rattle.run_values.specs.declared.post.Body.TheVariants as body
-use Rattle.script_player.specs.Beginnings.{HasBegun}
+use Rattle.script_player.specs.Beginnings.{IsTriggered}
 use Rattle.script_player.specs.Chains.{Chain}
 use Rattle.ssf_core.specs.Deliveries.{next_delivery}
 use Rattle.script_player.specs.Dues.{AreDueBy, HasTimer, ssf_of}
@@ -28,29 +28,29 @@ pub record Sets (before after : List (ℕ × View)) (call : ℕ) (view : View) :
   pub others : (other : ℕ) → (call == other) ≡ false → ssf_of after other ≡ ssf_of before other
 
 -- the gsmSSF of a call sends this and becomes another; its messages are given, and nothing else changes
-pub record Sends (before after : Shown) (call : ℕ) (view : View) (sent : List Out) : Type 0 where
+pub record SendsItems (before after : Shown) (call : ℕ) (view : View) (sent : List Out) : Type 0 where
   pub sets : Sets before.ssfs after.ssfs call view
   pub posts : after.given ≡ before.given ++ posts_of call sent
   pub same_config : after.config ≡ before.config
   pub same_whole : after.whole ≡ before.whole
 
 -- the gsmSSF of a call is given an input
-pub record Gives (before after : Shown) (now call : ℕ) (input : Input) (old : View) : Type 0 where
+pub record FeedsSsf (before after : Shown) (now call : ℕ) (input : Input) (old : View) : Type 0 where
   pub new : View
   pub sent : List Out
   pub is_given : IsGiven old new now input sent
-  pub sends : Sends before after call new sent
+  pub sends : SendsItems before after call new sent
 
 -- the same, where the call has one; else nothing happens
 abbrev pub GivesTo : ℕ → ℕ → Input → Shown → Shown → Type 0
-GivesTo now call input before after = MatchOption (ssf_of before.ssfs call) (after ≡ before) (Gives before after now call input)
+GivesTo now call input before after = MatchOption (ssf_of before.ssfs call) (after ≡ before) (FeedsSsf before after now call input)
 
 -- a call gets a gsmSSF, which is invoked and triggered
 pub record GetsSsf (before after : Shown) (now call : ℕ) (calling called : Number) : Type 0 where
   pub view : View
   pub sent : List Out
-  pub begun : HasBegun before.config now call calling called view sent
-  pub sends : Sends before after call view sent
+  pub begun : IsTriggered before.config now call calling called view sent
+  pub sends : SendsItems before after call view sent
 
 -- a call starts, where it hasn't started; else nothing happens
 abbrev pub StartsCall : ℕ → ℕ → Number → Number → Shown → Shown → Type 0
@@ -79,14 +79,14 @@ pub record DeliversDue (now : ℕ) (before after : Shown) (waiting left : List D
 -- ---- rows
 
 -- what a row says happens at a moment: a call starts, it meets an event, or an account is recharged
-abbrev pub Happens : ℕ → Happening → Shown → Shown → Type 0
-Happens at (happening.Start call calling called) before after = StartsCall at call calling called before after
-Happens at (happening.Meets call event) before after = GivesTo at call (input.Meet event) before after
-Happens at (happening.Recharge account amount until) before after = Recharges at account amount until before after
+abbrev pub HappensAt : ℕ → Happening → Shown → Shown → Type 0
+HappensAt at (happening.Start call calling called) before after = StartsCall at call calling called before after
+HappensAt at (happening.Meets call event) before after = GivesTo at call (input.Meet event) before after
+HappensAt at (happening.Recharge account amount until) before after = Recharges at account amount until before after
 
 -- a row happens at its moment
 abbrev pub PlaysRow : Shown → ScriptRow → Shown → Type 0
-PlaysRow before row after = Happens row.at row.what before after
+PlaysRow before row after = HappensAt row.at row.what before after
 
 -- the first rows that wait are played, in order, until one lies after now
 pub record PlaysDue (now : ℕ) (before after : Shown) (waiting left : List ScriptRow) : Type 0 where

@@ -5,9 +5,9 @@ ghost use Rattle.std.specs.BTreeMap.{get};
 ghost use Rattle.std.specs.Ordering.{nat_cmp};
 ghost use Rattle.std.specs.Vec.{vec_capacity, vec_len};
 ghost use Rattle.script_player.specs.Dues.{Replaces};
-ghost use Rattle.script_player.specs.Beginnings.{HasBegun};
+ghost use Rattle.script_player.specs.Beginnings.{IsTriggered};
 ghost use Rattle.script_player.specs.Inputs.{IsGiven};
-ghost use Rattle.script_player.specs.Networks.{Feeds, GoesOn};
+ghost use Rattle.script_player.specs.Networks.{Feeds, SsfGoesOn};
 ghost use Rattle.script_player.specs.Posts.{post_of, posts_of};
 
 use arrayvec::ArrayVec;
@@ -49,7 +49,7 @@ pub(crate) struct Network {
 impl Model for Network {
     ghost use Rattle.std.specs.Prelude.{◌≡◌, true};
     ghost use Rattle.script_player.specs.Dues.{AreDues};
-    ghost use Rattle.script_player.specs.Networks.{AreTold, Shown};
+    ghost use Rattle.script_player.specs.Networks.{HaveGiven, Shown};
 
     ghost Value = { Shown };
 
@@ -60,7 +60,7 @@ impl Model for Network {
       whole = n.whole;
     } };
 
-    ghost invariant = { λ n. AreTold n.config n.calls n.given.items
+    ghost invariant = { λ n. HaveGiven n.config n.calls n.given.items
         × (n.whole ≡ true → AreDues n.calls.entries n.dues) };
 }
 
@@ -238,7 +238,7 @@ struct Started {
 /// Invokes a fresh gsmSSF, and triggers it for a call.
 fn begin(config: SsfConfig, now: Moment, call: u64, calling: Number, called: Number) -> Started
     requires { now ≤ HORIZON }
-    ensures { HasBegun config now call calling called result.ssf result.sent.items }
+    ensures { IsTriggered config now call calling called result.ssf result.sent.items }
 {
     let mut ssf = Ssf::new(config);
     ssf.invoke(now);
@@ -275,7 +275,7 @@ fn feed(calls: &mut BTreeMap<u64, Ssf>, now: Moment, call: u64, input: Input) ->
 /// Gives a gsmSSF an input at a moment. What it refuses is ignored.
 fn step(ssf: &mut Ssf, now: Moment, input: Input) -> Step
     requires { now ≤ HORIZON }
-    ensures goes_on { GoesOn ssf.old ssf.new result.sent.items }
+    ensures goes_on { SsfGoesOn ssf.old ssf.new result.sent.items }
     ensures given { IsGiven ssf.old ssf.new now input result.sent.items }
 {
     match input {

@@ -65,8 +65,8 @@ impl Model for ScriptPlayer {
 
 impl ScriptPlayer {
     ghost use Rattle.std.specs.Prelude.{◌≡◌, ◌≤◌, [], true, false, All, IfOk};
-    ghost use Rattle.run_texts.specs.Views.{are_in_order};
-    ghost use Rattle.script_player.specs.Runs.{fresh};
+    ghost use Rattle.run_texts.specs.Views.{rows_are_in_order};
+    ghost use Rattle.script_player.specs.Runs.{fresh_play};
 
     /// The player of these rows, before its first round. Each gsmSSF has this configuration, and
     /// the delay is 1 to 864,000 units of 100 ms.
@@ -79,8 +79,8 @@ impl ScriptPlayer {
         requires delay_positive { 1 ≤ delay }
         requires delay_within_day { delay ≤ DAY }
         requires in_range { All (λ row. row.at ≤ LAST_MOMENT) rows.items }
-        requires in_order { are_in_order 0 rows.items ≡ true }
-        ensures fresh { IfOk result (λ player. player ≡ fresh config delay rows.items) }
+        requires in_order { rows_are_in_order 0 rows.items ≡ true }
+        ensures fresh { IfOk result (λ player. player ≡ fresh_play config delay rows.items) }
         ensures config { IfOk result (λ player. player.network.config ≡ config) }
         ensures taken { IfOk result (λ player. player.taken ≡ []) }
         ensures left { IfOk result (λ player. player.left ≡ rows.items) }
@@ -108,7 +108,7 @@ impl Driver for ScriptPlayer {
     ghost use Rattle.script_player.specs.Rounds.{IsTurn};
     ghost use Rattle.script_player.specs.Runs.{HasHeard, Hears, IsReached, LivesByItsDeeds};
     ghost use Rattle.run_values.specs.declared.post.Answer.{Answer};
-    ghost use Rattle.script_player.specs.Posts.{Begins, items_of, opening_of, recharges_in, recharges_of};
+    ghost use Rattle.script_player.specs.Posts.{Begins, items_of, opening_item_of, recharges_in, recharge_items_of};
 
     ghost given = { λ player. player.network.given };
 
@@ -128,8 +128,8 @@ impl Driver for ScriptPlayer {
         ensures calls { (call : ℕ)
             → IsPlayed self.now.network.config call self.now.network.given }
         ensures begins { (call : ℕ)
-            → Begins (opening_of call self.now.taken) (items_of call self.now.network.given) }
-        ensures recharges { recharges_in self.now.network.given ≡ recharges_of self.now.taken }
+            → Begins (opening_item_of call self.now.taken) (items_of call self.now.network.given) }
+        ensures recharges { recharges_in self.now.network.given ≡ recharge_items_of self.now.taken }
     {
         self.network.given()
     }

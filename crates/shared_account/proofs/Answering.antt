@@ -7,7 +7,7 @@ use Rattle.tariff_core.specs.Ceiling.{ceiling_of}
 use Rattle.tariff_core.specs.Rates.{Rates}
 use Rattle.tariff_core.specs.Times.{Elapsed}
 use Rattle.tariff_core.specs.declared.times.TimeInfo.{TimeInfo}
-use Rattle.account_core.specs.Answers.{accepted_times, answer, settle_verdict, showing, units_offered, verdict}
+use Rattle.account_core.specs.Answers.{accepted_times, answer, settle_verdict, showing, units_offered, bare_reply}
 use Rattle.account_core.specs.Asked.{Asked, Credits, Reserves, Returns, Settles}
 use Rattle.account_core.specs.Available.{available, credits}
 use Rattle.account_core.specs.Events.{EntryData}
@@ -55,7 +55,7 @@ fits_settle : (times : Option Elapsed) (known : CallFacts) (credit call number :
 fits_settle (Some times) known credit call number info = tt
 fits_settle None known credit call number info = tt
 
-fits_showing : (opening : ℕ) (until : Option ℕ) (credit : ℕ) (h : List EntryData) (asked : Asked) → IsReplyTo asked (showing credit (verdict opening until h asked))
+fits_showing : (opening : ℕ) (until : Option ℕ) (credit : ℕ) (h : List EntryData) (asked : Asked) → IsReplyTo asked (showing credit (bare_reply opening until h asked))
 fits_showing opening until credit h (Credits amount moment) = fits_credit (nat_le (opening + credits h + amount) 1000000000000000) credit amount moment
 fits_showing opening until credit h (Reserves call plan wanted least at) =
     let units = units_offered (available opening h) (known call h) plan wanted in

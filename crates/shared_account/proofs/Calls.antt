@@ -11,7 +11,7 @@ use Rattle.account_core.specs.declared.fault.AccountFault.{AccountFault}
 use Rattle.shared_account.specs.Kinds.{IsReplyTo}
 use Rattle.shared_account.specs.Own.{own}
 use Rattle.shared_account.specs.Plays.{HasMet, IsLater, Sitter, with_entry}
-use Rattle.shared_account.specs.Prefixes.{EndsWith, IsPrefix}
+use Rattle.shared_account.specs.Prefixes.{EndsWithEntry, IsPrefix}
 use Rattle.shared_account.specs.Sitting.{IsSitting}
 use Rattle.shared_account.specs.Views.{at_stage, hearing, seeing}
 use Rattle.shared_account.specs.declared.board.Stage.TheVariants.{Idles}
@@ -49,7 +49,7 @@ module _ (before here : View) (later : IsLater before here) where
 
   -- with a reply, the history ends with the entry
   pub ends : (after : View) (event : Reply → EntryData) (told : Result Reply AccountFault) → IfOk told (λ reply. after ≡ seeing here (with_entry here.seen (event reply)))
-      → IfOk told (λ reply. EndsWith before.seen.history (event reply) after.seen.history)
+      → IfOk told (λ reply. EndsWithEntry before.seen.history (event reply) after.seen.history)
   ends after event (Ok reply) seen = record {
     between = later.begins.rest;
     is = ap (λ (v : View). v.seen.history) seen ∙ (ap (λ (h : List EntryData). h ++ event reply ∷ []) later.begins.is ∙ append_assoc before.seen.history later.begins.rest (event reply ∷ []));
@@ -98,7 +98,7 @@ fits_last opening until before event legal =
     subst (IsReplyTo event.asked) (sym last.answered) (answer_fits opening until (reverse before) event.asked)
 
 pub ends_kindly : (opening : ℕ) (until : Option ℕ) (before after : List EntryData) (seat : ℕ) (asked : Asked) (told : Result Reply AccountFault) → IsLegal opening until after
-    → IfOk told (λ reply. EndsWith before (event_by seat asked reply) after) → IfOk told (IsReplyTo asked)
+    → IfOk told (λ reply. EndsWithEntry before (event_by seat asked reply) after) → IfOk told (IsReplyTo asked)
 ends_kindly opening until before after seat asked (Ok reply) legal ends =
     let event : EntryData = event_by seat asked reply in
     let whole : after ≡ (before ++ ends.between) ++ event ∷ [] = ends.is ∙ sym (append_assoc before ends.between (event ∷ [])) in

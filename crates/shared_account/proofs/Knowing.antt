@@ -4,13 +4,13 @@ use Rattle.std.specs.Prelude.{◌==◌, if◌then◌else◌}
 use Rattle.std.proofs.lemmas.Bool.{eq-eqb}
 use Rattle.account_core.specs.Asked.{call_of}
 use Rattle.account_core.specs.Events.{EntryData}
-use Rattle.account_core.specs.Known.{Deed, Rests, deed, deed_of, known, known_after}
+use Rattle.account_core.specs.Known.{EntryDeed, Rests, deed, deed_of, known, known_after}
 
 -- the call of an entry, and what the entry does to it
 abbrev pub its_call : EntryData → ℕ
 its_call event = call_of event.asked
 
-abbrev pub its_deed : EntryData → Deed
+abbrev pub its_deed : EntryData → EntryDeed
 its_deed event = deed_of event.asked event.reply
 
 deed_here : (event : EntryData) → deed (its_call event) event ≡ its_deed event
@@ -27,7 +27,7 @@ known_here h event = ap (known_after (known (its_call event) h)) (deed_here even
 pub known_apart : (h : List EntryData) (event : EntryData) (call : ℕ) → (its_call event == call) ≡ false → known call (event ∷ h) ≡ known call h
 known_apart h event call apart = ap (known_after (known call h)) (deed_apart call event apart)
 
-rests_either : (here : Bool) (done : Deed) → done ≡ Rests → (if here then done else Rests) ≡ Rests
+rests_either : (here : Bool) (done : EntryDeed) → done ≡ Rests → (if here then done else Rests) ≡ Rests
 rests_either true done rests = rests
 rests_either false done rests = refl
 

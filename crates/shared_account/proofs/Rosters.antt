@@ -8,7 +8,7 @@ use Rattle.atomic_table.proofs.Lists.{at_longer, at_set, set_else, set_here}
 use Rattle.account_core.specs.Ledger.{Ledger}
 use Rattle.shared_account.specs.Ended.{HaveEnded}
 use Rattle.shared_account.specs.Prefixes.{IsPrefix}
-use Rattle.shared_account.specs.Turns.{BoardState, AllApart, AreApart, HasTurn, IsNumbered, IsOut, IsTaken, Knows, AccountLiesAt}
+use Rattle.shared_account.specs.Turns.{BoardState, AllApart, AreApart, HasTurn, IsNumbered, IsOut, IsTakenUp, Knows, AccountLiesAt}
 use Rattle.shared_account.specs.Views.{IsSeat, seats_at, ticket_of, tickets_at, total}
 use Rattle.shared_account.specs.declared.board.Stage.{Stage}
 use Rattle.shared_account.specs.declared.board.Stage.TheVariants.{Idles, Notes, Serves, Waits}
@@ -127,7 +127,7 @@ tickets_fewer (x ∷ xs) = omega (arith, few_tickets x.stage, tickets_fewer xs)
 -- ---- where the account lies
 
 lies_there : (homes : List (maybe.Option (Option Ledger))) (views : List View) (id at : ℕ) (v w : View) → get_elem? views id ≡ some v
-    → ((t : ℕ) → v.stage ≡ Serves t → w.stage ≡ Serves t) → IsTaken homes views at → Dec (at ≡ id) → IsTaken homes (set views id w) at
+    → ((t : ℕ) → v.stage ≡ Serves t → w.stage ≡ Serves t) → IsTakenUp homes views at → Dec (at ≡ id) → IsTakenUp homes (set views id w) at
 lies_there homes views id at v w e kept taken (yes here) =
     let its : get_elem? views id ≡ some taken.view = subst (λ (i : ℕ). get_elem? views i ≡ some taken.view) here taken.there in
     let same : v ≡ taken.view = some-injective v taken.view (sym e ∙ its) in

@@ -13,7 +13,7 @@ use Rattle.shared_account.specs.Ended.{HasEnded, IsClosedAs}
 use Rattle.shared_account.specs.Own.{own}
 use Rattle.shared_account.specs.Prefixes.{IsPrefix}
 use Rattle.shared_account.specs.Turns.{BoardState, AccountLiesAt, AreApart, IsNumbered, Kept, Knows}
-use Rattle.shared_account.specs.Views.{IsSeat, first_view, next_seat, one_more, seats_at, spent_note, taking_in, ticket_of, tickets_at}
+use Rattle.shared_account.specs.Views.{IsSeat, first_view, next_seat, one_seat_more, seats_at, spent_note, taking_in, ticket_of, tickets_at}
 use Rattle.shared_account.specs.declared.board.Stage.TheVariants.{Idles, Serves}
 use Rattle.shared_account.specs.declared.board.Start.{Start}
 use Rattle.shared_account.specs.declared.board.View.{View}
@@ -55,11 +55,11 @@ module _ (start : Start) where
   own_none seat earlier later begins without =
       nothing (own seat earlier) (omega (arith, begins_within (own seat earlier) (own seat later) (own_begins seat earlier later begins), ap length without))
 
-  pub numbers : (id : ℕ) (v : View) → v.stage ≡ Idles → v.number ≡ 0 → v.made < start.seats → Splits (Kept start) id v (one_more v) (next_seat v)
+  pub numbers : (id : ℕ) (v : View) → v.stage ≡ Idles → v.number ≡ 0 → v.made < start.seats → Splits (Kept start) id v (one_seat_more v) (next_seat v)
   numbers id v idle is_first few s kept there =
       let now = kept.now in
       let after : BoardState = record now { made = now.made + 1 } in
-      let w : View = one_more v in
+      let w : View = one_seat_more v in
       let next : View = next_seat v in
       let mid : List View = set s.views id w in
       let knew = kept.each id v there in

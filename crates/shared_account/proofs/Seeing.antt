@@ -11,7 +11,7 @@ use Rattle.account_core.specs.declared.entry.Reply.{Reply}
 use Rattle.account_core.specs.declared.entry.Reply.TheVariants as reply
 use Rattle.account_core.specs.declared.fault.AccountFault.{AccountFault}
 use Rattle.account_core.specs.declared.fault.AccountFault.TheVariants as fault
-use Rattle.shared_account.specs.Own.{is_of, of_call, own}
+use Rattle.shared_account.specs.Own.{asks_of_call, of_call, own}
 use Rattle.shared_account.specs.Refusals.{IsAlone, Refusal}
 use Rattle.shared_account.specs.Seen.{CallsOfOneSeatAreAlone, HasSeen}
 use Rattle.shared_account.specs.TurnViews.{TurnSeatView, own_of}
@@ -51,22 +51,22 @@ none_alone call alone =
 
 -- ---- a call whose entries are by one seat
 
-its_own : (of here : Bool) (event : EntryData) (call : ℕ) (all mine : List EntryData) → is_of call event.asked ≡ of → (of ≡ true → here ≡ true) → of_call call all ≡ of_call call mine
+its_own : (of here : Bool) (event : EntryData) (call : ℕ) (all mine : List EntryData) → asks_of_call call event.asked ≡ of → (of ≡ true → here ≡ true) → of_call call all ≡ of_call call mine
     → (if of then event ∷ of_call call all else of_call call all) ≡ of_call call (if here then event ∷ mine else mine)
 its_own of true event call all mine is here same =
     ap (λ (h : List EntryData). if of then event ∷ h else h) same ∙ ap (λ (b : Bool). if b then event ∷ of_call call mine else of_call call mine) (sym is)
 its_own true false event call all mine is here same = absurd (cc (here refl))
 its_own false false event call all mine is here same = same
 
-by_seat : (seat call : ℕ) (begun rest : List EntryData) → All (λ event. is_of call event.asked ≡ true → event.seat ≡ seat) (begun ++ rest)
+by_seat : (seat call : ℕ) (begun rest : List EntryData) → All (λ event. asks_of_call call event.asked ≡ true → event.seat ≡ seat) (begun ++ rest)
     → of_call call begun ≡ of_call call (own seat begun)
 by_seat seat call [] rest all = refl
 by_seat seat call (event ∷ begun) rest all =
-    let By : EntryData → Type 0 = λ event. is_of call event.asked ≡ true → event.seat ≡ seat in
-    its_own (is_of call event.asked) (event.seat == seat) event call begun (own seat begun) refl (λ is. eq-eqb event.seat seat (All-head By event (begun ++ rest) all is))
+    let By : EntryData → Type 0 = λ event. asks_of_call call event.asked ≡ true → event.seat ≡ seat in
+    its_own (asks_of_call call event.asked) (event.seat == seat) event call begun (own seat begun) refl (λ is. eq-eqb event.seat seat (All-head By event (begun ++ rest) all is))
     (by_seat seat call begun rest (All-tail By event (begun ++ rest) all))
 
 pub one_seat_is_alone : CallsOfOneSeatAreAlone
 one_seat_is_alone book seat call by_it mine refusal stood =
-    let By : EntryData → Type 0 = λ event. is_of call event.asked ≡ true → event.seat ≡ seat in
+    let By : EntryData → Type 0 = λ event. asks_of_call call event.asked ≡ true → event.seat ≡ seat in
     by_seat seat call refusal.account.history stood.begins.rest (subst (All By) stood.begins.is by_it) ∙ ap (of_call call) stood.own

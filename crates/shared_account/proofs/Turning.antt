@@ -16,7 +16,7 @@ use Rattle.shared_account.specs.Ended.{HaveEnded}
 use Rattle.shared_account.specs.Own.{own}
 use Rattle.shared_account.specs.Plays.{IsLater, Sitter, appended, drawn, handed, looked, with_entry}
 use Rattle.shared_account.specs.Prefixes.{IsPrefix}
-use Rattle.shared_account.specs.Turns.{BoardState, AllApart, AllKnow, AreWords, IsOut, IsTaken, Kept, Knows, AccountLiesAt}
+use Rattle.shared_account.specs.Turns.{BoardState, AllApart, AllKnow, AreWords, IsOut, IsTakenUp, Kept, Knows, AccountLiesAt}
 use Rattle.shared_account.specs.Views.{IsSeat, IsServing, at_stage, its_ticket, seats_at, seeing, ticket_of, tickets_at}
 use Rattle.shared_account.specs.declared.board.Stage.TheVariants.{Idles, Serves, Waits}
 use Rattle.shared_account.specs.declared.board.Start.{Start}
@@ -277,7 +277,7 @@ module _ (start : Start) where
       let turn = knew.turn t is in
       let out = knew.ticket t (ap ticket_of is) in
       let some_out : 1 ≤ now.out = omega (arith, out.unserved, turn.served) in
-      let taken : IsTaken s.homes s.views id = subst (AccountLiesAt now.account s.homes s.views) turn.holder kept.lies in (
+      let taken : IsTakenUp s.homes s.views id = subst (AccountLiesAt now.account s.homes s.views) turn.holder kept.lies in (
         w,
         gives,
         tt,

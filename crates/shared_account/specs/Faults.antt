@@ -4,6 +4,6 @@ use Rattle.shared_account.specs.declared.fault.CloseFault.{CloseFault}
 use Rattle.shared_account.specs.declared.fault.CloseFault.TheVariants.{Seats, Mismatch}
 
 -- the number of a fault
-abbrev pub code_of : CloseFault → ℕ
-code_of Seats = 1
-code_of Mismatch = 2
+abbrev pub close_fault_code : CloseFault → ℕ
+close_fault_code Seats = 1
+close_fault_code Mismatch = 2

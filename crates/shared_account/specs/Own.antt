@@ -8,15 +8,15 @@ abbrev pub own : ℕ → List EntryData → List EntryData
 own seat history = filter (λ event. event.seat == seat) history
 
 -- whether an operation is of this call
-abbrev pub is_of : ℕ → Asked → Bool
-is_of call (Credits amount moment) = false
-is_of call (Reserves other plan wanted least at) = other == call
-is_of call (Settles other number info) = other == call
-is_of call (Returns other) = other == call
+abbrev pub asks_of_call : ℕ → Asked → Bool
+asks_of_call call (Credits amount moment) = false
+asks_of_call call (Reserves other plan wanted least at) = other == call
+asks_of_call call (Settles other number info) = other == call
+asks_of_call call (Returns other) = other == call
 
 -- a call's entries, in order
 abbrev pub of_call : ℕ → List EntryData → List EntryData
-of_call call history = filter (λ event. is_of call event.asked) history
+of_call call history = filter (λ event. asks_of_call call event.asked) history
 
 -- a history merges the lists of its seats: list k is the own entries of seat k, and each entry is of one of them
 pub record IsMerged (history : List EntryData) (lists : List (List EntryData)) : Type 0 where

@@ -8,6 +8,6 @@ pub record IsPrefix (earlier later : List EntryData) : Type 0 where
   pub is : later ≡ earlier ++ rest
 
 -- the later history is the earlier one, perhaps more, and then this entry
-pub record EndsWith (earlier : List EntryData) (event : EntryData) (later : List EntryData) : Type 0 where
+pub record EndsWithEntry (earlier : List EntryData) (event : EntryData) (later : List EntryData) : Type 0 where
   pub between : List EntryData
   pub is : later ≡ earlier ++ (between ++ event ∷ [])

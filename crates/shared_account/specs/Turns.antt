@@ -92,7 +92,7 @@ abbrev pub AllApart : List View → Type 0
 AllApart views = (at by : ℕ) (view other : View) → at ≢ by → get_elem? views at ≡ some view → get_elem? views by ≡ some other → AreApart view other
 
 -- the account is with the view that has the turn
-pub record IsTaken (homes : List (maybe.Option (Option Ledger))) (views : List View) (at : ℕ) : Type 0 where
+pub record IsTakenUp (homes : List (maybe.Option (Option Ledger))) (views : List View) (at : ℕ) : Type 0 where
   pub empty : homes ≡ none ∷ []
   pub view : View
   pub ticket : ℕ
@@ -102,7 +102,7 @@ pub record IsTaken (homes : List (maybe.Option (Option Ledger))) (views : List V
 -- where nobody has the turn, it is at home
 abbrev pub AccountLiesAt : Ledger → List (maybe.Option (Option Ledger)) → List View → Option ℕ → Type 0
 AccountLiesAt account homes views None = homes ≡ some (Some account) ∷ []
-AccountLiesAt account homes views (Some at) = IsTaken homes views at
+AccountLiesAt account homes views (Some at) = IsTakenUp homes views at
 
 -- the rule of a board: its words, its slot and its views agree with one legal history
 pub record Kept (start : Start) (s : State (Option Ledger) View) : Type 0 where

@@ -69,8 +69,8 @@ first_view opening until limit = record {
 }
 
 -- the first seat once it has made another, and that seat, under the next number
-abbrev pub one_more : View → View
-one_more view = record view { made = view.made + 1 }
+abbrev pub one_seat_more : View → View
+one_seat_more view = record view { made = view.made + 1 }
 
 -- the view of the seat that is made next
 abbrev pub next_seat : View → View

@@ -3,7 +3,7 @@
 
 ghost use Rattle.std.specs.Prelude.{◌≡◌, ◌≤◌, [], None, IfOk, IfErr};
 ghost use Rattle.shared_account.specs.Plays.{appended, compared, drawn, handed, looked};
-ghost use Rattle.shared_account.specs.Views.{hearing, next_seat, note_of, one_more, spent_note, first_view, taking_in};
+ghost use Rattle.shared_account.specs.Views.{hearing, next_seat, note_of, one_seat_more, spent_note, first_view, taking_in};
 ghost use Rattle.shared_account.specs.declared.board.Stage.TheVariants.{Idles};
 ghost use Rattle.shared_account.specs.TurnViews.{fresh_turn_seats};
 ghost use Rattle.shared_account.specs.Sitting.{IsAt};
@@ -141,7 +141,7 @@ impl Play<Option<Account>, View> for Compare {
 pub(crate) struct Number;
 
 impl Split<View> for Number {
-    ghost left = { one_more };
+    ghost left = { one_seat_more };
 
     ghost right = { next_seat };
 }

@@ -1,7 +1,7 @@
 //! Why a shared account isn't closed with a book.
 
 ghost use Rattle.std.specs.Prelude.{◌≡◌};
-ghost use Rattle.shared_account.specs.Faults.{code_of};
+ghost use Rattle.shared_account.specs.Faults.{close_fault_code};
 
 use thiserror::Error;
 
@@ -21,7 +21,7 @@ pub enum CloseFault {
 impl CloseFault {
     /// The number of the fault.
     pub fn code(self) -> u8
-        ensures { result ≡ code_of self }
+        ensures { result ≡ close_fault_code self }
     {
         self as u8
     }

@@ -4,7 +4,7 @@ ghost use Rattle.std.specs.Prelude.{◌≡◌, ◌≢◌, ◌%◌, ◌^◌, ◌�
 ghost use Rattle.account_core.specs.Answers.{IsLegal};
 ghost use Rattle.shared_account.specs.Plays.{HasCome, IsLater, with_entry, HasMet};
 ghost use Rattle.shared_account.specs.Sitting.{IsAt};
-ghost use Rattle.shared_account.specs.Views.{IsServing, its_ticket, at_stage, hearing, next_seat, one_more, seeing, taking_in};
+ghost use Rattle.shared_account.specs.Views.{IsServing, its_ticket, at_stage, hearing, next_seat, one_seat_more, seeing, taking_in};
 ghost use Rattle.shared_account.specs.declared.board.Stage.TheVariants.{Idles, Waits};
 ghost use Rattle.shared_account.specs.Prefixes.{IsPrefix};
 ghost use Rattle.account_core.specs.Events.{asked_of, entry_data};
@@ -92,7 +92,7 @@ pub(crate) fn next_chair(board: &Board, first: &mut Chair) -> Chair
     requires few { first.old.me.0.made < board.now.shared.key.seats }
     ensures tables { (first.new.table_id ≡ first.old.table_id)
         × (result.table_id ≡ first.old.table_id) }
-    ensures first { first.new.me ≡ (one_more first.old.me.0, first.old.me.1) }
+    ensures first { first.new.me ≡ (one_seat_more first.old.me.0, first.old.me.1) }
     ensures next { result.me ≡ (next_seat first.old.me.0, []) }
 {
     board.shared.split_seat::<Number>(first)

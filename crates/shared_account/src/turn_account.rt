@@ -6,7 +6,7 @@ ghost use Rattle.shared_account.specs.Refusals.{Refusal};
 ghost use Rattle.shared_account.specs.Seats.{are_all};
 ghost use Rattle.shared_account.specs.Seen.{IsOpenedAs};
 ghost use Rattle.shared_account.specs.Plays.{with_entry};
-ghost use Rattle.shared_account.specs.Prefixes.{EndsWith, IsPrefix};
+ghost use Rattle.shared_account.specs.Prefixes.{EndsWithEntry, IsPrefix};
 ghost use Rattle.shared_account.specs.TurnViews.{IsSameSeat, fresh_turn_seats, own_of, unused};
 ghost use Rattle.shared_account.specs.Sitting.{IsAt};
 ghost use Rattle.shared_account.specs.Views.{IsServing, seeing};
@@ -124,7 +124,7 @@ impl TurnAccount {
         ensures same { IsSameSeat seat.old seat.new }
         ensures legal { IsLegal seat.new.view.opening seat.new.view.until seat.new.view.history }
         ensures begins { IsPrefix seat.old.view.history seat.new.view.history }
-        ensures ends { IfOk result (λ reply. EndsWith seat.old.view.history
+        ensures ends { IfOk result (λ reply. EndsWithEntry seat.old.view.history
             (event_by seat.old.number (asked_of op) reply) seat.new.view.history) }
         ensures own { MatchResult result
             (λ reply. own_of seat.new

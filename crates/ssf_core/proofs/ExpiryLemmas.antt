@@ -1,9 +1,9 @@
 -- An expiry is the table's, and the trace goes on by it.
 use Rattle.std.proofs.Common.{◌≡◌, ◌+◌, ◌≤◌, ◌++◌, ℕ, Some, List, [], ◌∷◌, refl, sym, ap, ◌∙◌, append_assoc, arith}
 use Rattle.ssf_core.specs.Happenings.{Happening, Expired, sent_at, sent_in}
-use Rattle.ssf_core.specs.Running.{HasRun}
-use Rattle.ssf_core.specs.Stages.{IsChargingTimely, IsSwitchTimely, IsTimely, due_by, next_of, stage_due, switch_due_of, tccd_due_of, tcp_due_of}
-use Rattle.ssf_core.specs.Stands.{StageMatches, StageStands, phase_of, running}
+use Rattle.ssf_core.specs.Running.{HasExpired}
+use Rattle.ssf_core.specs.Stages.{IsChargingTimely, IsSwitchTimely, IsTimelyStage, due_by, next_expiry_of, stage_due, switch_due_of, tccd_due_of, tcp_due_of}
+use Rattle.ssf_core.specs.Stands.{StageMatches, StageStands, ssf_phase_of, running_period}
 use Rattle.ssf_core.specs.Steps.{Expires}
 use Rattle.ssf_core.specs.Table.{on_expiry}
 use Rattle.ssf_core.specs.Traces.{MayFollow, due, due_in, period_due, phase_after}
@@ -41,7 +41,7 @@ tccd_timely_due now end (charging.Running release) d timely due = absurd (cc)
 tccd_timely_due now end (charging.Over m) d timely due = let same : m ≡ d = cc in omega arith
 
 -- no due moment of a timely stage lies behind
-pub timely_due : (now : ℕ) (s : Stage) (timer : Timer) (d : ℕ) → IsTimely now s → stage_due s timer ≡ Some d → now ≤ d
+pub timely_due : (now : ℕ) (s : Stage) (timer : Timer) (d : ℕ) → IsTimelyStage now s → stage_due s timer ≡ Some d → now ≤ d
 timely_due now stage.Unused timer d timely due = absurd (cc)
 timely_due now stage.Requested timer d timely due = absurd (cc)
 timely_due now (stage.Initial setup m) Tsw d timely due = switch_timely_due now setup.switch d timely.1 due
@@ -62,13 +62,13 @@ timely_due now (stage.Down m) Tccd d timely due = absurd (cc)
 timely_due now (stage.Down m) Tssf d timely due = let same : m ≡ d = cc in omega arith
 timely_due now stage.Ended timer d timely due = absurd (cc)
 
-period_due-running : (ch : Charging) (answer sum : ℕ) → period_due (running ch) (Some answer) sum ≡ tcp_due_of (answer + sum) ch
-period_due-running charging.Off answer sum = refl
-period_due-running (charging.Running release) answer sum = refl
-period_due-running (charging.Over m) answer sum = refl
+period_due-running_period : (ch : Charging) (answer sum : ℕ) → period_due (running_period ch) (Some answer) sum ≡ tcp_due_of (answer + sum) ch
+period_due-running_period charging.Off answer sum = refl
+period_due-running_period (charging.Running release) answer sum = refl
+period_due-running_period (charging.Over m) answer sum = refl
 
 -- the timers of a stage are due when the trace says
-pub due_in-stage : (config : SsfConfig) (t : List Happening) (s : Stage) (timer : Timer) → StageMatches config s t → due_in config t (phase_of s) timer ≡ stage_due s timer
+pub due_in-stage : (config : SsfConfig) (t : List Happening) (s : Stage) (timer : Timer) → StageMatches config s t → due_in config t (ssf_phase_of s) timer ≡ stage_due s timer
 due_in-stage config t stage.Unused Tsw m = refl
 due_in-stage config t stage.Unused Tcp m = refl
 due_in-stage config t stage.Unused Tccd m = refl
@@ -86,7 +86,7 @@ due_in-stage config t (stage.Setup setup) Tcp m = refl
 due_in-stage config t (stage.Setup setup) Tccd m = refl
 due_in-stage config t (stage.Setup setup) Tssf m = refl
 due_in-stage config t (stage.Active active) Tsw m = m.same_awaited
-due_in-stage config t (stage.Active active) Tcp m = rw (m.same_wish, m.same_answer, m.same_sum) (period_due-running active.charging active.answered active.granted)
+due_in-stage config t (stage.Active active) Tcp m = rw (m.same_wish, m.same_answer, m.same_sum) (period_due-running_period active.charging active.answered active.granted)
 due_in-stage config t (stage.Active active) Tccd m = m.same_wait
 due_in-stage config t (stage.Active active) Tssf m = refl
 due_in-stage config t (stage.Down moment) Tsw m = refl
@@ -110,7 +110,7 @@ next_happening config t e = record {
   sent = (on_expiry config.default_handling t (phase_after config t) e.due e.timer).sent;
 }
 
-stands_expired : (config : SsfConfig) (clock : ℕ) (s to : Stage) (t : List Happening) (e : Expiry) (before outs : List Out) → StageStands config clock s t → IsTimely clock s → next_of s ≡ Some e
+stands_expired : (config : SsfConfig) (clock : ℕ) (s to : Stage) (t : List Happening) (e : Expiry) (before outs : List Out) → StageStands config clock s t → IsTimelyStage clock s → next_expiry_of s ≡ Some e
     → Expires config s e.due e.timer to before outs → StageStands config e.due to (next_happening config t e ∷ t)
 stands_expired config clock s to t e before outs st timely next expires =
     let is_due = next_sound s e next in
@@ -129,12 +129,12 @@ stands_expired config clock s to t e before outs st timely next expires =
     }
 
 -- one expiry more
-pub runs_more : (config : SsfConfig) (t : List Happening) (clock : ℕ) (s to : Stage) (sent outs : List Out) (e : Expiry) → IsTimely clock s → next_of s ≡ Some e
-    → Expires config s e.due e.timer to sent outs → HasRun config t clock s sent → HasRun config t e.due to outs
+pub runs_more : (config : SsfConfig) (t : List Happening) (clock : ℕ) (s to : Stage) (sent outs : List Out) (e : Expiry) → IsTimelyStage clock s → next_expiry_of s ≡ Some e
+    → Expires config s e.due e.timer to sent outs → HasExpired config t clock s sent → HasExpired config t e.due to outs
 runs_more config t clock s to sent outs e timely next expires run =
     let trace = run.fired ++ t in
     let st = run.stands in
-    let effect = on_expiry config.default_handling trace (phase_of s) e.due e.timer in
+    let effect = on_expiry config.default_handling trace (ssf_phase_of s) e.due e.timer in
     let same : (next_happening config trace e).sent ≡ effect.sent = ap (λ p. (on_expiry config.default_handling trace p e.due e.timer).sent) st.phase in
     record {
       fired = next_happening config trace e ∷ run.fired;
@@ -148,11 +148,11 @@ runs_more config t clock s to sent outs e timely next expires run =
     }
 
 -- nothing has run yet
-pub runs_none : (config : SsfConfig) (t : List Happening) (clock : ℕ) (s : Stage) → StageStands config clock s t → HasRun config t clock s []
+pub runs_none : (config : SsfConfig) (t : List Happening) (clock : ℕ) (s : Stage) → StageStands config clock s t → HasExpired config t clock s []
 runs_none config t clock s st = record { fired = []; expiries = tt; stands = st; sends = append-none (sent_in t) }
 
 -- the clock goes on
-pub runs_later : (config : SsfConfig) (t : List Happening) (clock now : ℕ) (s : Stage) (sent : List Out) → clock ≤ now → HasRun config t clock s sent → HasRun config t now s sent
+pub runs_later : (config : SsfConfig) (t : List Happening) (clock now : ℕ) (s : Stage) (sent : List Out) → clock ≤ now → HasExpired config t clock s sent → HasExpired config t now s sent
 runs_later config t clock now s sent le run =
     let st = run.stands in
     let behind = st.behind in
@@ -165,14 +165,14 @@ runs_later config t clock now s sent le run =
 
 -- the facts of one expiry in a run of timers: it isn't behind the clock, and it is due, by now
 pub record Fires (clock now : ℕ) (s : Stage) (e : Expiry) : Type 0 where
-  pub is_next : next_of s ≡ Some e
+  pub is_next : next_expiry_of s ≡ Some e
   pub by_now : e.due ≤ now
-  pub timely : IsTimely e.due s
+  pub timely : IsTimelyStage e.due s
   pub is_due : stage_due s e.timer ≡ Some e.due
 
-pub fires : (clock now : ℕ) (s : Stage) (e : Expiry) → IsTimely clock s → due_by now (next_of s) ≡ Some e → Fires clock now s e
+pub fires : (clock now : ℕ) (s : Stage) (e : Expiry) → IsTimelyStage clock s → due_by now (next_expiry_of s) ≡ Some e → Fires clock now s e
 fires clock now s e timely is =
-    let (next, by_now) = due_by-some now (next_of s) e is in
+    let (next, by_now) = due_by-some now (next_expiry_of s) e is in
     let is_due = next_sound s e next in
     let le = timely_due clock s e.timer e.due timely is_due in
     record {

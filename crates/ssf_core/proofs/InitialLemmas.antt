@@ -16,9 +16,9 @@ use Rattle.cap_values.specs.declared.operation.ScfOp.{ScfOp}
 use Rattle.cap_values.specs.declared.operation.ScfOp.TheVariants.{RequestReport, ApplyCharging, Continue, ReleaseCall}
 use Rattle.ssf_core.specs.Happenings.{Happening, What, Took, Expired, sent_at, sent_in}
 use Rattle.ssf_core.specs.Laws.{InitialDpIsFirst, IsNoInitialDp}
-use Rattle.ssf_core.specs.Phases.{Phase, Unused, Requested, Initial, Setup, Active, Down, Ended}
+use Rattle.ssf_core.specs.Phases.{SsfPhase, Unused, Requested, Initial, Setup, Active, Down, Ended}
 use Rattle.ssf_core.specs.Quantities.{answered, granted, mode_at, pending, period_end}
-use Rattle.ssf_core.specs.Table.{Effect, after, any_watched, by_mode, ends, first_period, further_period, goes, is_fitting, last_report, notified, on_abandon, on_answer, on_apply_charging, on_continue, on_disconnect, on_event, on_expiry, on_failure, on_input, on_invoke, on_operation, on_period_end, on_release_call, on_request_report, on_trigger, on_tssf, report}
+use Rattle.ssf_core.specs.Table.{Effect, sent_before, any_watched, by_mode, ends, first_period, further_period, goes, is_fitting, last_report_sent, notified, on_abandon, on_answer, on_apply_charging, on_continue, on_disconnect, on_event, on_expiry, on_failure, on_input, on_invoke, on_operation, on_period_end, on_release_call, on_request_report, on_trigger, on_tssf, report}
 use Rattle.ssf_core.specs.Traces.{HasEffect, IsTrace, due_in, next_phase, phase_after}
 use Rattle.ssf_core.specs.declared.item.BcsmEvent.{BcsmEvent}
 use Rattle.ssf_core.specs.declared.item.BcsmEvent.TheVariants as met
@@ -45,7 +45,7 @@ NoneOf [] = ⊤
 NoneOf (item ∷ items) = IsNoInitialDp item × NoneOf items
 
 -- the call was triggered
-abbrev IsTriggered : Phase → Type 0
+abbrev IsTriggered : SsfPhase → Type 0
 IsTriggered Unused = ⊥
 IsTriggered Requested = ⊥
 IsTriggered _ = ⊤
@@ -68,7 +68,7 @@ none_after : (t : List Happening) (now : ℕ) (wish : Option Bool) (items : List
 none_after t now None items none = none
 none_after t now (Some release) items none = (tt, none)
 
-takes_request : (phase : Phase) → Takes (on_request_report phase)
+takes_request : (phase : SsfPhase) → Takes (on_request_report phase)
 takes_request Unused = tt
 takes_request Requested = tt
 takes_request Initial = (tt, tt)
@@ -86,7 +86,7 @@ takes_further None fits = tt
 takes_further (Some moment) true = (tt, tt)
 takes_further (Some moment) false = tt
 
-takes_charging : (t : List Happening) (now : ℕ) (charge : Charge) (phase : Phase) → Takes (on_apply_charging t now charge phase)
+takes_charging : (t : List Happening) (now : ℕ) (charge : Charge) (phase : SsfPhase) → Takes (on_apply_charging t now charge phase)
 takes_charging t now charge Unused = tt
 takes_charging t now charge Requested = tt
 takes_charging t now charge Initial = (takes_first (pending t)).0
@@ -99,7 +99,7 @@ takes_going_on : (watched : Bool) → Takes (Ok (if watched then goes (Proceed �
 takes_going_on true = ((tt, tt), tt)
 takes_going_on false = ((tt, (tt, tt)), tt)
 
-takes_continue : (t : List Happening) (phase : Phase) → Takes (on_continue t phase)
+takes_continue : (t : List Happening) (phase : SsfPhase) → Takes (on_continue t phase)
 takes_continue t Unused = tt
 takes_continue t Requested = tt
 takes_continue t Initial = takes_going_on (any_watched (mode_at t) || is_some (pending t))
@@ -108,7 +108,7 @@ takes_continue t Active = tt
 takes_continue t Down = ((tt, (tt, tt)), tt)
 takes_continue t Ended = tt
 
-takes_release : (t : List Happening) (now : ℕ) (cause : Cause) (phase : Phase) → Takes (on_release_call t now cause phase)
+takes_release : (t : List Happening) (now : ℕ) (cause : Cause) (phase : SsfPhase) → Takes (on_release_call t now cause phase)
 takes_release t now cause Unused = tt
 takes_release t now cause Requested = tt
 takes_release t now cause Initial = ((tt, (tt, tt)), tt)
@@ -117,13 +117,13 @@ takes_release t now cause Active = (none_after t now (pending t) (Clear cause �
 takes_release t now cause Down = ((tt, (tt, tt)), tt)
 takes_release t now cause Ended = tt
 
-takes_operation : (t : List Happening) (now : ℕ) (op : ScfOp) (phase : Phase) → Takes (on_operation t now op phase)
+takes_operation : (t : List Happening) (now : ℕ) (op : ScfOp) (phase : SsfPhase) → Takes (on_operation t now op phase)
 takes_operation t now (RequestReport arms) phase = takes_request phase
 takes_operation t now (ApplyCharging charge) phase = takes_charging t now charge phase
 takes_operation t now Continue phase = takes_continue t phase
 takes_operation t now (ReleaseCall cause) phase = takes_release t now cause phase
 
-takes_failure : (e : Event) (mode : Mode) (phase : Phase) → Takes (on_failure e mode phase)
+takes_failure : (e : Event) (mode : Mode) (phase : SsfPhase) → Takes (on_failure e mode phase)
 takes_failure e mode Unused = tt
 takes_failure e mode Requested = tt
 takes_failure e mode Initial = tt
@@ -137,7 +137,7 @@ none_notified e Interrupted = (tt, (tt, tt))
 none_notified e NotifyAndContinue = ((tt, tt), (tt, (tt, tt)))
 none_notified e Transparent = (tt, (tt, tt))
 
-takes_answer : (mode : Mode) (phase : Phase) → Takes (on_answer mode phase)
+takes_answer : (mode : Mode) (phase : SsfPhase) → Takes (on_answer mode phase)
 takes_answer mode Unused = tt
 takes_answer mode Requested = tt
 takes_answer mode Initial = tt
@@ -146,7 +146,7 @@ takes_answer mode Active = tt
 takes_answer mode Down = tt
 takes_answer mode Ended = tt
 
-takes_abandon : (mode : Mode) (phase : Phase) → Takes (on_abandon mode phase)
+takes_abandon : (mode : Mode) (phase : SsfPhase) → Takes (on_abandon mode phase)
 takes_abandon mode Unused = tt
 takes_abandon mode Requested = tt
 takes_abandon mode Initial = ((none_notified event.Abandon mode).1, tt)
@@ -155,7 +155,7 @@ takes_abandon mode Active = tt
 takes_abandon mode Down = tt
 takes_abandon mode Ended = tt
 
-takes_hung_up : (t : List Happening) (now : ℕ) (leg : Leg) (mode : Mode) → Takes (Ok (after (last_report t now) (by_mode event.Disconnect (Some leg) mode)))
+takes_hung_up : (t : List Happening) (now : ℕ) (leg : Leg) (mode : Mode) → Takes (Ok (sent_before (last_report_sent t now) (by_mode event.Disconnect (Some leg) mode)))
 takes_hung_up t now leg Interrupted =
     (none_after t now (pending t) (by_mode event.Disconnect (Some leg) Interrupted).sent (none_by_mode event.Disconnect (Some leg) Interrupted).0, tt)
 takes_hung_up t now leg NotifyAndContinue =
@@ -163,7 +163,7 @@ takes_hung_up t now leg NotifyAndContinue =
 takes_hung_up t now leg Transparent =
     (none_after t now (pending t) (by_mode event.Disconnect (Some leg) Transparent).sent (none_by_mode event.Disconnect (Some leg) Transparent).0, tt)
 
-takes_disconnect : (t : List Happening) (now : ℕ) (leg : Leg) (phase : Phase) → Takes (on_disconnect t now leg phase)
+takes_disconnect : (t : List Happening) (now : ℕ) (leg : Leg) (phase : SsfPhase) → Takes (on_disconnect t now leg phase)
 takes_disconnect t now leg Unused = tt
 takes_disconnect t now leg Requested = tt
 takes_disconnect t now leg Initial = tt
@@ -172,7 +172,7 @@ takes_disconnect t now leg Active = takes_hung_up t now leg (mode_at t (point.Di
 takes_disconnect t now leg Down = tt
 takes_disconnect t now leg Ended = tt
 
-takes_event : (t : List Happening) (now : ℕ) (e : BcsmEvent) (phase : Phase) → Takes (on_event t now e phase)
+takes_event : (t : List Happening) (now : ℕ) (e : BcsmEvent) (phase : SsfPhase) → Takes (on_event t now e phase)
 takes_event t now met.RouteSelectFailure phase = takes_failure event.RouteSelectFailure (mode_at t point.RouteSelectFailure) phase
 takes_event t now met.Busy phase = takes_failure event.CalledPartyBusy (mode_at t point.CalledPartyBusy) phase
 takes_event t now met.NoAnswer phase = takes_failure event.NoAnswer (mode_at t point.NoAnswer) phase
@@ -191,12 +191,12 @@ none_at_tssf handling.Release = ((tt, (tt, tt)), tt)
 -- ---- what was sent, by the phase
 
 -- nothing before the trigger, and no InitialDP behind the first item
-abbrev Opens : Phase → List Out → Type 0
+abbrev Opens : SsfPhase → List Out → Type 0
 Opens Unused outs = outs ≡ []
 Opens Requested outs = outs ≡ []
 Opens _ outs = All IsNone (drop 1 outs)
 
-opened : (phase : Phase) (outs : List Out) → Opens phase outs → All IsNone (drop 1 outs)
+opened : (phase : SsfPhase) (outs : List Out) → Opens phase outs → All IsNone (drop 1 outs)
 opened Unused outs is = subst (λ (l : List Out). All IsNone (drop 1 l)) (sym is) (All-nil IsNone)
 opened Requested outs is = subst (λ (l : List Out). All IsNone (drop 1 l)) (sym is) (All-nil IsNone)
 opened Initial outs is = is
@@ -205,7 +205,7 @@ opened Active outs is = is
 opened Down outs is = is
 opened Ended outs is = is
 
-opens : (phase : Phase) (outs : List Out) → IsTriggered phase → All IsNone (drop 1 outs) → Opens phase outs
+opens : (phase : SsfPhase) (outs : List Out) → IsTriggered phase → All IsNone (drop 1 outs) → Opens phase outs
 opens Unused outs triggered all = absurd triggered
 opens Requested outs triggered all = absurd triggered
 opens Initial outs triggered all = all
@@ -225,16 +225,16 @@ behind_first [] (out ∷ more) all rest = All-tail IsNone out more rest
 behind_first (out ∷ outs) more all rest = All-append IsNone outs more all rest
 
 -- an effect that sends none follows
-goes_on : (phase : Phase) (outs : List Out) (now : ℕ) (effect : Effect) → SendsNone effect → Opens phase outs → Opens effect.next (outs ++ sent_at now effect.sent)
+goes_on : (phase : SsfPhase) (outs : List Out) (now : ℕ) (effect : Effect) → SendsNone effect → Opens phase outs → Opens effect.next (outs ++ sent_at now effect.sent)
 goes_on phase outs now effect none is =
     opens effect.next (outs ++ sent_at now effect.sent) none.1 (behind_first outs (sent_at now effect.sent) (opened phase outs is) (none_sent now effect.sent none.0))
 
 -- an effect that is taken follows
-abbrev Follows : Phase → List Out → ℕ → Result Effect SsfFault → Type 0
+abbrev Follows : SsfPhase → List Out → ℕ → Result Effect SsfFault → Type 0
 Follows phase outs now (Ok effect) = Opens phase outs → Opens effect.next (outs ++ sent_at now effect.sent)
 Follows phase outs now (Err fault) = ⊤
 
-follows_by : (phase : Phase) (outs : List Out) (now : ℕ) (result : Result Effect SsfFault) → Takes result → Follows phase outs now result
+follows_by : (phase : SsfPhase) (outs : List Out) (now : ℕ) (result : Result Effect SsfFault) → Takes result → Follows phase outs now result
 follows_by phase outs now (Ok effect) takes = goes_on phase outs now effect takes
 follows_by phase outs now (Err fault) takes = tt
 
@@ -244,7 +244,7 @@ nothing_more outs is = subst (λ (l : List Out). l ++ [] ≡ []) (sym is) refl
 triggered_first : (outs : List Out) (out : Out) → outs ≡ [] → All IsNone (drop 1 (outs ++ out ∷ []))
 triggered_first outs out is = subst (λ (l : List Out). All IsNone (drop 1 (l ++ out ∷ []))) (sym is) (All-nil IsNone)
 
-follows_invoke : (phase : Phase) (outs : List Out) (now : ℕ) → Follows phase outs now (on_invoke phase)
+follows_invoke : (phase : SsfPhase) (outs : List Out) (now : ℕ) → Follows phase outs now (on_invoke phase)
 follows_invoke Unused outs now = nothing_more outs
 follows_invoke Requested outs now = tt
 follows_invoke Initial outs now = tt
@@ -253,7 +253,7 @@ follows_invoke Active outs now = tt
 follows_invoke Down outs now = tt
 follows_invoke Ended outs now = tt
 
-follows_trigger : (call : ℕ) (calling called : Number) (phase : Phase) (outs : List Out) (now : ℕ) → Follows phase outs now (on_trigger call calling called phase)
+follows_trigger : (call : ℕ) (calling called : Number) (phase : SsfPhase) (outs : List Out) (now : ℕ) → Follows phase outs now (on_trigger call calling called phase)
 follows_trigger call calling called Unused outs now = tt
 follows_trigger call calling called Requested outs now = triggered_first outs (record { at = now; item = Msg (message.InitialDp call calling called) })
 follows_trigger call calling called Initial outs now = tt
@@ -262,14 +262,14 @@ follows_trigger call calling called Active outs now = tt
 follows_trigger call calling called Down outs now = tt
 follows_trigger call calling called Ended outs now = tt
 
-follows_input : (t : List Happening) (phase : Phase) (outs : List Out) (now : ℕ) (input : Input) → Follows phase outs now (on_input t phase now input)
+follows_input : (t : List Happening) (phase : SsfPhase) (outs : List Out) (now : ℕ) (input : Input) → Follows phase outs now (on_input t phase now input)
 follows_input t phase outs now Invoke = follows_invoke phase outs now
 follows_input t phase outs now (Trigger call calling called) = follows_trigger call calling called phase outs now
 follows_input t phase outs now (Operate op) = follows_by phase outs now (on_operation t now op phase) (takes_operation t now op phase)
 follows_input t phase outs now (Meet e) = follows_by phase outs now (on_event t now e phase) (takes_event t now e phase)
 
 -- no timer runs before the trigger
-runs_triggered : (config : SsfConfig) (t : List Happening) (phase : Phase) (timer : Timer) (now : ℕ) → due_in config t phase timer ≡ Some now → IsTriggered phase
+runs_triggered : (config : SsfConfig) (t : List Happening) (phase : SsfPhase) (timer : Timer) (now : ℕ) → due_in config t phase timer ≡ Some now → IsTriggered phase
 runs_triggered config t Unused Tsw now runs = absurd (cc)
 runs_triggered config t Unused Tcp now runs = absurd (cc)
 runs_triggered config t Unused Tccd now runs = absurd (cc)
@@ -284,7 +284,7 @@ runs_triggered config t Active timer now runs = tt
 runs_triggered config t Down timer now runs = tt
 runs_triggered config t Ended timer now runs = tt
 
-none_expired : (default : DefaultHandling) (t : List Happening) (phase : Phase) (now : ℕ) (timer : Timer) → IsTriggered phase → SendsNone (on_expiry default t phase now timer)
+none_expired : (default : DefaultHandling) (t : List Happening) (phase : SsfPhase) (now : ℕ) (timer : Timer) → IsTriggered phase → SendsNone (on_expiry default t phase now timer)
 none_expired default t phase now Tsw triggered = (tt, triggered)
 none_expired default t phase now Tcp triggered = none_at_end t now (unwrap_or (pending t) false)
 none_expired default t phase now Tccd triggered = ((tt, (tt, tt)), tt)

@@ -5,8 +5,8 @@ use Rattle.ssf_core.specs.Calls.{fault_in, with_input}
 use Rattle.ssf_core.specs.Happenings.{Happening, What, sent_at, sent_in}
 use Rattle.ssf_core.specs.Stages.{IsQuiet}
 use Rattle.ssf_core.specs.Stands.{StageStands}
-use Rattle.ssf_core.specs.Steps.{Follows, IsTaken, TakesInput}
-use Rattle.ssf_core.specs.Table.{Effect, after, on_input}
+use Rattle.ssf_core.specs.Steps.{FollowsEffect, IsTakenInput, TakesInput}
+use Rattle.ssf_core.specs.Table.{Effect, sent_before, on_input}
 use Rattle.ssf_core.specs.Traces.{next_in, phase_after}
 use Rattle.ssf_core.specs.declared.config.SsfConfig.{SsfConfig}
 use Rattle.ssf_core.specs.declared.fault.SsfFault.{SsfFault}
@@ -22,7 +22,7 @@ sent_at-append now (item ∷ first) rest = ap (λ (outs : List Out). record { at
 
 -- an effect with items before its own
 pub follows_after : {config : SsfConfig} {t : List Happening} {now : ℕ} {what : What} {to : Stage} {before between behind : List Out} (first : List Item) (effect : Effect)
-    → between ≡ before ++ sent_at now first → Follows config t now what effect to between behind → Follows config t now what (after first effect) to before behind
+    → between ≡ before ++ sent_at now first → FollowsEffect config t now what effect to between behind → FollowsEffect config t now what (sent_before first effect) to before behind
 follows_after {now = now} {before = before} first effect is follows = record {
   phase = follows.phase;
   data' = follows.data';
@@ -40,7 +40,7 @@ pub record Taken (config : SsfConfig) (now : ℕ) (s : Stage) (t : List Happenin
   pub sends : sent_in (with_input now input t o) ≡ before ++ outs
 
 taken_as : (config : SsfConfig) (now : ℕ) (s : Stage) (t : List Happening) (input : Input) (before sent : List Out) (o : Result Effect SsfFault) (result : Result Stage SsfFault) (outs : List Out)
-    → StageStands config now s t → IsQuiet now s → sent_in t ≡ before ++ sent → on_input t (phase_after config t) now input ≡ o → IsTaken config t now input o result sent outs
+    → StageStands config now s t → IsQuiet now s → sent_in t ≡ before ++ sent → on_input t (phase_after config t) now input ≡ o → IsTakenInput config t now input o result sent outs
     → Taken config now s t input before o result outs
 taken_as config now s t input before sent (Ok effect) (Ok to) outs st quiet so_far is follows = record {
   refused = refl;
@@ -75,4 +75,4 @@ pub taken : (config : SsfConfig) (now : ℕ) (s : Stage) (t : List Happening) (i
     → Taken config now s t input before (on_input t (phase_after config t) now input) result outs
 taken config now s t input before sent result outs st quiet so_far takes =
     taken_as config now s t input before sent _ result outs st quiet so_far refl
-    (subst (λ p. IsTaken config t now input (on_input t p now input) result sent outs) (sym st.phase) (takes t st.data'))
+    (subst (λ p. IsTakenInput config t now input (on_input t p now input) result sent outs) (sym st.phase) (takes t st.data'))

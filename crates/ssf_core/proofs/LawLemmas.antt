@@ -14,11 +14,11 @@ use Rattle.cap_values.specs.declared.mode.Mode.TheVariants.{Interrupted, NotifyA
 use Rattle.cap_values.specs.declared.number.Number.{Number}
 use Rattle.cap_values.specs.declared.operation.ScfOp.TheVariants.{RequestReport, ApplyCharging, Continue, ReleaseCall}
 use Rattle.ssf_core.specs.Happenings.{Happening, What, Took, Expired}
-use Rattle.ssf_core.specs.Laws.{AllFit, EachReportFits, ItemFits, Fits, periods, periods_after, reports, reports_after}
-use Rattle.ssf_core.specs.Phases.{Phase, Unused, Requested, Initial, Setup, Active, Down, Ended}
+use Rattle.ssf_core.specs.Laws.{AllFit, EachReportFits, ItemFits, FitsTrace, periods, periods_after, reports, reports_after}
+use Rattle.ssf_core.specs.Phases.{SsfPhase, Unused, Requested, Initial, Setup, Active, Down, Ended}
 use Rattle.ssf_core.specs.Quantities.{answered, answered_after, granted, mode_at, pending, pending_after, period_end, period_end_after, switched}
 use Rattle.ssf_core.specs.Split.{split}
-use Rattle.ssf_core.specs.Table.{Effect, after, any_watched, by_mode, ends, first_period, further_period, goes, is_fitting, last_report, notified, on_abandon, on_answer, on_apply_charging, on_continue, on_disconnect, on_expiry, on_failure, on_input, on_invoke, on_period_end, on_release_call, on_request_report, on_trigger, on_tssf, report}
+use Rattle.ssf_core.specs.Table.{Effect, sent_before, any_watched, by_mode, ends, first_period, further_period, goes, is_fitting, last_report_sent, notified, on_abandon, on_answer, on_apply_charging, on_continue, on_disconnect, on_expiry, on_failure, on_input, on_invoke, on_period_end, on_release_call, on_request_report, on_trigger, on_tssf, report}
 use Rattle.ssf_core.specs.Traces.{ComesBefore, HasEffect, IsTrace, due, due_in, next_phase, period_due, phase_after, tcp_due}
 use Rattle.ssf_core.specs.declared.item.BcsmEvent.TheVariants as met
 use Rattle.ssf_core.specs.declared.config.DefaultHandling.{DefaultHandling}
@@ -38,7 +38,7 @@ owing None n = n
 owing (Some release) n = 1 + n
 
 -- before the answer, while it is active, and afterwards: the answer, and the periods accepted, of which each was reported but the pending one
-abbrev pub Known : Phase → Option ℕ → Option Bool → ℕ → ℕ → Type 0
+abbrev pub Known : SsfPhase → Option ℕ → Option Bool → ℕ → ℕ → Type 0
 Known Unused answer wish n r = (answer ≡ None) × (n ≡ owing wish r)
 Known Requested answer wish n r = (answer ≡ None) × (n ≡ owing wish r)
 Known Initial answer wish n r = (answer ≡ None) × (n ≡ owing wish r)
@@ -47,11 +47,11 @@ Known Active answer wish n r = ((moment : ℕ) × (answer ≡ Some moment)) × (
 Known Down answer wish n r = ⊤
 Known Ended answer wish n r = ⊤
 
-abbrev pub KnownOf : Phase → List Happening → Type 0
+abbrev pub KnownOf : SsfPhase → List Happening → Type 0
 KnownOf phase t = Known phase (answered t) (pending t) (periods t) (reports t)
 
 -- the end of the pending period lies ahead
-abbrev IsAhead : Phase → List Happening → ℕ → Type 0
+abbrev IsAhead : SsfPhase → List Happening → ℕ → Type 0
 IsAhead phase t now = (d : ℕ) → tcp_due t phase ≡ Some d → now < d
 
 -- an effect leaves what is known, and its reports fit
@@ -62,7 +62,7 @@ Keeps t now what effect =
 
 -- the items of an input: a report says that the call doesn't go on
 abbrev ItemIsLast : List Happening → ℕ → Item → Type 0
-ItemIsLast t now (Msg (message.ChargingReport active info)) = Fits t now active info × (active ≡ false)
+ItemIsLast t now (Msg (message.ChargingReport active info)) = FitsTrace t now active info × (active ≡ false)
 ItemIsLast t now (Msg (message.InitialDp call calling called)) = ⊤
 ItemIsLast t now (Msg (message.EventReport e leg mode)) = ⊤
 ItemIsLast t now (Msg message.Ended) = ⊤
@@ -115,7 +115,7 @@ ended_none (e ∷ t) d is = ended_next t e.at e.what d (ended_none t) is
 -- a report as of a moment of an active call, while a period is pending
 fits : (t : List Happening) (now moment : ℕ) (release goes_on : Bool) → answered t ≡ Some moment → pending t ≡ Some release → periods t ≡ owing (pending t) (reports t)
     → now ≤ moment + granted t → (goes_on ≡ true → now ≡ moment + granted t)
-    → Fits t now goes_on (split (unwrap_or (answered t) 0) (switched t) now)
+    → FitsTrace t now goes_on (split (unwrap_or (answered t) 0) (switched t) now)
 fits t now moment release goes_on answer wish counted within whole = record {
   answer = moment;
   was_answered = answer;
@@ -128,7 +128,7 @@ fits t now moment release goes_on answer wish counted within whole = record {
 
 -- the last report, and what is sent after it
 last_fits : (t : List Happening) (now moment : ℕ) (wish : Option Bool) (items : List Item) → pending t ≡ wish → answered t ≡ Some moment
-    → periods t ≡ owing (pending t) (reports t) → IsAhead Active t now → AllLast t now items → AllLast t now (last_report t now ++ items)
+    → periods t ≡ owing (pending t) (reports t) → IsAhead Active t now → AllLast t now items → AllLast t now (last_report_sent t now ++ items)
 last_fits t now moment None items is answer counted quiet rest =
     subst (λ (p : Option Bool). AllLast t now ((if is_some p then report t now false ∷ [] else []) ++ items)) (sym is) rest
 last_fits t now moment (Some release) items is answer counted quiet rest =
@@ -142,7 +142,7 @@ takes_by_mode t now input e leg Interrupted = (tt, (tt, tt))
 takes_by_mode t now input e leg NotifyAndContinue = (tt, (tt, (tt, tt)))
 takes_by_mode t now input e leg Transparent = (tt, (tt, tt))
 
-takes_invoke : (t : List Happening) (now : ℕ) (phase : Phase) → KnownOf phase t → IsAhead phase t now → Takes t now Invoke (on_invoke phase)
+takes_invoke : (t : List Happening) (now : ℕ) (phase : SsfPhase) → KnownOf phase t → IsAhead phase t now → Takes t now Invoke (on_invoke phase)
 takes_invoke t now Unused k quiet = (k, tt)
 takes_invoke t now Requested k quiet = tt
 takes_invoke t now Initial k quiet = tt
@@ -151,7 +151,7 @@ takes_invoke t now Active k quiet = tt
 takes_invoke t now Down k quiet = tt
 takes_invoke t now Ended k quiet = tt
 
-takes_trigger : (t : List Happening) (now : ℕ) (call : ℕ) (calling called : Number) (phase : Phase) → KnownOf phase t → IsAhead phase t now → Takes t now (Trigger call calling called) (on_trigger call calling called phase)
+takes_trigger : (t : List Happening) (now : ℕ) (call : ℕ) (calling called : Number) (phase : SsfPhase) → KnownOf phase t → IsAhead phase t now → Takes t now (Trigger call calling called) (on_trigger call calling called phase)
 takes_trigger t now call calling called Unused k quiet = tt
 takes_trigger t now call calling called Requested k quiet = (k, (tt, tt))
 takes_trigger t now call calling called Initial k quiet = tt
@@ -160,7 +160,7 @@ takes_trigger t now call calling called Active k quiet = tt
 takes_trigger t now call calling called Down k quiet = tt
 takes_trigger t now call calling called Ended k quiet = tt
 
-takes_request : (t : List Happening) (now : ℕ) (arms : Arms) (phase : Phase) → KnownOf phase t → IsAhead phase t now → Takes t now (Operate (RequestReport arms)) (on_request_report phase)
+takes_request : (t : List Happening) (now : ℕ) (arms : Arms) (phase : SsfPhase) → KnownOf phase t → IsAhead phase t now → Takes t now (Operate (RequestReport arms)) (on_request_report phase)
 takes_request t now arms Unused k quiet = tt
 takes_request t now arms Requested k quiet = tt
 takes_request t now arms Initial k quiet = (k, tt)
@@ -182,7 +182,7 @@ takes_further t now charge (Some d) true is k =
     ((k.0, ap (λ n. 1 + n) (k.1 ∙ ap (λ (p : Option Bool). owing p (reports t)) (ended_none t d is))), tt)
 takes_further t now charge (Some d) false is k = tt
 
-takes_charging : (t : List Happening) (now : ℕ) (charge : Charge) (phase : Phase) → KnownOf phase t → IsAhead phase t now → Takes t now (Operate (ApplyCharging charge)) (on_apply_charging t now charge phase)
+takes_charging : (t : List Happening) (now : ℕ) (charge : Charge) (phase : SsfPhase) → KnownOf phase t → IsAhead phase t now → Takes t now (Operate (ApplyCharging charge)) (on_apply_charging t now charge phase)
 takes_charging t now charge Unused k quiet = tt
 takes_charging t now charge Requested k quiet = tt
 takes_charging t now charge Initial k quiet = (takes_first t now charge (pending t) refl k.0 k.1).0
@@ -196,7 +196,7 @@ takes_going_on : (t : List Happening) (now : ℕ) (watched : Bool) → KnownOf S
 takes_going_on t now true k = (k, (tt, tt))
 takes_going_on t now false k = (tt, (tt, (tt, tt)))
 
-takes_continue : (t : List Happening) (now : ℕ) (phase : Phase) → KnownOf phase t → IsAhead phase t now → Takes t now (Operate Continue) (on_continue t phase)
+takes_continue : (t : List Happening) (now : ℕ) (phase : SsfPhase) → KnownOf phase t → IsAhead phase t now → Takes t now (Operate Continue) (on_continue t phase)
 takes_continue t now Unused k quiet = tt
 takes_continue t now Requested k quiet = tt
 takes_continue t now Initial k quiet = takes_going_on t now (any_watched (mode_at t) || is_some (pending t)) k
@@ -205,7 +205,7 @@ takes_continue t now Active k quiet = tt
 takes_continue t now Down k quiet = (tt, (tt, (tt, tt)))
 takes_continue t now Ended k quiet = tt
 
-takes_release : (t : List Happening) (now : ℕ) (cause : Cause) (phase : Phase) → KnownOf phase t → IsAhead phase t now → Takes t now (Operate (ReleaseCall cause)) (on_release_call t now cause phase)
+takes_release : (t : List Happening) (now : ℕ) (cause : Cause) (phase : SsfPhase) → KnownOf phase t → IsAhead phase t now → Takes t now (Operate (ReleaseCall cause)) (on_release_call t now cause phase)
 takes_release t now cause Unused k quiet = tt
 takes_release t now cause Requested k quiet = tt
 takes_release t now cause Initial k quiet = (tt, (tt, (tt, tt)))
@@ -214,7 +214,7 @@ takes_release t now cause Active k quiet = (tt, last_fits t now k.0.0 (pending t
 takes_release t now cause Down k quiet = (tt, (tt, (tt, tt)))
 takes_release t now cause Ended k quiet = tt
 
-takes_failure : (t : List Happening) (now : ℕ) (input : Input) (e : Event) (mode : Mode) (phase : Phase) → KnownOf phase t → IsAhead phase t now → Takes t now input (on_failure e mode phase)
+takes_failure : (t : List Happening) (now : ℕ) (input : Input) (e : Event) (mode : Mode) (phase : SsfPhase) → KnownOf phase t → IsAhead phase t now → Takes t now input (on_failure e mode phase)
 takes_failure t now input e mode Unused k quiet = tt
 takes_failure t now input e mode Requested k quiet = tt
 takes_failure t now input e mode Initial k quiet = tt
@@ -228,7 +228,7 @@ takes_answered t now Interrupted k = (((now, refl), k.1), tt)
 takes_answered t now NotifyAndContinue k = (((now, refl), k.1), (tt, tt))
 takes_answered t now Transparent k = (((now, refl), k.1), tt)
 
-takes_answer : (t : List Happening) (now : ℕ) (mode : Mode) (phase : Phase) → KnownOf phase t → IsAhead phase t now → Takes t now (Meet met.Answer) (on_answer mode phase)
+takes_answer : (t : List Happening) (now : ℕ) (mode : Mode) (phase : SsfPhase) → KnownOf phase t → IsAhead phase t now → Takes t now (Meet met.Answer) (on_answer mode phase)
 takes_answer t now mode Unused k quiet = tt
 takes_answer t now mode Requested k quiet = tt
 takes_answer t now mode Initial k quiet = tt
@@ -242,7 +242,7 @@ takes_given_up t now Interrupted = (tt, (tt, tt))
 takes_given_up t now NotifyAndContinue = (tt, (tt, (tt, tt)))
 takes_given_up t now Transparent = (tt, (tt, tt))
 
-takes_abandon : (t : List Happening) (now : ℕ) (mode : Mode) (phase : Phase) → KnownOf phase t → IsAhead phase t now → Takes t now (Meet met.Abandon) (on_abandon mode phase)
+takes_abandon : (t : List Happening) (now : ℕ) (mode : Mode) (phase : SsfPhase) → KnownOf phase t → IsAhead phase t now → Takes t now (Meet met.Abandon) (on_abandon mode phase)
 takes_abandon t now mode Unused k quiet = tt
 takes_abandon t now mode Requested k quiet = tt
 takes_abandon t now mode Initial k quiet = takes_given_up t now mode
@@ -252,12 +252,12 @@ takes_abandon t now mode Down k quiet = tt
 takes_abandon t now mode Ended k quiet = tt
 
 takes_hung_up : (t : List Happening) (now : ℕ) (leg : Leg) (mode : Mode) → KnownOf Active t → IsAhead Active t now
-    → Takes t now (Meet (met.Disconnect leg)) (Ok (after (last_report t now) (by_mode event.Disconnect (Some leg) mode)))
+    → Takes t now (Meet (met.Disconnect leg)) (Ok (sent_before (last_report_sent t now) (by_mode event.Disconnect (Some leg) mode)))
 takes_hung_up t now leg Interrupted k quiet = (tt, last_fits t now k.0.0 (pending t) (Msg (message.EventReport event.Disconnect (Some leg) Interrupted) ∷ []) refl k.0.1 k.1 quiet (tt, tt))
 takes_hung_up t now leg NotifyAndContinue k quiet = (tt, last_fits t now k.0.0 (pending t) (Msg (message.EventReport event.Disconnect (Some leg) NotifyAndContinue) ∷ Msg message.Ended ∷ []) refl k.0.1 k.1 quiet (tt, (tt, tt)))
 takes_hung_up t now leg Transparent k quiet = (tt, last_fits t now k.0.0 (pending t) (Msg message.Ended ∷ []) refl k.0.1 k.1 quiet (tt, tt))
 
-takes_disconnect : (t : List Happening) (now : ℕ) (leg : Leg) (phase : Phase) → KnownOf phase t → IsAhead phase t now → Takes t now (Meet (met.Disconnect leg)) (on_disconnect t now leg phase)
+takes_disconnect : (t : List Happening) (now : ℕ) (leg : Leg) (phase : SsfPhase) → KnownOf phase t → IsAhead phase t now → Takes t now (Meet (met.Disconnect leg)) (on_disconnect t now leg phase)
 takes_disconnect t now leg Unused k quiet = tt
 takes_disconnect t now leg Requested k quiet = tt
 takes_disconnect t now leg Initial k quiet = tt
@@ -266,7 +266,7 @@ takes_disconnect t now leg Active k quiet = takes_hung_up t now leg (mode_at t (
 takes_disconnect t now leg Down k quiet = tt
 takes_disconnect t now leg Ended k quiet = tt
 
-takes_input : (t : List Happening) (now : ℕ) (phase : Phase) (input : Input) → KnownOf phase t → IsAhead phase t now → Takes t now input (on_input t phase now input)
+takes_input : (t : List Happening) (now : ℕ) (phase : SsfPhase) (input : Input) → KnownOf phase t → IsAhead phase t now → Takes t now input (on_input t phase now input)
 takes_input t now phase Invoke k quiet = takes_invoke t now phase k quiet
 takes_input t now phase (Trigger call calling called) k quiet = takes_trigger t now call calling called phase k quiet
 takes_input t now phase (Operate (RequestReport arms)) k quiet = takes_request t now arms phase k quiet
@@ -293,7 +293,7 @@ keeps_period t now (Some false) (Some moment) is at runs k =
     let same : moment + granted t ≡ now = cc in
     ((k.0, k.1 ∙ ap (λ (p : Option Bool). owing p (reports t)) is), (fits t now moment false true at is k.1 (omega arith) (λ goes_on. sym same), tt))
 
-pub keeps_tcp : (t : List Happening) (now : ℕ) (phase : Phase) → KnownOf phase t → tcp_due t phase ≡ Some now
+pub keeps_tcp : (t : List Happening) (now : ℕ) (phase : SsfPhase) → KnownOf phase t → tcp_due t phase ≡ Some now
     → Keeps t now (Expired Tcp) (on_period_end t now (unwrap_or (pending t) false))
 keeps_tcp t now Unused k runs = absurd (cc)
 keeps_tcp t now Requested k runs = absurd (cc)
@@ -307,7 +307,7 @@ keeps_tssf : (t : List Happening) (now : ℕ) (default : DefaultHandling) → Ke
 keeps_tssf t now handling.Proceed = (tt, (tt, (tt, tt)))
 keeps_tssf t now handling.Release = (tt, (tt, (tt, tt)))
 
-keeps_expiry : (config : SsfConfig) (t : List Happening) (now : ℕ) (phase : Phase) (timer : Timer) → KnownOf phase t → due_in config t phase timer ≡ Some now
+keeps_expiry : (config : SsfConfig) (t : List Happening) (now : ℕ) (phase : SsfPhase) (timer : Timer) → KnownOf phase t → due_in config t phase timer ≡ Some now
     → Keeps t now (Expired timer) (on_expiry config.default_handling t phase now timer)
 keeps_expiry config t now phase Tsw k runs = (k, tt)
 keeps_expiry config t now phase Tcp k runs = keeps_tcp t now phase k runs

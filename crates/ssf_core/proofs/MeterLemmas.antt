@@ -9,12 +9,12 @@ use Rattle.cap_values.specs.CauseValues.{temporary_failure}
 use Rattle.cap_values.specs.declared.message.SsfMsg.TheVariants as message
 use Rattle.cap_values.specs.declared.operation.ScfOp.TheVariants.{RequestReport, ApplyCharging, Continue, ReleaseCall}
 use Rattle.tariff_core.specs.declared.times.TimeInfo.{TimeInfo}
-use Rattle.ssf_core.specs.Calls.{Advances, AreExpiries, IsExpiry, RunsUntil, Stands, Takes, View, with_input}
+use Rattle.ssf_core.specs.Calls.{Advances, AreExpiries, IsExpiry, RunsUntil, Stands, TakesAt, View, with_input}
 use Rattle.ssf_core.specs.Happenings.{Happening, What, Took, Expired, sent_at, sent_in}
-use Rattle.ssf_core.specs.Laws.{AllFit, Fits}
-use Rattle.ssf_core.specs.Meters.{EndsWith, Later, Meter, Metered, Reports, RunsThrough, Sends, meter_at, meter_of, paid_in}
-use Rattle.ssf_core.specs.Phases.{Phase, Unused, Requested, Initial, Setup, Active, Down, Ended}
-use Rattle.ssf_core.specs.Quantities.{granted, granted_after, last_moment, pending, pending_after, started_switch, switch_due, switch_due_after, switched, switched_after}
+use Rattle.ssf_core.specs.Laws.{AllFit, FitsTrace}
+use Rattle.ssf_core.specs.Meters.{EndsMeter, Later, Meter, Metered, Reports, RunsThrough, MetersItem, meter_at, meter_of, pays_for}
+use Rattle.ssf_core.specs.Phases.{SsfPhase, Unused, Requested, Initial, Setup, Active, Down, Ended}
+use Rattle.ssf_core.specs.Quantities.{granted, granted_after, last_happening_moment, pending, pending_after, started_switch, switch_due, switch_due_after, switched, switched_after}
 use Rattle.ssf_core.specs.Table.{Effect, on_expiry, on_input, on_period_end, on_tssf}
 use Rattle.ssf_core.specs.Traces.{ComesBefore, HasEffect, IsTrace, awaited_switch, due, phase_after, tsw_due}
 use Rattle.ssf_core.specs.declared.config.DefaultHandling.{DefaultHandling}
@@ -43,7 +43,7 @@ was_set : (came set : Option ℕ) (d : ℕ) → awaited_switch came set ≡ Some
 was_set None set d runs = ap (λ (x : Option ℕ). is_some x) runs
 was_set (Some moment) set d runs = absurd (cc)
 
-tsw_set : (t : List Happening) (phase : Phase) (d : ℕ) → tsw_due t phase ≡ Some d → is_some (switch_due t) ≡ true
+tsw_set : (t : List Happening) (phase : SsfPhase) (d : ℕ) → tsw_due t phase ≡ Some d → is_some (switch_due t) ≡ true
 tsw_set t Unused d runs = absurd (cc)
 tsw_set t Requested d runs = absurd (cc)
 tsw_set t Initial d runs = was_set (switched t) (switch_due t) d runs
@@ -52,7 +52,7 @@ tsw_set t Active d runs = was_set (switched t) (switch_due t) d runs
 tsw_set t Down d runs = absurd (cc)
 tsw_set t Ended d runs = absurd (cc)
 
-sound_next : (config : SsfConfig) (t : List Happening) (now : ℕ) (what : What) (sent : List Item) → Sound t (last_moment t) → last_moment t ≤ now
+sound_next : (config : SsfConfig) (t : List Happening) (now : ℕ) (what : What) (sent : List Item) → Sound t (last_happening_moment t) → last_happening_moment t ≤ now
     → HasEffect config t now what sent → Sound (record { at = now; what = what; sent = sent } ∷ t) now
 sound_next config t now (Took Invoke) sent before order has moment is = (le_trans (before moment is).0 order, (before moment is).1)
 sound_next config t now (Took (Trigger call calling called)) sent before order has moment is = (le_trans (before moment is).0 order, (before moment is).1)
@@ -72,7 +72,7 @@ sound_next config t now (Expired Tcp) sent before order has moment is = (le_tran
 sound_next config t now (Expired Tccd) sent before order has moment is = (le_trans (before moment is).0 order, (before moment is).1)
 sound_next config t now (Expired Tssf) sent before order has moment is = (le_trans (before moment is).0 order, (before moment is).1)
 
-sound : (config : SsfConfig) (t : List Happening) → IsTrace config t → Sound t (last_moment t)
+sound : (config : SsfConfig) (t : List Happening) → IsTrace config t → Sound t (last_happening_moment t)
 sound config [] is moment some = absurd (cc)
 sound config (e ∷ t) is moment some = sound_next config t e.at e.what e.sent (sound config t is.0) is.1.in_order is.1.has_effect moment some
 
@@ -147,7 +147,7 @@ ordered (Some seconds) now came before is = inr refl
 
 ends_next : (config : SsfConfig) (t : List Happening) (now : ℕ) (what : What) (sent : List Item) → KnownOf (phase_after config t) t
     → Sound (record { at = now; what = what; sent = sent } ∷ t) now → HasEffect config t now what sent
-    → EndsWith (paid_in what) (meter_at t now) (meter_of (record { at = now; what = what; sent = sent } ∷ t))
+    → EndsMeter (pays_for what) (meter_at t now) (meter_of (record { at = now; what = what; sent = sent } ∷ t))
 ends_next config t now (Took Invoke) sent k sound has = later_next config t now (Took Invoke) sent k sound has refl (λ none. none) refl
 ends_next config t now (Took (Trigger call calling called)) sent k sound has = later_next config t now (Took (Trigger call calling called)) sent k sound has refl (λ none. none) refl
 ends_next config t now (Took (Operate (RequestReport arms))) sent k sound has = later_next config t now (Took (Operate (RequestReport arms))) sent k sound has refl (λ none. none) refl
@@ -170,15 +170,15 @@ ends_next config t now (Expired Tssf) sent k sound has = later_next config t now
 -- items that leave the meter as it is
 abbrev AllSend : Meter → ℕ → List Item → Type 0
 AllSend meter now [] = ⊤
-AllSend meter now (item ∷ items) = Sends meter now item meter × AllSend meter now items
+AllSend meter now (item ∷ items) = MetersItem meter now item meter × AllSend meter now items
 
-runs_items : (orders : List Paid) (meter after : Meter) (now : ℕ) (items : List Item) → Later meter meter → AllSend meter now items → EndsWith orders meter after
+runs_items : (orders : List Paid) (meter after : Meter) (now : ℕ) (items : List Item) → Later meter meter → AllSend meter now items → EndsMeter orders meter after
     → RunsThrough orders meter (sent_at now items) after
 runs_items orders meter after now [] same all ends = (meter, (same, ends))
 runs_items orders meter after now (item ∷ items) same all ends =
     (meter, (same, (meter, (all.0, runs_items orders meter after now items same all.1 ends))))
 
-reports_last : (t : List Happening) (now : ℕ) (active : Bool) (info : TimeInfo) → Sound t now → Fits t now active info → active ≡ false
+reports_last : (t : List Happening) (now : ℕ) (active : Bool) (info : TimeInfo) → Sound t now → FitsTrace t now active info → active ≡ false
     → Reports (meter_at t now) now active info (meter_at t now)
 reports_last t now active info sound fits last = record {
   answer = fits.answer;
@@ -262,9 +262,9 @@ runs_expiry config t now Tssf sent k before sound runs has =
 runs_at : (config : SsfConfig) (t : List Happening) (now : ℕ) (what : What) (sent : List Item) → KnownOf (phase_after config t) t → Sound t now
     → Sound (record { at = now; what = what; sent = sent } ∷ t) now → ((timer : Timer) (d : ℕ) → due config t timer ≡ Some d → ComesBefore now what d timer)
     → HasEffect config t now what sent
-    → RunsThrough (paid_in what) (meter_at t now) (sent_at now sent) (meter_of (record { at = now; what = what; sent = sent } ∷ t))
+    → RunsThrough (pays_for what) (meter_at t now) (sent_at now sent) (meter_of (record { at = now; what = what; sent = sent } ∷ t))
 runs_at config t now (Took input) sent k before sound ahead has =
-    runs_items (paid_in (Took input)) (meter_at t now) (meter_of (record { at = now; what = Took input; sent = sent } ∷ t)) now sent (passes t now now before (le_refl now))
+    runs_items (pays_for (Took input)) (meter_at t now) (meter_of (record { at = now; what = Took input; sent = sent } ∷ t)) now sent (passes t now now before (le_refl now))
     (all_send t now sent before (taken config t now input sent k ahead has).1) (ends_next config t now (Took input) sent k sound has)
 runs_at config t now (Expired timer) sent k before sound ahead has =
     let (runs, same) = has in
@@ -273,17 +273,17 @@ runs_at config t now (Expired timer) sent k before sound ahead has =
 
 -- a happening, from the meter of the trace before it
 happens : (config : SsfConfig) (e : Happening) (t : List Happening) → IsTrace config (e ∷ t)
-    → RunsThrough (paid_in e.what) (meter_of t) (sent_at e.at e.sent) (meter_of (e ∷ t))
+    → RunsThrough (pays_for e.what) (meter_of t) (sent_at e.at e.sent) (meter_of (e ∷ t))
 happens config e t is =
     let before : Sound t e.at = λ moment some. (le_trans (sound config t is.0 moment some).0 is.1.in_order, (sound config t is.0 moment some).1) in
-    runs_later (paid_in e.what) (meter_of t) (meter_at t e.at) (meter_of (e ∷ t)) (sent_at e.at e.sent)
-    (passes t (last_moment t) e.at before is.1.in_order)
+    runs_later (pays_for e.what) (meter_of t) (meter_at t e.at) (meter_of (e ∷ t)) (sent_at e.at e.sent)
+    (passes t (last_happening_moment t) e.at before is.1.in_order)
     (runs_at config t e.at e.what e.sent (known config t is.0) before (sound config (e ∷ t) is) is.1.none_missed is.1.has_effect)
 
 still : (config : SsfConfig) (t : List Happening) → IsTrace config t → Later (meter_of t) (meter_of t)
-still config t is = passes t (last_moment t) (last_moment t) (sound config t is) (le_refl (last_moment t))
+still config t is = passes t (last_happening_moment t) (last_happening_moment t) (sound config t is) (le_refl (last_happening_moment t))
 
-expiry_pays : (what : What) → IsExpiry what → paid_in what ≡ []
+expiry_pays : (what : What) → IsExpiry what → pays_for what ≡ []
 expiry_pays (Took input) is = absurd is
 expiry_pays (Expired timer) is = refl
 
@@ -310,7 +310,7 @@ timed_sent config now t timed run =
     subst (λ (l : List Happening). (outs : List Out) × ((sent_in l ≡ sent_in t ++ outs) × RunsThrough [] (meter_of t) outs (meter_of l))) (sym run.follows)
     (fired_sent config run.fired t run.expiries is)
 
-refused : (orders : List Paid) (meter : Meter) → Later meter meter → EndsWith orders meter meter
+refused : (orders : List Paid) (meter : Meter) → Later meter meter → EndsMeter orders meter meter
 refused [] meter same = same
 refused (paid ∷ orders) meter same = inl same
 
@@ -334,14 +334,14 @@ advance_metered before after now sent advances meter shows =
 outcome_metered : (config : SsfConfig) (after : View) (now : ℕ) (input : Input) (t : List Happening) (outcome : Result Effect SsfFault) → IsTrace config t
     → Stands after (with_input now input t outcome)
     → (rest : List Out) × ((sent_in (with_input now input t outcome) ≡ sent_in t ++ rest)
-    × RunsThrough (paid_in (Took input)) (meter_of t) rest (meter_of (with_input now input t outcome)))
+    × RunsThrough (pays_for (Took input)) (meter_of t) rest (meter_of (with_input now input t outcome)))
 outcome_metered config after now input t (Ok effect) is stands =
     (sent_at now effect.sent, (refl, happens after.config (record { at = now; what = Took input; sent = effect.sent }) t stands.is_trace))
 outcome_metered config after now input t (Err fault) is stands =
-    ([], (sym (append-nil (sent_in t)), (meter_of t, (still config t is, refused (paid_in (Took input)) (meter_of t) (still config t is)))))
+    ([], (sym (append-nil (sent_in t)), (meter_of t, (still config t is, refused (pays_for (Took input)) (meter_of t) (still config t is)))))
 
 pub input_metered : (before after : View) (now : ℕ) (input : Input) (sent : List Out) (fault : Option SsfFault)
-    → ((t : List Happening) → Stands before t → Takes before after now input t sent fault) → Metered (paid_in (Took input)) before sent after
+    → ((t : List Happening) → Stands before t → TakesAt before after now input t sent fault) → Metered (pays_for (Took input)) before sent after
 input_metered before after now input sent fault takes meter shows =
     let (t, (stands, is)) = shows in
     let run = takes t stands in
@@ -354,21 +354,21 @@ input_metered before after now input sent fault takes meter shows =
       meter_of last,
       (
         (last, (run.stands, refl)),
-        rw (is, ← same) (runs_both (paid_in (Took input)) (meter_of t) (meter_of run.timed) (meter_of last) outs rest runs next),
+        rw (is, ← same) (runs_both (pays_for (Took input)) (meter_of t) (meter_of run.timed) (meter_of last) outs rest runs next),
       ),
     )
 
 by_order : (before after : View) (now : ℕ) (input : Input) (sent : List Out) (fault reason : Option SsfFault)
     → (now < before.last → (after ≡ before) × (fault ≡ reason) × (sent ≡ []))
-    → (before.last ≤ now → (t : List Happening) → Stands before t → Takes before after now input t sent fault)
-    → (now < before.last) ⊎ (before.last ≤ now) → Metered (paid_in (Took input)) before sent after
+    → (before.last ≤ now → (t : List Happening) → Stands before t → TakesAt before after now input t sent fault)
+    → (now < before.last) ⊎ (before.last ≤ now) → Metered (pays_for (Took input)) before sent after
 by_order before after now input sent fault reason backwards trace (inl behind) =
-    let (same, reason_is, none) = backwards behind in rw (same, none) (nothing_metered (paid_in (Took input)) before)
+    let (same, reason_is, none) = backwards behind in rw (same, none) (nothing_metered (pays_for (Took input)) before)
 by_order before after now input sent fault reason backwards trace (inr ahead) = input_metered before after now input sent fault (trace ahead)
 
 -- a call with an input, whether its moment lies behind or not
 pub call_metered : (before after : View) (now : ℕ) (input : Input) (sent : List Out) (fault reason : Option SsfFault)
     → (now < before.last → (after ≡ before) × (fault ≡ reason) × (sent ≡ []))
-    → (before.last ≤ now → (t : List Happening) → Stands before t → Takes before after now input t sent fault) → Metered (paid_in (Took input)) before sent after
+    → (before.last ≤ now → (t : List Happening) → Stands before t → TakesAt before after now input t sent fault) → Metered (pays_for (Took input)) before sent after
 call_metered before after now input sent fault reason backwards trace =
     by_order before after now input sent fault reason backwards trace (cases_lt now before.last)

@@ -18,11 +18,11 @@ use Rattle.cap_values.specs.declared.number.Number.{Number}
 use Rattle.cap_values.specs.declared.operation.ScfOp.TheVariants.{RequestReport, ApplyCharging, Continue, ReleaseCall}
 use Rattle.ssf_core.proofs.LawLemmas.{reports_fit}
 use Rattle.ssf_core.specs.Happenings.{Happening, What, Took, Expired, sent_at, sent_in}
-use Rattle.ssf_core.specs.Laws.{AllFit, IsInRange, ItemFits, ReportsAreInRange}
-use Rattle.ssf_core.specs.Phases.{Phase, Unused, Requested, Initial, Setup, Active, Down, Ended}
-use Rattle.ssf_core.specs.Quantities.{answered, granted, granted_after, last_moment, mode_at, pending, pending_after, period_end, switched, switched_after}
+use Rattle.ssf_core.specs.Laws.{AllFit, ItemIsInRange, ItemFits, ReportsAreInRange}
+use Rattle.ssf_core.specs.Phases.{SsfPhase, Unused, Requested, Initial, Setup, Active, Down, Ended}
+use Rattle.ssf_core.specs.Quantities.{answered, granted, granted_after, last_happening_moment, mode_at, pending, pending_after, period_end, switched, switched_after}
 use Rattle.ssf_core.specs.Split.{split}
-use Rattle.ssf_core.specs.Table.{Effect, after, any_watched, by_mode, ends, first_period, further_period, goes, is_fitting, last_report, on_abandon, on_answer, on_apply_charging, on_continue, on_disconnect, on_expiry, on_failure, on_input, on_invoke, on_period_end, on_release_call, on_request_report, on_trigger, on_tssf}
+use Rattle.ssf_core.specs.Table.{Effect, sent_before, any_watched, by_mode, ends, first_period, further_period, goes, is_fitting, last_report_sent, on_abandon, on_answer, on_apply_charging, on_continue, on_disconnect, on_expiry, on_failure, on_input, on_invoke, on_period_end, on_release_call, on_request_report, on_trigger, on_tssf}
 use Rattle.ssf_core.specs.Traces.{HasEffect, IsTrace, next_phase, phase_after}
 use Rattle.ssf_core.specs.declared.item.BcsmEvent.{BcsmEvent}
 use Rattle.ssf_core.specs.declared.item.BcsmEvent.TheVariants as met
@@ -43,7 +43,7 @@ use Rattle.tariff_core.specs.declared.times.TimeInfo.TheVariants as info
 -- ---- the sum of the periods is a day at most
 
 -- before the answer there is one period, or none; afterwards they are within a day
-abbrev IsSum : Phase → Option Bool → ℕ → Type 0
+abbrev IsSum : SsfPhase → Option Bool → ℕ → Type 0
 IsSum Unused wish sum = (wish ≡ None → sum ≡ 0) × (sum ≤ 864000)
 IsSum Requested wish sum = (wish ≡ None → sum ≡ 0) × (sum ≤ 864000)
 IsSum Initial wish sum = (wish ≡ None → sum ≡ 0) × (sum ≤ 864000)
@@ -52,10 +52,10 @@ IsSum Active wish sum = sum ≤ 864000
 IsSum Down wish sum = sum ≤ 864000
 IsSum Ended wish sum = sum ≤ 864000
 
-abbrev SumIn : Phase → List Happening → Type 0
+abbrev SumIn : SsfPhase → List Happening → Type 0
 SumIn phase t = IsSum phase (pending t) (granted t)
 
-small : (phase : Phase) (wish : Option Bool) (sum : ℕ) → IsSum phase wish sum → sum ≤ 864000
+small : (phase : SsfPhase) (wish : Option Bool) (sum : ℕ) → IsSum phase wish sum → sum ≤ 864000
 small Unused wish sum is = is.1
 small Requested wish sum is = is.1
 small Initial wish sum is = is.1
@@ -69,7 +69,7 @@ abbrev Sums : List Happening → Input → Result Effect SsfFault → Type 0
 Sums t input (Ok effect) = IsSum effect.next (pending_after (Took input) (pending t)) (granted_after (Took input) (granted t))
 Sums t input (Err fault) = ⊤
 
-sums_invoke : (t : List Happening) (phase : Phase) → SumIn phase t → Sums t Invoke (on_invoke phase)
+sums_invoke : (t : List Happening) (phase : SsfPhase) → SumIn phase t → Sums t Invoke (on_invoke phase)
 sums_invoke t Unused k = k
 sums_invoke t Requested k = tt
 sums_invoke t Initial k = tt
@@ -78,7 +78,7 @@ sums_invoke t Active k = tt
 sums_invoke t Down k = tt
 sums_invoke t Ended k = tt
 
-sums_trigger : (t : List Happening) (call : ℕ) (calling called : Number) (phase : Phase) → SumIn phase t → Sums t (Trigger call calling called) (on_trigger call calling called phase)
+sums_trigger : (t : List Happening) (call : ℕ) (calling called : Number) (phase : SsfPhase) → SumIn phase t → Sums t (Trigger call calling called) (on_trigger call calling called phase)
 sums_trigger t call calling called Unused k = tt
 sums_trigger t call calling called Requested k = k
 sums_trigger t call calling called Initial k = tt
@@ -87,7 +87,7 @@ sums_trigger t call calling called Active k = tt
 sums_trigger t call calling called Down k = tt
 sums_trigger t call calling called Ended k = tt
 
-sums_request : (t : List Happening) (arms : Arms) (phase : Phase) → SumIn phase t → Sums t (Operate (RequestReport arms)) (on_request_report phase)
+sums_request : (t : List Happening) (arms : Arms) (phase : SsfPhase) → SumIn phase t → Sums t (Operate (RequestReport arms)) (on_request_report phase)
 sums_request t arms Unused k = tt
 sums_request t arms Requested k = tt
 sums_request t arms Initial k = k
@@ -116,7 +116,7 @@ sums_further t charge None fits within = tt
 sums_further t charge (Some d) true within = within refl
 sums_further t charge (Some d) false within = tt
 
-sums_charging : (t : List Happening) (now : ℕ) (charge : Charge) (phase : Phase) → SumIn phase t → Sums t (Operate (ApplyCharging charge)) (on_apply_charging t now charge phase)
+sums_charging : (t : List Happening) (now : ℕ) (charge : Charge) (phase : SsfPhase) → SumIn phase t → Sums t (Operate (ApplyCharging charge)) (on_apply_charging t now charge phase)
 sums_charging t now charge Unused k = tt
 sums_charging t now charge Requested k = tt
 sums_charging t now charge Initial k = (sums_first t charge (pending t) refl k.0).0
@@ -130,7 +130,7 @@ sums_going_on : (t : List Happening) (watched : Bool) → SumIn Initial t → Su
 sums_going_on t true k = k
 sums_going_on t false k = k.1
 
-sums_continue : (t : List Happening) (phase : Phase) → SumIn phase t → Sums t (Operate Continue) (on_continue t phase)
+sums_continue : (t : List Happening) (phase : SsfPhase) → SumIn phase t → Sums t (Operate Continue) (on_continue t phase)
 sums_continue t Unused k = tt
 sums_continue t Requested k = tt
 sums_continue t Initial k = sums_going_on t (any_watched (mode_at t) || is_some (pending t)) k
@@ -139,7 +139,7 @@ sums_continue t Active k = tt
 sums_continue t Down k = k
 sums_continue t Ended k = tt
 
-sums_release : (t : List Happening) (now : ℕ) (cause : Cause) (phase : Phase) → SumIn phase t → Sums t (Operate (ReleaseCall cause)) (on_release_call t now cause phase)
+sums_release : (t : List Happening) (now : ℕ) (cause : Cause) (phase : SsfPhase) → SumIn phase t → Sums t (Operate (ReleaseCall cause)) (on_release_call t now cause phase)
 sums_release t now cause Unused k = tt
 sums_release t now cause Requested k = tt
 sums_release t now cause Initial k = k.1
@@ -154,12 +154,12 @@ sums_by_mode t met e leg NotifyAndContinue k = k
 sums_by_mode t met e leg Transparent k = k
 
 sums_hung_up : (t : List Happening) (now : ℕ) (met : BcsmEvent) (leg : Option Leg) (mode : Mode) → granted t ≤ 864000
-    → Sums t (Meet met) (Ok (after (last_report t now) (by_mode event.Disconnect leg mode)))
+    → Sums t (Meet met) (Ok (sent_before (last_report_sent t now) (by_mode event.Disconnect leg mode)))
 sums_hung_up t now met leg Interrupted k = k
 sums_hung_up t now met leg NotifyAndContinue k = k
 sums_hung_up t now met leg Transparent k = k
 
-sums_failure : (t : List Happening) (met : BcsmEvent) (e : Event) (mode : Mode) (phase : Phase) → SumIn phase t → Sums t (Meet met) (on_failure e mode phase)
+sums_failure : (t : List Happening) (met : BcsmEvent) (e : Event) (mode : Mode) (phase : SsfPhase) → SumIn phase t → Sums t (Meet met) (on_failure e mode phase)
 sums_failure t met e mode Unused k = tt
 sums_failure t met e mode Requested k = tt
 sums_failure t met e mode Initial k = tt
@@ -168,7 +168,7 @@ sums_failure t met e mode Active k = tt
 sums_failure t met e mode Down k = tt
 sums_failure t met e mode Ended k = tt
 
-sums_answer : (t : List Happening) (mode : Mode) (phase : Phase) → SumIn phase t → Sums t (Meet met.Answer) (on_answer mode phase)
+sums_answer : (t : List Happening) (mode : Mode) (phase : SsfPhase) → SumIn phase t → Sums t (Meet met.Answer) (on_answer mode phase)
 sums_answer t mode Unused k = tt
 sums_answer t mode Requested k = tt
 sums_answer t mode Initial k = tt
@@ -177,7 +177,7 @@ sums_answer t mode Active k = tt
 sums_answer t mode Down k = tt
 sums_answer t mode Ended k = tt
 
-sums_abandon : (t : List Happening) (mode : Mode) (phase : Phase) → SumIn phase t → Sums t (Meet met.Abandon) (on_abandon mode phase)
+sums_abandon : (t : List Happening) (mode : Mode) (phase : SsfPhase) → SumIn phase t → Sums t (Meet met.Abandon) (on_abandon mode phase)
 sums_abandon t mode Unused k = tt
 sums_abandon t mode Requested k = tt
 sums_abandon t mode Initial k = k.1
@@ -186,7 +186,7 @@ sums_abandon t mode Active k = tt
 sums_abandon t mode Down k = tt
 sums_abandon t mode Ended k = tt
 
-sums_disconnect : (t : List Happening) (now : ℕ) (leg : Leg) (phase : Phase) → SumIn phase t → Sums t (Meet (met.Disconnect leg)) (on_disconnect t now leg phase)
+sums_disconnect : (t : List Happening) (now : ℕ) (leg : Leg) (phase : SsfPhase) → SumIn phase t → Sums t (Meet (met.Disconnect leg)) (on_disconnect t now leg phase)
 sums_disconnect t now leg Unused k = tt
 sums_disconnect t now leg Requested k = tt
 sums_disconnect t now leg Initial k = tt
@@ -195,7 +195,7 @@ sums_disconnect t now leg Active k = sums_hung_up t now (met.Disconnect leg) (So
 sums_disconnect t now leg Down k = tt
 sums_disconnect t now leg Ended k = tt
 
-sums_input : (t : List Happening) (now : ℕ) (phase : Phase) (input : Input) → SumIn phase t → Sums t input (on_input t phase now input)
+sums_input : (t : List Happening) (now : ℕ) (phase : SsfPhase) (input : Input) → SumIn phase t → Sums t input (on_input t phase now input)
 sums_input t now phase Invoke k = sums_invoke t phase k
 sums_input t now phase (Trigger call calling called) k = sums_trigger t call calling called phase k
 sums_input t now phase (Operate (RequestReport arms)) k = sums_request t arms phase k
@@ -218,7 +218,7 @@ sums_tssf : (wish : Option Bool) (sum : ℕ) (default : DefaultHandling) → sum
 sums_tssf wish sum handling.Proceed k = k
 sums_tssf wish sum handling.Release k = k
 
-sums_expiry : (default : DefaultHandling) (t : List Happening) (now : ℕ) (phase : Phase) (timer : Timer) → SumIn phase t
+sums_expiry : (default : DefaultHandling) (t : List Happening) (now : ℕ) (phase : SsfPhase) (timer : Timer) → SumIn phase t
     → IsSum (on_expiry default t phase now timer).next (pending_after (Expired timer) (pending t)) (granted_after (Expired timer) (granted t))
 sums_expiry default t now phase Tsw k = k
 sums_expiry default t now phase Tcp k = sums_period_end t now None (unwrap_or (pending t) false) (small phase (pending t) (granted t) k)
@@ -253,9 +253,9 @@ came_by now last (Expired Tccd) (Some moment) le by = omega (arith, le, by)
 came_by now last (Expired Tssf) None le by = tt
 came_by now last (Expired Tssf) (Some moment) le by = omega (arith, le, by)
 
-switched_by : (config : SsfConfig) (t : List Happening) → IsTrace config t → IfSome (switched t) (λ moment. moment ≤ last_moment t)
+switched_by : (config : SsfConfig) (t : List Happening) → IsTrace config t → IfSome (switched t) (λ moment. moment ≤ last_happening_moment t)
 switched_by config [] is = tt
-switched_by config (e ∷ t) is = came_by e.at (last_moment t) e.what (switched t) is.1.in_order (switched_by config t is.0)
+switched_by config (e ∷ t) is = came_by e.at (last_happening_moment t) e.what (switched t) is.1.in_order (switched_by config t is.0)
 
 -- ---- a split within a day
 
@@ -283,25 +283,25 @@ switched_yet : (switch : Option ℕ) (last now : ℕ) → last ≤ now → IfSom
 switched_yet None last now le by = tt
 switched_yet (Some moment) last now le by = omega (arith, le, by)
 
-item_in_range : (config : SsfConfig) (t : List Happening) (now : ℕ) (item : Item) → IsTrace config t → last_moment t ≤ now → ItemFits t now item → IsInRange item
+item_in_range : (config : SsfConfig) (t : List Happening) (now : ℕ) (item : Item) → IsTrace config t → last_happening_moment t ≤ now → ItemFits t now item → ItemIsInRange item
 item_in_range config t now (Msg (message.ChargingReport active info)) is le fits =
     rw fits.exact
-    (split_in_range fits.answer (switched t) now (omega (arith, fits.within, granted_small config t is)) (switched_yet (switched t) (last_moment t) now le (switched_by config t is)))
+    (split_in_range fits.answer (switched t) now (omega (arith, fits.within, granted_small config t is)) (switched_yet (switched t) (last_happening_moment t) now le (switched_by config t is)))
 item_in_range config t now (Msg (message.InitialDp call calling called)) is le fits = tt
 item_in_range config t now (Msg (message.EventReport e leg mode)) is le fits = tt
 item_in_range config t now (Msg message.Ended) is le fits = tt
 item_in_range config t now Proceed is le fits = tt
 item_in_range config t now (Clear cause) is le fits = tt
 
-items_in_range : (config : SsfConfig) (t : List Happening) (now : ℕ) (items : List Item) → IsTrace config t → last_moment t ≤ now → AllFit t now items
-    → All (λ out. IsInRange out.item) (sent_at now items)
-items_in_range config t now [] is le fit = All-nil (λ (out : Out). IsInRange out.item)
+items_in_range : (config : SsfConfig) (t : List Happening) (now : ℕ) (items : List Item) → IsTrace config t → last_happening_moment t ≤ now → AllFit t now items
+    → All (λ out. ItemIsInRange out.item) (sent_at now items)
+items_in_range config t now [] is le fit = All-nil (λ (out : Out). ItemIsInRange out.item)
 items_in_range config t now (item ∷ items) is le fit =
-    All-cons (λ (out : Out). IsInRange out.item) (record { at = now; item = item }) (sent_at now items) (item_in_range config t now item is le fit.0)
+    All-cons (λ (out : Out). ItemIsInRange out.item) (record { at = now; item = item }) (sent_at now items) (item_in_range config t now item is le fit.0)
     (items_in_range config t now items is le fit.1)
 
 pub reports_in_range : ReportsAreInRange
-reports_in_range config [] is = All-nil (λ (out : Out). IsInRange out.item)
+reports_in_range config [] is = All-nil (λ (out : Out). ItemIsInRange out.item)
 reports_in_range config (e ∷ t) is =
-    All-append (λ (out : Out). IsInRange out.item) (sent_in t) (sent_at e.at e.sent) (reports_in_range config t is.0)
+    All-append (λ (out : Out). ItemIsInRange out.item) (sent_in t) (sent_at e.at e.sent) (reports_in_range config t is.0)
     (items_in_range config t e.at e.sent is.0 is.1.in_order (reports_fit config (e ∷ t) is).1)

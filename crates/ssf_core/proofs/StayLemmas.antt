@@ -4,7 +4,7 @@ use Rattle.cap_values.specs.declared.arming.Point.TheVariants as point
 use Rattle.cap_values.specs.declared.mode.Mode.{Mode}
 use Rattle.ssf_core.specs.Happenings.{Happening, What, Took, Expired}
 use Rattle.ssf_core.specs.Laws.{TheAnswerStays, TheSwitchStays}
-use Rattle.ssf_core.specs.Phases.{Phase, Unused, Requested, Initial, Setup, Active, Down, Ended}
+use Rattle.ssf_core.specs.Phases.{SsfPhase, Unused, Requested, Initial, Setup, Active, Down, Ended}
 use Rattle.ssf_core.specs.Quantities.{answered, answered_after, mode_at, switch_due, switched, switched_after}
 use Rattle.ssf_core.specs.Table.{Effect, on_answer}
 use Rattle.ssf_core.specs.Traces.{HasEffect, awaited_switch, phase_after, tsw_due}
@@ -16,7 +16,7 @@ use Rattle.ssf_core.specs.declared.timers.Timer.TheVariants.{Tsw, Tcp, Tccd, Tss
 use Rattle.ssf_core.proofs.LawLemmas.{KnownOf, known}
 
 -- an answer is taken before there is one
-answer_first : (t : List Happening) (now : ℕ) (mode : Mode) (phase : Phase) (effect : Effect) → KnownOf phase t → on_answer mode phase ≡ Ok effect → answered t ≡ None
+answer_first : (t : List Happening) (now : ℕ) (mode : Mode) (phase : SsfPhase) (effect : Effect) → KnownOf phase t → on_answer mode phase ≡ Ok effect → answered t ≡ None
 answer_first t now mode Unused effect k takes = absurd (cc)
 answer_first t now mode Requested effect k takes = absurd (cc)
 answer_first t now mode Initial effect k takes = absurd (cc)
@@ -51,7 +51,7 @@ switch_first : (t : List Happening) (came : Option ℕ) (set : Option ℕ) (d : 
 switch_first t None set d runs = refl
 switch_first t (Some moment) set d runs = absurd (cc)
 
-pub tsw_first : (t : List Happening) (phase : Phase) (d : ℕ) → tsw_due t phase ≡ Some d → switched t ≡ None
+pub tsw_first : (t : List Happening) (phase : SsfPhase) (d : ℕ) → tsw_due t phase ≡ Some d → switched t ≡ None
 tsw_first t Unused d runs = absurd (cc)
 tsw_first t Requested d runs = absurd (cc)
 tsw_first t Initial d runs = switch_first t (switched t) (switch_due t) d runs

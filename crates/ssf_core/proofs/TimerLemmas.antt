@@ -3,7 +3,7 @@ use Rattle.std.proofs.Common.{◌≡◌, ◌+◌, ◌<◌, ◌≤◌, ℕ, Bool,
 use Rattle.std.proofs.lemmas.Bool.Decides.{nat_tests}
 use Rattle.std.proofs.lemmas.Bool.{cases_lt}
 use Rattle.std.specs.Prelude.{if◌then◌else◌, nat_lt, nat_le}
-use Rattle.ssf_core.specs.Stages.{IsChargingTimely, IsQuiet, IsSwitchTimely, IsTimely, due_by, expiry_of, items_after_period, items_left, next_of, sooner_of, stage_due, switch_due_of, tccd_due_of, tcp_due_of}
+use Rattle.ssf_core.specs.Stages.{IsChargingTimely, IsQuiet, IsSwitchTimely, IsTimelyStage, due_by, expiry_of, items_after_period, items_left, next_expiry_of, sooner_of, stage_due, switch_due_of, tccd_due_of, tcp_due_of}
 use Rattle.ssf_core.specs.Traces.{rank}
 use Rattle.ssf_core.specs.declared.stage.Charging.{Charging}
 use Rattle.ssf_core.specs.declared.stage.Charging.TheVariants as charging
@@ -66,7 +66,7 @@ rank_own timer later None le e is = absurd (cc)
 rank_own timer later (Some m) le e is = let same : timer ≡ e.timer = cc in subst (λ (x : Timer). rank x ≤ rank later) same le
 
 -- the next expiry comes before every timer that is due
-pub next_leads : (s : Stage) (timer : Timer) → Leads (next_of s) timer (stage_due s timer)
+pub next_leads : (s : Stage) (timer : Timer) → Leads (next_expiry_of s) timer (stage_due s timer)
 next_leads s Tsw = leads_left (expiry_of Tsw (stage_due s Tsw)) _ Tsw _ (leads_own Tsw (stage_due s Tsw))
 next_leads s Tcp =
     leads_right (expiry_of Tsw (stage_due s Tsw)) _ Tcp _ (rank_own Tsw Tcp (stage_due s Tsw) (omega arith))
@@ -96,7 +96,7 @@ sound_sooner s (Some e) None sx sy = sx
 sound_sooner s (Some e) (Some f) sx sy = sound_if s (nat_lt f.due e.due) e f sx sy
 
 -- the timer of the next expiry is due then
-pub next_sound : (s : Stage) → Sound s (next_of s)
+pub next_sound : (s : Stage) → Sound s (next_expiry_of s)
 next_sound s =
     sound_sooner s _ _ (sound_own s Tsw (stage_due s Tsw) refl)
     (sound_sooner s _ _ (sound_own s Tcp (stage_due s Tcp) refl)
@@ -125,15 +125,15 @@ later_than e timer d (inl sooner) = omega arith
 later_than e timer d (inr (at, order)) = omega arith
 
 -- where no expiry is due by now, no timer is
-pub quiet_by : (now : ℕ) (s : Stage) → due_by now (next_of s) ≡ None → IsQuiet now s
+pub quiet_by : (now : ℕ) (s : Stage) → due_by now (next_expiry_of s) ≡ None → IsQuiet now s
 quiet_by now s none timer d is =
     let (e, next, before) = next_leads s timer d is in
     let le = later_than e timer d before in
-    let lt = due_by-none now (next_of s) e none next in
+    let lt = due_by-none now (next_expiry_of s) e none next in
     omega (arith, le, lt)
 
 -- the next expiry comes first
-pub next_first : (s : Stage) (e : Expiry) → next_of s ≡ Some e → (timer : Timer) (d : ℕ) → stage_due s timer ≡ Some d → Before e timer d
+pub next_first : (s : Stage) (e : Expiry) → next_expiry_of s ≡ Some e → (timer : Timer) (d : ℕ) → stage_due s timer ≡ Some d → Before e timer d
 next_first s e next timer d is =
     let (f, also, before) = next_leads s timer d is in
     let same : f ≡ e = cc in subst (λ (y : Expiry). Before y timer d) same before
@@ -150,7 +150,7 @@ charging_later clock now end (charging.Running release) tcp tccd = tcp end refl
 charging_later clock now end (charging.Over m) tcp tccd = tccd m refl
 
 -- a stage stays timely up to its least due moment
-pub timely_later : (clock now : ℕ) (s : Stage) → IsTimely clock s → clock ≤ now → ((timer : Timer) (d : ℕ) → stage_due s timer ≡ Some d → now ≤ d) → IsTimely now s
+pub timely_later : (clock now : ℕ) (s : Stage) → IsTimelyStage clock s → clock ≤ now → ((timer : Timer) (d : ℕ) → stage_due s timer ≡ Some d → now ≤ d) → IsTimelyStage now s
 timely_later clock now stage.Unused timely le all = tt
 timely_later clock now stage.Requested timely le all = tt
 timely_later clock now (stage.Initial setup m) timely le all = (all Tssf m refl, switch_later clock now setup.switch timely.1 le (all Tsw))

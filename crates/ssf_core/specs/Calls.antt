@@ -57,7 +57,7 @@ pub record Advances (before after : View) (now : ℕ) (trace : List Happening) (
   pub sends : sent_in timed ≡ sent_in trace ++ sent
 
 -- an input comes: the timers run, and then it is taken or refused as the table says
-pub record Takes (before after : View) (now : ℕ) (input : Input) (trace : List Happening) (sent : List Out) (fault : Option SsfFault) : Type 0 where
+pub record TakesAt (before after : View) (now : ℕ) (input : Input) (trace : List Happening) (sent : List Out) (fault : Option SsfFault) : Type 0 where
   pub timed : List Happening
   pub runs : RunsUntil before.config now trace timed
   pub refused : fault ≡ fault_in (on_input timed (phase_after before.config timed) now input)

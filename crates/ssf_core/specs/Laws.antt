@@ -24,14 +24,14 @@ periods [] = 0
 periods (e ∷ trace) = periods_after e.what (periods trace)
 
 -- one report more, where the item is a report of a call that goes on
-abbrev pub report_after : Item → ℕ → ℕ
-report_after (Msg (ChargingReport active info)) before = 1 + before
-report_after _ before = before
+abbrev pub report_count_after : Item → ℕ → ℕ
+report_count_after (Msg (ChargingReport active info)) before = 1 + before
+report_count_after _ before = before
 
 -- one more for each charging report among these items
 abbrev pub reports_after : List Item → ℕ → ℕ
 reports_after [] before = before
-reports_after (item ∷ items) before = report_after item (reports_after items before)
+reports_after (item ∷ items) before = report_count_after item (reports_after items before)
 
 -- how many charging reports were sent
 abbrev pub reports : List Happening → ℕ
@@ -39,7 +39,7 @@ reports [] = 0
 reports (e ∷ trace) = reports_after e.sent (reports trace)
 
 -- a report after a trace, as of a moment: the exact split, while a period is pending, within the sum of the periods, where the call goes on just that sum; and of as many periods as were accepted it is the last one's
-pub record Fits (trace : List Happening) (now : ℕ) (active : Bool) (info : TimeInfo) : Type 0 where
+pub record FitsTrace (trace : List Happening) (now : ℕ) (active : Bool) (info : TimeInfo) : Type 0 where
   pub answer : ℕ
   pub was_answered : answered trace ≡ Some answer
   pub exact : info ≡ split answer (switched trace) now
@@ -50,7 +50,7 @@ pub record Fits (trace : List Happening) (now : ℕ) (active : Bool) (info : Tim
 
 -- a report fits the trace before it; any other item does
 abbrev pub ItemFits : List Happening → ℕ → Item → Type 0
-ItemFits trace now (Msg (ChargingReport active info)) = Fits trace now active info
+ItemFits trace now (Msg (ChargingReport active info)) = FitsTrace trace now active info
 ItemFits trace now _ = ⊤
 
 -- each item that was sent at one moment fits
@@ -80,13 +80,13 @@ TheSwitchStays =
     → switched (later ++ trace) ≡ Some moment
 
 -- the times of a charging report lie within their ranges
-abbrev pub IsInRange : Item → Type 0
-IsInRange (Msg (ChargingReport active info)) = is_time_info info ≡ true
-IsInRange _ = ⊤
+abbrev pub ItemIsInRange : Item → Type 0
+ItemIsInRange (Msg (ChargingReport active info)) = is_time_info info ≡ true
+ItemIsInRange _ = ⊤
 
 -- so do those of each report that is sent
 abbrev pub ReportsAreInRange : Type 0
-ReportsAreInRange = (config : SsfConfig) (trace : List Happening) → IsTrace config trace → All (λ out. IsInRange out.item) (sent_in trace)
+ReportsAreInRange = (config : SsfConfig) (trace : List Happening) → IsTrace config trace → All (λ out. ItemIsInRange out.item) (sent_in trace)
 
 -- an item that is no InitialDP
 abbrev pub IsNoInitialDp : Item → Type 0

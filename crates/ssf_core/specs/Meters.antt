@@ -5,7 +5,7 @@ use Rattle.cap_values.specs.declared.message.SsfMsg.TheVariants.{ChargingReport}
 use Rattle.tariff_core.specs.declared.times.TimeInfo.{TimeInfo}
 use Rattle.ssf_core.specs.Calls.{Stands, View}
 use Rattle.ssf_core.specs.Happenings.{Happening, What, Took}
-use Rattle.ssf_core.specs.Quantities.{answered, granted, last_moment, pending, switch_due, switched}
+use Rattle.ssf_core.specs.Quantities.{answered, granted, last_happening_moment, pending, switch_due, switched}
 use Rattle.ssf_core.specs.Split.{split}
 use Rattle.ssf_core.specs.declared.ssf.Input.TheVariants.{Operate}
 use Rattle.ssf_core.specs.declared.item.Item.{Item}
@@ -34,7 +34,7 @@ meter_at trace now = record {
 
 -- the meter of a trace
 abbrev pub meter_of : List Happening → Meter
-meter_of trace = meter_at trace (last_moment trace)
+meter_of trace = meter_at trace (last_happening_moment trace)
 
 -- time passes, and no period is taken: the sum stays, nothing becomes pending, answer and switch stay once they are there, and a switch that comes was ordered and isn't behind
 pub record Later (before after : Meter) : Type 0 where
@@ -63,9 +63,9 @@ pub record Reports (before : Meter) (now : ℕ) (active : Bool) (info : TimeInfo
   pub moment : now ≤ after.last
 
 -- an item is sent as of a moment
-abbrev pub Sends : Meter → ℕ → Item → Meter → Type 0
-Sends before now (Msg (ChargingReport active info)) after = Reports before now active info after
-Sends before now _ after = Later before after
+abbrev pub MetersItem : Meter → ℕ → Item → Meter → Type 0
+MetersItem before now (Msg (ChargingReport active info)) after = Reports before now active info after
+MetersItem before now _ after = Later before after
 
 -- a period is taken: it adds to the sum; a switch is awaited from now on only if it was, or if the order has one
 pub record TakesPeriod (paid : Paid) (before after : Meter) : Type 0 where
@@ -77,20 +77,20 @@ pub record TakesPeriod (paid : Paid) (before after : Meter) : Type 0 where
   pub no_fall : before.last ≤ after.last
 
 -- after all items: an order of a period is refused or taken
-abbrev pub EndsWith : List Paid → Meter → Meter → Type 0
-EndsWith [] before after = Later before after
-EndsWith (paid ∷ orders) before after = Later before after ⊎ TakesPeriod paid before after
+abbrev pub EndsMeter : List Paid → Meter → Meter → Type 0
+EndsMeter [] before after = Later before after
+EndsMeter (paid ∷ orders) before after = Later before after ⊎ TakesPeriod paid before after
 
 -- the items are sent one after the other, and time passes between them
 abbrev pub RunsThrough : List Paid → Meter → List Out → Meter → Type 0
-RunsThrough orders before [] after = (ready : Meter) × (Later before ready × EndsWith orders ready after)
+RunsThrough orders before [] after = (ready : Meter) × (Later before ready × EndsMeter orders ready after)
 RunsThrough orders before (out ∷ outs) after =
-    (ready : Meter) × (Later before ready × ((sent : Meter) × (Sends ready out.at out.item sent × RunsThrough orders sent outs after)))
+    (ready : Meter) × (Later before ready × ((sent : Meter) × (MetersItem ready out.at out.item sent × RunsThrough orders sent outs after)))
 
 -- what an input pays for
-abbrev pub paid_in : What → List Paid
-paid_in (Took (Operate op)) = paid_by (order_of op ∷ [])
-paid_in _ = []
+abbrev pub pays_for : What → List Paid
+pays_for (Took (Operate op)) = paid_by (order_of op ∷ [])
+pays_for _ = []
 
 -- the gsmSSF shows a meter: that of a trace that it stands for
 abbrev pub Shows : View → Meter → Type 0

@@ -3,21 +3,21 @@ use Rattle.ssf_core.specs.declared.stage.State.{State}
 use Rattle.ssf_core.specs.declared.stage.State.TheVariants as state
 
 -- Idle and never invoked; WaitForRequest; WaitingForInstructions before the call goes on (Initial) or after it was interrupted (Down); Monitoring before the answer (Setup) or after it (Active); Idle for good
-pub data Phase : Type 0 where
-  Unused : Phase
-  Requested : Phase
-  Initial : Phase
-  Setup : Phase
-  Active : Phase
-  Down : Phase
-  Ended : Phase
+pub data SsfPhase : Type 0 where
+  Unused : SsfPhase
+  Requested : SsfPhase
+  Initial : SsfPhase
+  Setup : SsfPhase
+  Active : SsfPhase
+  Down : SsfPhase
+  Ended : SsfPhase
 
 -- the state of a phase
-abbrev pub state_in : Phase → State
-state_in Unused = state.Idle
-state_in Requested = state.WaitForRequest
-state_in Initial = state.WaitingForInstructions
-state_in Setup = state.Monitoring
-state_in Active = state.Monitoring
-state_in Down = state.WaitingForInstructions
-state_in Ended = state.Idle
+abbrev pub state_of_phase : SsfPhase → State
+state_of_phase Unused = state.Idle
+state_of_phase Requested = state.WaitForRequest
+state_of_phase Initial = state.WaitingForInstructions
+state_of_phase Setup = state.Monitoring
+state_of_phase Active = state.Monitoring
+state_of_phase Down = state.WaitingForInstructions
+state_of_phase Ended = state.Idle

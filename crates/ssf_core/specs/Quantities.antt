@@ -99,6 +99,6 @@ mode_at [] point = Transparent
 mode_at (e ∷ trace) point = mode_after e.what point (mode_at trace point)
 
 -- the moment of the last happening
-abbrev pub last_moment : List Happening → ℕ
-last_moment [] = 0
-last_moment (e ∷ trace) = e.at
+abbrev pub last_happening_moment : List Happening → ℕ
+last_happening_moment [] = 0
+last_happening_moment (e ∷ trace) = e.at

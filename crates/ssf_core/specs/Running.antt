@@ -8,7 +8,7 @@ use Rattle.ssf_core.specs.declared.item.Out.{Out}
 use Rattle.ssf_core.specs.declared.stage.Stage.{Stage}
 
 -- the trace has gone on by these expiries, and the stage stands for it by the clock
-pub record HasRun (config : SsfConfig) (trace : List Happening) (clock : ℕ) (stage : Stage) (sent : List Out) : Type 0 where
+pub record HasExpired (config : SsfConfig) (trace : List Happening) (clock : ℕ) (stage : Stage) (sent : List Out) : Type 0 where
   pub fired : List Happening
   pub expiries : AreExpiries fired
   pub stands : StageStands config clock stage (fired ++ trace)
@@ -16,4 +16,4 @@ pub record HasRun (config : SsfConfig) (trace : List Happening) (clock : ℕ) (s
 
 -- from each trace that the first stage stands for
 abbrev pub Runs : SsfConfig → ℕ → Stage → List Happening → ℕ → Stage → List Out → Type 0
-Runs config last first trace clock stage sent = StageStands config last first trace → HasRun config trace clock stage sent
+Runs config last first trace clock stage sent = StageStands config last first trace → HasExpired config trace clock stage sent

@@ -23,10 +23,10 @@ started (switch.Due moment) now (Some seconds) = switch.Due (now + 10 * seconds)
 started (switch.Due moment) now None = switch.Due moment
 
 -- the moment of the switch, once it came
-abbrev pub passed : Switch → Option ℕ
-passed switch.Unset = None
-passed (switch.Due moment) = None
-passed (switch.Passed moment) = Some moment
+abbrev pub passed_switch : Switch → Option ℕ
+passed_switch switch.Unset = None
+passed_switch (switch.Due moment) = None
+passed_switch (switch.Passed moment) = Some moment
 
 -- when Tsw is due
 abbrev pub switch_due_of : Switch → Option ℕ
@@ -104,14 +104,14 @@ pub record IsActiveTimely (now : ℕ) (active : Active) : Type 0 where
   pub switch : IsSwitchTimely now active.switch
 
 -- what was is behind, and no due moment is
-abbrev pub IsTimely : ℕ → Stage → Type 0
-IsTimely now stage.Unused = Unit {0}
-IsTimely now stage.Requested = Unit {0}
-IsTimely now (stage.Initial setup moment) = (now ≤ moment) × IsSwitchTimely now setup.switch
-IsTimely now (stage.Setup setup) = IsSwitchTimely now setup.switch
-IsTimely now (stage.Active active) = IsActiveTimely now active
-IsTimely now (stage.Down moment) = now ≤ moment
-IsTimely now stage.Ended = Unit {0}
+abbrev pub IsTimelyStage : ℕ → Stage → Type 0
+IsTimelyStage now stage.Unused = Unit {0}
+IsTimelyStage now stage.Requested = Unit {0}
+IsTimelyStage now (stage.Initial setup moment) = (now ≤ moment) × IsSwitchTimely now setup.switch
+IsTimelyStage now (stage.Setup setup) = IsSwitchTimely now setup.switch
+IsTimelyStage now (stage.Active active) = IsActiveTimely now active
+IsTimelyStage now (stage.Down moment) = now ≤ moment
+IsTimelyStage now stage.Ended = Unit {0}
 
 -- no timer is due by now
 abbrev pub IsQuiet : ℕ → Stage → Type 0
@@ -139,15 +139,15 @@ sooner_of (Some first) None = Some first
 sooner_of (Some first) (Some second) = if nat_lt second.due first.due then Some second else Some first
 
 -- the next expiry of a stage
-abbrev pub next_of : Stage → Option Expiry
-next_of stage =
+abbrev pub next_expiry_of : Stage → Option Expiry
+next_expiry_of stage =
     sooner_of (expiry_of Tsw (stage_due stage Tsw))
     (sooner_of (expiry_of Tcp (stage_due stage Tcp)) (sooner_of (expiry_of Tccd (stage_due stage Tccd)) (expiry_of Tssf (stage_due stage Tssf))))
 
 -- the moment of an expiry
-abbrev pub moment_of : Option Expiry → Option ℕ
-moment_of None = None
-moment_of (Some expiry) = Some expiry.due
+abbrev pub expiry_moment : Option Expiry → Option ℕ
+expiry_moment None = None
+expiry_moment (Some expiry) = Some expiry.due
 
 -- an expiry that is due by now
 abbrev pub due_by : ℕ → Option Expiry → Option Expiry

@@ -6,9 +6,9 @@ use Rattle.cap_values.specs.declared.charge.Charge.{Charge}
 use Rattle.cap_values.specs.declared.mode.Mode.{Mode}
 use Rattle.ssf_core.specs.Happenings.{Happening}
 use Rattle.ssf_core.specs.Modes.{modes_at}
-use Rattle.ssf_core.specs.Phases.{Phase, Unused, Requested, Initial, Setup, Active, Down, Ended}
-use Rattle.ssf_core.specs.Quantities.{answered, granted, last_input, last_moment, mode_at, pending, period_end, switch_due, switched}
-use Rattle.ssf_core.specs.Stages.{blank, passed, switch_due_of, tccd_due_of}
+use Rattle.ssf_core.specs.Phases.{SsfPhase, Unused, Requested, Initial, Setup, Active, Down, Ended}
+use Rattle.ssf_core.specs.Quantities.{answered, granted, last_input, last_happening_moment, mode_at, pending, period_end, switch_due, switched}
+use Rattle.ssf_core.specs.Stages.{blank, passed_switch, switch_due_of, tccd_due_of}
 use Rattle.ssf_core.specs.Traces.{IsTrace, awaited_switch, phase_after}
 use Rattle.ssf_core.specs.declared.config.SsfConfig.{SsfConfig}
 use Rattle.ssf_core.specs.declared.stage.Active.{Active as AnActive}
@@ -19,14 +19,14 @@ use Rattle.ssf_core.specs.declared.stage.Stage.{Stage}
 use Rattle.ssf_core.specs.declared.stage.Stage.TheVariants as stage
 
 -- the phase of a stage
-abbrev pub phase_of : Stage → Phase
-phase_of stage.Unused = Unused
-phase_of stage.Requested = Requested
-phase_of (stage.Initial setup due) = Initial
-phase_of (stage.Setup setup) = Setup
-phase_of (stage.Active active) = Active
-phase_of (stage.Down due) = Down
-phase_of stage.Ended = Ended
+abbrev pub ssf_phase_of : Stage → SsfPhase
+ssf_phase_of stage.Unused = Unused
+ssf_phase_of stage.Requested = Requested
+ssf_phase_of (stage.Initial setup due) = Initial
+ssf_phase_of (stage.Setup setup) = Setup
+ssf_phase_of (stage.Active active) = Active
+ssf_phase_of (stage.Down due) = Down
+ssf_phase_of stage.Ended = Ended
 
 -- whether the period that was ordered ends the call
 abbrev pub release_of : Option Charge → Option Bool
@@ -39,10 +39,10 @@ period_of None = 0
 period_of (Some charge) = charge.period
 
 -- whether the period that runs ends the call, where one runs
-abbrev pub running : Charging → Option Bool
-running charging.Off = None
-running (charging.Running release) = Some release
-running (charging.Over due) = None
+abbrev pub running_period : Charging → Option Bool
+running_period charging.Off = None
+running_period (charging.Running release) = Some release
+running_period (charging.Over due) = None
 
 -- a call before its answer has these modes, this pending period and this sum, no end of a period, and this switch
 pub record SetupHas (setup : ASetup) (modes : Point → Mode) (wish : Option Bool) (sum : ℕ) (end came awaited : Option ℕ) : Type 0 where
@@ -50,17 +50,17 @@ pub record SetupHas (setup : ASetup) (modes : Point → Mode) (wish : Option Boo
   pub same_wish : wish ≡ release_of setup.charge
   pub same_sum : sum ≡ period_of setup.charge
   pub no_end : end ≡ None
-  pub same_switch : came ≡ passed setup.switch
+  pub same_switch : came ≡ passed_switch setup.switch
   pub same_awaited : awaited ≡ switch_due_of setup.switch
 
 -- a call after its answer has these modes, this pending period, this sum, this wait for a further period, this answer and this switch
 pub record ActiveHas (active : AnActive) (modes : Point → Mode) (wish : Option Bool) (sum : ℕ) (wait answer came awaited : Option ℕ) : Type 0 where
   pub same_modes : (p : Point) → modes p ≡ modes_at active.modes p
-  pub same_wish : wish ≡ running active.charging
+  pub same_wish : wish ≡ running_period active.charging
   pub same_sum : sum ≡ active.granted
   pub same_wait : wait ≡ tccd_due_of active.charging
   pub same_answer : answer ≡ Some active.answered
-  pub same_switch : came ≡ passed active.switch
+  pub same_switch : came ≡ passed_switch active.switch
   pub same_awaited : awaited ≡ switch_due_of active.switch
 
 -- what a setup keeps is what the trace says
@@ -87,6 +87,6 @@ StageMatches config stage.Ended trace = Unit {0}
 -- a stage stands for a trace by a moment
 pub record StageStands (config : SsfConfig) (last : ℕ) (stage : Stage) (trace : List Happening) : Type 0 where
   pub is_trace : IsTrace config trace
-  pub phase : phase_after config trace ≡ phase_of stage
+  pub phase : phase_after config trace ≡ ssf_phase_of stage
   pub data' : StageMatches config stage trace
-  pub behind : last_moment trace ≤ last
+  pub behind : last_happening_moment trace ≤ last

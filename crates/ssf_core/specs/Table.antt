@@ -18,7 +18,7 @@ use Rattle.cap_values.specs.declared.operation.ScfOp.TheVariants.{RequestReport,
 use Rattle.ssf_core.specs.Happenings.{Happening}
 use Rattle.ssf_core.specs.declared.ssf.Input.{Input}
 use Rattle.ssf_core.specs.declared.ssf.Input.TheVariants.{Invoke, Trigger, Operate, Meet}
-use Rattle.ssf_core.specs.Phases.{Phase, Unused, Requested, Initial, Setup, Active, Down, Ended}
+use Rattle.ssf_core.specs.Phases.{SsfPhase, Unused, Requested, Initial, Setup, Active, Down, Ended}
 use Rattle.ssf_core.specs.Quantities.{answered, granted, mode_at, pending, period_end, switched}
 use Rattle.ssf_core.specs.Split.{split}
 use Rattle.ssf_core.specs.declared.item.BcsmEvent.{BcsmEvent}
@@ -36,10 +36,10 @@ use Rattle.tariff_core.specs.declared.times.TheConstants.{DAY}
 -- what is sent, in order, and the phase that follows
 pub record Effect : Type 0 where
   pub sent : List Item
-  pub next : Phase
+  pub next : SsfPhase
 
 -- items are sent, and the dialogue goes on
-abbrev pub goes : List Item → Phase → Effect
+abbrev pub goes : List Item → SsfPhase → Effect
 goes sent next = record { sent = sent; next = next }
 
 -- items are sent, and the dialogue ends
@@ -47,8 +47,8 @@ abbrev pub ends : List Item → Effect
 ends sent = record { sent = sent ++ Msg message.Ended ∷ []; next = Ended }
 
 -- items are sent before others
-abbrev pub after : List Item → Effect → Effect
-after first effect = record { sent = first ++ effect.sent; next = effect.next }
+abbrev pub sent_before : List Item → Effect → Effect
+sent_before first effect = record { sent = first ++ effect.sent; next = effect.next }
 
 -- the input has no place in the phase
 abbrev pub unexpected : Result Effect SsfFault
@@ -59,8 +59,8 @@ abbrev pub report : List Happening → ℕ → Bool → Item
 report trace now active = Msg (message.ChargingReport active (split (unwrap_or (answered trace) 0) (switched trace) now))
 
 -- if a period is pending: a report that the call doesn't go on
-abbrev pub last_report : List Happening → ℕ → List Item
-last_report trace now = if is_some (pending trace) then report trace now false ∷ [] else []
+abbrev pub last_report_sent : List Happening → ℕ → List Item
+last_report_sent trace now = if is_some (pending trace) then report trace now false ∷ [] else []
 
 -- an event, reported with its mode
 abbrev pub event_report : Event → Option Leg → Mode → List Item
@@ -96,17 +96,17 @@ any_watched modes =
     || is_watched (modes point.Abandon)
 
 -- invoke: Idle and never invoked alone
-abbrev pub on_invoke : Phase → Result Effect SsfFault
+abbrev pub on_invoke : SsfPhase → Result Effect SsfFault
 on_invoke Unused = Ok (goes [] Requested)
 on_invoke _ = unexpected
 
 -- trigger: WaitForRequest alone
-abbrev pub on_trigger : ℕ → Number → Number → Phase → Result Effect SsfFault
+abbrev pub on_trigger : ℕ → Number → Number → SsfPhase → Result Effect SsfFault
 on_trigger call calling called Requested = Ok (goes (Msg (message.InitialDp call calling called) ∷ []) Initial)
 on_trigger call calling called _ = unexpected
 
 -- RequestReport: in WaitingForInstructions and Monitoring
-abbrev pub on_request_report : Phase → Result Effect SsfFault
+abbrev pub on_request_report : SsfPhase → Result Effect SsfFault
 on_request_report Initial = Ok (goes [] Initial)
 on_request_report Setup = Ok (goes [] Setup)
 on_request_report Active = Ok (goes [] Active)
@@ -114,7 +114,7 @@ on_request_report Down = Ok (goes [] Down)
 on_request_report _ = unexpected
 
 -- a first period, where none is pending
-abbrev pub first_period : Option Bool → Phase → Result Effect SsfFault
+abbrev pub first_period : Option Bool → SsfPhase → Result Effect SsfFault
 first_period None phase = Ok (goes [] phase)
 first_period (Some release) phase = unexpected
 
@@ -129,7 +129,7 @@ further_period (Some end) true = Ok (goes [] Active)
 further_period (Some end) false = Err ParameterOutOfRange
 
 -- ApplyCharging: a first period before the answer, a further one after it
-abbrev pub on_apply_charging : List Happening → ℕ → Charge → Phase → Result Effect SsfFault
+abbrev pub on_apply_charging : List Happening → ℕ → Charge → SsfPhase → Result Effect SsfFault
 on_apply_charging trace now charge Initial = first_period (pending trace) Initial
 on_apply_charging trace now charge Setup = first_period (pending trace) Setup
 on_apply_charging trace now charge Active =
@@ -137,51 +137,51 @@ on_apply_charging trace now charge Active =
 on_apply_charging trace now charge _ = unexpected
 
 -- Continue: the call proceeds; it is monitored where a point is watched or a period is pending
-abbrev pub on_continue : List Happening → Phase → Result Effect SsfFault
+abbrev pub on_continue : List Happening → SsfPhase → Result Effect SsfFault
 on_continue trace Initial =
     Ok (if any_watched (mode_at trace) || is_some (pending trace) then goes (Proceed ∷ []) Setup else ends (Proceed ∷ []))
 on_continue trace Down = Ok (ends (Proceed ∷ []))
 on_continue trace _ = unexpected
 
 -- ReleaseCall: after the answer with a last report
-abbrev pub on_release_call : List Happening → ℕ → Cause → Phase → Result Effect SsfFault
+abbrev pub on_release_call : List Happening → ℕ → Cause → SsfPhase → Result Effect SsfFault
 on_release_call trace now cause Initial = Ok (ends (Clear cause ∷ []))
 on_release_call trace now cause Down = Ok (ends (Clear cause ∷ []))
 on_release_call trace now cause Setup = Ok (ends (Clear cause ∷ []))
-on_release_call trace now cause Active = Ok (after (last_report trace now) (ends (Clear cause ∷ [])))
+on_release_call trace now cause Active = Ok (sent_before (last_report_sent trace now) (ends (Clear cause ∷ [])))
 on_release_call trace now cause _ = unexpected
 
 -- an operation of the service
-abbrev pub on_operation : List Happening → ℕ → ScfOp → Phase → Result Effect SsfFault
+abbrev pub on_operation : List Happening → ℕ → ScfOp → SsfPhase → Result Effect SsfFault
 on_operation trace now (RequestReport arms) phase = on_request_report phase
 on_operation trace now (ApplyCharging charge) phase = on_apply_charging trace now charge phase
 on_operation trace now Continue phase = on_continue trace phase
 on_operation trace now (ReleaseCall cause) phase = on_release_call trace now cause phase
 
 -- Answer: the call is active
-abbrev pub on_answer : Mode → Phase → Result Effect SsfFault
+abbrev pub on_answer : Mode → SsfPhase → Result Effect SsfFault
 on_answer mode Setup = Ok (goes (notified event.Answer mode) Active)
 on_answer mode _ = Err NoSuchEvent
 
 -- RouteSelectFailure, Busy, NoAnswer: by mode
-abbrev pub on_failure : Event → Mode → Phase → Result Effect SsfFault
+abbrev pub on_failure : Event → Mode → SsfPhase → Result Effect SsfFault
 on_failure event mode Setup = Ok (by_mode event None mode)
 on_failure event mode _ = Err NoSuchEvent
 
 -- Abandon: before the answer, also before the call goes on
-abbrev pub on_abandon : Mode → Phase → Result Effect SsfFault
+abbrev pub on_abandon : Mode → SsfPhase → Result Effect SsfFault
 on_abandon mode Initial = Ok (ends (notified event.Abandon mode))
 on_abandon mode Setup = Ok (ends (notified event.Abandon mode))
 on_abandon mode _ = Err NoSuchEvent
 
 -- Disconnect: with a last report, then by the mode of that leg's point
-abbrev pub on_disconnect : List Happening → ℕ → Leg → Phase → Result Effect SsfFault
+abbrev pub on_disconnect : List Happening → ℕ → Leg → SsfPhase → Result Effect SsfFault
 on_disconnect trace now leg Active =
-    Ok (after (last_report trace now) (by_mode event.Disconnect (Some leg) (mode_at trace (point.Disconnect leg))))
+    Ok (sent_before (last_report_sent trace now) (by_mode event.Disconnect (Some leg) (mode_at trace (point.Disconnect leg))))
 on_disconnect trace now leg _ = Err NoSuchEvent
 
 -- an event of the call
-abbrev pub on_event : List Happening → ℕ → BcsmEvent → Phase → Result Effect SsfFault
+abbrev pub on_event : List Happening → ℕ → BcsmEvent → SsfPhase → Result Effect SsfFault
 on_event trace now met.RouteSelectFailure phase = on_failure event.RouteSelectFailure (mode_at trace point.RouteSelectFailure) phase
 on_event trace now met.Busy phase = on_failure event.CalledPartyBusy (mode_at trace point.CalledPartyBusy) phase
 on_event trace now met.NoAnswer phase = on_failure event.NoAnswer (mode_at trace point.NoAnswer) phase
@@ -190,7 +190,7 @@ on_event trace now (met.Disconnect leg) phase = on_disconnect trace now leg phas
 on_event trace now met.Abandon phase = on_abandon (mode_at trace point.Abandon) phase
 
 -- an input as of a moment: its effect, or why it is refused
-abbrev pub on_input : List Happening → Phase → ℕ → Input → Result Effect SsfFault
+abbrev pub on_input : List Happening → SsfPhase → ℕ → Input → Result Effect SsfFault
 on_input trace phase now Invoke = on_invoke phase
 on_input trace phase now (Trigger call calling called) = on_trigger call calling called phase
 on_input trace phase now (Operate op) = on_operation trace now op phase
@@ -207,7 +207,7 @@ on_tssf handling.Proceed = ends (Proceed ∷ [])
 on_tssf handling.Release = ends (Clear temporary_failure ∷ [])
 
 -- the expiry of a timer, as of its due moment
-abbrev pub on_expiry : DefaultHandling → List Happening → Phase → ℕ → Timer → Effect
+abbrev pub on_expiry : DefaultHandling → List Happening → SsfPhase → ℕ → Timer → Effect
 on_expiry default trace phase now Tsw = goes [] phase
 on_expiry default trace phase now Tcp = on_period_end trace now (unwrap_or (pending trace) false)
 on_expiry default trace phase now Tccd = ends (Clear temporary_failure ∷ [])

@@ -2,8 +2,8 @@
 use Rattle.std.specs.Prelude.{◌≡◌, ◌≤◌, ◌<◌, ◌⊎◌, ◌+◌, ℕ, Bool, Option, Some, None, Result, Ok, Err, List, [], ◌∷◌}
 use Rattle.std.specs.Option.{option_map}
 use Rattle.ssf_core.specs.Happenings.{Happening, What, Took, Expired}
-use Rattle.ssf_core.specs.Phases.{Phase, Unused, Initial, Setup, Active, Down}
-use Rattle.ssf_core.specs.Quantities.{answered, granted, last_input, last_moment, pending, period_end, switch_due, switched}
+use Rattle.ssf_core.specs.Phases.{SsfPhase, Unused, Initial, Setup, Active, Down}
+use Rattle.ssf_core.specs.Quantities.{answered, granted, last_input, last_happening_moment, pending, period_end, switch_due, switched}
 use Rattle.ssf_core.specs.Table.{Effect, on_input, on_expiry}
 use Rattle.ssf_core.specs.declared.config.SsfConfig.{SsfConfig}
 use Rattle.ssf_core.specs.declared.fault.SsfFault.{SsfFault}
@@ -12,17 +12,17 @@ use Rattle.ssf_core.specs.declared.timers.Timer.{Timer}
 use Rattle.ssf_core.specs.declared.timers.Timer.TheVariants.{Tsw, Tcp, Tccd, Tssf}
 
 -- the phase that follows an input; a refused one leaves it
-abbrev pub next_in : Phase → Result Effect SsfFault → Phase
+abbrev pub next_in : SsfPhase → Result Effect SsfFault → SsfPhase
 next_in phase (Ok effect) = effect.next
 next_in phase (Err fault) = phase
 
 -- the phase after an input that was taken or a timer that expired
-abbrev pub next_phase : SsfConfig → List Happening → Phase → ℕ → What → Phase
+abbrev pub next_phase : SsfConfig → List Happening → SsfPhase → ℕ → What → SsfPhase
 next_phase config trace phase now (Took input) = next_in phase (on_input trace phase now input)
 next_phase config trace phase now (Expired timer) = (on_expiry config.default_handling trace phase now timer).next
 
 -- the phase after all happenings
-abbrev pub phase_after : SsfConfig → List Happening → Phase
+abbrev pub phase_after : SsfConfig → List Happening → SsfPhase
 phase_after config [] = Unused
 phase_after config (e ∷ trace) = next_phase config trace (phase_after config trace) e.at e.what
 
@@ -32,7 +32,7 @@ awaited_switch None due = due
 awaited_switch (Some moment) due = None
 
 -- Tsw: the switch that was set, in each phase but Down
-abbrev pub tsw_due : List Happening → Phase → Option ℕ
+abbrev pub tsw_due : List Happening → SsfPhase → Option ℕ
 tsw_due trace Initial = awaited_switch (switched trace) (switch_due trace)
 tsw_due trace Setup = awaited_switch (switched trace) (switch_due trace)
 tsw_due trace Active = awaited_switch (switched trace) (switch_due trace)
@@ -44,23 +44,23 @@ period_due None answer total = None
 period_due (Some release) answer total = option_map (λ a. a + total) answer
 
 -- Tcp: the answer and the sum of the periods, while one is pending and the call is active
-abbrev pub tcp_due : List Happening → Phase → Option ℕ
+abbrev pub tcp_due : List Happening → SsfPhase → Option ℕ
 tcp_due trace Active = period_due (pending trace) (answered trace) (granted trace)
 tcp_due trace _ = None
 
 -- Tccd: the end of the last period and tccd, until a further one is accepted
-abbrev pub tccd_due : ℕ → List Happening → Phase → Option ℕ
+abbrev pub tccd_due : ℕ → List Happening → SsfPhase → Option ℕ
 tccd_due tccd trace Active = option_map (λ end. end + tccd) (period_end trace)
 tccd_due tccd trace _ = None
 
 -- Tssf: while instructions are waited for, each accepted input starts it anew
-abbrev pub tssf_due : ℕ → List Happening → Phase → Option ℕ
+abbrev pub tssf_due : ℕ → List Happening → SsfPhase → Option ℕ
 tssf_due tssf trace Initial = Some (last_input trace + tssf)
 tssf_due tssf trace Down = Some (last_input trace + tssf)
 tssf_due tssf trace _ = None
 
 -- when each timer is due in a phase
-abbrev pub due_in : SsfConfig → List Happening → Phase → Timer → Option ℕ
+abbrev pub due_in : SsfConfig → List Happening → SsfPhase → Timer → Option ℕ
 due_in config trace phase Tsw = tsw_due trace phase
 due_in config trace phase Tcp = tcp_due trace phase
 due_in config trace phase Tccd = tccd_due config.tccd trace phase
@@ -91,7 +91,7 @@ HasEffect config trace now (Expired timer) sent =
 
 -- a happening may follow a trace
 pub record MayFollow (config : SsfConfig) (trace : List Happening) (e : Happening) : Type 0 where
-  pub in_order : last_moment trace ≤ e.at
+  pub in_order : last_happening_moment trace ≤ e.at
   pub none_missed : (timer : Timer) (d : ℕ) → due config trace timer ≡ Some d → ComesBefore e.at e.what d timer
   pub has_effect : HasEffect config trace e.at e.what e.sent
 

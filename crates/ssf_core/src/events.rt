@@ -5,9 +5,9 @@ ghost use Rattle.std.specs.Result.{result_unwrap_or};
 ghost use Rattle.arrayvec.specs.ArrayVec.{array_vec_len};
 ghost use Rattle.ssf_core.specs.Happenings.{Happening, Took, sent_at};
 ghost use Rattle.ssf_core.specs.Quantities.{mode_at};
-ghost use Rattle.ssf_core.specs.Stages.{IsActiveTimely, IsSwitchTimely, IsTimely, tccd_due_of};
-ghost use Rattle.ssf_core.specs.Stands.{ActiveMatches, SetupMatches, StageMatches, period_of, phase_of, release_of, running};
-ghost use Rattle.ssf_core.specs.Steps.{IsTaken, TakesInput};
+ghost use Rattle.ssf_core.specs.Stages.{IsActiveTimely, IsSwitchTimely, IsTimelyStage, tccd_due_of};
+ghost use Rattle.ssf_core.specs.Stands.{ActiveMatches, SetupMatches, StageMatches, period_of, ssf_phase_of, release_of, running_period};
+ghost use Rattle.ssf_core.specs.Steps.{IsTakenInput, TakesInput};
 ghost use Rattle.ssf_core.specs.Table.{ends, notified, on_failure};
 ghost use Rattle.ssf_core.specs.declared.config.SsfConfig.{SsfConfig as Config};
 ghost use Rattle.ssf_core.specs.declared.item.Item.{Item};
@@ -32,10 +32,10 @@ pub(crate) fn meet(
 ) -> Result<Stage, SsfFault>
     requires moment { now ≤ HORIZON }
     requires room { array_vec_len sent.old ≤ 5 }
-    requires timely { IsTimely now stage }
+    requires timely { IsTimelyStage now stage }
     ensures takes { TakesInput config.now stage now (taken.Meet event) result
         sent.old.items sent.new.items }
-    ensures timely { IsTimely now (result_unwrap_or result stage) }
+    ensures timely { IsTimelyStage now (result_unwrap_or result stage) }
 {
     match event {
         BcsmEvent::RouteSelectFailure => {
@@ -68,10 +68,10 @@ pub(crate) fn meet(
 /// Answer: the call is active; reported where its mode is NotifyAndContinue.
 fn answer(stage: Stage, sent: &mut ArrayVec<Out, 8>, now: Moment) -> Result<Stage, SsfFault>
     requires room { array_vec_len sent.old ≤ 5 }
-    requires timely { IsTimely now stage }
+    requires timely { IsTimelyStage now stage }
     ensures takes { (config : Config) → TakesInput config stage now
         (taken.Meet BcsmEvent.Answer) result sent.old.items sent.new.items }
-    ensures timely { IsTimely now (result_unwrap_or result stage) }
+    ensures timely { IsTimelyStage now (result_unwrap_or result stage) }
 {
     let Stage::Setup(setup) = stage else {
         return Err(SsfFault::NoSuchEvent);
@@ -112,7 +112,7 @@ fn period_of(charge: Option<Charge>) -> u32
 }
 
 fn charging_of(charge: Option<Charge>) -> Charging
-    ensures wish { running result ≡ release_of charge }
+    ensures wish { running_period result ≡ release_of charge }
     ensures no_wait { tccd_due_of result ≡ None }
 {
     match charge {
@@ -134,11 +134,11 @@ fn fail(
 ) -> Result<Stage, SsfFault>
     requires moment { now ≤ HORIZON }
     requires room { array_vec_len sent.old ≤ 5 }
-    requires timely { IsTimely now stage }
+    requires timely { IsTimelyStage now stage }
     ensures takes { (t : List Happening) (input : Input) → StageMatches config.now stage t
-        → IsTaken config.now t now input (on_failure event (mode_at t point) (phase_of stage))
+        → IsTakenInput config.now t now input (on_failure event (mode_at t point) (ssf_phase_of stage))
         result sent.old.items sent.new.items }
-    ensures timely { IsTimely now (result_unwrap_or result stage) }
+    ensures timely { IsTimelyStage now (result_unwrap_or result stage) }
 {
     let Stage::Setup(setup) = stage else {
         return Err(SsfFault::NoSuchEvent);
@@ -149,10 +149,10 @@ fn fail(
 /// Abandon: reported where its mode is NotifyAndContinue; ends.
 fn abandon(stage: Stage, sent: &mut ArrayVec<Out, 8>, now: Moment) -> Result<Stage, SsfFault>
     requires room { array_vec_len sent.old ≤ 5 }
-    requires timely { IsTimely now stage }
+    requires timely { IsTimelyStage now stage }
     ensures takes { (config : Config) → TakesInput config stage now
         (taken.Meet BcsmEvent.Abandon) result sent.old.items sent.new.items }
-    ensures timely { IsTimely now (result_unwrap_or result stage) }
+    ensures timely { IsTimelyStage now (result_unwrap_or result stage) }
 {
     match stage {
         Stage::Initial { setup, .. } => Ok(give_up(
@@ -187,10 +187,10 @@ fn disconnect(
 ) -> Result<Stage, SsfFault>
     requires moment { now ≤ HORIZON }
     requires room { array_vec_len sent.old ≤ 5 }
-    requires timely { IsTimely now stage }
+    requires timely { IsTimelyStage now stage }
     ensures takes { TakesInput config.now stage now (taken.Meet (BcsmEvent.Disconnect leg)) result
         sent.old.items sent.new.items }
-    ensures timely { IsTimely now (result_unwrap_or result stage) }
+    ensures timely { IsTimelyStage now (result_unwrap_or result stage) }
 {
     let Stage::Active(active) = stage else {
         return Err(SsfFault::NoSuchEvent);

@@ -3,7 +3,7 @@
 ghost use Rattle.std.specs.Prelude.{◌≡◌, ◌+◌, ◌≤◌, ℕ, List, Ok, Err, Some, None, IsSome};
 ghost use Rattle.std.specs.Result.{result_unwrap_or};
 ghost use Rattle.arrayvec.specs.ArrayVec.{array_vec_len};
-ghost use Rattle.ssf_core.specs.Stages.{IsActiveTimely, IsSwitchTimely, IsTimely, started, tccd_due_of};
+ghost use Rattle.ssf_core.specs.Stages.{IsActiveTimely, IsSwitchTimely, IsTimelyStage, started, tccd_due_of};
 ghost use Rattle.ssf_core.specs.Steps.{TakesInput};
 ghost use Rattle.ssf_core.specs.Table.{is_fitting};
 ghost use Rattle.ssf_core.specs.declared.config.SsfConfig.{SsfConfig as Config};
@@ -27,10 +27,10 @@ pub(crate) fn operate(
 ) -> Result<Stage, SsfFault>
     requires moment { now ≤ HORIZON }
     requires room { array_vec_len sent.old ≤ 5 }
-    requires timely { IsTimely now stage }
+    requires timely { IsTimelyStage now stage }
     ensures takes { TakesInput config.now stage now (taken.Operate op) result
         sent.old.items sent.new.items }
-    ensures timely { IsTimely now (result_unwrap_or result stage) }
+    ensures timely { IsTimelyStage now (result_unwrap_or result stage) }
 {
     match op {
         ScfOp::RequestReport(arms) => request_report(config, stage, now, &arms),
@@ -48,10 +48,10 @@ fn request_report(
     arms: &Arms,
 ) -> Result<Stage, SsfFault>
     requires moment { now ≤ HORIZON }
-    requires timely { IsTimely now stage }
+    requires timely { IsTimelyStage now stage }
     ensures takes { (sent : List Sent) → TakesInput config.now stage now
         (taken.Operate (ScfOp.RequestReport arms.now)) result sent sent }
-    ensures timely { IsTimely now (result_unwrap_or result stage) }
+    ensures timely { IsTimelyStage now (result_unwrap_or result stage) }
 {
     match stage {
         Stage::Initial { mut setup, .. } => {
@@ -86,10 +86,10 @@ fn apply_charging(
     charge: Charge,
 ) -> Result<Stage, SsfFault>
     requires moment { now ≤ HORIZON }
-    requires timely { IsTimely now stage }
+    requires timely { IsTimelyStage now stage }
     ensures takes { (sent : List Sent) → TakesInput config.now stage now
         (taken.Operate (ScfOp.ApplyCharging charge)) result sent sent }
-    ensures timely { IsTimely now (result_unwrap_or result stage) }
+    ensures timely { IsTimelyStage now (result_unwrap_or result stage) }
 {
     match stage {
         Stage::Initial { setup, .. } => Ok(Stage::Initial {
@@ -129,7 +129,7 @@ fn charge_active(active: Active, now: Moment, charge: Charge) -> Result<Stage, S
     requires timely { IsActiveTimely now active }
     ensures takes { (config : Config) (sent : List Sent) → TakesInput config (Stage.Active active)
         now (taken.Operate (ScfOp.ApplyCharging charge)) result sent sent }
-    ensures timely { IsTimely now (result_unwrap_or result (Stage.Active active)) }
+    ensures timely { IsTimelyStage now (result_unwrap_or result (Stage.Active active)) }
 {
     match active.charging {
         Charging::Over { .. } => lengthened(active, now, charge),
@@ -143,7 +143,7 @@ fn lengthened(active: Active, now: Moment, charge: Charge) -> Result<Stage, SsfF
     requires over { IsSome (tccd_due_of active.charging) }
     ensures takes { (config : Config) (sent : List Sent) → TakesInput config (Stage.Active active)
         now (taken.Operate (ScfOp.ApplyCharging charge)) result sent sent }
-    ensures timely { IsTimely now (result_unwrap_or result (Stage.Active active)) }
+    ensures timely { IsTimelyStage now (result_unwrap_or result (Stage.Active active)) }
 {
     if !fits(&active, now, charge.period) {
         return Err(SsfFault::ParameterOutOfRange);
@@ -173,10 +173,10 @@ fn fits(active: &Active, now: Moment, period: u32) -> bool
 /// Continue: the call proceeds, monitored where a point is watched or a period is pending.
 fn resume(stage: Stage, sent: &mut ArrayVec<Out, 8>, now: Moment) -> Result<Stage, SsfFault>
     requires room { array_vec_len sent.old ≤ 5 }
-    requires timely { IsTimely now stage }
+    requires timely { IsTimelyStage now stage }
     ensures takes { (config : Config) → TakesInput config stage now
         (taken.Operate ScfOp.Continue) result sent.old.items sent.new.items }
-    ensures timely { IsTimely now (result_unwrap_or result stage) }
+    ensures timely { IsTimelyStage now (result_unwrap_or result stage) }
 {
     match stage {
         Stage::Initial { setup, .. } => Ok(go_on(setup, sent, now)),
@@ -192,7 +192,7 @@ fn go_on(setup: Setup, sent: &mut ArrayVec<Out, 8>, now: Moment) -> Stage
     requires timely { IsSwitchTimely now setup.switch }
     ensures takes { (config : Config) (due : ℕ) → TakesInput config (Stage.Initial setup due) now
         (taken.Operate ScfOp.Continue) (Ok result) sent.old.items sent.new.items }
-    ensures timely { IsTimely now result }
+    ensures timely { IsTimelyStage now result }
 {
     if watch_any(&setup.modes) || setup.charge.is_some() {
         send(sent, now, Item::Proceed);
@@ -209,10 +209,10 @@ fn release_call(
     cause: Cause,
 ) -> Result<Stage, SsfFault>
     requires room { array_vec_len sent.old ≤ 5 }
-    requires timely { IsTimely now stage }
+    requires timely { IsTimelyStage now stage }
     ensures takes { (config : Config) → TakesInput config stage now
         (taken.Operate (ScfOp.ReleaseCall cause)) result sent.old.items sent.new.items }
-    ensures timely { IsTimely now (result_unwrap_or result stage) }
+    ensures timely { IsTimelyStage now (result_unwrap_or result stage) }
 {
     match stage {
         Stage::Initial { .. } | Stage::Setup(_) | Stage::Down { .. } => Ok(clear(sent, now, cause)),

@@ -2,11 +2,11 @@
 
 ghost use Rattle.std.specs.Prelude.{◌≡◌, ◌+◌, ◌++◌, ◌<◌, ◌≤◌, ◌∷◌, ◌-◌, [], ℕ, List};
 ghost use Rattle.ssf_core.specs.Happenings.{Happening, Took, sent_at};
-ghost use Rattle.ssf_core.specs.Table.{by_mode, ends, event_report, last_report, notified, report};
+ghost use Rattle.ssf_core.specs.Table.{by_mode, ends, event_report, last_report_sent, notified, report};
 ghost use Rattle.ssf_core.specs.Split.{split};
-ghost use Rattle.ssf_core.specs.Stages.{IsActiveTimely, IsSwitchTimely, IsTimely, passed};
+ghost use Rattle.ssf_core.specs.Stages.{IsActiveTimely, IsSwitchTimely, IsTimelyStage, passed_switch};
 ghost use Rattle.ssf_core.specs.Stands.{ActiveMatches};
-ghost use Rattle.ssf_core.specs.Steps.{Follows};
+ghost use Rattle.ssf_core.specs.Steps.{FollowsEffect};
 ghost use Rattle.ssf_core.specs.declared.ssf.Input.{Input};
 ghost use Rattle.arrayvec.specs.ArrayVec.{array_vec_len};
 ghost use Rattle.ssf_core.specs.declared.item.Item.TheVariants as item;
@@ -99,9 +99,9 @@ pub(crate) fn by_mode(
 ) -> Stage
     requires moment { now ≤ HORIZON }
     requires room { array_vec_len sent.old ≤ 6 }
-    ensures follows { (t : List Happening) (input : Input) → Follows config.now t now (Took input)
+    ensures follows { (t : List Happening) (input : Input) → FollowsEffect config.now t now (Took input)
         (by_mode event leg mode) result sent.old.items sent.new.items }
-    ensures timely { IsTimely now result }
+    ensures timely { IsTimelyStage now result }
     ensures room { array_vec_len sent.new ≤ array_vec_len sent.old + 2 }
 {
     match mode {
@@ -124,7 +124,7 @@ fn times(answered: Moment, switch: Switch, now: Moment) -> TimeInfo
     requires answered { answered ≤ now }
     requires within_day { now ≤ answered + DAY }
     requires switch { IsSwitchTimely now switch }
-    ensures { result ≡ split answered (passed switch) now }
+    ensures { result ≡ split answered (passed_switch switch) now }
 {
     match switch {
         Switch::Passed(switch) => switched_times(answered, switch, now),
@@ -172,7 +172,7 @@ pub(crate) fn send_last_report(sent: &mut ArrayVec<Out, 8>, now: Moment, active:
     requires room { array_vec_len sent.old < 8 }
     requires timely { IsActiveTimely now active.now }
     ensures items { (tccd : ℕ) (t : List Happening) → ActiveMatches tccd active.now t
-        → sent.new.items ≡ sent.old.items ++ sent_at now (last_report t now) }
+        → sent.new.items ≡ sent.old.items ++ sent_at now (last_report_sent t now) }
     ensures room { array_vec_len sent.new ≤ array_vec_len sent.old + 1 }
 {
     match active.charging {

@@ -2,7 +2,7 @@
 
 ghost use Rattle.std.specs.Prelude.{◌≡◌, ◌≤◌, ℕ, List};
 ghost use Rattle.std.specs.Result.{result_unwrap_or};
-ghost use Rattle.ssf_core.specs.Stages.{IsTimely};
+ghost use Rattle.ssf_core.specs.Stages.{IsTimelyStage};
 ghost use Rattle.ssf_core.specs.Steps.{TakesInput};
 ghost use Rattle.ssf_core.specs.declared.config.SsfConfig.{SsfConfig as Config};
 ghost use Rattle.ssf_core.specs.declared.item.Out.{Out as Sent};
@@ -36,23 +36,23 @@ pub struct Ssf {
 impl Model for Ssf {
     ghost use Rattle.std.specs.Prelude.{◌≤◌};
     ghost use Rattle.ssf_core.specs.Calls.{View};
-    ghost use Rattle.ssf_core.specs.Stages.{IsTimely};
+    ghost use Rattle.ssf_core.specs.Stages.{IsTimelyStage};
     ghost use Rattle.tariff_core.specs.declared.times.TheConstants.{HORIZON};
 
     ghost Value = { View };
 
     ghost view = { λ s. record { config = s.config; last = s.last; stage = s.stage } };
 
-    ghost invariant = { λ s. (s.last ≤ HORIZON) × IsTimely s.last s.stage };
+    ghost invariant = { λ s. (s.last ≤ HORIZON) × IsTimelyStage s.last s.stage };
 }
 
 impl Ssf {
     ghost use Rattle.std.specs.Prelude.{◌≡◌, ◌≤◌, ◌<◌, ◌∷◌, [], List, Some, None};
     ghost use Rattle.std.specs.Option.{ForSome};
-    ghost use Rattle.ssf_core.specs.Calls.{Advances, IsNextDue, Stands, Takes};
+    ghost use Rattle.ssf_core.specs.Calls.{Advances, IsNextDue, Stands, TakesAt};
     ghost use Rattle.cap_values.specs.Orders.{order_of, paid_by};
     ghost use Rattle.ssf_core.specs.Meters.{Metered};
-    ghost use Rattle.ssf_core.specs.Phases.{state_in};
+    ghost use Rattle.ssf_core.specs.Phases.{state_of_phase};
     ghost use Rattle.ssf_core.specs.Traces.{phase_after};
     ghost use Rattle.ssf_core.specs.Happenings.{Happening};
     ghost use Rattle.ssf_core.specs.declared.ssf.Input.TheVariants as taken;
@@ -73,7 +73,7 @@ impl Ssf {
     /// The state of the call.
     pub fn state(&self) -> State
         ensures { (t : List Happening) → Stands self.now t → result
-            ≡ state_in (phase_after self.now.config t) }
+            ≡ state_of_phase (phase_after self.now.config t) }
     {
         state_of(&self.stage)
     }
@@ -96,7 +96,7 @@ impl Ssf {
         ensures moment { self.old.last ≤ now → (self.new.last ≡ now)
             × (self.new.config ≡ self.old.config) }
         ensures trace { self.old.last ≤ now → (t : List Happening) → Stands self.old t
-            → Takes self.old self.new now taken.Invoke t result.sent.items result.fault }
+            → TakesAt self.old self.new now taken.Invoke t result.sent.items result.fault }
         ensures metered { Metered [] self.old result.sent.items self.new }
     {
         self.input(now, Input::Invoke)
@@ -110,7 +110,7 @@ impl Ssf {
         ensures moment { self.old.last ≤ now → (self.new.last ≡ now)
             × (self.new.config ≡ self.old.config) }
         ensures trace { self.old.last ≤ now → (t : List Happening) → Stands self.old t
-            → Takes self.old self.new now
+            → TakesAt self.old self.new now
             (taken.Trigger call calling called) t result.sent.items result.fault }
         ensures metered { Metered [] self.old result.sent.items self.new }
     {
@@ -132,7 +132,7 @@ impl Ssf {
         ensures moment { self.old.last ≤ now → (self.new.last ≡ now)
             × (self.new.config ≡ self.old.config) }
         ensures trace { self.old.last ≤ now → (t : List Happening) → Stands self.old t
-            → Takes self.old self.new now (taken.Operate op) t result.sent.items result.fault }
+            → TakesAt self.old self.new now (taken.Operate op) t result.sent.items result.fault }
         ensures metered { Metered (paid_by (order_of op ∷ [])) self.old result.sent.items self.new }
     {
         self.input(now, Input::Operate(op))
@@ -146,7 +146,7 @@ impl Ssf {
         ensures moment { self.old.last ≤ now → (self.new.last ≡ now)
             × (self.new.config ≡ self.old.config) }
         ensures trace { self.old.last ≤ now → (t : List Happening) → Stands self.old t
-            → Takes self.old self.new now (taken.Meet event) t result.sent.items result.fault }
+            → TakesAt self.old self.new now (taken.Meet event) t result.sent.items result.fault }
         ensures metered { Metered [] self.old result.sent.items self.new }
     {
         self.input(now, Input::Meet(event))
@@ -182,7 +182,7 @@ impl Ssf {
         ensures moment { self.old.last ≤ now → (self.new.last ≡ now)
             × (self.new.config ≡ self.old.config) }
         ensures trace { self.old.last ≤ now → (t : List Happening) → Stands self.old t
-            → Takes self.old self.new now input t result.sent.items result.fault }
+            → TakesAt self.old self.new now input t result.sent.items result.fault }
     {
         let mut sent = ArrayVec::new();
         if now < self.last {
@@ -229,9 +229,9 @@ fn take(
 ) -> Result<Stage, SsfFault>
     requires moment { now ≤ HORIZON }
     requires room { array_vec_len sent.old ≤ 5 }
-    requires timely { IsTimely now stage }
+    requires timely { IsTimelyStage now stage }
     ensures takes { TakesInput config.now stage now input result sent.old.items sent.new.items }
-    ensures timely { IsTimely now (result_unwrap_or result stage) }
+    ensures timely { IsTimelyStage now (result_unwrap_or result stage) }
 {
     match input {
         Input::Invoke => invoke(stage),
@@ -249,8 +249,8 @@ fn take(
 fn invoke(stage: Stage) -> Result<Stage, SsfFault>
     ensures takes { (config : Config) (now : ℕ) (sent : List Sent)
         → TakesInput config stage now taken.Invoke result sent sent }
-    ensures timely { (now : ℕ) → IsTimely now stage
-        → IsTimely now (result_unwrap_or result stage) }
+    ensures timely { (now : ℕ) → IsTimelyStage now stage
+        → IsTimelyStage now (result_unwrap_or result stage) }
 {
     match stage {
         Stage::Unused => Ok(Stage::Requested),
@@ -270,10 +270,10 @@ fn trigger(
 ) -> Result<Stage, SsfFault>
     requires moment { now ≤ HORIZON }
     requires room { array_vec_len sent.old ≤ 5 }
-    requires timely { IsTimely now stage }
+    requires timely { IsTimelyStage now stage }
     ensures takes { TakesInput config.now stage now (taken.Trigger call calling called) result
         sent.old.items sent.new.items }
-    ensures timely { IsTimely now (result_unwrap_or result stage) }
+    ensures timely { IsTimelyStage now (result_unwrap_or result stage) }
 {
     let Stage::Requested = stage else {
         return Err(SsfFault::UnexpectedComponentSequence);

@@ -1,9 +1,9 @@
 //! Where a call is: each state with the data that it needs, and no other.
 
 ghost use Rattle.std.specs.Prelude.{◌≡◌, ◌≤◌};
-ghost use Rattle.ssf_core.specs.Phases.{state_in};
+ghost use Rattle.ssf_core.specs.Phases.{state_of_phase};
 ghost use Rattle.ssf_core.specs.Stages.{started};
-ghost use Rattle.ssf_core.specs.Stands.{phase_of};
+ghost use Rattle.ssf_core.specs.Stands.{ssf_phase_of};
 ghost use Rattle.ssf_core.specs.Modes.{armed_modes, modes_at};
 ghost use Rattle.ssf_core.specs.Table.{any_watched, is_watched};
 
@@ -89,7 +89,7 @@ pub(crate) fn started(switch: Switch, now: Moment, seconds: Option<u32>) -> Swit
 
 /// The state that a caller sees.
 pub(crate) fn state_of(stage: &Stage) -> State
-    ensures { result ≡ state_in (phase_of stage.now) }
+    ensures { result ≡ state_of_phase (ssf_phase_of stage.now) }
 {
     match stage {
         Stage::Unused | Stage::Ended => State::Idle,

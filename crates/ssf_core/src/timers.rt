@@ -3,7 +3,7 @@
 ghost use Rattle.std.specs.Prelude.{◌≡◌, ◌≤◌, ◌<◌, ◌+◌, ◌++◌, [], List, Some};
 ghost use Rattle.ssf_core.specs.Happenings.{Happening, sent_at};
 ghost use Rattle.ssf_core.specs.Running.{Runs};
-ghost use Rattle.ssf_core.specs.Stages.{IsQuiet, IsTimely, IsActiveTimely, IsBounded, due_by, expiries_left, expiry_of, items_left, moment_of, next_of, sooner_of, stage_due, switch_due_of, tccd_due_of, tcp_due_of};
+ghost use Rattle.ssf_core.specs.Stages.{IsQuiet, IsTimelyStage, IsActiveTimely, IsBounded, due_by, expiries_left, expiry_of, items_left, expiry_moment, next_expiry_of, sooner_of, stage_due, switch_due_of, tccd_due_of, tcp_due_of};
 ghost use Rattle.ssf_core.specs.Steps.{Expires};
 ghost use Rattle.ssf_core.specs.Table.{on_tssf};
 ghost use Rattle.ssf_core.specs.declared.config.SsfConfig.{SsfConfig as Config};
@@ -47,9 +47,9 @@ pub(crate) fn run_timers(
 ) -> Stage
     requires moment { now ≤ HORIZON }
     requires last { last ≤ now }
-    requires timely { IsTimely last stage }
+    requires timely { IsTimelyStage last stage }
     requires empty { sent.old.items ≡ [] }
-    ensures timely { IsTimely now result }
+    ensures timely { IsTimelyStage now result }
     ensures quiet { IsQuiet now result }
     ensures room { array_vec_len sent.new ≤ 3 }
     ensures traced { (t : List Happening) → Runs config.now last stage t now result sent.new.items }
@@ -167,7 +167,7 @@ fn sooner_expiry(first: Expiry, second: Expiry) -> Option<Expiry>
 /// The next expiry.
 fn next_expiry(stage: &Stage) -> Option<Expiry>
     requires { IsBounded stage.now }
-    ensures { result ≡ next_of stage.now }
+    ensures { result ≡ next_expiry_of stage.now }
 {
     let tsw = expiry_at(Timer::Tsw, tsw_due(stage));
     let tcp = expiry_at(Timer::Tcp, tcp_due(stage));
@@ -179,7 +179,7 @@ fn next_expiry(stage: &Stage) -> Option<Expiry>
 /// The moment of the next expiry.
 pub(crate) fn next_moment(stage: &Stage) -> Option<Moment>
     requires { IsBounded stage.now }
-    ensures { result ≡ moment_of (next_of stage.now) }
+    ensures { result ≡ expiry_moment (next_expiry_of stage.now) }
 {
     match next_expiry(stage) {
         Some(expiry) => Some(expiry.due),
@@ -190,7 +190,7 @@ pub(crate) fn next_moment(stage: &Stage) -> Option<Moment>
 /// The next expiry, if it is due by now.
 fn next_expiry_by(stage: &Stage, now: Moment) -> Option<Expiry>
     requires { IsBounded stage.now }
-    ensures { result ≡ due_by now (next_of stage.now) }
+    ensures { result ≡ due_by now (next_expiry_of stage.now) }
 {
     match next_expiry(stage) {
         Some(expiry) => expiry_by(expiry, now),
@@ -212,11 +212,11 @@ fn expiry_by(expiry: Expiry, now: Moment) -> Option<Expiry>
 fn expire(config: &SsfConfig, stage: Stage, sent: &mut ArrayVec<Out, 8>, expiry: Expiry) -> Stage
     requires moment { expiry.due ≤ HORIZON }
     requires room { array_vec_len sent.old ≤ 5 }
-    requires timely { IsTimely expiry.due stage }
+    requires timely { IsTimelyStage expiry.due stage }
     requires due { stage_due stage expiry.timer ≡ Some expiry.due }
     ensures expires { Expires config.now stage expiry.due expiry.timer result
         sent.old.items sent.new.items }
-    ensures timely { IsTimely expiry.due result }
+    ensures timely { IsTimelyStage expiry.due result }
     ensures fewer { expiries_left result < expiries_left stage }
     ensures room { array_vec_len sent.new + items_left result
         ≤ array_vec_len sent.old + items_left stage }
@@ -231,11 +231,11 @@ fn expire(config: &SsfConfig, stage: Stage, sent: &mut ArrayVec<Out, 8>, expiry:
 
 /// Tsw: the switch came.
 fn switch_over(stage: Stage, now: Moment) -> Stage
-    requires timely { IsTimely now stage }
+    requires timely { IsTimelyStage now stage }
     requires due { stage_due stage Timer.Tsw ≡ Some now }
     ensures expires { (config : Config) (sent : List Sent)
         → Expires config stage now Timer.Tsw result sent sent }
-    ensures timely { IsTimely now result }
+    ensures timely { IsTimelyStage now result }
     ensures fewer { expiries_left result < expiries_left stage }
     ensures room { items_left result ≤ items_left stage }
 {
@@ -261,11 +261,11 @@ fn switch_over(stage: Stage, now: Moment) -> Stage
 fn end_period(config: &SsfConfig, stage: Stage, sent: &mut ArrayVec<Out, 8>, now: Moment) -> Stage
     requires moment { now ≤ HORIZON }
     requires room { array_vec_len sent.old ≤ 5 }
-    requires timely { IsTimely now stage }
+    requires timely { IsTimelyStage now stage }
     requires due { stage_due stage Timer.Tcp ≡ Some now }
     ensures expires { Expires config.now stage now Timer.Tcp result
         sent.old.items sent.new.items }
-    ensures timely { IsTimely now result }
+    ensures timely { IsTimelyStage now result }
     ensures fewer { expiries_left result < expiries_left stage }
     ensures room { array_vec_len sent.new + items_left result
         ≤ array_vec_len sent.old + items_left stage }
@@ -288,7 +288,7 @@ fn end_active_period(
     requires due { stage_due (Stage.Active active) Timer.Tcp ≡ Some now }
     ensures expires { Expires config.now (Stage.Active active) now Timer.Tcp result
         sent.old.items sent.new.items }
-    ensures timely { IsTimely now result }
+    ensures timely { IsTimelyStage now result }
     ensures fewer { expiries_left result < expiries_left (Stage.Active active) }
     ensures room { array_vec_len sent.new + items_left result
         ≤ array_vec_len sent.old + items_left (Stage.Active active) }

@@ -12,7 +12,7 @@ use Rattle.csv.specs.declared.parser.State.TheVariants as st
 use Rattle.csv.specs.declared.parser.Terminator.{Terminator}
 use Rattle.csv.specs.declared.parser.Terminator.TheVariants as term
 use Rattle.csv.specs.declared.reader.Trim.TheVariants as trim
-use Rattle.table_core.specs.Rows.{Fields, HasLeft, Takes, rows_of}
+use Rattle.table_core.specs.Rows.{Fields, HasRowsLeft, TakesNext, rows_of}
 use Rattle.table_core.specs.declared.table.Rows.{Rows}
 
 -- ---- between two records the machine is in a state in which the text may end
@@ -135,8 +135,8 @@ reads_none cfg s after text (Some rest) fields h = none_is _ fields after rest h
 module _ {R : Type 0} (remaining : R → Option (List ℕ)) where
   -- what a read of a record does to the rows that are left
   pub takes_row : (before after : Rows R) (found : Bool) (left : List Fields)
-      → HasLeft remaining before left → ReadRecord remaining before.reader after.reader found (fields_of after.row)
-      → Ready after.reader → Takes remaining after left found
+      → HasRowsLeft remaining before left → ReadRecord remaining before.reader after.reader found (fields_of after.row)
+      → Ready after.reader → TakesNext remaining after left found
   takes_row before after true left has read ready =
       let next = reads_found _ _ _ _ _ _ (rw (has.source, has.plain) at read.0) in
       let more = more_rows has.fuel before.reader.state has.text _ has.enough has.between next.2 in (
@@ -160,7 +160,7 @@ module _ {R : Type 0} (remaining : R → Option (List ℕ)) where
   -- a new reader has all the rows left
   pub has_all : (rows : Rows R) (known : Option (List ℕ)) → rows.reader.trim ≡ trim.None → Ready rows.reader
       → rows.reader.config ≡ default_config → source_of remaining rows.reader ≡ option_map strip_bom known
-      → rows.reader.state ≡ st.StartRecord → IfSome known (λ text. HasLeft remaining rows (rows_of text))
+      → rows.reader.state ≡ st.StartRecord → IfSome known (λ text. HasRowsLeft remaining rows (rows_of text))
   unfolding rows_of
   has_all rows None untrimmed ready plain source start = tt
   has_all rows (Some text) untrimmed ready plain source start = record {

@@ -5,9 +5,9 @@ use Rattle.std.specs.Prelude.{IfSome, IsErrAnd, ⊤, ok_or}
 use Rattle.std.proofs.lemmas.Bool.Decides.{nat_tests}
 use Rattle.csv.specs.Records.{fields_of}
 use Rattle.table_core.proofs.Known.{map_known}
-use Rattle.table_core.specs.Faults.{Gives, Refuses}
-use Rattle.table_core.specs.Reading.{HasRows, IsAtFirst, IsNextRow, Opens, Steps, StepsBy, first_header}
-use Rattle.table_core.specs.Rows.{Fields, HasLeft, rows_of}
+use Rattle.table_core.specs.Faults.{GivesTable, RefusesTable}
+use Rattle.table_core.specs.Reading.{HasRows, IsAtFirst, IsNextRow, Opens, StepsRow, StepsBy, first_header}
+use Rattle.table_core.specs.Rows.{Fields, HasRowsLeft, rows_of}
 use Rattle.table_core.specs.Tables.{TableForm, below, own_fault, rows_from, table_of, then_rows, unless_own, which_header, width_at}
 use Rattle.table_core.specs.declared.fault.RowFault.{RowFault}
 use Rattle.table_core.specs.declared.fault.RowKind.{RowKind}
@@ -41,7 +41,7 @@ module _ {R : Type 0} (remaining : R → Option (List ℕ)) where
 
   -- a table that is opened
   pub opens_at : (headers : List Fields) (table : Table R) (rows left : List Fields) (first : Fields) → rows ≡ first ∷ left → which_header headers first ≡ Some table.header
-      → table.width ≡ length first → table.fault ≡ None → HasLeft remaining table.rows left → Opens remaining headers (Ok table) rows
+      → table.width ≡ length first → table.fault ≡ None → HasRowsLeft remaining table.rows left → Opens remaining headers (Ok table) rows
   opens_at headers table rows left first rows_are which width fresh has = (first, left, rows_are, which, width, (fresh, has))
 
   -- one whose first row is no header
@@ -64,14 +64,14 @@ Stops form fault.OutOfMemory meaning = ⊤
 -- where a form tells faults as they are, they are the table's
 pub refuses : {S Y : Type 0} (form : TableForm S RowKind RowFault) → ((row : ℕ) (why : RowKind) → form.fault_at row (form.kind_of why) ≡ record { row = row; kind = why })
     → (next : Result S RowFault → Result Y RowFault) → ((why : RowFault) → next (Err why) ≡ Err why)
-    → (why : TableFault) (meaning : Result S RowFault) → Stops form why meaning → Refuses why (next meaning)
+    → (why : TableFault) (meaning : Result S RowFault) → Stops form why meaning → RefusesTable why (next meaning)
 refuses form plain next passes (fault.Row refused) meaning is = rw (is, plain refused.row refused.kind) (passes refused)
 refuses form plain next passes fault.Device meaning is = tt
 refuses form plain next passes fault.OutOfMemory meaning is = tt
 
 -- a fault that a table's reader passes on is that of the meaning
 pub told : {X Y : Type 0} (known : Option (List ℕ)) (view : X → Y) (answer : Result X TableFault) (why : TableFault) (P : List ℕ → Type 0) (meaning : List ℕ → Result Y RowFault)
-    → IsErrAnd answer (λ met. met ≡ why) → IfSome known P → ((text : List ℕ) → P text → Refuses why (meaning text)) → IfSome known (λ text. Gives view answer (meaning text))
+    → IsErrAnd answer (λ met. met ≡ why) → IfSome known P → ((text : List ℕ) → P text → RefusesTable why (meaning text)) → IfSome known (λ text. GivesTable view answer (meaning text))
 told known view (Ok x) why P meaning met holds so = absurd met
 told known view (Err other) why P meaning met holds so = map_known known P _ holds (λ text at. rw met (so text at))
 
@@ -151,7 +151,7 @@ module _ {R S K F : Type 0} (form : TableForm S K F) (remaining : R → Option (
             no_fault form.limit before.width (before.number + 1) fields (rw (row, next.width) next.same.width) (omega (arith, next.within, next.number, next.same.limit, was.limit)),
           ) refl
 
-      pub taken : (now : S) → IsNextRow before after → Steps remaining before after (Ok true) → form.judge before.header read (fields_of after.rows.row) ≡ Ok now → IsRead known after now
+      pub taken : (now : S) → IsNextRow before after → StepsRow remaining before after (Ok true) → form.judge before.header read (fields_of after.rows.row) ≡ Ok now → IsRead known after now
       taken now next steps is = record {
         limit = next.same.limit ∙ was.limit;
         header = rw next.same.header was.header;
@@ -161,13 +161,13 @@ module _ {R S K F : Type 0} (form : TableForm S K F) (remaining : R → Option (
             record { left = rest; has = has; is = so_far.is ∙ by_rows left_are ∙ row_judged _ rest (Ok now) next refl is });
       }
 
-      pub refused : (why : K) → IsNextRow before after → Steps remaining before after (Ok true) → form.judge before.header read (fields_of after.rows.row) ≡ Err why
+      pub refused : (why : K) → IsNextRow before after → StepsRow remaining before after (Ok true) → form.judge before.header read (fields_of after.rows.row) ≡ Err why
           → IfSome known (λ text. table_of form (rows_of text) ≡ Err (form.fault_at after.number why))
       refused why next steps is = map_known known _ _ was.so_far (λ text so_far.
           let (rest, left_are, has) = steps so_far.left so_far.has in
           so_far.is ∙ by_rows left_are ∙ row_judged _ rest (Err why) next refl is)
 
-      pub ended : Steps remaining before after (Ok false) → IfSome known (λ text. table_of form (rows_of text) ≡ Ok read)
+      pub ended : StepsRow remaining before after (Ok false) → IfSome known (λ text. table_of form (rows_of text) ≡ Ok read)
       unfolding rows_from
       ended steps = map_known known _ _ was.so_far (λ text so_far. so_far.is ∙ by_rows (steps so_far.left so_far.has))
 
@@ -181,7 +181,7 @@ module _ {R S K F : Type 0} (form : TableForm S K F) (remaining : R → Option (
       stopped_by fault.Device text so_far is = tt
       stopped_by fault.OutOfMemory text so_far is = tt
 
-      pub stopped : (why : TableFault) → Steps remaining before after (Err why) → IfSome known (λ text. Stops form why (table_of form (rows_of text)))
+      pub stopped : (why : TableFault) → StepsRow remaining before after (Err why) → IfSome known (λ text. Stops form why (table_of form (rows_of text)))
       stopped why steps = map_known known _ _ was.so_far (λ text so_far. stopped_by why text so_far (steps so_far.left so_far.has))
 
 -- ---- what each row keeps, the whole table has

@@ -8,26 +8,26 @@ use Rattle.table_core.specs.declared.fault.TableFault.{TableFault}
 use Rattle.table_core.specs.declared.fault.TableFault.TheVariants as fault
 
 -- the name of a kind
-abbrev pub name_of : RowKind → List ℕ
-name_of kind.Csv = codes "Csv"
-name_of kind.Header = codes "Header"
-name_of kind.TooManyRows = codes "TooManyRows"
-name_of kind.What = codes "What"
-name_of kind.Number = codes "Number"
-name_of kind.Empty = codes "Empty"
-name_of kind.Order = codes "Order"
-name_of kind.Repeated = codes "Repeated"
-name_of kind.Unknown = codes "Unknown"
+abbrev pub row_kind_name : RowKind → List ℕ
+row_kind_name kind.Csv = codes "Csv"
+row_kind_name kind.Header = codes "Header"
+row_kind_name kind.TooManyRows = codes "TooManyRows"
+row_kind_name kind.What = codes "What"
+row_kind_name kind.Number = codes "Number"
+row_kind_name kind.Empty = codes "Empty"
+row_kind_name kind.Order = codes "Order"
+row_kind_name kind.Repeated = codes "Repeated"
+row_kind_name kind.Unknown = codes "Unknown"
 
 -- `row N: KIND`
-abbrev pub text_of : RowFault → List ℕ
-text_of fault = codes "row " ++ (decimal fault.row ++ (codes ": " ++ name_of fault.kind))
+abbrev pub row_fault_text : RowFault → List ℕ
+row_fault_text fault = codes "row " ++ (decimal fault.row ++ (codes ": " ++ row_kind_name fault.kind))
 
 -- what is told of a table that was not read
-abbrev pub told_of : TableFault → List ℕ
-told_of (fault.Row refused) = text_of refused
-told_of fault.Device = codes "the reader failed"
-told_of fault.OutOfMemory = codes "out of memory"
+abbrev pub table_fault_text : TableFault → List ℕ
+table_fault_text (fault.Row refused) = row_fault_text refused
+table_fault_text fault.Device = codes "the reader failed"
+table_fault_text fault.OutOfMemory = codes "out of memory"
 
 -- why rows can't be read, which is no fault of a row
 abbrev pub IsOfReading : TableFault → Type 0
@@ -36,12 +36,12 @@ IsOfReading fault.Device = ⊤
 IsOfReading fault.OutOfMemory = ⊤
 
 -- a refused row is the one that the table's meaning refuses; a failed reader and out of memory may come at any table
-abbrev pub Refuses : {Y : Type 0} → TableFault → Result Y RowFault → Type 0
-Refuses (fault.Row refused) meaning = meaning ≡ Err refused
-Refuses fault.Device meaning = ⊤
-Refuses fault.OutOfMemory meaning = ⊤
+abbrev pub RefusesTable : {Y : Type 0} → TableFault → Result Y RowFault → Type 0
+RefusesTable (fault.Row refused) meaning = meaning ≡ Err refused
+RefusesTable fault.Device meaning = ⊤
+RefusesTable fault.OutOfMemory meaning = ⊤
 
 -- an answer, seen by `view`, is the table's meaning
-abbrev pub Gives : {X Y : Type 0} → (X → Y) → Result X TableFault → Result Y RowFault → Type 0
-Gives view (Ok x) meaning = meaning ≡ Ok (view x)
-Gives view (Err why) meaning = Refuses why meaning
+abbrev pub GivesTable : {X Y : Type 0} → (X → Y) → Result X TableFault → Result Y RowFault → Type 0
+GivesTable view (Ok x) meaning = meaning ≡ Ok (view x)
+GivesTable view (Err why) meaning = RefusesTable why meaning

@@ -1,7 +1,7 @@
 -- What a clause reads of a reader of rows, and of a table.
 use Rattle.std.specs.Prelude.{◌≡◌, ◌<◌, ◌≤◌, ◌+◌, ◌-◌, ℕ, Bool, true, false, List, [], ◌∷◌, length, Option, Some, None, Result, Ok, Err, ⊤}
 use Rattle.csv.specs.Records.{Row, fields_of}
-use Rattle.table_core.specs.Rows.{Fields, HasLeft}
+use Rattle.table_core.specs.Rows.{Fields, HasRowsLeft}
 use Rattle.table_core.specs.Tables.{own_fault, which_header, width_at}
 use Rattle.table_core.specs.declared.fault.RowKind.{RowKind}
 use Rattle.table_core.specs.declared.fault.RowKind.TheVariants as kind
@@ -21,12 +21,12 @@ abbrev pub row_of_table : {R : Type 0} → Table R → Row
 row_of_table table = table.rows.row
 
 -- the number of the row that was read last
-abbrev pub number_of : {R : Type 0} → Table R → ℕ
-number_of table = table.number
+abbrev pub row_number_of : {R : Type 0} → Table R → ℕ
+row_number_of table = table.number
 
 -- how many fields a row has
-abbrev pub width_of : {R : Type 0} → Table R → ℕ
-width_of table = table.width
+abbrev pub row_width : {R : Type 0} → Table R → ℕ
+row_width table = table.width
 
 -- which of the headers the table has, and how many rows it may have besides
 abbrev pub header_of : {R : Type 0} → Table R → ℕ
@@ -46,7 +46,7 @@ room_of table = table.limit + 1 - table.number
 
 -- the rows that are left to a table, where the bytes below are known
 abbrev pub HasRows : {R : Type 0} → (R → Option (List ℕ)) → Table R → List Fields → Type 0
-HasRows remaining table left = (table.fault ≡ None) × HasLeft remaining table.rows left
+HasRows remaining table left = (table.fault ≡ None) × HasRowsLeft remaining table.rows left
 
 -- a table is below the header that it has
 pub record IsAtFirst {R : Type 0} (headers : List Fields) (most : ℕ) (table : Table R) : Type 0 where
@@ -70,7 +70,7 @@ Opens remaining headers (Err fault.Device) rows = ⊤
 Opens remaining headers (Err fault.OutOfMemory) rows = ⊤
 
 -- the first of the rows that are left has the fault
-pub record IsRefused {R : Type 0} (table : Table R) (left : List Fields) (row : ℕ) (why : RowKind) : Type 0 where
+pub record IsRefusedRow {R : Type 0} (table : Table R) (left : List Fields) (row : ℕ) (why : RowKind) : Type 0 where
   pub fields : Fields
   pub rest : List Fields
   pub left_are : left ≡ fields ∷ rest
@@ -81,13 +81,13 @@ pub record IsRefused {R : Type 0} (table : Table R) (left : List Fields) (row : 
 abbrev pub StepsBy : {R : Type 0} → (R → Option (List ℕ)) → Table R → Table R → List Fields → Result Bool TableFault → Type 0
 StepsBy remaining before after left (Ok true) = (rest : List Fields) × (left ≡ fields_of after.rows.row ∷ rest) × HasRows remaining after rest
 StepsBy remaining before after left (Ok false) = left ≡ []
-StepsBy remaining before after left (Err (fault.Row refused)) = IsRefused before left refused.row refused.kind
+StepsBy remaining before after left (Err (fault.Row refused)) = IsRefusedRow before left refused.row refused.kind
 StepsBy remaining before after left (Err fault.Device) = ⊤
 StepsBy remaining before after left (Err fault.OutOfMemory) = ⊤
 
 -- the same, whatever rows were left before
-abbrev pub Steps : {R : Type 0} → (R → Option (List ℕ)) → Table R → Table R → Result Bool TableFault → Type 0
-Steps remaining before after found = (left : List Fields) → HasRows remaining before left → StepsBy remaining before after left found
+abbrev pub StepsRow : {R : Type 0} → (R → Option (List ℕ)) → Table R → Table R → Result Bool TableFault → Type 0
+StepsRow remaining before after found = (left : List Fields) → HasRows remaining before left → StepsBy remaining before after left found
 
 -- a table has the same header and the same limit
 pub record IsSameTable {R : Type 0} (before after : Table R) : Type 0 where
@@ -103,7 +103,7 @@ pub record IsNextRow {R : Type 0} (before after : Table R) : Type 0 where
   pub width : length (fields_of after.rows.row) ≡ after.width
 
 -- where no row was taken, the number stays
-abbrev pub Moves : {R : Type 0} → Table R → Table R → Result Bool TableFault → Type 0
-Moves before after (Ok true) = IsNextRow before after
-Moves before after (Ok false) = IsSameTable before after × (after.number ≡ before.number)
-Moves before after (Err why) = IsSameTable before after × (after.number ≡ before.number)
+abbrev pub MovesRow : {R : Type 0} → Table R → Table R → Result Bool TableFault → Type 0
+MovesRow before after (Ok true) = IsNextRow before after
+MovesRow before after (Ok false) = IsSameTable before after × (after.number ≡ before.number)
+MovesRow before after (Err why) = IsSameTable before after × (after.number ≡ before.number)

@@ -15,7 +15,7 @@ unfoldable pub rows_of : List ℕ → List Fields
 rows_of text = records default_config (strip_bom text)
 
 -- the rows that are left to a reader of rows, where the bytes below are known
-pub record HasLeft {R : Type 0} (remaining : R → Option (List ℕ)) (rows : Rows R) (left : List Fields) : Type 0 where
+pub record HasRowsLeft {R : Type 0} (remaining : R → Option (List ℕ)) (rows : Rows R) (left : List Fields) : Type 0 where
   pub untrimmed : rows.reader.trim ≡ trim.None
   pub ready : Ready rows.reader
   pub plain : rows.reader.config ≡ default_config
@@ -27,10 +27,10 @@ pub record HasLeft {R : Type 0} (remaining : R → Option (List ℕ)) (rows : Ro
   pub left_are : left ≡ records_from default_config fuel rows.reader.state text
 
 -- a row was found: it was the first of those left. None was found: none was left
-abbrev pub Takes : {R : Type 0} → (R → Option (List ℕ)) → Rows R → List Fields → Bool → Type 0
-Takes remaining after left true = (rest : List Fields) × (left ≡ fields_of after.row ∷ rest) × HasLeft remaining after rest
-Takes remaining after left false = left ≡ []
+abbrev pub TakesNext : {R : Type 0} → (R → Option (List ℕ)) → Rows R → List Fields → Bool → Type 0
+TakesNext remaining after left true = (rest : List Fields) × (left ≡ fields_of after.row ∷ rest) × HasRowsLeft remaining after rest
+TakesNext remaining after left false = left ≡ []
 
 -- the same, whatever rows were left before
-abbrev pub TakesRow : {R : Type 0} → (R → Option (List ℕ)) → Rows R → Rows R → Bool → Type 0
-TakesRow remaining before after found = (left : List Fields) → HasLeft remaining before left → Takes remaining after left found
+abbrev pub TakesTableRow : {R : Type 0} → (R → Option (List ℕ)) → Rows R → Rows R → Bool → Type 0
+TakesTableRow remaining before after found = (left : List Fields) → HasRowsLeft remaining before left → TakesNext remaining after left found

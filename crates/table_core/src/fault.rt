@@ -1,7 +1,7 @@
 //! The faults of a table and of its rows.
 
 ghost use Rattle.std.specs.Prelude.{◌≡◌, Some};
-ghost use Rattle.table_core.specs.Faults.{name_of, text_of, told_of};
+ghost use Rattle.table_core.specs.Faults.{row_kind_name, row_fault_text, table_fault_text};
 ghost use Rattle.table_core.specs.declared.fault.TableFault.TheVariants as out;
 
 use std::alloc::{AllocError, AllocFailed};
@@ -33,7 +33,7 @@ pub enum RowKind {
 }
 
 impl fmt::Display for RowKind {
-    ghost output = { λ kind. Some (name_of kind) };
+    ghost output = { λ kind. Some (row_kind_name kind) };
 
     fn fmt<W: fmt::Write>(&self, f: &mut fmt::Formatter<W>) -> fmt::Result {
         match self {
@@ -60,7 +60,7 @@ pub struct RowFault {
 }
 
 impl fmt::Display for RowFault {
-    ghost output = { λ fault. Some (text_of fault) };
+    ghost output = { λ fault. Some (row_fault_text fault) };
 
     fn fmt<W: fmt::Write>(&self, f: &mut fmt::Formatter<W>) -> fmt::Result {
         let RowFault { row, kind } = *self;
@@ -82,7 +82,7 @@ pub enum TableFault {
 }
 
 impl fmt::Display for TableFault {
-    ghost output = { λ fault. Some (told_of fault) };
+    ghost output = { λ fault. Some (table_fault_text fault) };
 
     fn fmt<W: fmt::Write>(&self, f: &mut fmt::Formatter<W>) -> fmt::Result {
         match self {

@@ -2,7 +2,7 @@
 
 ghost use Rattle.std.specs.Prelude.{◌≡◌, ◌≤◌, ◌+◌, Some, IfErr, IfOk, IfSome};
 ghost use Rattle.std.specs.List.{position};
-ghost use Rattle.table_core.specs.Rows.{rows_of, HasLeft, TakesRow};
+ghost use Rattle.table_core.specs.Rows.{rows_of, HasRowsLeft, TakesTableRow};
 ghost use Rattle.table_core.specs.Tables.{headers_of, is_header, names_of};
 ghost use Rattle.table_core.specs.Faults.{IsOfReading};
 ghost use Rattle.csv.specs.Records.{fields_of};
@@ -43,7 +43,7 @@ impl<R: Drop> Drop for Table<R> {
 }
 
 impl<R: Read + Drop> Table<R> {
-    ghost use Rattle.table_core.specs.Reading.{IsAtFirst, Moves, Opens, Steps, header_of, number_of, row_of_table, stopped_by};
+    ghost use Rattle.table_core.specs.Reading.{IsAtFirst, MovesRow, Opens, StepsRow, header_of, row_number_of, row_of_table, stopped_by};
 
     /// The table of `reader`, whose first row is one of these headers, and which has at most
     /// `limit` rows besides it. `Header` is the fault of row 1.
@@ -83,8 +83,8 @@ impl<R: Read + Drop> Table<R> {
     /// `TooManyRows` where the table has more rows than it may have.
     #[inline(always)]
     pub fn next_row(&mut self) -> Result<bool, TableFault>
-        ensures steps { Steps R.remaining self.old self.new result }
-        ensures moves { Moves self.old self.new result }
+        ensures steps { StepsRow R.remaining self.old self.new result }
+        ensures moves { MovesRow self.old self.new result }
         ensures fault { IfErr result (λ fault. stopped_by self.new ≡ Some fault) }
         ensures stays { IfSome (stopped_by self.old) (λ fault. result ≡ Err fault) }
     {
@@ -98,8 +98,8 @@ impl<R: Read + Drop> Table<R> {
 
     #[inline(always)]
     fn take_row(&mut self) -> Result<bool, TableFault>
-        ensures steps { Steps R.remaining self.old self.new result }
-        ensures moves { Moves self.old self.new result }
+        ensures steps { StepsRow R.remaining self.old self.new result }
+        ensures moves { MovesRow self.old self.new result }
         ensures same { stopped_by self.new ≡ stopped_by self.old }
     {
         if !self.rows.next_row()? {
@@ -131,7 +131,7 @@ impl<R: Read + Drop> Table<R> {
 
     /// The number of that row.
     pub fn number(&self) -> u32
-        ensures { result ≡ number_of self.now }
+        ensures { result ≡ row_number_of self.now }
     {
         self.number
     }
@@ -145,7 +145,7 @@ impl<R: Read + Drop> Table<R> {
 
     /// The fault of the row that was taken last.
     pub fn fault(&self, kind: RowKind) -> TableFault
-        ensures { result ≡ out.Row (record { row = number_of self.now; kind = kind }) }
+        ensures { result ≡ out.Row (record { row = row_number_of self.now; kind = kind }) }
     {
         TableFault::Row(RowFault {
             row: self.number,
@@ -199,7 +199,7 @@ impl<R: Read + Drop> Rows<R> {
 
     /// All the rows of `reader`, its first included.
     pub fn new(alloc: Global, reader: R) -> Rows<R>
-        ensures { IfSome (R.remaining reader) (λ text. HasLeft R.remaining result (rows_of text)) }
+        ensures { IfSome (R.remaining reader) (λ text. HasRowsLeft R.remaining result (rows_of text)) }
     {
         let reader = ReaderBuilder::new()
             .has_headers(false)
@@ -214,7 +214,7 @@ impl<R: Read + Drop> Rows<R> {
     /// Takes the next row, which is then `row`, or answers false where none is left.
     #[inline(always)]
     pub fn next_row(&mut self) -> Result<bool, TableFault>
-        ensures takes { IfOk result (TakesRow R.remaining self.old self.new) }
+        ensures takes { IfOk result (TakesTableRow R.remaining self.old self.new) }
         ensures fault { IfErr result IsOfReading }
     {
         match self.reader.read_byte_record(&mut self.row) {

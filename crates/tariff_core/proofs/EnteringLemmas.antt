@@ -6,7 +6,7 @@ use Rattle.std.specs.Ordering.{is_eq}
 use Rattle.std.specs.Str.{bytes_eq}
 use Rattle.std.proofs.lemmas.Bool.Decides.{nat_tests}
 use Rattle.tariff_core.specs.Bands.{counts_on, is_at}
-use Rattle.tariff_core.specs.Digits.{digits_of}
+use Rattle.tariff_core.specs.Digits.{text_of_digits}
 use Rattle.tariff_core.specs.Places.{by_place}
 use Rattle.tariff_core.specs.Tariff.{Finds, band_of, key_of}
 use Rattle.tariff_core.specs.declared.place.Place.{Place}
@@ -16,7 +16,7 @@ use Rattle.tariff_core.proofs.RangeLemmas.{own_place, place_at}
 
 -- whether a place is one of the row on a day from the first to before the end
 abbrev pub is_entered : ℕ → ℕ → Row → Place → Bool
-is_entered first end row place = (nat_le first place.day && nat_lt place.day end) && is_at (digits_of place.prefix) place.day place.start (band_of row)
+is_entered first end row place = (nat_le first place.day && nat_lt place.day end) && is_at (text_of_digits place.prefix) place.day place.start (band_of row)
 
 -- the row is found on these days, and nothing else changed
 abbrev pub Entered : ℕ → ℕ → BTreeMap Place Row → Row → BTreeMap Place Row → Type 0
@@ -43,15 +43,15 @@ never true b is = is
 never false b is = refl
 
 -- a place that isn't the row's on a day is found behind it as it was before
-still : (first day : ℕ) (row : Row) (place : Place) → ((day == place.day) ≡ true → is_at (digits_of place.prefix) place.day place.start (band_of row) ≡ false)
+still : (first day : ℕ) (row : Row) (place : Place) → ((day == place.day) ≡ true → is_at (text_of_digits place.prefix) place.day place.start (band_of row) ≡ false)
     → is_entered first (day + 1) row place ≡ is_entered first day row place
 still first day row place not_at = by_day (day == place.day) refl
   where
     by_day : (b : Bool) → (day == place.day) ≡ b → is_entered first (day + 1) row place ≡ is_entered first day row place
     by_day true is =
-        never (nat_le first place.day && nat_lt place.day (day + 1)) (is_at (digits_of place.prefix) place.day place.start (band_of row)) (not_at is)
-        ∙ sym (never (nat_le first place.day && nat_lt place.day day) (is_at (digits_of place.prefix) place.day place.start (band_of row)) (not_at is))
-    by_day false is = ap (λ b. (nat_le first place.day && b) && is_at (digits_of place.prefix) place.day place.start (band_of row)) (no_more day place.day is)
+        never (nat_le first place.day && nat_lt place.day (day + 1)) (is_at (text_of_digits place.prefix) place.day place.start (band_of row)) (not_at is)
+        ∙ sym (never (nat_le first place.day && nat_lt place.day day) (is_at (text_of_digits place.prefix) place.day place.start (band_of row)) (not_at is))
+    by_day false is = ap (λ b. (nat_le first place.day && b) && is_at (text_of_digits place.prefix) place.day place.start (band_of row)) (no_more day place.day is)
 
 not_same : (bytes day start counts : Bool) → (bytes && (day && start)) ≡ false → day ≡ true → ((bytes && start) && counts) ≡ false
 not_same true true start counts is on = rw is refl
@@ -68,12 +68,12 @@ entered_more first day row before now after low counts so_far updates place =
         → (if b then Some row else get by_place now place) ≡ (if is_entered first (day + 1) row place then Some row else get by_place before place)
     by_same true is =
         let same = same_digits (place_at row.prefix day row.start) place is in
-        let at : is_at (digits_of place.prefix) place.day place.start (band_of row) ≡ true = rw (← same.0, ← same.1, ← same.2) (own_place (band_of row) day counts) in
+        let at : is_at (text_of_digits place.prefix) place.day place.start (band_of row) ≡ true = rw (← same.0, ← same.1, ← same.2) (own_place (band_of row) day counts) in
         let there : is_entered first (day + 1) row place ≡ true = both (one_day first day place.day low same.1) at in
         rw there refl
     by_same false is =
         let other = sym (same_place (place_at row.prefix day row.start) place) ∙ is in
-        let as_before = still first day row place (λ on. not_same (bytes_eq (digits_of row.prefix) (digits_of place.prefix)) (day == place.day) (row.start == place.start)
+        let as_before = still first day row place (λ on. not_same (bytes_eq (text_of_digits row.prefix) (text_of_digits place.prefix)) (day == place.day) (row.start == place.start)
         (counts_on place.day (band_of row)) other on) in
         so_far place ∙ ap (λ b. if b then Some row else get by_place before place) (sym as_before)
 
@@ -82,7 +82,7 @@ pub entered_not : (first day : ℕ) (row : Row) (before now : BTreeMap Place Row
     → Entered first (day + 1) before row now
 entered_not first day row before now counts so_far place =
     so_far place ∙ ap (λ b. if b then Some row else get by_place before place) (sym (still first day row place (λ on.
-    never (bytes_eq (digits_of row.prefix) (digits_of place.prefix) && (row.start == place.start)) (counts_on place.day (band_of row))
+    never (bytes_eq (text_of_digits row.prefix) (text_of_digits place.prefix) && (row.start == place.start)) (counts_on place.day (band_of row))
     (ap (λ d. counts_on d (band_of row)) (sym (same_number_is day place.day on)) ∙ counts))))
 
 within : (first day on : ℕ) → first ≤ on → on < day → (nat_le first on && nat_lt on day) ≡ true
@@ -90,7 +90,7 @@ within first day on low high = grind (arith, nat_tests, low, high)
 
 -- all days
 pub entered_all : (by_days : Bool) (first end day : ℕ) (row : Row) (before after : BTreeMap Place Row) → first ≡ key_of by_days 1 → end ≡ key_of by_days 7 + 1 → end ≤ day
-    → (by_days ≡ false → digits_of row.days ≡ []) → Entered first day before row after → Finds by_days before row after
+    → (by_days ≡ false → text_of_digits row.days ≡ []) → Entered first day before row after → Finds by_days before row after
 entered_all by_days first end day row before after first_is end_is past none entered place weekday on =
     entered place ∙ ap (λ b. if b then Some row else get by_place before place) same
   where
@@ -100,7 +100,7 @@ entered_all by_days first end day row before after first_is end_is past none ent
     high : place.day < day
     high = let below = key_below by_days end weekday end_is on.to_sunday in omega (arith, below, on.key, past)
 
-    same : is_entered first day row place ≡ is_at (digits_of place.prefix) weekday place.start (band_of row)
+    same : is_entered first day row place ≡ is_at (text_of_digits place.prefix) weekday place.start (band_of row)
     same =
-        ap (λ b. b && is_at (digits_of place.prefix) place.day place.start (band_of row)) (within first day place.day low high)
-        ∙ ap (λ b. (bytes_eq (digits_of row.prefix) (digits_of place.prefix) && (row.start == place.start)) && b) (counts_key by_days (band_of row) weekday place.day none on.key)
+        ap (λ b. b && is_at (text_of_digits place.prefix) place.day place.start (band_of row)) (within first day place.day low high)
+        ∙ ap (λ b. (bytes_eq (text_of_digits row.prefix) (text_of_digits place.prefix) && (row.start == place.start)) && b) (counts_key by_days (band_of row) weekday place.day none on.key)

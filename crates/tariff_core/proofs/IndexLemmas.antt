@@ -14,9 +14,9 @@ use Rattle.std.proofs.lemmas.List.{map-append}
 use Rattle.std.proofs.lemmas.Map.Lookups.{exact_bytes, exact_unsigned}
 use Rattle.std.proofs.lemmas.Map.Text.{is_eq-slice_cmp}
 use Rattle.tariff_core.specs.Bands.{Band, band_at, counts_on, has_band, is_at}
-use Rattle.tariff_core.specs.Digits.{digits_of}
+use Rattle.tariff_core.specs.Digits.{text_of_digits}
 use Rattle.tariff_core.specs.Places.{by_place}
-use Rattle.tariff_core.specs.Tariff.{Finds, Indexes, Keeps, band_of, key_of}
+use Rattle.tariff_core.specs.Tariff.{Finds, Indexes, KeepsRow, band_of, key_of}
 use Rattle.tariff_core.specs.TariffTable.{repeats}
 use Rattle.tariff_core.specs.declared.place.Place.{Place}
 use Rattle.tariff_core.specs.declared.row.Row.{Row}
@@ -33,10 +33,10 @@ is_eq-then Equal p = refl
 is_eq-then Greater p = refl
 
 -- two places are the same where their digits, their days and their starts are
-pub same_place : (k q : Place) → is_eq (by_place k q) ≡ (bytes_eq (digits_of k.prefix) (digits_of q.prefix) && ((k.day == q.day) && (k.start == q.start)))
+pub same_place : (k q : Place) → is_eq (by_place k q) ≡ (bytes_eq (text_of_digits k.prefix) (text_of_digits q.prefix) && ((k.day == q.day) && (k.start == q.start)))
 same_place k q =
-    is_eq-then (slice_cmp nat_cmp (digits_of k.prefix) (digits_of q.prefix)) (ordering_then (nat_cmp k.day q.day) (nat_cmp k.start q.start))
-    ∙ rw (is_eq-slice_cmp (digits_of k.prefix) (digits_of q.prefix), is_eq-then (nat_cmp k.day q.day) (nat_cmp k.start q.start), is_eq-nat_cmp k.day q.day, is_eq-nat_cmp k.start q.start) refl
+    is_eq-then (slice_cmp nat_cmp (text_of_digits k.prefix) (text_of_digits q.prefix)) (ordering_then (nat_cmp k.day q.day) (nat_cmp k.start q.start))
+    ∙ rw (is_eq-slice_cmp (text_of_digits k.prefix) (text_of_digits q.prefix), is_eq-then (nat_cmp k.day q.day) (nat_cmp k.start q.start), is_eq-nat_cmp k.day q.day, is_eq-nat_cmp k.start q.start) refl
 
 both_equal : (o p : Ordering) → is_eq (ordering_then o p) ≡ true → (o ≡ Equal) × (is_eq p ≡ true)
 both_equal Less p is = cc
@@ -48,9 +48,9 @@ equal_is Less is = cc
 equal_is Equal is = refl
 equal_is Greater is = cc
 
-pub same_digits : (k q : Place) → is_eq (by_place k q) ≡ true → (digits_of k.prefix ≡ digits_of q.prefix) × (k.day ≡ q.day) × (k.start ≡ q.start)
+pub same_digits : (k q : Place) → is_eq (by_place k q) ≡ true → (text_of_digits k.prefix ≡ text_of_digits q.prefix) × (k.day ≡ q.day) × (k.start ≡ q.start)
 same_digits k q is =
-    let one = both_equal (slice_cmp nat_cmp (digits_of k.prefix) (digits_of q.prefix)) (ordering_then (nat_cmp k.day q.day) (nat_cmp k.start q.start)) is in
+    let one = both_equal (slice_cmp nat_cmp (text_of_digits k.prefix) (text_of_digits q.prefix)) (ordering_then (nat_cmp k.day q.day) (nat_cmp k.start q.start)) is in
     let two = both_equal (nat_cmp k.day q.day) (nat_cmp k.start q.start) one.1 in
     (exact_bytes _ _ one.0, exact_unsigned _ _ two.0, exact_unsigned _ _ (equal_is _ two.1))
 
@@ -99,7 +99,7 @@ some_map view (Some x) = refl
 
 -- the index has an entry at a place for a weekday where there is a row
 pub finds_at : (by_days : Bool) (index : BTreeMap Place Row) (bands : List Band) (place : Place) (weekday : ℕ) → Indexes by_days index bands → IsKey by_days weekday place.day
-    → is_some (get by_place index place) ≡ has_band (digits_of place.prefix) weekday place.start bands
+    → is_some (get by_place index place) ≡ has_band (text_of_digits place.prefix) weekday place.start bands
 finds_at by_days index bands place weekday indexed is =
     sym (some_map band_of (get by_place index place)) ∙ ap is_some (indexed place weekday (record { from_monday = is.low; to_sunday = is.high; key = is.key }))
 
@@ -164,15 +164,15 @@ pub indexes_more : (by_days : Bool) (before after : BTreeMap Place Row) (bands :
     → Indexes by_days before bands → Finds by_days before row after → repeats bands (band_of row) ≡ false
     → Indexes by_days after (bands ++ band_of row ∷ [])
 indexes_more by_days before after bands row indexed finds new q day on =
-    rw (finds q day on, band_at-append (digits_of q.prefix) day q.start bands (band_of row), ← indexed q day on)
-    (by_same (is_at (digits_of q.prefix) day q.start (band_of row)) refl)
+    rw (finds q day on, band_at-append (text_of_digits q.prefix) day q.start bands (band_of row), ← indexed q day on)
+    (by_same (is_at (text_of_digits q.prefix) day q.start (band_of row)) refl)
   where
-    by_same : (b : Bool) → is_at (digits_of q.prefix) day q.start (band_of row) ≡ b
+    by_same : (b : Bool) → is_at (text_of_digits q.prefix) day q.start (band_of row) ≡ b
         → option_map band_of (if b then Some row else get by_place before q)
         ≡ (if is_some (option_map band_of (get by_place before q)) then option_map band_of (get by_place before q) else if b then Some (band_of row) else None)
     by_same true is =
-        let parts = at_parts (digits_of q.prefix) day q.start (band_of row) is in
-        let new_there : has_band (digits_of q.prefix) day q.start bands ≡ false =
+        let parts = at_parts (text_of_digits q.prefix) day q.start (band_of row) is in
+        let new_there : has_band (text_of_digits q.prefix) day q.start bands ≡ false =
         rw (← parts.0, ← parts.1) (not_there bands (band_of row) day on.from_monday on.to_sunday new parts.2) in
         let none : is_some (option_map band_of (get by_place before q)) ≡ false = rw (indexed q day on) new_there in
         taken (option_map band_of (get by_place before q)) (band_of row) none
@@ -185,6 +185,6 @@ pub count_more : (old new : List Row) (row : Row) → new ≡ old ++ row ∷ [] 
 count_more old new row grown = rw (grown, length-append old (row ∷ [])) refl
 
 pub keeps_indexed : (by_days : Bool) (old new : List Row) (before after : BTreeMap Place Row) (row : Row) → Indexes by_days before (map band_of old)
-    → Keeps by_days old before row new after → repeats (map band_of old) (band_of row) ≡ false → Indexes by_days after (map band_of new)
+    → KeepsRow by_days old before row new after → repeats (map band_of old) (band_of row) ≡ false → Indexes by_days after (map band_of new)
 keeps_indexed by_days old new before after row indexed kept is_new =
     rw (rows_more old new row kept.rows) (indexes_more by_days before after (map band_of old) row indexed kept.index is_new)

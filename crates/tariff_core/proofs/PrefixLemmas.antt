@@ -7,7 +7,7 @@ use Rattle.std.proofs.lemmas.Bool.{cases_lt}
 use Rattle.std.proofs.lemmas.List.Elements.{All-contains, Contains-get_or}
 use Rattle.std.proofs.lemmas.List.Folds.{list_all_at}
 use Rattle.tariff_core.specs.Bands.{Band, band_at, counts_on, has_band, has_midnights, weekday}
-use Rattle.tariff_core.specs.Digits.{digits_of}
+use Rattle.tariff_core.specs.Digits.{text_of_digits}
 use Rattle.tariff_core.specs.Routes.{BeginsWith, HasNoRoute, IsPrefixFor}
 use Rattle.tariff_core.specs.Tariff.{AreNoLonger, is_complete, key_of}
 use Rattle.tariff_core.specs.declared.digits.Digits.{Digits}
@@ -50,7 +50,7 @@ some_latest bands prefix now None has none =
     absurd (omega (arith, is.starts))
 
 -- a prefix of the code is short
-pub short_digits : (prefix : Digits) → length (digits_of prefix) ≤ 15
+pub short_digits : (prefix : Digits) → length (text_of_digits prefix) ≤ 15
 short_digits prefix = let short = prefix.short in omega (arith, length-take prefix.len prefix.bytes)
 
 -- ---- prefixes of a called number

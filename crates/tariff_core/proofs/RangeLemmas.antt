@@ -17,7 +17,7 @@ use Rattle.std.proofs.lemmas.Map.Keys.{ge_from_not_lt, le_from_not_gt}
 use Rattle.std.proofs.lemmas.Map.Lookups.{exact_bytes, exact_unsigned}
 use Rattle.std.proofs.lemmas.Map.Text.{is_eq-slice_cmp}
 use Rattle.tariff_core.specs.Bands.{Band, band_at, counts_on, has_band, is_at}
-use Rattle.tariff_core.specs.Digits.{digits_of}
+use Rattle.tariff_core.specs.Digits.{text_of_digits}
 use Rattle.tariff_core.specs.Places.{by_place}
 use Rattle.tariff_core.specs.Tariff.{Indexes, IsOn, band_of}
 use Rattle.tariff_core.specs.declared.place.Place.{Place}
@@ -104,8 +104,8 @@ abbrev pub place_at : Digits → ℕ → ℕ → Place
 place_at prefix day start = record { prefix = prefix; day = day; start = start }
 
 -- places of one prefix and one day are in the order of their starts
-same_prefix : (k q : Place) → digits_of k.prefix ≡ digits_of q.prefix → k.day ≡ q.day → by_place k q ≡ nat_cmp k.start q.start
-same_prefix k q same days = rw (same, days, tied_itself nat_list_cmp_total (digits_of q.prefix), tied q.day) refl
+same_prefix : (k q : Place) → text_of_digits k.prefix ≡ text_of_digits q.prefix → k.day ≡ q.day → by_place k q ≡ nat_cmp k.start q.start
+same_prefix k q same days = rw (same, days, tied_itself nat_list_cmp_total (text_of_digits q.prefix), tied q.day) refl
   where
     tied : (n : ℕ) → nat_cmp n n ≡ Equal
     tied n = grind (arith, nat_tests)
@@ -129,7 +129,7 @@ back_nat s t = grind (arith, nat_tests)
 
 -- a place of a prefix and a day, from a start on and before another
 pub record IsOf (prefix : Digits) (day from to : ℕ) (place : Place) : Type 0 where
-  pub own : digits_of place.prefix ≡ digits_of prefix
+  pub own : text_of_digits place.prefix ≡ text_of_digits prefix
   pub on_day : place.day ≡ day
   pub from_start : from ≤ place.start
   pub to_end : place.start < to
@@ -137,8 +137,8 @@ pub record IsOf (prefix : Digits) (day from to : ℕ) (place : Place) : Type 0 w
 module _ (prefix : Digits) (day from to : ℕ) where
   within : (k : Place) → IsInRange by_place (Included (place_at prefix day from)) (Excluded (place_at prefix day to)) k → IsOf prefix day from to k
   within k (low, high) =
-      let back = nat_list_cmp_total.antisymm (digits_of k.prefix) (digits_of prefix) in
-      let ends = ends_equal (slice_cmp nat_cmp (digits_of prefix) (digits_of k.prefix)) (ordering_then (nat_cmp day k.day) (nat_cmp from k.start))
+      let back = nat_list_cmp_total.antisymm (text_of_digits k.prefix) (text_of_digits prefix) in
+      let ends = ends_equal (slice_cmp nat_cmp (text_of_digits prefix) (text_of_digits k.prefix)) (ordering_then (nat_cmp day k.day) (nat_cmp from k.start))
       (ordering_then (nat_cmp k.day day) (nat_cmp k.start to)) low (rw back at high) in
       let starts = ends_equal (nat_cmp day k.day) (nat_cmp from k.start) (nat_cmp k.start to) ends.1 (rw (back_nat day k.day) at ends.2) in
       record {
@@ -156,7 +156,7 @@ module _ (prefix : Digits) (day from to : ℕ) where
 
 -- a row of a prefix that counts on a weekday, from a start on and before another
 pub record IsRowOf (prefix : Digits) (weekday from to : ℕ) (row : Row) : Type 0 where
-  pub own : digits_of row.prefix ≡ digits_of prefix
+  pub own : text_of_digits row.prefix ≡ text_of_digits prefix
   pub counts : counts_on weekday (band_of row) ≡ true
   pub from_start : from ≤ row.start
   pub to_end : row.start < to
@@ -195,7 +195,7 @@ module _ (by_days : Bool) (weekday day : ℕ) (keyed : IsKey by_days weekday day
 
   entry_of : (e : Place × Row) → IsOf prefix day from to e.0 → get by_place index e.0 ≡ Some e.1 → IsEntry e
   entry_of e of is =
-      let at = found_listed (digits_of e.0.prefix) weekday e.0.start (map band_of rows) (band_of e.1) (sym (indexed e.0 weekday (is_on e.0 of.on_day)) ∙ ap (option_map band_of) is) in
+      let at = found_listed (text_of_digits e.0.prefix) weekday e.0.start (map band_of rows) (band_of e.1) (sym (indexed e.0 weekday (is_on e.0 of.on_day)) ∙ ap (option_map band_of) is) in
       let starts : e.1.start ≡ e.0.start = at.starts in
       record {
         listed = at.listed;

@@ -3,12 +3,12 @@ use Rattle.std.proofs.Common.{◌≡◌, ℕ, zero, suc, ◌<◌, ◌+◌, ◌�
 use Rattle.std.specs.Prelude.{IsErrAnd, if◌then◌else◌, map, nat_le, nat_lt}
 use Rattle.std.proofs.lemmas.Bool.Decides.{nat_tests}
 use Rattle.std.specs.List.{list_any}
-use Rattle.table_core.specs.Judging.{after}
+use Rattle.table_core.specs.Judging.{and_then}
 use Rattle.table_core.specs.Rows.{Fields, rows_of}
 use Rattle.table_core.specs.Tables.{below, own_fault, rows_from, table_of, then_rows, unless_own, which_header, width_at}
 use Rattle.table_core.specs.declared.fault.TableFault.{TableFault}
 use Rattle.table_core.specs.declared.fault.TableFault.TheVariants as fault
-use Rattle.table_core.specs.Reading.{header_of, number_of, width_of}
+use Rattle.table_core.specs.Reading.{header_of, row_number_of, row_width}
 use Rattle.table_core.specs.declared.table.Table.{Table}
 use Rattle.table_core.proofs.TableLemmas.{IsRead, Stops}
 use Rattle.tariff_core.proofs.Known.{at_known}
@@ -16,7 +16,7 @@ use Rattle.tariff_core.specs.Bands.{Band, have_steps}
 use Rattle.tariff_core.specs.Rates.{are_steps}
 use Rattle.tariff_core.specs.Tariff.{band_of}
 use Rattle.tariff_core.specs.TariffFaults.{fault_from, kind_from}
-use Rattle.tariff_core.specs.TariffTable.{ComesBy, Gives, HasColumns, NotBefore, Refuses, band_in, bands_of, complete, complete_by, days_in, first_in, free_in, header, header_with_days, header_with_free, header_with_steps, money_in, new_band, new_band_in, prefix_in, repeats, start_in, step_in, tariff_form, without_midnight}
+use Rattle.tariff_core.specs.TariffTable.{ComesBy, GivesBands, HasBandColumns, NotBefore, RefusesBands, band_in, bands_of, complete, complete_by, days_in, first_in, free_in, tariff_header, header_with_days, header_with_free, header_with_steps, money_in, new_band, new_band_in, prefix_in, repeats, band_start_in, step_in, tariff_form, without_midnight}
 use Rattle.tariff_core.specs.declared.row.Row.{Row}
 use Rattle.tariff_core.specs.declared.tariff_fault.TariffFault.{TariffFault}
 use Rattle.tariff_core.specs.declared.tariff_fault.TariffKind.{TariffKind}
@@ -25,7 +25,7 @@ use Rattle.tariff_core.specs.declared.tariff_fault.TariffKind.TheVariants as kin
 -- ---- one row
 
 -- a step that was taken, and those after it
-pub after_is : {X Y E : Type 0} (step : Result X E) (next : X → Result Y E) (y : Y) → after step next ≡ Ok y → (x : X) × (step ≡ Ok x) × (next x ≡ Ok y)
+pub after_is : {X Y E : Type 0} (step : Result X E) (next : X → Result Y E) (y : Y) → and_then step next ≡ Ok y → (x : X) × (step ≡ Ok x) × (next x ≡ Ok y)
 after_is (Ok x) next y is = (x, refl, is)
 after_is (Err why) next y is = absurd (cc)
 
@@ -42,10 +42,10 @@ taken_band which earlier fields band is =
     (rw (← same) read, rw (← same) new)
 
 -- the start and the days of a row are what its fields say
-pub read_parts : (which : ℕ) (fields : Fields) (band : Band) → band_in which fields ≡ Ok band → (start_in fields ≡ Ok band.start) × (days_in which fields ≡ Ok band.days)
+pub read_parts : (which : ℕ) (fields : Fields) (band : Band) → band_in which fields ≡ Ok band → (band_start_in fields ≡ Ok band.start) × (days_in which fields ≡ Ok band.days)
 read_parts which fields band is =
     let one = after_is (prefix_in fields) _ band is in
-    let two = after_is (start_in fields) _ band one.2 in
+    let two = after_is (band_start_in fields) _ band one.2 in
     let three = after_is (money_in fields 2) _ band two.2 in
     let four = after_is (money_in fields 3) _ band three.2 in
     let five = after_is (free_in which fields) _ band four.2 in
@@ -85,8 +85,8 @@ steps_of_rows (row ∷ rows) = rw (steps_of_rows rows) refl
 -- ---- the columns of a row
 
 -- a row that is as wide as its header has its columns
-pub has_columns : (which : ℕ) (fields : Fields) → which < 4 → length fields ≡ width_at (header ∷ header_with_free ∷ header_with_steps ∷ header_with_days ∷ []) which
-    → HasColumns which fields
+pub has_columns : (which : ℕ) (fields : Fields) → which < 4 → length fields ≡ width_at (tariff_header ∷ header_with_free ∷ header_with_steps ∷ header_with_days ∷ []) which
+    → HasBandColumns which fields
 has_columns zero fields one wide = (omega (arith, wide), λ more. absurd (omega (arith, more)), λ more. absurd (omega (arith, more)), λ more. absurd (omega (arith, more)))
 has_columns (suc zero) fields one wide = (omega (arith, wide), λ more. omega (arith, wide), λ more. absurd (omega (arith, more)), λ more. absurd (omega (arith, more)))
 has_columns (suc (suc zero)) fields one wide = (omega (arith, wide), λ more. omega (arith, wide), λ more. omega (arith, wide), λ more. absurd (omega (arith, more)))
@@ -94,7 +94,7 @@ has_columns (suc (suc (suc zero))) fields one wide = (omega (arith, wide), λ mo
 has_columns (suc (suc (suc (suc which)))) fields one wide = absurd (omega (arith, one))
 
 -- a fault of the table's own
-pub refused_at : (why : TariffKind) (number : ℕ) (meaning : Result (List Band) TariffFault) → meaning ≡ Err (record { row = number; kind = why }) → Refuses why number meaning
+pub refused_at : (why : TariffKind) (number : ℕ) (meaning : Result (List Band) TariffFault) → meaning ≡ Err (record { row = number; kind = why }) → RefusesBands why number meaning
 refused_at kind.Csv number meaning is = is
 refused_at kind.Header number meaning is = is
 refused_at kind.Digits number meaning is = is
@@ -164,8 +164,8 @@ rows_not_before which width number earlier (fields ∷ rows) =
 
 below_not_before : (first : Fields) (rows : List Fields) (which : Option ℕ) → NotBefore 1 (below tariff_form first rows which)
 below_not_before first rows None = omega arith
-below_not_before first rows (Some header) =
-    not_before_later (rows_from tariff_form header (length first) 2 [] rows) 1 2 (omega arith) (rows_not_before header (length first) 2 [] rows)
+below_not_before first rows (Some tariff_header) =
+    not_before_later (rows_from tariff_form tariff_header (length first) 2 [] rows) 1 2 (omega arith) (rows_not_before tariff_header (length first) 2 [] rows)
 
 -- a table has no fault before its header
 pub bands_not_before : (rows : List Fields) → NotBefore 1 (bands_of rows)
@@ -175,14 +175,14 @@ bands_not_before (first ∷ rows) = below_not_before first rows (which_header ta
 
 -- after the rows so far, none up to the next one has a fault
 pub none_before : {R : Type 0} (remaining : R → Option (List ℕ)) (known : Option (List ℕ)) (table : Table R) (read : List Band) (text : List ℕ) → known ≡ Some text
-    → IsRead tariff_form remaining known table read → NotBefore (number_of table + 1) (bands_of (rows_of text))
+    → IsRead tariff_form remaining known table read → NotBefore (row_number_of table + 1) (bands_of (rows_of text))
 none_before remaining known table read text is so_far =
     let at = at_known known _ text is so_far.so_far in
-    rw at.is (rows_not_before (header_of table) (width_of table) (number_of table + 1) read at.left)
+    rw at.is (rows_not_before (header_of table) (row_width table) (row_number_of table + 1) read at.left)
 
 -- a table that is given up at a row, with none refused before it
 pub given_up : (row : ℕ) (why : TableFault) (meaning : Result (List Band) TariffFault) → NotBefore row meaning → Stops tariff_form why meaning
-    → Gives (Err (fault_from row why)) meaning
+    → GivesBands (Err (fault_from row why)) meaning
 given_up row (fault.Row own) meaning by is = refused_at (kind_from own.kind) own.row meaning is
 given_up row fault.Device meaning by is = by
 given_up row fault.OutOfMemory meaning by is = by
@@ -191,12 +191,12 @@ not_before_complete : (bands : List Band) (missing : Option ℕ) (row : ℕ) →
 not_before_complete bands None row = tt
 not_before_complete bands (Some number) row = tt
 
-not_before_whole : (row : ℕ) (meaning : Result (List Band) TariffFault) → NotBefore row meaning → NotBefore row (after meaning complete)
+not_before_whole : (row : ℕ) (meaning : Result (List Band) TariffFault) → NotBefore row meaning → NotBefore row (and_then meaning complete)
 not_before_whole row (Ok bands) by = not_before_complete bands (without_midnight bands 2 bands) row
 not_before_whole row (Err fault) by = by
 
 -- a fault of the rows is one of the table
-pub refused_whole : (why : TariffKind) (row : ℕ) (meaning : Result (List Band) TariffFault) → Refuses why row meaning → Refuses why row (after meaning complete)
+pub refused_whole : (why : TariffKind) (row : ℕ) (meaning : Result (List Band) TariffFault) → RefusesBands why row meaning → RefusesBands why row (and_then meaning complete)
 refused_whole kind.Csv row meaning is = rw is refl
 refused_whole kind.Header row meaning is = rw is refl
 refused_whole kind.Digits row meaning is = rw is refl
@@ -214,6 +214,6 @@ refused_whole kind.Days row meaning is = rw is refl
 
 -- a fault that is passed on
 pub passed_on : (answer : Result (List Band) TariffFault) (fault : TariffFault) (meaning : Result (List Band) TariffFault)
-    → IsErrAnd answer (λ met. met ≡ fault) → Gives (Err fault) meaning → Gives answer meaning
+    → IsErrAnd answer (λ met. met ≡ fault) → GivesBands (Err fault) meaning → GivesBands answer meaning
 passed_on (Ok bands) fault meaning met gives = absurd met
 passed_on (Err why) fault meaning met gives = rw met gives

@@ -3,5 +3,5 @@ use Rattle.std.specs.Prelude.{ℕ, List, take}
 use Rattle.tariff_core.specs.declared.digits.Digits.{Digits}
 
 -- the text of the digits
-abbrev pub digits_of : Digits → List ℕ
-digits_of digits = take digits.len digits.bytes
+abbrev pub text_of_digits : Digits → List ℕ
+text_of_digits digits = take digits.len digits.bytes

@@ -3,14 +3,14 @@ use Rattle.std.specs.Prelude.{◌≡◌, ◌≤◌, ◌++◌, ◌∷◌, [], ℕ
 use Rattle.std.specs.BTreeMap.{BTreeMap, get}
 use Rattle.std.specs.List.{list_all}
 use Rattle.tariff_core.specs.Bands.{Band, band_at, has_midnights, is_at}
-use Rattle.tariff_core.specs.Digits.{digits_of}
+use Rattle.tariff_core.specs.Digits.{text_of_digits}
 use Rattle.tariff_core.specs.Places.{by_place}
 use Rattle.tariff_core.specs.declared.row.Row.{Row}
 use Rattle.tariff_core.specs.declared.place.Place.{Place}
 
 -- what a row of the code says
 abbrev pub band_of : Row → Band
-band_of row = record { prefix = digits_of row.prefix; start = row.start; fee = row.cost.fee; rate = row.cost.rate; free = row.cost.free; first = row.cost.first; step = row.cost.step; days = digits_of row.days }
+band_of row = record { prefix = text_of_digits row.prefix; start = row.start; fee = row.cost.fee; rate = row.cost.rate; free = row.cost.free; first = row.cost.first; step = row.cost.step; days = text_of_digits row.days }
 
 -- what is told of a value, seen by `view`, is what its meaning says
 abbrev pub Tells : {X Y E : Type 0} → (X → Y) → Result X E → Result Y E → Type 0
@@ -30,7 +30,7 @@ pub record IsOn (by_days : Bool) (day : ℕ) (place : Place) : Type 0 where
 -- at the place for a weekday the index finds the row that counts on it
 abbrev pub Indexes : Bool → BTreeMap Place Row → List Band → Type 0
 Indexes by_days index bands =
-    (place : Place) (day : ℕ) → IsOn by_days day place → option_map band_of (get by_place index place) ≡ band_at (digits_of place.prefix) day place.start bands
+    (place : Place) (day : ℕ) → IsOn by_days day place → option_map band_of (get by_place index place) ≡ band_at (text_of_digits place.prefix) day place.start bands
 
 -- the index of the rows of a table
 pub record IsIndexed (rows : List Row) (by_days : Bool) (index : BTreeMap Place Row) : Type 0 where
@@ -41,10 +41,10 @@ pub record IsIndexed (rows : List Row) (by_days : Bool) (index : BTreeMap Place 
 abbrev pub Finds : Bool → BTreeMap Place Row → Row → BTreeMap Place Row → Type 0
 Finds by_days before row after =
     (place : Place) (day : ℕ) → IsOn by_days day place
-    → get by_place after place ≡ (if is_at (digits_of place.prefix) day place.start (band_of row) then Some row else get by_place before place)
+    → get by_place after place ≡ (if is_at (text_of_digits place.prefix) day place.start (band_of row) then Some row else get by_place before place)
 
 -- a row came to the end, and into the index
-pub record Keeps (by_days : Bool) (old : List Row) (before : BTreeMap Place Row) (row : Row) (new : List Row) (after : BTreeMap Place Row) : Type 0 where
+pub record KeepsRow (by_days : Bool) (old : List Row) (before : BTreeMap Place Row) (row : Row) (new : List Row) (after : BTreeMap Place Row) : Type 0 where
   pub rows : new ≡ old ++ row ∷ []
   pub index : Finds by_days before row after
 

@@ -10,42 +10,42 @@ use Rattle.tariff_core.specs.declared.tariff_fault.TariffKind.{TariffKind}
 use Rattle.tariff_core.specs.declared.tariff_fault.TariffKind.TheVariants as kind
 
 -- the number of a kind
-abbrev pub code_of : TariffKind → ℕ
-code_of kind.Csv = 1
-code_of kind.Header = 2
-code_of kind.Digits = 3
-code_of kind.From = 4
-code_of kind.Money = 5
-code_of kind.Repeated = 6
-code_of kind.NoMidnightBand = 7
-code_of kind.OutOfMemory = 8
-code_of kind.Device = 9
-code_of kind.TooManyRows = 10
-code_of kind.Free = 11
-code_of kind.First = 12
-code_of kind.Step = 13
-code_of kind.Days = 14
+abbrev pub tariff_kind_code : TariffKind → ℕ
+tariff_kind_code kind.Csv = 1
+tariff_kind_code kind.Header = 2
+tariff_kind_code kind.Digits = 3
+tariff_kind_code kind.From = 4
+tariff_kind_code kind.Money = 5
+tariff_kind_code kind.Repeated = 6
+tariff_kind_code kind.NoMidnightBand = 7
+tariff_kind_code kind.OutOfMemory = 8
+tariff_kind_code kind.Device = 9
+tariff_kind_code kind.TooManyRows = 10
+tariff_kind_code kind.Free = 11
+tariff_kind_code kind.First = 12
+tariff_kind_code kind.Step = 13
+tariff_kind_code kind.Days = 14
 
 -- the name of a kind
-abbrev pub name_of : TariffKind → List ℕ
-name_of kind.Csv = codes "Csv"
-name_of kind.Header = codes "Header"
-name_of kind.Digits = codes "Digits"
-name_of kind.From = codes "From"
-name_of kind.Money = codes "Money"
-name_of kind.Repeated = codes "Repeated"
-name_of kind.NoMidnightBand = codes "NoMidnightBand"
-name_of kind.OutOfMemory = codes "OutOfMemory"
-name_of kind.Device = codes "Device"
-name_of kind.TooManyRows = codes "TooManyRows"
-name_of kind.Free = codes "Free"
-name_of kind.First = codes "First"
-name_of kind.Step = codes "Step"
-name_of kind.Days = codes "Days"
+abbrev pub tariff_kind_name : TariffKind → List ℕ
+tariff_kind_name kind.Csv = codes "Csv"
+tariff_kind_name kind.Header = codes "Header"
+tariff_kind_name kind.Digits = codes "Digits"
+tariff_kind_name kind.From = codes "From"
+tariff_kind_name kind.Money = codes "Money"
+tariff_kind_name kind.Repeated = codes "Repeated"
+tariff_kind_name kind.NoMidnightBand = codes "NoMidnightBand"
+tariff_kind_name kind.OutOfMemory = codes "OutOfMemory"
+tariff_kind_name kind.Device = codes "Device"
+tariff_kind_name kind.TooManyRows = codes "TooManyRows"
+tariff_kind_name kind.Free = codes "Free"
+tariff_kind_name kind.First = codes "First"
+tariff_kind_name kind.Step = codes "Step"
+tariff_kind_name kind.Days = codes "Days"
 
 -- `row N: KIND`
-abbrev pub text_of : TariffFault → List ℕ
-text_of fault = codes "row " ++ (decimal fault.row ++ (codes ": " ++ name_of fault.kind))
+abbrev pub tariff_fault_text : TariffFault → List ℕ
+tariff_fault_text fault = codes "row " ++ (decimal fault.row ++ (codes ": " ++ tariff_kind_name fault.kind))
 
 -- the kind of a fault that any table may have
 abbrev pub kind_from : RowKind → TariffKind

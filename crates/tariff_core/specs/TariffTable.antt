@@ -4,7 +4,7 @@ use Rattle.std.specs.Char.{is_ascii_digit}
 use Rattle.std.specs.List.{list_all, list_any}
 use Rattle.table_core.specs.Decimals.{decimal_of}
 use Rattle.table_core.specs.Fields.{field_in}
-use Rattle.table_core.specs.Judging.{adds, after}
+use Rattle.table_core.specs.Judging.{adds, and_then}
 use Rattle.table_core.specs.Tables.{TableForm, table_of}
 use Rattle.tariff_core.specs.Bands.{Band, counts_on, has_band, has_midnights, weekdays}
 use Rattle.tariff_core.specs.TariffFaults.{kind_from}
@@ -34,25 +34,25 @@ abbrev pub prefix_in : List (List ℕ) → Result (List ℕ) TariffKind
 prefix_in fields = if is_prefix (field_in fields 0) then Ok (field_in fields 0) else Err kind.Digits
 
 -- the start of a band
-abbrev pub start_in : List (List ℕ) → Result ℕ TariffKind
-start_in fields = ok_or (time_of (field_in fields 1)) kind.From
+abbrev pub band_start_in : List (List ℕ) → Result ℕ TariffKind
+band_start_in fields = ok_or (time_of (field_in fields 1)) kind.From
 
 -- a fee or a rate
 abbrev pub money_in : List (List ℕ) → ℕ → Result ℕ TariffKind
 money_in fields place = ok_or (decimal_of MAX_RATE (field_in fields place)) kind.Money
 
 -- a row has the four fields of the first header, five with free units, seven with steps, or eight with days
-abbrev pub HasColumns : ℕ → List (List ℕ) → Type 0
-HasColumns header fields =
-    (4 ≤ length fields) × (1 ≤ header → 5 ≤ length fields) × (2 ≤ header → 7 ≤ length fields) × (3 ≤ header → 8 ≤ length fields)
+abbrev pub HasBandColumns : ℕ → List (List ℕ) → Type 0
+HasBandColumns tariff_header fields =
+    (4 ≤ length fields) × (1 ≤ tariff_header → 5 ≤ length fields) × (2 ≤ tariff_header → 7 ≤ length fields) × (3 ≤ tariff_header → 8 ≤ length fields)
 
 -- the free units in a row: none under the first header
 abbrev pub free_in : ℕ → List (List ℕ) → Result ℕ TariffKind
-free_in header fields = if header == 0 then Ok 0 else ok_or (decimal_of DAY (field_in fields 4)) kind.Free
+free_in tariff_header fields = if tariff_header == 0 then Ok 0 else ok_or (decimal_of DAY (field_in fields 4)) kind.Free
 
 -- the least units that are billed: none under the first two headers
 abbrev pub first_in : ℕ → List (List ℕ) → Result ℕ TariffKind
-first_in header fields = if nat_lt header 2 then Ok 0 else ok_or (decimal_of DAY (field_in fields 5)) kind.First
+first_in tariff_header fields = if nat_lt tariff_header 2 then Ok 0 else ok_or (decimal_of DAY (field_in fields 5)) kind.First
 
 -- a number of units, of which there is one at least
 abbrev pub step_of : Option ℕ → Result ℕ TariffKind
@@ -61,7 +61,7 @@ step_of (Some units) = if units == 0 then Err kind.Step else Ok units
 
 -- the units of a step: one under the first two headers
 abbrev pub step_in : ℕ → List (List ℕ) → Result ℕ TariffKind
-step_in header fields = if nat_lt header 2 then Ok 1 else step_of (decimal_of DAY (field_in fields 6))
+step_in tariff_header fields = if nat_lt tariff_header 2 then Ok 1 else step_of (decimal_of DAY (field_in fields 6))
 
 -- digits up to 7, each above the one before it
 unfoldable pub rise_from : ℕ → List ℕ → Bool
@@ -74,14 +74,14 @@ are_days text = rise_from 48 text
 
 -- the days in a row: none, for each day, under the first three headers
 abbrev pub days_in : ℕ → List (List ℕ) → Result (List ℕ) TariffKind
-days_in header fields =
-    if nat_lt header 3 then Ok [] else if are_days (field_in fields 7) then Ok (field_in fields 7) else Err kind.Days
+days_in tariff_header fields =
+    if nat_lt tariff_header 3 then Ok [] else if are_days (field_in fields 7) then Ok (field_in fields 7) else Err kind.Days
 
 -- what a row says
 abbrev pub band_in : ℕ → List (List ℕ) → Result Band TariffKind
-band_in header fields =
-    after (prefix_in fields) (λ prefix. after (start_in fields) (λ start. after (money_in fields 2) (λ fee. after (money_in fields 3) (λ rate.
-    after (free_in header fields) (λ free. after (first_in header fields) (λ first. after (step_in header fields) (λ step. after (days_in header fields) (λ days.
+band_in tariff_header fields =
+    and_then (prefix_in fields) (λ prefix. and_then (band_start_in fields) (λ start. and_then (money_in fields 2) (λ fee. and_then (money_in fields 3) (λ rate.
+    and_then (free_in tariff_header fields) (λ free. and_then (first_in tariff_header fields) (λ first. and_then (step_in tariff_header fields) (λ step. and_then (days_in tariff_header fields) (λ days.
     Ok (record { prefix = prefix; start = start; fee = fee; rate = rate; free = free; first = first; step = step; days = days })))))))))
 
 -- on a weekday on which the row counts, an earlier one that counts too has its prefix and its start
@@ -94,15 +94,15 @@ new_band earlier band = if repeats earlier band then Err kind.Repeated else Ok b
 
 -- what a row says, after the earlier ones
 abbrev pub new_band_in : ℕ → List Band → List (List ℕ) → Result Band TariffKind
-new_band_in header earlier fields = after (band_in header fields) (new_band earlier)
+new_band_in tariff_header earlier fields = and_then (band_in tariff_header fields) (new_band earlier)
 
 -- `prefix,from,fee,rate`, the same with `free`, that with `first,step`, and that with `days`
-abbrev pub header : List (List ℕ)
-header = codes "prefix" ∷ codes "from" ∷ codes "fee" ∷ codes "rate" ∷ []
+abbrev pub tariff_header : List (List ℕ)
+tariff_header = codes "prefix" ∷ codes "from" ∷ codes "fee" ∷ codes "rate" ∷ []
 
 -- the header with a column for free units
 abbrev pub header_with_free : List (List ℕ)
-header_with_free = header ++ codes "free" ∷ []
+header_with_free = tariff_header ++ codes "free" ∷ []
 
 -- the header with two more for steps
 abbrev pub header_with_steps : List (List ℕ)
@@ -115,10 +115,10 @@ header_with_days = header_with_steps ++ codes "days" ∷ []
 -- a tariff table of at most 10,000 rows
 abbrev pub tariff_form : TableForm (List Band) TariffKind TariffFault
 tariff_form = record {
-  headers = header ∷ header_with_free ∷ header_with_steps ∷ header_with_days ∷ [];
+  headers = tariff_header ∷ header_with_free ∷ header_with_steps ∷ header_with_days ∷ [];
   limit = 10000;
   start = [];
-  judge = λ header. adds (new_band_in header);
+  judge = λ tariff_header. adds (new_band_in tariff_header);
   kind_of = kind_from;
   fault_at = λ row kind. record { row = row; kind = kind };
 }
@@ -143,7 +143,7 @@ complete bands = complete_by bands (without_midnight bands 2 bands)
 
 -- the rows of a table
 abbrev pub tariff_of : List (List (List ℕ)) → Result (List Band) TariffFault
-tariff_of rows = after (bands_of rows) complete
+tariff_of rows = and_then (bands_of rows) complete
 
 -- where a fault comes: at its row, but after the last where a prefix has no row from midnight on, on some weekday
 abbrev pub ComesBy : ℕ → TariffKind → ℕ → Type 0
@@ -156,12 +156,12 @@ NotBefore number (Ok bands) = ⊤
 NotBefore number (Err fault) = ComesBy number fault.kind fault.row
 
 -- a fault of the table is the one that its meaning has; out of memory and a failed reader come before that
-abbrev pub Refuses : TariffKind → ℕ → Result (List Band) TariffFault → Type 0
-Refuses kind.OutOfMemory row meaning = NotBefore row meaning
-Refuses kind.Device row meaning = NotBefore row meaning
-Refuses why row meaning = meaning ≡ Err (record { row = row; kind = why })
+abbrev pub RefusesBands : TariffKind → ℕ → Result (List Band) TariffFault → Type 0
+RefusesBands kind.OutOfMemory row meaning = NotBefore row meaning
+RefusesBands kind.Device row meaning = NotBefore row meaning
+RefusesBands why row meaning = meaning ≡ Err (record { row = row; kind = why })
 
 -- an answer is the table's meaning
-abbrev pub Gives : Result (List Band) TariffFault → Result (List Band) TariffFault → Type 0
-Gives (Ok bands) meaning = meaning ≡ Ok bands
-Gives (Err fault) meaning = Refuses fault.kind fault.row meaning
+abbrev pub GivesBands : Result (List Band) TariffFault → Result (List Band) TariffFault → Type 0
+GivesBands (Ok bands) meaning = meaning ≡ Ok bands
+GivesBands (Err fault) meaning = RefusesBands fault.kind fault.row meaning

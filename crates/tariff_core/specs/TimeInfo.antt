@@ -7,5 +7,5 @@ abbrev pub IsNoSwitch : ℕ → Type 0
 IsNoSwitch time = time ≤ DAY
 
 -- the times of a report after a switch
-abbrev pub IsSwitch : ℕ → Option ℕ → Type 0
-IsSwitch since interval = (since ≤ DAY) × IfSome interval (λ length. (1 ≤ length) × (length ≤ DAY))
+abbrev pub AreAfterSwitch : ℕ → Option ℕ → Type 0
+AreAfterSwitch since interval = (since ≤ DAY) × IfSome interval (λ length. (1 ≤ length) × (length ≤ DAY))

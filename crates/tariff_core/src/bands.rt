@@ -4,10 +4,10 @@ ghost use Rattle.std.specs.Prelude.{◌≡◌, ◌≤◌, ◌<◌, ◌+◌, ◌%
 ghost use Rattle.std.specs.List.{list_any};
 ghost use Rattle.tariff_core.specs.Rates.{are_steps};
 ghost use Rattle.tariff_core.specs.Bands.{counts_on, has_band, has_midnights, have_steps, weekday};
-ghost use Rattle.tariff_core.specs.Digits.{digits_of};
+ghost use Rattle.tariff_core.specs.Digits.{text_of_digits};
 ghost use Rattle.tariff_core.specs.Routes.{IsBandAt, IsSoonest};
-ghost use Rattle.tariff_core.specs.Tariff.{AreNoLonger, Finds, Indexes, IsIndexed, Tells, Keeps, band_of, key_of};
-ghost use Rattle.tariff_core.specs.TariffTable.{Gives, HasColumns, bands_of, new_band_in, repeats, without_midnight};
+ghost use Rattle.tariff_core.specs.Tariff.{AreNoLonger, Finds, Indexes, IsIndexed, Tells, KeepsRow, band_of, key_of};
+ghost use Rattle.tariff_core.specs.TariffTable.{GivesBands, HasBandColumns, bands_of, new_band_in, repeats, without_midnight};
 ghost use Rattle.csv.specs.Records.{fields_of};
 ghost use Rattle.table_core.specs.Rows.{rows_of};
 
@@ -54,7 +54,7 @@ impl Model for Bands {
 impl Bands {
     /// The rows of a table, judged one after another as they are read.
     pub fn read<R: Read + Drop>(alloc: Global, reader: R) -> Result<Bands, TariffFault>
-        ensures { IfSome (R.remaining reader) (λ text. Gives result (bands_of (rows_of text))) }
+        ensures { IfSome (R.remaining reader) (λ text. GivesBands result (bands_of (rows_of text))) }
     {
         let headers: &[&[&str]] = &[
             &["prefix", "from", "fee", "rate"],
@@ -135,7 +135,7 @@ impl Bands {
 
     /// Whether a prefix has a row from midnight on, on each weekday.
     fn has_midnights(&self, prefix: Digits) -> bool
-        ensures { result ≡ has_midnights (digits_of prefix) self.now }
+        ensures { result ≡ has_midnights (text_of_digits prefix) self.now }
     {
         let (first, end) = keys(self.by_days);
         for day in first..end {
@@ -154,7 +154,7 @@ impl Bands {
     /// Whether there is a row for a prefix that counts on a weekday, with this start.
     pub fn has(&self, prefix: Digits, day: u8, start: u32) -> bool
         requires { (1 ≤ day) × (day ≤ 7) }
-        ensures { result ≡ has_band (digits_of prefix) day start self.now }
+        ensures { result ≡ has_band (text_of_digits prefix) day start self.now }
     {
         let day = key_of(self.by_days, day);
         self.index.contains_key(&Place { prefix, day, start })
@@ -163,10 +163,10 @@ impl Bands {
     /// The row of a prefix at a moment: of those that count on its weekday, the latest that starts
     /// at the time of day or before.
     pub fn latest(&self, prefix: Digits, now: u64) -> Option<Row>
-        ensures none { IfNone result (All (λ band. band.prefix ≡ digits_of prefix
+        ensures none { IfNone result (All (λ band. band.prefix ≡ text_of_digits prefix
             → counts_on (weekday now) band ≡ true → now % DAY < band.start) self.now) }
         ensures row { IfSome result
-            (λ row. IsBandAt self.now (digits_of prefix) now (band_of row)) }
+            (λ row. IsBandAt self.now (text_of_digits prefix) now (band_of row)) }
     {
         let day = key_of(self.by_days, weekday(now));
         let first = Place {
@@ -185,10 +185,10 @@ impl Bands {
 
     /// The row of a prefix that starts next after a moment, on its day.
     pub fn soonest(&self, prefix: Digits, now: u64) -> Option<Row>
-        ensures none { IfNone result (All (λ band. band.prefix ≡ digits_of prefix
+        ensures none { IfNone result (All (λ band. band.prefix ≡ text_of_digits prefix
             → counts_on (weekday now) band ≡ true → band.start ≤ now % DAY) self.now) }
         ensures row { IfSome result
-            (λ row. IsSoonest self.now (digits_of prefix) now (band_of row)) }
+            (λ row. IsSoonest self.now (text_of_digits prefix) now (band_of row)) }
     {
         let day = key_of(self.by_days, weekday(now));
         let start = since_midnight(now) + 1;
@@ -231,7 +231,7 @@ fn judge(
     header: usize,
     fields: &ByteRecord,
 ) -> Result<Row, TariffKind>
-    requires { HasColumns header (fields_of fields.now) }
+    requires { HasBandColumns header (fields_of fields.now) }
     ensures { (bands : _) → Indexes (nat_le 3 header) index.now bands
         → Tells band_of result (new_band_in header bands (fields_of fields.now)) }
 {
@@ -244,7 +244,7 @@ fn judge(
 
 /// Whether the index has a row with the prefix and the start of this one on one of its days.
 fn is_repeated(index: &BTreeMap<Place, Row>, by_days: bool, row: &Row) -> bool
-    requires { by_days ≡ false → digits_of row.now.days ≡ [] }
+    requires { by_days ≡ false → text_of_digits row.now.days ≡ [] }
     ensures { (bands : _) → Indexes by_days index.now bands
         → result ≡ repeats bands (band_of row.now) }
 {
@@ -264,8 +264,8 @@ fn keep(
     by_days: bool,
     row: Row,
 ) -> Result<(), AllocError>
-    requires { by_days ≡ false → digits_of row.days ≡ [] }
-    ensures { OnOk result (Keeps by_days rows.old.items index.old row rows.new.items index.new) }
+    requires { by_days ≡ false → text_of_digits row.days ≡ [] }
+    ensures { OnOk result (KeepsRow by_days rows.old.items index.old row rows.new.items index.new) }
 {
     enter(index, by_days, row)?;
     rows.push(row)?;
@@ -274,7 +274,7 @@ fn keep(
 
 /// Puts a row into the index, at its place for each day on which it counts.
 fn enter(index: &mut BTreeMap<Place, Row>, by_days: bool, row: Row) -> Result<(), AllocError>
-    requires { by_days ≡ false → digits_of row.days ≡ [] }
+    requires { by_days ≡ false → text_of_digits row.days ≡ [] }
     ensures { OnOk result (Finds by_days index.old row index.new) }
 {
     let (first, end) = keys(by_days);

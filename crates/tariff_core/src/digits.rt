@@ -14,12 +14,12 @@ pub(crate) struct Digits {
 }
 
 impl Digits {
-    ghost use Rattle.tariff_core.specs.Digits.{digits_of};
+    ghost use Rattle.tariff_core.specs.Digits.{text_of_digits};
 
     /// These digits.
     pub fn new(digits: &[u8]) -> Digits
         requires { length digits.now ≤ 15 }
-        ensures { digits_of result ≡ digits.now }
+        ensures { text_of_digits result ≡ digits.now }
     {
         let mut bytes = [0; 15];
         bytes[..digits.len()].copy_from_slice(digits);
@@ -31,7 +31,7 @@ impl Digits {
 
     /// The text.
     pub fn digits(&self) -> &[u8]
-        ensures { result.now ≡ digits_of self.now }
+        ensures { result.now ≡ text_of_digits self.now }
     {
         &self.bytes[..usize::from(self.len)]
     }

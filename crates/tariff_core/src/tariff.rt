@@ -3,10 +3,10 @@
 ghost use Rattle.std.specs.Prelude.{◌≡◌, ◌+◌, ◌<◌, ◌≤◌, true, is_some, length, unwrap_or, IfNone, IfSome, Some};
 ghost use Rattle.table_core.specs.Rows.{rows_of};
 ghost use Rattle.tariff_core.specs.Bands.{counts_on, has_midnights, have_steps, weekday};
-ghost use Rattle.tariff_core.specs.Digits.{digits_of};
+ghost use Rattle.tariff_core.specs.Digits.{text_of_digits};
 ghost use Rattle.tariff_core.specs.Routes.{HasNoRoute, IsBandAt, IsOnly, IsPrefixFor, IsQuote, IsRoute, IsSwitch};
 ghost use Rattle.tariff_core.specs.Tariff.{band_of};
-ghost use Rattle.tariff_core.specs.TariffTable.{Gives, tariff_of};
+ghost use Rattle.tariff_core.specs.TariffTable.{GivesBands, tariff_of};
 
 use crate::bands::Bands;
 use crate::digits::Digits;
@@ -61,7 +61,7 @@ impl Tariff {
     /// after the last row, at the first row whose prefix has that fault. OutOfMemory and Device
     /// come at the row that was being read.
     pub fn read<R: Read + Drop>(alloc: Global, reader: R) -> Result<Tariff, TariffFault>
-        ensures { IfSome (R.remaining reader) (λ text. Gives result (tariff_of (rows_of text))) }
+        ensures { IfSome (R.remaining reader) (λ text. GivesBands result (tariff_of (rows_of text))) }
     {
         let bands = Bands::read(alloc, reader)?;
         match bands.without_midnight() {
@@ -142,8 +142,8 @@ impl Tariff {
 
     /// The row of a prefix at a moment.
     fn band_at(&self, prefix: Digits, now: u64) -> Row
-        requires { has_midnights (digits_of prefix) self.now ≡ true }
-        ensures { IsBandAt self.now (digits_of prefix) now (band_of result) }
+        requires { has_midnights (text_of_digits prefix) self.now ≡ true }
+        ensures { IsBandAt self.now (text_of_digits prefix) now (band_of result) }
     {
         self.bands.latest(prefix, now).unwrap()
     }
@@ -152,10 +152,10 @@ impl Tariff {
     /// prefix counts than `band`, and that row.
     fn switch(&self, prefix: Digits, now: u64, band: Row) -> Option<Switch>
         requires now { now ≤ HORIZON }
-        requires midnights { has_midnights (digits_of prefix) self.now ≡ true }
-        requires band { IsBandAt self.now (digits_of prefix) now (band_of band) }
-        ensures only { IfNone result (IsOnly self.now (digits_of prefix) (band_of band) now) }
-        ensures switch { IfSome result (λ switch. IsSwitch self.now (digits_of prefix)
+        requires midnights { has_midnights (text_of_digits prefix) self.now ≡ true }
+        requires band { IsBandAt self.now (text_of_digits prefix) now (band_of band) }
+        ensures only { IfNone result (IsOnly self.now (text_of_digits prefix) (band_of band) now) }
+        ensures switch { IfSome result (λ switch. IsSwitch self.now (text_of_digits prefix)
             (band_of band) now switch.at (Some switch.next.cost.rate)) }
     {
         let midnight = now - u64::from(since_midnight(now));

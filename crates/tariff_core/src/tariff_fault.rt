@@ -1,7 +1,7 @@
 //! The faults of a tariff table.
 
 ghost use Rattle.std.specs.Prelude.{◌≡◌, Some};
-ghost use Rattle.tariff_core.specs.TariffFaults.{code_of, fault_from, kind_from, name_of, text_of};
+ghost use Rattle.tariff_core.specs.TariffFaults.{tariff_kind_code, fault_from, kind_from, tariff_kind_name, tariff_fault_text};
 
 use std::error::Error;
 use std::fmt;
@@ -43,14 +43,14 @@ pub enum TariffKind {
 impl TariffKind {
     /// The number of the kind.
     pub fn code(self) -> u8
-        ensures { result ≡ code_of self }
+        ensures { result ≡ tariff_kind_code self }
     {
         self as u8
     }
 }
 
 impl fmt::Display for TariffKind {
-    ghost output = { λ kind. Some (name_of kind) };
+    ghost output = { λ kind. Some (tariff_kind_name kind) };
 
     fn fmt<W: fmt::Write>(&self, f: &mut fmt::Formatter<W>) -> fmt::Result {
         match self {
@@ -116,7 +116,7 @@ fn own_kind(kind: RowKind) -> TariffKind
 }
 
 impl fmt::Display for TariffFault {
-    ghost output = { λ fault. Some (text_of fault) };
+    ghost output = { λ fault. Some (tariff_fault_text fault) };
 
     fn fmt<W: fmt::Write>(&self, f: &mut fmt::Formatter<W>) -> fmt::Result {
         let TariffFault { row, kind } = *self;

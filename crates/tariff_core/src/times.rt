@@ -4,7 +4,7 @@ ghost use Rattle.std.specs.Prelude.{◌≡◌, ◌+◌, ◌≤◌, ◌<◌, ◌%
 ghost use Rattle.tariff_core.specs.Bands.{weekday};
 ghost use Rattle.tariff_core.specs.RangeTexts.{time_range_text};
 ghost use Rattle.tariff_core.specs.Times.{IsTimes, no_times};
-ghost use Rattle.tariff_core.specs.TimeInfo.{IsNoSwitch, IsSwitch};
+ghost use Rattle.tariff_core.specs.TimeInfo.{IsNoSwitch, AreAfterSwitch};
 ghost use Rattle.tariff_core.specs.declared.times.TimeInfo.TheVariants as info;
 
 use std::error::Error;
@@ -169,7 +169,7 @@ impl TimeInfo {
 
     /// A report after a switch.
     pub fn switch(since: u32, interval: Option<u32>) -> Result<TimeInfo, TimeRange>
-        ensures made { IsOk result ↔ IsSwitch since interval }
+        ensures made { IsOk result ↔ AreAfterSwitch since interval }
         ensures value { IfOk result (λ made. made ≡ info.Switch since interval) }
     {
         if since > DAY || !interval.is_none_or(|interval| 1 <= interval && interval <= DAY) {

@@ -17,7 +17,7 @@ use Rattle.dialogue_core.specs.Phases as phase
 use Rattle.dialogue_core.specs.Table.{Step, are_units, on_begin, on_reply, sequel, on_message, on_refusal}
 use Rattle.dialogue_core.specs.declared.fault.DialogueFault.TheVariants.{Unexpected}
 use Rattle.tariff_core.specs.declared.route.Route.{Route}
-use Rattle.workers_core.specs.Served.{IsPart, Report, credited_in, credits_of, held_in, held_of, report_in, settled_in, settles_of}
+use Rattle.workers_core.specs.Served.{IsPart, Report, credited_in, credits_of, held_in, held_calls_of, report_in, settled_in, settles_of}
 use Rattle.dialogue_core.specs.Talks.{Got, after_got, or_done, talked}
 use Rattle.workers_core.specs.Talks.{entries_of, entry_of}
 use Rattle.workers_core.specs.Workers.{IsAbout}
@@ -98,7 +98,7 @@ pub says_of_call : (call : ℕ) (first : Says × Phase) (gots : List Got) → Is
 says_of_call call first [] about says = says
 says_of_call call first (got ∷ earlier) about says = (kept_got call (talked first earlier).1 got (talked_about call first earlier about)).1
 
-entry_held : (seat call : ℕ) (calls : List ℕ) (said : Says) (got : Got) → SaysOf call said → Contains calls call → All (λ c. Contains calls c) (held_of (entry_of seat said got))
+entry_held : (seat call : ℕ) (calls : List ℕ) (said : Says) (got : Got) → SaysOf call said → Contains calls call → All (λ c. Contains calls c) (held_calls_of (entry_of seat said got))
 entry_held seat call calls (Asks (Credits amount until)) got says has = absurd says
 entry_held seat call calls (Asks (Reserves other plan wanted least moment)) (Ok reply) says has = All-cons (λ c. Contains calls c) other [] (let P : ℕ → Type 0 = λ c. Contains calls c in subst P (sym says) has) (All-nil (λ c. Contains calls c))
 entry_held seat call calls (Asks (Reserves other plan wanted least moment)) (Err fault) says has = All-nil (λ c. Contains calls c)
@@ -111,11 +111,11 @@ entry_held seat call calls Finished got says has = All-nil (λ c. Contains calls
 
 -- the Reserves and the Returns of a talk are of its call
 pub talk_held : (seat call : ℕ) (calls : List ℕ) (first : Says × Phase) (gots : List Got) → IsAbout call first.1 → SaysOf call first.0 → Contains calls call
-    → All (λ c. Contains calls c) (held_of (entries_of seat first gots))
+    → All (λ c. Contains calls c) (held_calls_of (entries_of seat first gots))
 talk_held seat call calls first [] about says has = All-nil (λ c. Contains calls c)
 talk_held seat call calls first (got ∷ earlier) about says has =
     rw (flat_map-append (λ (e : EntryData). held_in e.asked) (entries_of seat first earlier) (entry_of seat (talked first earlier).0 got))
-    (All-append (λ c. Contains calls c) (held_of (entries_of seat first earlier)) (held_of (entry_of seat (talked first earlier).0 got)) (talk_held seat call calls first earlier about says has)
+    (All-append (λ c. Contains calls c) (held_calls_of (entries_of seat first earlier)) (held_calls_of (entry_of seat (talked first earlier).0 got)) (talk_held seat call calls first earlier about says has)
     (entry_held seat call calls (talked first earlier).0 got (says_of_call call first earlier about says) has))
 
 no_credit : (seat call : ℕ) (said : Says) (got : Got) → SaysOf call said → credits_of (entry_of seat said got) ≡ []

@@ -25,7 +25,7 @@ use Rattle.run_values.specs.Setups.{Setup, account_of}
 use Rattle.dialogue_core.specs.Talks.{Got, is_ask, talked}
 use Rattle.workers_core.specs.Talks.{entries_of, entry_of, last_fault}
 use Rattle.workers_core.specs.Verdicts.{DialogueAt, IsRouted, Verdict, Strays, Rejects, Recharges, Begins, GoesOn, begins, goes_on, home_of, spoken, verdict_on}
-use Rattle.workers_core.specs.Workers.{IsSound}
+use Rattle.workers_core.specs.Workers.{IsSoundHolding}
 use Rattle.run_values.specs.declared.post.Body.TheVariants.{Ssf}
 use Rattle.run_values.specs.declared.post.Post.{Post}
 
@@ -207,7 +207,7 @@ calls_are_reserved setup number before post lists old call other place calling c
 
 -- its dialogue takes a message and asks the account at its place for something
 pub record IsTaken (setup : Setup) (number : ℕ) (before : List Post) (post : Post) (lists : List (List EntryData)) (old : Holding) (call place : ℕ) (is : IsHandledAfter setup number before post lists old) (said : Says) (to : Phase) : Type 0 where
-  pub sound : IsSound (keys_of setup.accounts) before old
+  pub sound : IsSoundHolding (keys_of setup.accounts) before old
   pub within : place < length old.lists
   pub talk : IsTalked (seat_numbers number setup) call place (said, to) old is.between is.handles.told
 

@@ -2,7 +2,7 @@
 use Rattle.std.proofs.Common.{◌≡◌, ◌∙◌, false, List, [], ◌∷◌, refl, sym, ap}
 use Rattle.dialogue_core.specs.Phases.{Phase, Says}
 use Rattle.workers_core.specs.Laws.{WhatIsSaidIsSent}
-use Rattle.dialogue_core.specs.Talks.{Got, is_ask, sent_by}
+use Rattle.dialogue_core.specs.Talks.{Got, is_ask, orders_sent_by}
 use Rattle.workers_core.specs.Talks.{AllAsk, last_fault}
 
 -- the first of the replies would need a pending ask
@@ -15,4 +15,4 @@ pub said_is_sent : WhatIsSaidIsSent
 said_is_sent numbers call place first old new told rests is =
     let none : is.gots ≡ [] = nothing_asked first is.gots rests is.asked in
     let said : first.0 ≡ is.last = ap (λ (p : Says × Phase). p.0) (rw none at is.talk) in
-    (is.orders ∙ ap sent_by (sym said), is.refused ∙ ap last_fault none)
+    (is.orders ∙ ap orders_sent_by (sym said), is.refused ∙ ap last_fault none)

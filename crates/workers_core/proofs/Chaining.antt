@@ -11,13 +11,13 @@ use Rattle.dialogue_core.specs.Table.{on_begin}
 use Rattle.shared_account.specs.Refusals.{IsRefusedAt, Knowing, Refusal}
 use Rattle.workers_core.proofs.Handling.{sound_after}
 use Rattle.workers_core.proofs.Talking.{all_right_still, refused_still, right_still}
-use Rattle.workers_core.specs.Chains.{AreAnswered, AreHandled, IsAnswered, IsHandledOnce, IsWorked, at_first, refusals_in, seat_numbers}
+use Rattle.workers_core.specs.Chains.{AreAnswered, AreHandled, AnswersItsPosts, IsHandledOnce, IsWorked, at_first, refusals_in, seat_numbers}
 use Rattle.workers_core.specs.Handled.{AnswerView, AreRefusedRightly, Holding, IsDone, IsRightlyHandled}
 use Rattle.workers_core.specs.Laws.{EntriesComeFromPosts}
 use Rattle.workers_core.specs.Served.{AreServed}
 use Rattle.workers_core.specs.Talks.{Showing}
 use Rattle.workers_core.specs.Verdicts.{Begins, GoesOn, Recharges, Rejects, Strays, Verdict, verdict}
-use Rattle.workers_core.specs.Workers.{IsSound}
+use Rattle.workers_core.specs.Workers.{IsSoundHolding}
 use Rattle.run_values.specs.Setups.{Setup}
 use Rattle.run_values.specs.declared.directory.OpeningCredit.{OpeningCredit}
 use Rattle.run_values.specs.declared.post.Post.{Post}
@@ -91,7 +91,7 @@ handled_so Shows setup numbers (p ∷ posts) [] old new are = absurd are
 handled_so Shows setup numbers (p ∷ posts) (t ∷ answers) old new are =
     (are.0, record { told = t; handled = are.1.handled; refused = refl }, handled_so Shows setup numbers posts answers are.0 new are.2)
 
-pub worked_so : (Shows : ℕ → Showing) (setup : Setup) (number : ℕ) (posts : List Post) (answers : List AnswerView) (lists : List (List EntryData)) → IsAnswered Shows setup number posts answers lists
+pub worked_so : (Shows : ℕ → Showing) (setup : Setup) (number : ℕ) (posts : List Post) (answers : List AnswerView) (lists : List (List EntryData)) → AnswersItsPosts Shows setup number posts answers lists
     → IsWorked setup number posts (refusals_in answers) lists
 worked_so Shows setup number posts answers lists is = record { talks = is.talks; chain = handled_so Shows setup _ posts answers _ _ is.chain }
 
@@ -101,20 +101,20 @@ none_served : (accounts : List (ℕ × OpeningCredit)) → AreServed (keys_of ac
 none_served [] = tt
 none_served (account ∷ accounts) = (record { settles = tt; credits = tt; calls = All-nil _ }, none_served accounts)
 
-pub first_sound : (setup : Setup) → IsSound (keys_of setup.accounts) [] (at_first setup)
+pub first_sound : (setup : Setup) → IsSoundHolding (keys_of setup.accounts) [] (at_first setup)
 first_sound setup = record { served = none_served setup.accounts; talks = λ call. tt }
 
-pub once_sound : (setup : Setup) (numbers : List ℕ) (done : List Post) (post : Post) (refusal : Option AccountFault) (old new : Holding) → IsSound (keys_of setup.accounts) done old
-    → IsHandledOnce setup numbers post refusal old new → IsSound (keys_of setup.accounts) (done ++ post ∷ []) new
+pub once_sound : (setup : Setup) (numbers : List ℕ) (done : List Post) (post : Post) (refusal : Option AccountFault) (old new : Holding) → IsSoundHolding (keys_of setup.accounts) done old
+    → IsHandledOnce setup numbers post refusal old new → IsSoundHolding (keys_of setup.accounts) (done ++ post ∷ []) new
 once_sound setup numbers done post refusal old new sound is = sound_after setup numbers done post old new is.told sound is.handled.done
 
-pub all_sound : (setup : Setup) (numbers : List ℕ) (done posts : List Post) (refusals : List (Option AccountFault)) (old new : Holding) → IsSound (keys_of setup.accounts) done old
-    → AreHandled setup numbers posts refusals old new → IsSound (keys_of setup.accounts) (done ++ posts) new
-all_sound setup numbers done [] [] old new sound are = rw (append-nil done) (subst (λ h. IsSound (keys_of setup.accounts) done h) are sound)
+pub all_sound : (setup : Setup) (numbers : List ℕ) (done posts : List Post) (refusals : List (Option AccountFault)) (old new : Holding) → IsSoundHolding (keys_of setup.accounts) done old
+    → AreHandled setup numbers posts refusals old new → IsSoundHolding (keys_of setup.accounts) (done ++ posts) new
+all_sound setup numbers done [] [] old new sound are = rw (append-nil done) (subst (λ h. IsSoundHolding (keys_of setup.accounts) done h) are sound)
 all_sound setup numbers done [] (refusal ∷ refusals) old new sound are = absurd are
 all_sound setup numbers done (post ∷ posts) [] old new sound are = absurd are
 all_sound setup numbers done (post ∷ posts) (refusal ∷ refusals) old new sound are =
-    let P : List Post → Type 0 = λ all. IsSound (keys_of setup.accounts) all new in
+    let P : List Post → Type 0 = λ all. IsSoundHolding (keys_of setup.accounts) all new in
     subst P (append_assoc done (post ∷ []) posts) (all_sound setup numbers (done ++ post ∷ []) posts refusals are.0 new (once_sound setup numbers done post refusal old are.0 sound are.1) are.2)
 
 pub come_from_posts : EntriesComeFromPosts

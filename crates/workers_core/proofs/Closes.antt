@@ -1,6 +1,6 @@
 -- A Close is the last mail.
 use Rattle.std.proofs.Common.{◌≡◌, true, false, List, [], ◌∷◌, ◌++◌, refl}
-use Rattle.workers_core.specs.Logs.{ends_at_close, has_close, is_empty}
+use Rattle.workers_core.specs.Logs.{ends_at_close, has_close, is_empty_log}
 use Rattle.workers_core.specs.declared.mailboxes.Mail.{Mail}
 use Rattle.workers_core.specs.declared.mailboxes.Mail.TheVariants.{Work, Close}
 
@@ -19,7 +19,7 @@ closed_by [] mail none = refl
 closed_by (Work content ∷ mails) mail none = closed_by mails mail none
 closed_by (Close ∷ mails) mail none = absurd (cc)
 
-not_empty : {T : Type 0} (mails : List (Mail T)) (mail : Mail T) (later : List (Mail T)) → is_empty (mails ++ mail ∷ later) ≡ false
+not_empty : {T : Type 0} (mails : List (Mail T)) (mail : Mail T) (later : List (Mail T)) → is_empty_log (mails ++ mail ∷ later) ≡ false
 not_empty [] mail later = refl
 not_empty (first ∷ mails) mail later = refl
 

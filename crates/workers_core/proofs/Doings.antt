@@ -18,9 +18,9 @@ use Rattle.workers_core.proofs.Talking.{fault_after}
 use Rattle.workers_core.specs.Cases.{IsCredited}
 use Rattle.workers_core.specs.Handled.{IsRecharged, IsTalked, StandsNow, AnswerView, grown}
 use Rattle.workers_core.specs.Refusals.{WasAt}
-use Rattle.workers_core.specs.Talks.{AreRight, IsRight, IsTalk, Showing, entries_of, entry_of}
+use Rattle.workers_core.specs.Talks.{AreRightlyGot, IsRightlyGot, IsTalk, Showing, entries_of, entry_of}
 use Rattle.workers_core.specs.Verdicts.{DialogueAt}
-use Rattle.workers_core.specs.Workers.{standing_of, standings_in}
+use Rattle.workers_core.specs.Workers.{talk_standing, standings_in}
 use Rattle.workers_core.specs.declared.worker.Talk.{Talk}
 
 pub on_ok : {X E : Type 0} (r : Result X E) (P : Type 0) → P → OnOk r P
@@ -55,13 +55,13 @@ numbered_at number_of seats place seat within is = ap number_of is ∙ sym (get_
 
 -- ---- the dialogues
 
-mapped : (b : Bool) (talk : Talk) (other : Option Talk) → option_map standing_of (if b then Some talk else other) ≡ (if b then Some (standing_of talk) else option_map standing_of other)
+mapped : (b : Bool) (talk : Talk) (other : Option Talk) → option_map talk_standing (if b then Some talk else other) ≡ (if b then Some (talk_standing talk) else option_map talk_standing other)
 mapped true talk other = refl
 mapped false talk other = refl
 
 pub stands_now : (old new : List (ℕ × Talk)) (call : ℕ) (talk : Talk) → ((other : ℕ) → lookup (is_at (nat_cmp other)) new ≡ (if other == call then Some talk else lookup (is_at (nat_cmp other)) old))
-    → StandsNow call (standing_of talk) (standings_in old) (standings_in new)
-stands_now old new call talk kept other = ap (option_map standing_of) (kept other) ∙ mapped (other == call) talk (lookup (is_at (nat_cmp other)) old)
+    → StandsNow call (talk_standing talk) (standings_in old) (standings_in new)
+stands_now old new call talk kept other = ap (option_map talk_standing) (kept other) ∙ mapped (other == call) talk (lookup (is_at (nat_cmp other)) old)
 
 -- ---- what is known at each place
 
@@ -101,7 +101,7 @@ pub recharged_by : (Shows : Showing) (numbers : List ℕ) (place amount : ℕ) (
     → IsCredited Shows seat (Credits amount until) before after told → seat ≡ slice_index_or numbers place 0 → before ≡ slice_index_or lists place []
     → ((entries : List EntryData) → after ≡ before ++ entries → grew ≡ grown lists place entries)
     → (done : IsRecharged numbers place amount until (record { lists = lists; talks = talks }) (record { lists = grew; talks = talks }) told)
-    × IsRight Shows (slice_index_or lists place []) (Asks (Credits amount until)) done.got
+    × IsRightlyGot Shows (slice_index_or lists place []) (Asks (Credits amount until)) done.got
 recharged_by Shows numbers place amount until seat lists grew talks before after told is number mine grows = (
   record {
     got = is.got;
@@ -111,7 +111,7 @@ recharged_by Shows numbers place amount until seat lists grew talks before after
     lists = rw (← number) (grows (entry_of seat (Asks (Credits amount until)) is.got) is.enters);
     talks = λ call. refl;
   },
-  subst (λ (m : List EntryData). IsRight Shows m (Asks (Credits amount until)) is.got) mine is.right,
+  subst (λ (m : List EntryData). IsRightlyGot Shows m (Asks (Credits amount until)) is.got) mine is.right,
 )
 
 pub talked_by : (Shows : Showing) (numbers : List ℕ) (call place seat : ℕ) (first : Says × Phase) (phase : Phase) (lists grew : List (List EntryData)) (talks now : ℕ → Option DialogueAt)
@@ -120,7 +120,7 @@ pub talked_by : (Shows : Showing) (numbers : List ℕ) (call place seat : ℕ) (
     → ((entries : List EntryData) → after ≡ before ++ entries → grew ≡ grown lists place entries)
     → StandsNow call (record { phase = phase; place = place }) talks now → told.orders ≡ orders → told.stray ≡ false → told.refused ≡ refused
     → (done : IsTalked numbers call place first (record { lists = lists; talks = talks }) (record { lists = grew; talks = now }) told)
-    × AreRight Shows (slice_index_or numbers place 0) first (slice_index_or lists place []) done.gots
+    × AreRightlyGot Shows (slice_index_or numbers place 0) first (slice_index_or lists place []) done.gots
 talked_by Shows numbers call place seat first phase lists grew talks now before after orders refused told is number mine grows stands ordered stray why = (
   record {
     gots = is.gots;
@@ -135,5 +135,5 @@ talked_by Shows numbers call place seat first phase lists grew talks now before 
     lists = rw (← number) (grows (entries_of seat first is.gots) is.enters);
     talks = stands;
   },
-  subst (λ (at : ℕ × List EntryData). AreRight Shows at.0 first at.1 is.gots) (λ i. (number i, mine i)) is.right,
+  subst (λ (at : ℕ × List EntryData). AreRightlyGot Shows at.0 first at.1 is.gots) (λ i. (number i, mine i)) is.right,
 )

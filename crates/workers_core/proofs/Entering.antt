@@ -23,7 +23,7 @@ use Rattle.run_values.specs.Setups.{Setup, place_of}
 use Rattle.dialogue_core.specs.Talks.{Got}
 use Rattle.workers_core.specs.Talks.{entries_of, entry_of, last_fault}
 use Rattle.workers_core.specs.Verdicts.{Verdict, Strays, Rejects, Recharges, Begins, GoesOn, recharged, verdict_on}
-use Rattle.workers_core.specs.Workers.{IsSound}
+use Rattle.workers_core.specs.Workers.{IsSoundHolding}
 use Rattle.run_values.specs.declared.directory.OpeningCredit.{OpeningCredit}
 use Rattle.run_values.specs.declared.post.Body.{Body}
 use Rattle.run_values.specs.declared.post.Body.TheVariants.{Ssf, Recharge}
@@ -38,7 +38,7 @@ none_more setup numbers call at place first old new t within none is =
     rw is.lists (read_grown (λ (e : EntryData). credited_in e.asked) old.lists at place (entries_of (slice_index_or numbers at 0) first is.gots) [] (λ here. omega (arith, here, within)) (λ here. none (slice_index_or numbers at 0) is.gots) (λ elsewhere. refl))
 
 message_adds : (setup : Setup) (numbers : List ℕ) (posts : List Post) (place number at call : ℕ) (message : SsfMsg) (v : Verdict) (old new : Holding) (t : AnswerView) → place < length old.lists
-    → IsSound (keys_of setup.accounts) posts old → Means setup old.talks number at (Ssf call message) v → IsDone setup numbers at v old new t
+    → IsSoundHolding (keys_of setup.accounts) posts old → Means setup old.talks number at (Ssf call message) v → IsDone setup numbers at v old new t
     → credits_of (slice_index_or new.lists place []) ≡ credits_of (slice_index_or old.lists place []) ++ []
 message_adds setup numbers posts place number at call message Strays old new t within sound m done = rw (done.lists, append-nil (credits_of (slice_index_or old.lists place []))) refl
 message_adds setup numbers posts place number at call message Rejects old new t within sound m done = rw (done.lists, append-nil (credits_of (slice_index_or old.lists place []))) refl
@@ -103,7 +103,7 @@ recharge_adds setup numbers account other place amount at until (Some there) ref
 -- ---- a post, and all posts
 
 adds : (setup : Setup) (numbers : List ℕ) (posts : List Post) (account place number at : ℕ) (body : Body) (refusal : Option AccountFault) (old new : Holding) (t : AnswerView) → place < length old.lists
-    → place_of account setup ≡ Some place → IsSound (keys_of setup.accounts) posts old → t.refused ≡ refusal → IsDone setup numbers at (verdict_on setup old.talks number at body) old new t
+    → place_of account setup ≡ Some place → IsSoundHolding (keys_of setup.accounts) posts old → t.refused ≡ refusal → IsDone setup numbers at (verdict_on setup old.talks number at body) old new t
     → credits_of (slice_index_or new.lists place []) ≡ credits_of (slice_index_or old.lists place []) ++ credited_by account body refusal
 adds setup numbers posts account place number at (Ssf call message) refusal old new t within its sound refused done =
     rw (no_money account call message refusal)
@@ -112,7 +112,7 @@ adds setup numbers posts account place number at (Recharge other amount until) r
     recharge_adds setup numbers account other place amount at until (place_of other setup) refusal old new t within its refl refused done
 
 adds_after : (setup : Setup) (numbers : List ℕ) (account place : ℕ) (done posts : List Post) (refusals : List (Option AccountFault)) (old new : Holding) → place_of account setup ≡ Some place
-    → IsSound (keys_of setup.accounts) done old → AreHandled setup numbers posts refusals old new
+    → IsSoundHolding (keys_of setup.accounts) done old → AreHandled setup numbers posts refusals old new
     → credits_of (slice_index_or new.lists place []) ≡ credits_of (slice_index_or old.lists place []) ++ accepted_of account posts refusals
 adds_after setup numbers account place done [] [] old new its sound are =
     ap (λ (h : Holding). credits_of (slice_index_or h.lists place [])) (sym are) ∙ sym (append-nil (credits_of (slice_index_or old.lists place [])))

@@ -11,7 +11,7 @@ use Rattle.workers_core.specs.Handled.{AnswerView, Holding, IsTalked, grown}
 use Rattle.workers_core.specs.Served.{AreServed}
 use Rattle.run_values.specs.Setups.{Setup}
 use Rattle.workers_core.specs.Talks.{entries_of}
-use Rattle.workers_core.specs.Workers.{IsSound}
+use Rattle.workers_core.specs.Workers.{IsSoundHolding}
 use Rattle.run_values.specs.declared.post.Post.{Post}
 
 -- ---- a place of the setup has a list
@@ -22,7 +22,7 @@ served_many [] posts (mine ∷ lists) are = absurd are
 served_many (account ∷ accounts) posts [] are = absurd are
 served_many (account ∷ accounts) posts (mine ∷ lists) are = ap suc (served_many accounts posts lists are.1)
 
-pub place_within : (setup : Setup) (posts : List Post) (old : Holding) (place : ℕ) → IsSound (keys_of setup.accounts) posts old → place < length setup.accounts → place < length old.lists
+pub place_within : (setup : Setup) (posts : List Post) (old : Holding) (place : ℕ) → IsSoundHolding (keys_of setup.accounts) posts old → place < length setup.accounts → place < length old.lists
 place_within setup posts old place sound within = rw (served_many (keys_of setup.accounts) posts old.lists sound.served, many_keys setup) within
 
 -- ---- what is read of one list

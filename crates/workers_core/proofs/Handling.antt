@@ -17,15 +17,15 @@ use Rattle.dialogue_core.specs.Table.{Step, on_begin, on_message}
 use Rattle.dialogue_core.specs.Views.{phase_of, says_of}
 use Rattle.workers_core.proofs.Abouts.{SaysOf, TakesTo, begun_about, begun_says, begun_settles, settled_by, takes_told, talk_credits, talk_held, talk_settles, talked_about}
 use Rattle.workers_core.proofs.Parts.{IsEntered, all_served_grown, all_served_more, begun_more, part_through}
-use Rattle.workers_core.specs.Cases.{IsCase, IsRightlyActed, IsWithin, with_room}
+use Rattle.workers_core.specs.Cases.{IsCase, IsRightlyActed, CaseIsWithin, with_room}
 use Rattle.workers_core.specs.Handled.{AnswerView, AreRefusedRightly, Holding, IsDone, IsRecharged, IsTalked, IsUnasked, StandsNow, Stay}
 use Rattle.workers_core.specs.Served.{IsPart, Money, Report, begun_by, begun_of, recharged_in, reported_in, settles_of}
 use Rattle.run_values.specs.Openings.{no_credit}
 use Rattle.run_values.specs.Setups.{Setup, account_of, place_of}
 use Rattle.dialogue_core.specs.Talks.{Got}
-use Rattle.workers_core.specs.Talks.{AreRight, Showing, entries_of, entry_of}
-use Rattle.workers_core.specs.Verdicts.{DialogueAt, Verdict, Strays, Rejects, Recharges, Begins, GoesOn, begins, fresh, goes_on, home_of, recharged, spoken, strays, verdict, verdict_on}
-use Rattle.workers_core.specs.Workers.{ArePlaced, IsAbout, IsOwn, IsPlaced, IsSound, standing_of}
+use Rattle.workers_core.specs.Talks.{AreRightlyGot, Showing, entries_of, entry_of}
+use Rattle.workers_core.specs.Verdicts.{DialogueAt, Verdict, Strays, Rejects, Recharges, Begins, GoesOn, begins, fresh_call, goes_on, home_of, recharged, spoken, strays, verdict, verdict_on}
+use Rattle.workers_core.specs.Workers.{ArePlaced, IsAbout, IsOwn, IsPlaced, IsSoundHolding, talk_standing}
 use Rattle.workers_core.specs.declared.worker.Case.{Case}
 use Rattle.workers_core.specs.declared.worker.Case.TheVariants as case
 use Rattle.run_values.specs.declared.directory.OpeningCredit.{OpeningCredit}
@@ -90,7 +90,7 @@ means_begins setup talks number at call other calling called (Some place) none f
   within = home_within setup (account_of calling setup.subscribers) place found;
 }
 
-means_fresh : (setup : Setup) (talks : ℕ → Option DialogueAt) (number at call : ℕ) (message : SsfMsg) → talks call ≡ None → Means setup talks number at (Ssf call message) (fresh setup call message)
+means_fresh : (setup : Setup) (talks : ℕ → Option DialogueAt) (number at call : ℕ) (message : SsfMsg) → talks call ≡ None → Means setup talks number at (Ssf call message) (fresh_call setup call message)
 means_fresh setup talks number at call (msg.InitialDp other calling called) none = means_begins setup talks number at call other calling called (home_of calling setup) none refl
 means_fresh setup talks number at call (msg.EventReport event leg mode) none = tt
 means_fresh setup talks number at call (msg.ChargingReport active info) none = tt
@@ -126,7 +126,7 @@ pub many_keys : (setup : Setup) → length (keys_of setup.accounts) ≡ length s
 many_keys setup = length-map setup.accounts (λ (e : ℕ × OpeningCredit). e.0)
 
 within_by : (setup : Setup) (at : ℕ) (old : Holding) (number : ℕ) (body : Body) (v : Verdict) (case : Case) → ArePlaced (length setup.accounts) old.talks
-    → Means setup old.talks number at body v → IsCase setup at v case → IsWithin (length setup.accounts) case
+    → Means setup old.talks number at body v → IsCase setup at v case → CaseIsWithin (length setup.accounts) case
 within_by setup at old number body v case.Stray placed means is = tt
 within_by setup at old number body v case.Rejected placed means is = tt
 within_by setup at old number body v (case.Recharge place amount until) placed means is =
@@ -143,7 +143,7 @@ within_by setup at old number body v (case.Talk call talk turn) placed means is 
     ]
 
 pub case_within : (setup : Setup) (old : Holding) (post : Post) (case : Case) → ArePlaced (length setup.accounts) old.talks
-    → IsCase setup post.at (verdict setup old.talks post) case → IsWithin (length setup.accounts) case
+    → IsCase setup post.at (verdict setup old.talks post) case → CaseIsWithin (length setup.accounts) case
 case_within setup old post case placed is =
     within_by setup post.at old post.number post.body (verdict setup old.talks post) case placed (means_on setup old.talks post.number post.at post.body) is
 
@@ -205,9 +205,9 @@ done_by Shows setup numbers at v (case.Talk call talk turn) lists talks between 
     let old : Holding = record { lists = lists; talks = talks } in
     let number : ℕ = slice_index_or numbers talk.place 0 in
     let mine : List EntryData = slice_index_or lists talk.place [] in
-    let T : Says × Phase → Type 0 = λ first. (done : IsTalked numbers call talk.place first old new t) × AreRight (Shows talk.place) number first mine done.gots in
+    let T : Says × Phase → Type 0 = λ first. (done : IsTalked numbers call talk.place first old new t) × AreRightlyGot (Shows talk.place) number first mine done.gots in
     let past : T (says_of turn, phase_of talk.dialogue) =
-    (talked_past numbers call talk.place (says_of turn, phase_of talk.dialogue) (standing_of talk) lists talks between new t room so.acted, so.right) in
+    (talked_past numbers call talk.place (says_of turn, phase_of talk.dialogue) (talk_standing talk) lists talks between new t room so.acted, so.right) in
     elim is [
       | inl goes ↦ subst (IsDoneRightly Shows setup numbers at old new t) (sym goes) past
       | inr first ↦
@@ -306,16 +306,16 @@ all_own_more : (count : ℕ) (posts : List Post) (post : Post) (talks : ℕ → 
     → (call : ℕ) → IfSome (talks call) (λ s. IsOwn count (posts ++ post ∷ []) call s)
 all_own_more count posts post talks own call = own_more count posts post call (talks call) (own call)
 
-unasked_sound : (accounts : List ℕ) (posts : List Post) (post : Post) (old new : Holding) → IsSound accounts posts old → new.lists ≡ old.lists → Stay old.talks new.talks
-    → IsSound accounts (posts ++ post ∷ []) new
+unasked_sound : (accounts : List ℕ) (posts : List Post) (post : Post) (old new : Holding) → IsSoundHolding accounts posts old → new.lists ≡ old.lists → Stay old.talks new.talks
+    → IsSoundHolding accounts (posts ++ post ∷ []) new
 unasked_sound accounts posts post old new sound lists talks = record {
   served = rw lists (all_served_more accounts posts post old.lists sound.served);
   talks = stay_each (λ call s. IsOwn (length accounts) (posts ++ post ∷ []) call s) old.talks new.talks talks (all_own_more (length accounts) posts post old.talks sound.talks);
 }
 
-talked_sound : (accounts numbers : List ℕ) (call place : ℕ) (first : Says × Phase) (posts : List Post) (post : Post) (old new : Holding) (t : AnswerView) → IsSound accounts posts old
+talked_sound : (accounts numbers : List ℕ) (call place : ℕ) (first : Says × Phase) (posts : List Post) (post : Post) (old new : Holding) (t : AnswerView) → IsSoundHolding accounts posts old
     → place < length accounts → Contains (begun_of (posts ++ post ∷ [])) call → IsAbout call first.1 → SaysOf call first.0
-    → IsPart (settled_by first.0) (reported_in post.number post.body) → IsTalked numbers call place first old new t → IsSound accounts (posts ++ post ∷ []) new
+    → IsPart (settled_by first.0) (reported_in post.number post.body) → IsTalked numbers call place first old new t → IsSoundHolding accounts (posts ++ post ∷ []) new
 talked_sound accounts numbers call place first posts post old new t sound within has about says settles is =
     let seat : ℕ = slice_index_or numbers place 0 in
     let entered : IsEntered (get_or accounts place 0) posts post (entries_of seat first is.gots) = record {
@@ -348,8 +348,8 @@ of_account setup body place amount until m =
     get_or-map (λ (e : ℕ × OpeningCredit). e.0) setup.accounts place (0, no_credit) 0 found.0 ∙ same_number (get_or setup.accounts place (0, no_credit)).0 m.account found.1 in
     rw (key, m.is, is_itself m.account) refl
 
-sound_by : (setup : Setup) (numbers : List ℕ) (posts : List Post) (post : Post) (v : Verdict) (old new : Holding) (t : AnswerView) → IsSound (keys_of setup.accounts) posts old
-    → Means setup old.talks post.number post.at post.body v → IsDone setup numbers post.at v old new t → IsSound (keys_of setup.accounts) (posts ++ post ∷ []) new
+sound_by : (setup : Setup) (numbers : List ℕ) (posts : List Post) (post : Post) (v : Verdict) (old new : Holding) (t : AnswerView) → IsSoundHolding (keys_of setup.accounts) posts old
+    → Means setup old.talks post.number post.at post.body v → IsDone setup numbers post.at v old new t → IsSoundHolding (keys_of setup.accounts) (posts ++ post ∷ []) new
 sound_by setup numbers posts post Strays old new t sound m done = unasked_sound (keys_of setup.accounts) posts post old new sound done.lists done.talks
 sound_by setup numbers posts post Rejects old new t sound m done = unasked_sound (keys_of setup.accounts) posts post old new sound done.lists done.talks
 sound_by setup numbers posts post (Recharges place amount until) old new t sound m done =
@@ -382,7 +382,7 @@ sound_by setup numbers posts post (GoesOn call place said phase) old new t sound
     talked_sound (keys_of setup.accounts) numbers call place (said, phase) posts post old new t sound within (begun_more posts post call own.begun) takes.0 takes.1 (rw m.is takes.2) done
 
 -- what a worker holds stays in order
-pub sound_after : (setup : Setup) (numbers : List ℕ) (posts : List Post) (post : Post) (old new : Holding) (t : AnswerView) → IsSound (keys_of setup.accounts) posts old
-    → IsDone setup numbers post.at (verdict setup old.talks post) old new t → IsSound (keys_of setup.accounts) (posts ++ post ∷ []) new
+pub sound_after : (setup : Setup) (numbers : List ℕ) (posts : List Post) (post : Post) (old new : Holding) (t : AnswerView) → IsSoundHolding (keys_of setup.accounts) posts old
+    → IsDone setup numbers post.at (verdict setup old.talks post) old new t → IsSoundHolding (keys_of setup.accounts) (posts ++ post ∷ []) new
 sound_after setup numbers posts post old new t sound done =
     sound_by setup numbers posts post (verdict setup old.talks post) old new t sound (means_on setup old.talks post.number post.at post.body) done

@@ -5,7 +5,7 @@ use lib.ListN.{get_elem?}
 use Rattle.atomic_table.proofs.Lists.{at_set, at_snoc}
 use Rattle.crossbeam_channel.specs.Fifo.{Forks, Learns, Merges, Pops, Pushes}
 use Rattle.workers_core.proofs.Closes.{none_before, still_ends}
-use Rattle.workers_core.specs.Logs.{Delivered, Fits, ends_at_close, has_close, log}
+use Rattle.workers_core.specs.Logs.{Delivered, FitsLog, ends_at_close, has_close, log}
 use Rattle.workers_core.specs.declared.mailboxes.Log.{Log}
 use Rattle.workers_core.specs.declared.mailboxes.Mail.{Mail}
 
@@ -41,7 +41,7 @@ begins {T} = record {
   taken = [];
   in_order = refl;
   closes = refl;
-  each = the_only (Fits {T = T} 0 0 [] []) (log true true [] []) ((λ _. (refl, refl)), λ _. (refl, refl));
+  each = the_only (FitsLog {T = T} 0 0 [] []) (log true true [] []) ((λ _. (refl, refl)), λ _. (refl, refl));
 }
 
 -- a mail is sent, where no Close was
@@ -60,7 +60,7 @@ sends {T} room pass v mail may open_yet items views _ rule here =
         taken = rule.taken;
         in_order = ap (λ mails. mails ++ mail ∷ []) rule.in_order ∙ append_assoc rule.taken items (mail ∷ []);
         closes = still_ends rule.sent mail (subst (λ mails. has_close mails ≡ false) all open_yet);
-        each = renewed (Fits rule.sender rule.taker more rule.taken) views pass w
+        each = renewed (FitsLog rule.sender rule.taker more rule.taken) views pass w
             ((λ _. ((mine.0 may).0, ap (λ mails. mails ++ mail ∷ []) all)), mine.1)
             (λ j u other at. ((λ s. absurd (other (((rule.each j u at).0 s).0 ∙ sym (mine.0 may).0))), (rule.each j u at).1));
       },
@@ -84,7 +84,7 @@ takes {T} pass v may mail items views rule here =
         taken = more;
         in_order = rule.in_order ∙ sym (append_assoc rule.taken (mail ∷ []) items);
         closes = rule.closes;
-        each = renewed (Fits rule.sender rule.taker rule.sent more) views pass w
+        each = renewed (FitsLog rule.sender rule.taker rule.sent more) views pass w
             (mine.0, λ _. ((mine.1 may).0, ap (λ mails. mails ++ mail ∷ []) all))
             (λ j u other at. ((rule.each j u at).0, λ t. absurd (other (((rule.each j u at).1 t).0 ∙ sym (mine.1 may).0))));
       },
@@ -124,7 +124,7 @@ rejoins {T} pass v other u sending taking items views rule here apart there =
     let views' : List (Log T) = set views pass both in
     let before : get_elem? views other ≡ some u = ⊎_elim (λ same. absurd (apart same.0)) (λ old. old.1) (at_set views pass other both u there) in
     let theirs = (rule.each other u before).1 taking in
-    let Kept : ℕ → Log T → Type 0 = λ j x. j ≢ other → Fits rule.sender pass rule.sent rule.taken j x in
+    let Kept : ℕ → Log T → Type 0 = λ j x. j ≢ other → FitsLog rule.sender pass rule.sent rule.taken j x in
     let kept : Each Kept views' = renewed Kept views pass both (λ _. ((λ _. mine.0 sending), λ _. (refl, theirs.1)))
     (λ j x _ at away. ((rule.each j x at).0, λ t. absurd (away (((rule.each j x at).1 t).0 ∙ sym theirs.0)))) in
     record {
@@ -134,7 +134,7 @@ rejoins {T} pass v other u sending taking items views rule here apart there =
       taken = rule.taken;
       in_order = rule.in_order;
       closes = rule.closes;
-      each = renewed (Fits rule.sender pass rule.sent rule.taken) views' other (log false false [] [])
+      each = renewed (FitsLog rule.sender pass rule.sent rule.taken) views' other (log false false [] [])
           ((λ s. absurd (true≢false (sym s))), λ t. absurd (true≢false (sym t))) (λ j x away at. kept j x at away);
     }
 

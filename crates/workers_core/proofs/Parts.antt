@@ -6,7 +6,7 @@ use Rattle.std.proofs.lemmas.List.{flat_map_more}
 use Rattle.std.proofs.lemmas.List.Elements.{All-append, All-weaker, Contains-append_left}
 use Rattle.account_core.specs.Events.{EntryData}
 use Rattle.workers_core.specs.Handled.{grown}
-use Rattle.workers_core.specs.Served.{AreServed, IsPart, IsServed, begun_by, begun_of, credited_in, credits_of, held_in, held_of, recharged_in, recharges_of, reported_in, reports_of, settled_in, settles_of}
+use Rattle.workers_core.specs.Served.{AreServed, IsPart, IsServed, begun_by, begun_of, credited_in, credits_of, held_in, held_calls_of, recharged_in, recharges_of, reported_in, reports_of, settled_in, settles_of}
 use Rattle.run_values.specs.declared.post.Post.{Post}
 
 -- ---- parts
@@ -57,7 +57,7 @@ served_more account posts post mine is = record {
   credits =
       part_of_posts (λ (p : Post). recharged_in account p.body) (credits_of mine) posts post
       (part_more (credits_of mine) (recharges_of account posts) (recharged_in account post.body) is.credits);
-  calls = All-weaker (λ call. Contains (begun_of posts) call) (λ call. Contains (begun_of (posts ++ post ∷ [])) call) (λ call. begun_more posts post call) (held_of mine) is.calls;
+  calls = All-weaker (λ call. Contains (begun_of posts) call) (λ call. Contains (begun_of (posts ++ post ∷ [])) call) (λ call. begun_more posts post call) (held_calls_of mine) is.calls;
 }
 
 pub all_served_more : (accounts : List ℕ) (posts : List Post) (post : Post) (lists : List (List EntryData)) → AreServed accounts posts lists → AreServed accounts (posts ++ post ∷ []) lists
@@ -73,7 +73,7 @@ all_served_more (account ∷ accounts) posts post (mine ∷ lists) are =
 pub record IsEntered (account : ℕ) (posts : List Post) (post : Post) (entries : List EntryData) : Type 0 where
   pub settles : IsPart (settles_of entries) (reported_in post.number post.body)
   pub credits : IsPart (credits_of entries) (recharged_in account post.body)
-  pub calls : All (λ call. Contains (begun_of (posts ++ post ∷ [])) call) (held_of entries)
+  pub calls : All (λ call. Contains (begun_of (posts ++ post ∷ [])) call) (held_calls_of entries)
 
 served_grown : (account : ℕ) (posts : List Post) (post : Post) (mine entries : List EntryData) → IsServed account posts mine → IsEntered account posts post entries
     → IsServed account (posts ++ post ∷ []) (mine ++ entries)
@@ -88,7 +88,7 @@ served_grown account posts post mine entries is entered = record {
       (part_both (credits_of mine) (recharges_of account posts) (credits_of entries) (recharged_in account post.body) is.credits entered.credits));
   calls =
       rw (flat_map-append (λ (e : EntryData). held_in e.asked) mine entries)
-      (All-append (λ call. Contains (begun_of (posts ++ post ∷ [])) call) (held_of mine) (held_of entries) (All-weaker (λ call. Contains (begun_of posts) call) (λ call. Contains (begun_of (posts ++ post ∷ [])) call) (λ call. begun_more posts post call) (held_of mine) is.calls) entered.calls);
+      (All-append (λ call. Contains (begun_of (posts ++ post ∷ [])) call) (held_calls_of mine) (held_calls_of entries) (All-weaker (λ call. Contains (begun_of posts) call) (λ call. Contains (begun_of (posts ++ post ∷ [])) call) (λ call. begun_more posts post call) (held_calls_of mine) is.calls) entered.calls);
 }
 
 pub all_served_grown : (accounts : List ℕ) (posts : List Post) (post : Post) (lists : List (List EntryData)) (place : ℕ) (entries : List EntryData) → AreServed accounts posts lists

@@ -30,7 +30,7 @@ use Rattle.run_values.specs.Setups.{Setup}
 use Rattle.dialogue_core.specs.Talks.{Got, talked}
 use Rattle.workers_core.specs.Talks.{entries_of, entry_of}
 use Rattle.workers_core.specs.Verdicts.{DialogueAt, Verdict, Strays, Rejects, Recharges, Begins, GoesOn, verdict_on}
-use Rattle.workers_core.specs.Workers.{IsAbout, IsSound}
+use Rattle.workers_core.specs.Workers.{IsAbout, IsSoundHolding}
 use Rattle.run_values.specs.declared.post.Post.{Post}
 
 -- ---- what other posts add to the calls that are returned in a list
@@ -104,7 +104,7 @@ credit_returns seat amount until (Ok reply) = refl
 credit_returns seat amount until (Err fault) = refl
 
 recharge_adds : (setup : Setup) (numbers : List ℕ) (posts : List Post) (post : Post) (call there amount : ℕ) (until : Option ℕ) (old new : Holding) (t : AnswerView) (place : ℕ)
-    → IsSound (keys_of setup.accounts) posts old → Means setup old.talks post.number post.at post.body (Recharges there amount until)
+    → IsSoundHolding (keys_of setup.accounts) posts old → Means setup old.talks post.number post.at post.body (Recharges there amount until)
     → IsDone setup numbers post.at (Recharges there amount until) old new t → AddsOthers call place old new
 recharge_adds setup numbers posts post call there amount until old new t place sound m done =
     adds_none call place old new
@@ -112,7 +112,7 @@ recharge_adds setup numbers posts post call there amount until old new t place s
     (read_as_before (λ (e : EntryData). returned_in e.asked) old.lists there place (entry_of (slice_index_or numbers there 0) (Asks (Credits amount until)) done.got)
     (place_within setup posts old there sound (at_place setup m.account there m.at).0) (credit_returns (slice_index_or numbers there 0) amount until done.got)))
 
-before_by : (setup : Setup) (numbers : List ℕ) (posts : List Post) (post : Post) (call : ℕ) (v : Verdict) (old new : Holding) (t : AnswerView) → IsSound (keys_of setup.accounts) posts old
+before_by : (setup : Setup) (numbers : List ℕ) (posts : List Post) (post : Post) (call : ℕ) (v : Verdict) (old new : Holding) (t : AnswerView) → IsSoundHolding (keys_of setup.accounts) posts old
     → Means setup old.talks post.number post.at post.body v → IsDone setup numbers post.at v old new t → has_ended (new.talks call) ≡ false
     → (has_ended (old.talks call) ≡ false) × ((place : ℕ) → AddsOthers call place old new)
 before_by setup numbers posts post call Strays old new t sound m done not = (ap has_ended (sym (done.talks call)) ∙ not, λ place. adds_none call place old new (rw done.lists refl))
@@ -137,7 +137,7 @@ before_by setup numbers posts post call (GoesOn its at said phase) old new t sou
     before_talk numbers call its at (said, phase) old new t (call == its) refl (place_within setup posts old at sound (rw (← m.same, ← many_keys setup) own.is.placed)) takes.0 takes.1 last
     (λ same began. subst Q (sym same) (ap has_ended m.stands ∙ not_before (is_through m.standing.phase) (is_through phase) through began)) done not
 
-before_all : (setup : Setup) (numbers : List ℕ) (call : ℕ) (done posts : List Post) (refusals : List (Option AccountFault)) (old new : Holding) → IsSound (keys_of setup.accounts) done old
+before_all : (setup : Setup) (numbers : List ℕ) (call : ℕ) (done posts : List Post) (refusals : List (Option AccountFault)) (old new : Holding) → IsSoundHolding (keys_of setup.accounts) done old
     → AreHandled setup numbers posts refusals old new → has_ended (new.talks call) ≡ false → (has_ended (old.talks call) ≡ false) × ((place : ℕ) → AddsOthers call place old new)
 before_all setup numbers call done [] [] old new sound are not =
     (ap (λ (h : Holding). has_ended (h.talks call)) are ∙ not, λ place. adds_none call place old new (ap (λ (h : Holding). returns_of (slice_index_or h.lists place [])) (sym are)))
@@ -165,7 +165,7 @@ after_talk numbers call its at first old new t true same within about says over 
 after_talk numbers call its at first old new t false same within about says over is ended =
     (ap has_ended (talks_now call its at false numbers first old new t same is) ∙ ended, λ place. talk_others numbers call its at place first old new t same within about says is)
 
-after_by : (setup : Setup) (numbers : List ℕ) (posts : List Post) (post : Post) (call : ℕ) (v : Verdict) (old new : Holding) (t : AnswerView) → IsSound (keys_of setup.accounts) posts old
+after_by : (setup : Setup) (numbers : List ℕ) (posts : List Post) (post : Post) (call : ℕ) (v : Verdict) (old new : Holding) (t : AnswerView) → IsSoundHolding (keys_of setup.accounts) posts old
     → Means setup old.talks post.number post.at post.body v → IsDone setup numbers post.at v old new t → has_ended (old.talks call) ≡ true
     → (has_ended (new.talks call) ≡ true) × ((place : ℕ) → AddsOthers call place old new)
 after_by setup numbers posts post call Strays old new t sound m done ended = (ap has_ended (done.talks call) ∙ ended, λ place. adds_none call place old new (rw done.lists refl))
@@ -188,7 +188,7 @@ after_by setup numbers posts post call (GoesOn its at said phase) old new t soun
     (λ same. let through : is_through m.standing.phase ≡ true = ap has_ended (sym m.stands) ∙ subst Q same ended in
     let over : StepIsOver (Ok (said, phase)) = subst StepIsOver m.takes (over_told post.number post.at m.standing.phase m.message through) in over) done ended
 
-after_all : (setup : Setup) (numbers : List ℕ) (call : ℕ) (done posts : List Post) (refusals : List (Option AccountFault)) (old new : Holding) (place : ℕ) → IsSound (keys_of setup.accounts) done old
+after_all : (setup : Setup) (numbers : List ℕ) (call : ℕ) (done posts : List Post) (refusals : List (Option AccountFault)) (old new : Holding) (place : ℕ) → IsSoundHolding (keys_of setup.accounts) done old
     → AreHandled setup numbers posts refusals old new → has_ended (old.talks call) ≡ true → AddsOthers call place old new
 after_all setup numbers call done [] [] old new place sound are ended = adds_none call place old new (ap (λ (h : Holding). returns_of (slice_index_or h.lists place [])) (sym are))
 after_all setup numbers call done [] (refusal ∷ refusals) old new place sound are ended = absurd are

@@ -25,7 +25,7 @@ use Rattle.run_values.specs.Setups.{Setup}
 use Rattle.dialogue_core.specs.Talks.{Got, is_ask, talked}
 use Rattle.workers_core.specs.Talks.{entries_of, entry_of, last_fault}
 use Rattle.workers_core.specs.Verdicts.{Verdict, Strays, Rejects, Recharges, Begins, GoesOn, verdict_on}
-use Rattle.workers_core.specs.Workers.{IsAbout, IsSound}
+use Rattle.workers_core.specs.Workers.{IsAbout, IsSoundHolding}
 use Rattle.run_values.specs.declared.post.Post.{Post}
 
 -- ---- what one post adds to the reports that are settled in a list
@@ -59,7 +59,7 @@ credit_settles : (seat amount : ℕ) (until : Option ℕ) (got : Got) → settle
 credit_settles seat amount until (Ok reply) = refl
 credit_settles seat amount until (Err fault) = refl
 
-adds_by : (setup : Setup) (numbers : List ℕ) (posts : List Post) (post : Post) (place : ℕ) (v : Verdict) (old new : Holding) (t : AnswerView) → IsSound (keys_of setup.accounts) posts old
+adds_by : (setup : Setup) (numbers : List ℕ) (posts : List Post) (post : Post) (place : ℕ) (v : Verdict) (old new : Holding) (t : AnswerView) → IsSoundHolding (keys_of setup.accounts) posts old
     → Means setup old.talks post.number post.at post.body v → IsDone setup numbers post.at v old new t → AddsPart place old new (reported_in post.number post.body)
 adds_by setup numbers posts post place Strays old new t sound m done = adds_none place old new (reported_in post.number post.body) (rw done.lists refl)
 adds_by setup numbers posts post place Rejects old new t sound m done = adds_none place old new (reported_in post.number post.body) (rw done.lists refl)
@@ -82,7 +82,7 @@ adds_by setup numbers posts post place (GoesOn call at said phase) old new t sou
     (rw m.is takes.2) done
 
 -- what further posts add
-adds_after : (setup : Setup) (numbers : List ℕ) (place : ℕ) (done posts : List Post) (refusals : List (Option AccountFault)) (old new : Holding) → IsSound (keys_of setup.accounts) done old
+adds_after : (setup : Setup) (numbers : List ℕ) (place : ℕ) (done posts : List Post) (refusals : List (Option AccountFault)) (old new : Holding) → IsSoundHolding (keys_of setup.accounts) done old
     → AreHandled setup numbers posts refusals old new → AddsPart place old new (reports_of posts)
 adds_after setup numbers place done [] [] old new sound are = adds_none place old new [] (ap (λ (h : Holding). settles_of (slice_index_or h.lists place [])) (sym are))
 adds_after setup numbers place done [] (refusal ∷ refusals) old new sound are = absurd are

@@ -9,8 +9,8 @@ use Rattle.account_core.specs.declared.fault.AccountFault.TheVariants as fault
 use Rattle.cap_values.specs.Orders.{Order}
 use Rattle.dialogue_core.specs.Phases.{Phase, Says, Asks, Sends, Finished}
 use Rattle.workers_core.specs.Cases.{AtDesk, or_fault}
-use Rattle.dialogue_core.specs.Talks.{AreGot, Asking, Gets, Got, IsTalkedOut, after_got, is_ask, sent_by, talked}
-use Rattle.workers_core.specs.Talks.{AllAsk, AreRight, IsRight, IsTalk, Showing, entries_of, entry_of, last_fault}
+use Rattle.dialogue_core.specs.Talks.{AreGot, Asking, Gets, Got, IsTalkedOut, after_got, is_ask, orders_sent_by, talked}
+use Rattle.workers_core.specs.Talks.{AllAsk, AreRightlyGot, IsRightlyGot, IsTalk, Showing, entries_of, entry_of, last_fault}
 
 -- ---- how far a talk has come
 
@@ -21,7 +21,7 @@ pub record IsSoFar (Shows : Showing) (seat : ℕ) (first : Says × Phase) (befor
   pub talks : talked first gots ≡ now
   pub enters : after ≡ before ++ entries_of seat first gots
   pub refuses : refused ≡ last_fault gots
-  pub right : AreRight Shows seat first before gots
+  pub right : AreRightlyGot Shows seat first before gots
 
 pub so_begun : (Shows : Showing) (seat : ℕ) (first : Says × Phase) (mine : List EntryData) → IsSoFar Shows seat first mine mine first None
 so_begun Shows seat first mine = record { gots = []; asked = tt; talks = refl; enters = sym (append-nil mine); refuses = refl; right = tt }
@@ -29,14 +29,14 @@ so_begun Shows seat first mine = record { gots = []; asked = tt; talks = refl; e
 -- ---- what shows a refusal goes on to show it
 
 pub right_still : (Shows Later : Showing) → ((mine : List EntryData) (asked : Asked) (why : AccountFault) → Shows mine asked why → Later mine asked why)
-    → (mine : List EntryData) (says : Says) (got : Got) → IsRight Shows mine says got → IsRight Later mine says got
+    → (mine : List EntryData) (says : Says) (got : Got) → IsRightlyGot Shows mine says got → IsRightlyGot Later mine says got
 right_still Shows Later still mine (Asks asked) (Ok reply) right = tt
 right_still Shows Later still mine (Asks asked) (Err fault) right = still mine asked fault right
 right_still Shows Later still mine (Sends orders) got right = tt
 right_still Shows Later still mine Finished got right = tt
 
 pub all_right_still : (Shows Later : Showing) → ((mine : List EntryData) (asked : Asked) (why : AccountFault) → Shows mine asked why → Later mine asked why)
-    → (seat : ℕ) (first : Says × Phase) (before : List EntryData) (gots : List Got) → AreRight Shows seat first before gots → AreRight Later seat first before gots
+    → (seat : ℕ) (first : Says × Phase) (before : List EntryData) (gots : List Got) → AreRightlyGot Shows seat first before gots → AreRightlyGot Later seat first before gots
 all_right_still Shows Later still seat first before [] right = tt
 all_right_still Shows Later still seat first before (got ∷ earlier) right = (
   right_still Shows Later still (before ++ entries_of seat first earlier) (talked first earlier).0 got right.0,
@@ -49,11 +49,11 @@ refused_still Was Later still mine asked why is =
     record { account = is.account; was = still mine _ is.was; legal = is.legal; refused = is.refused; room = is.room }
 
 pub rights_known : (Was Later : Knowing) → ((mine : List EntryData) (refusal : Refusal) → Was mine refusal → Later mine refusal)
-    → (seat : ℕ) (first : Says × Phase) (before : List EntryData) (gots : List Got) → AreRight (IsRefusedAt Was) seat first before gots → AreRight (IsRefusedAt Later) seat first before gots
+    → (seat : ℕ) (first : Says × Phase) (before : List EntryData) (gots : List Got) → AreRightlyGot (IsRefusedAt Was) seat first before gots → AreRightlyGot (IsRefusedAt Later) seat first before gots
 rights_known Was Later still = all_right_still (IsRefusedAt Was) (IsRefusedAt Later) (refused_still Was Later still)
 
 pub right_known : (Was Later : Knowing) → ((mine : List EntryData) (refusal : Refusal) → Was mine refusal → Later mine refusal)
-    → (mine : List EntryData) (says : Says) (got : Got) → IsRight (IsRefusedAt Was) mine says got → IsRight (IsRefusedAt Later) mine says got
+    → (mine : List EntryData) (says : Says) (got : Got) → IsRightlyGot (IsRefusedAt Was) mine says got → IsRightlyGot (IsRefusedAt Later) mine says got
 right_known Was Later still = right_still (IsRefusedAt Was) (IsRefusedAt Later) (refused_still Was Later still)
 
 -- ---- ask by ask
@@ -70,7 +70,7 @@ fault_after gots (Err fault) = refl
 so_asked : (Was Later : Knowing) → ((mine : List EntryData) (refusal : Refusal) → Was mine refusal → Later mine refusal)
     → (seat : ℕ) (first : Says × Phase) (before between after : List EntryData) (asked : Asked) (from : Phase) (got : Got) (old new : Option AccountFault)
     → IsSoFar (IsRefusedAt Was) seat first before between (Asks asked, from) old → after ≡ between ++ entry_of seat (Asks asked) got → new ≡ or_fault old got
-    → IsRight (IsRefusedAt Later) between (Asks asked) got → IsSoFar (IsRefusedAt Later) seat first before after (after_got from got) new
+    → IsRightlyGot (IsRefusedAt Later) between (Asks asked) got → IsSoFar (IsRefusedAt Later) seat first before after (after_got from got) new
 so_asked Was Later still seat first before between after asked from got old new so enters refuses right = record {
   gots = got ∷ so.gots;
   asked = (ap (λ (p : Says × Phase). is_ask p.0) so.talks, so.asked);
@@ -78,12 +78,12 @@ so_asked Was Later still seat first before between after asked from got old new 
   enters = rw (so.talks) (enters ∙ ap (λ l. l ++ entry_of seat (Asks asked) got) so.enters ∙ append_assoc before (entries_of seat first so.gots) (entry_of seat (Asks asked) got));
   refuses = refuses ∙ ap (λ r. or_fault r got) so.refuses ∙ fault_after so.gots got;
   right =
-      let R : List EntryData × Says → Type 0 = λ at. IsRight (IsRefusedAt Later) at.0 at.1 got in
+      let R : List EntryData × Says → Type 0 = λ at. IsRightlyGot (IsRefusedAt Later) at.0 at.1 got in
       (subst R (λ i. (so.enters i, (sym so.talks i).0)) right, rights_known Was Later still seat first before so.gots so.right);
 }
 
 pub so_ended : (Shows : Showing) (seat : ℕ) (first : Says × Phase) (before after : List EntryData) (last : Says) (phase : Phase) (orders : List Order) (refused : Option AccountFault)
-    → IsSoFar Shows seat first before after (last, phase) refused → is_ask last ≡ false → orders ≡ sent_by last → IsTalk Shows seat first before after phase orders refused
+    → IsSoFar Shows seat first before after (last, phase) refused → is_ask last ≡ false → orders ≡ orders_sent_by last → IsTalk Shows seat first before after phase orders refused
 so_ended Shows seat first before after last phase orders refused so rests sends = record {
   gots = so.gots;
   asked = so.asked;

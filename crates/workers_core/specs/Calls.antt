@@ -5,7 +5,7 @@ use Rattle.cap_values.specs.NumberDigits.{digits_of}
 use Rattle.cap_values.specs.declared.number.Number.{Number}
 use Rattle.dialogue_core.specs.Phases.{Phase, Says}
 use Rattle.dialogue_core.specs.Table.{on_begin}
-use Rattle.dialogue_core.specs.Talks.{AreGot, Asking, Got, is_ask, sent_by, talked}
+use Rattle.dialogue_core.specs.Talks.{AreGot, Asking, Got, is_ask, orders_sent_by, talked}
 use Rattle.dialogue_core.specs.Views.{phase_of, says_of}
 use Rattle.run_values.specs.Setups.{Setup}
 use Rattle.tariff_core.specs.declared.route.Route.{Route}
@@ -34,7 +34,7 @@ pub record IsTalkCalled {T : Type 0} (Calls : Asking T) (first : Says × Phase) 
   pub gots : List Got
   pub called : AreGot Calls first from gots to
   pub rests : is_ask (talked first gots).0 ≡ false
-  pub orders : told.orders ≡ sent_by (talked first gots).0
+  pub orders : told.orders ≡ orders_sent_by (talked first gots).0
   pub refused : told.refused ≡ last_fault gots
 
 -- so it is of a dialogue that begins

@@ -18,15 +18,15 @@ use Rattle.tariff_core.specs.declared.route.Route.{Route}
 use Rattle.workers_core.specs.Handled.{Holding, IsRecharged, IsTalked, IsUnasked, AnswerView}
 use Rattle.run_values.specs.Setups.{Setup}
 use Rattle.dialogue_core.specs.Talks.{Asking, Got}
-use Rattle.workers_core.specs.Talks.{AreRight, IsRight, Showing, entry_of}
+use Rattle.workers_core.specs.Talks.{AreRightlyGot, IsRightlyGot, Showing, entry_of}
 use Rattle.workers_core.specs.Verdicts.{DialogueAt, IsRouted, Verdict, Strays, Rejects, Recharges, Begins, GoesOn}
-use Rattle.workers_core.specs.Workers.{standing_of}
+use Rattle.workers_core.specs.Workers.{talk_standing}
 use Rattle.workers_core.specs.declared.worker.Case.{Case}
 use Rattle.workers_core.specs.declared.worker.Case.TheVariants as case
 use Rattle.workers_core.specs.declared.worker.Talk.{Talk}
 
 -- the dialogue of a call begins, and this is what it says first
-pub record IsFirst (setup : Setup) (at : ℕ) (verdict : Verdict) (call place : ℕ) (first : Says × Phase) : Type 0 where
+pub record SaysFirst (setup : Setup) (at : ℕ) (verdict : Verdict) (call place : ℕ) (first : Says × Phase) : Type 0 where
   pub called : Number
   pub is : verdict ≡ Begins call place called
   pub route : Option Route
@@ -39,14 +39,14 @@ IsCase setup at verdict case.Stray = verdict ≡ Strays
 IsCase setup at verdict case.Rejected = verdict ≡ Rejects
 IsCase setup at verdict (case.Recharge place amount until) = verdict ≡ Recharges place amount until
 IsCase setup at verdict (case.Talk call talk turn) =
-    (verdict ≡ GoesOn call talk.place (says_of turn) (phase_of talk.dialogue)) ⊎ IsFirst setup at verdict call talk.place (says_of turn, phase_of talk.dialogue)
+    (verdict ≡ GoesOn call talk.place (says_of turn) (phase_of talk.dialogue)) ⊎ SaysFirst setup at verdict call talk.place (says_of turn, phase_of talk.dialogue)
 
 -- the account of a case is one of so many
-abbrev pub IsWithin : ℕ → Case → Type 0
-IsWithin count case.Stray = Unit {0}
-IsWithin count case.Rejected = Unit {0}
-IsWithin count (case.Recharge place amount until) = place < count
-IsWithin count (case.Talk call talk turn) = talk.place < count
+abbrev pub CaseIsWithin : ℕ → Case → Type 0
+CaseIsWithin count case.Stray = Unit {0}
+CaseIsWithin count case.Rejected = Unit {0}
+CaseIsWithin count (case.Recharge place amount until) = place < count
+CaseIsWithin count (case.Talk call talk turn) = talk.place < count
 
 -- the dialogue of a case has its place among the dialogues
 abbrev pub HasRoom : Case → List (ℕ × Talk) → Type 0
@@ -60,7 +60,7 @@ abbrev pub with_room : Case → (ℕ → Option DialogueAt) → ℕ → Option D
 with_room case.Stray talks other = talks other
 with_room case.Rejected talks other = talks other
 with_room (case.Recharge place amount until) talks other = talks other
-with_room (case.Talk call talk turn) talks other = if other == call then Some (standing_of talk) else talks other
+with_room (case.Talk call talk turn) talks other = if other == call then Some (talk_standing talk) else talks other
 
 -- what is done in a case
 abbrev pub IsActed : List ℕ → Case → Holding → Holding → AnswerView → Type 0
@@ -79,9 +79,9 @@ abbrev pub AreRightIn : (Shows : ℕ → Showing) (numbers : List ℕ) (case : C
 AreRightIn Shows numbers case.Stray old new told acted = Unit {0}
 AreRightIn Shows numbers case.Rejected old new told acted = Unit {0}
 AreRightIn Shows numbers (case.Recharge place amount until) old new told acted =
-    IsRight (Shows place) (slice_index_or old.lists place []) (Asks (Credits amount until)) acted.got
+    IsRightlyGot (Shows place) (slice_index_or old.lists place []) (Asks (Credits amount until)) acted.got
 AreRightIn Shows numbers (case.Talk call talk turn) old new told acted =
-    AreRight (Shows talk.place) (slice_index_or numbers talk.place 0) (says_of turn, phase_of talk.dialogue) (slice_index_or old.lists talk.place []) acted.gots
+    AreRightlyGot (Shows talk.place) (slice_index_or numbers talk.place 0) (says_of turn, phase_of talk.dialogue) (slice_index_or old.lists talk.place []) acted.gots
 
 -- what is done in a case, and that each refusal there was right
 pub record IsRightlyActed (Shows : ℕ → Showing) (numbers : List ℕ) (case : Case) (old new : Holding) (told : AnswerView) : Type 0 where
@@ -96,7 +96,7 @@ pub record IsAsked {K T : Type 0} (reads : Reads K T) (Was : T → Knowing) (Cal
   pub called : Calls before.0 asked got after.0
   pub enters : reads.mine after.0 ≡ reads.mine before.0 ++ entry_of (reads.number before.0) (Asks asked) got
   pub refuses : after.1 ≡ or_fault before.1 got
-  pub right : IsRight (IsRefusedAt (Was after.0)) (reads.mine before.0) (Asks asked) got
+  pub right : IsRightlyGot (IsRefusedAt (Was after.0)) (reads.mine before.0) (Asks asked) got
   pub still : (mine : List EntryData) (refusal : Refusal) → Was before.0 mine refusal → Was after.0 mine refusal
 
 -- an ask at a desk, whose gate stays
@@ -110,4 +110,4 @@ pub record IsCredited (Shows : Showing) (seat : ℕ) (asked : Asked) (before aft
   pub orders : told.orders ≡ []
   pub stray : told.stray ≡ false
   pub refuses : told.refused ≡ or_fault None got
-  pub right : IsRight Shows before (Asks asked) got
+  pub right : IsRightlyGot Shows before (Asks asked) got

@@ -50,6 +50,6 @@ abbrev pub refusals_in : List AnswerView → List (Option AccountFault)
 refusals_in answers = map (λ told. told.refused) answers
 
 -- the lists of a worker's seats are what its posts made of empty ones, these are its answers, and each ask that was refused was refused rightly
-pub record IsAnswered (Shows : ℕ → Showing) (setup : Setup) (number : ℕ) (posts : List Post) (answers : List AnswerView) (lists : List (List EntryData)) : Type 0 where
+pub record AnswersItsPosts (Shows : ℕ → Showing) (setup : Setup) (number : ℕ) (posts : List Post) (answers : List AnswerView) (lists : List (List EntryData)) : Type 0 where
   pub talks : ℕ → Option DialogueAt
   pub chain : AreAnswered Shows setup (seat_numbers number setup) posts answers (at_first setup) (record { lists = lists; talks = talks })

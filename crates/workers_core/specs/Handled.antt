@@ -10,8 +10,8 @@ use Rattle.dialogue_core.specs.Phases.{Phase, Says, Asks}
 use Rattle.dialogue_core.specs.Table.{on_begin}
 use Rattle.tariff_core.specs.declared.route.Route.{Route}
 use Rattle.run_values.specs.Setups.{Setup}
-use Rattle.dialogue_core.specs.Talks.{Got, is_ask, sent_by, talked}
-use Rattle.workers_core.specs.Talks.{AllAsk, AreRight, IsRight, Showing, entries_of, entry_of, last_fault}
+use Rattle.dialogue_core.specs.Talks.{Got, is_ask, orders_sent_by, talked}
+use Rattle.workers_core.specs.Talks.{AllAsk, AreRightlyGot, IsRightlyGot, Showing, entries_of, entry_of, last_fault}
 use Rattle.workers_core.specs.Verdicts.{DialogueAt, IsRouted, Verdict, Strays, Rejects, Recharges, Begins, GoesOn, verdict}
 use Rattle.run_values.specs.declared.post.Answer.{Answer}
 use Rattle.run_values.specs.declared.post.Post.{Post}
@@ -69,7 +69,7 @@ pub record IsTalked (numbers : List ℕ) (call place : ℕ) (first : Says × Pha
   pub phase : Phase
   pub talk : talked first gots ≡ (last, phase)
   pub rests : is_ask last ≡ false
-  pub orders : told.orders ≡ sent_by last
+  pub orders : told.orders ≡ orders_sent_by last
   pub stray : told.stray ≡ false
   pub refused : told.refused ≡ last_fault gots
   pub lists : new.lists ≡ grown old.lists place (entries_of (slice_index_or numbers place 0) first gots)
@@ -99,12 +99,12 @@ abbrev pub AreRefusedRightly : (Shows : ℕ → Showing) (setup : Setup) (number
 AreRefusedRightly Shows setup numbers at Strays old new told done = Unit {0}
 AreRefusedRightly Shows setup numbers at Rejects old new told done = Unit {0}
 AreRefusedRightly Shows setup numbers at (Recharges place amount until) old new told done =
-    IsRight (Shows place) (slice_index_or old.lists place []) (Asks (Credits amount until)) done.got
+    IsRightlyGot (Shows place) (slice_index_or old.lists place []) (Asks (Credits amount until)) done.got
 AreRefusedRightly Shows setup numbers at (Begins call place called) old new told done =
-    AreRight (Shows place) (slice_index_or numbers place 0) (on_begin call at setup.service.wanted setup.service.least done.route) (slice_index_or old.lists place [])
+    AreRightlyGot (Shows place) (slice_index_or numbers place 0) (on_begin call at setup.service.wanted setup.service.least done.route) (slice_index_or old.lists place [])
     done.talked.gots
 AreRefusedRightly Shows setup numbers at (GoesOn call place said phase) old new told done =
-    AreRight (Shows place) (slice_index_or numbers place 0) (said, phase) (slice_index_or old.lists place []) done.gots
+    AreRightlyGot (Shows place) (slice_index_or numbers place 0) (said, phase) (slice_index_or old.lists place []) done.gots
 
 -- a post is handled, and each ask that was refused for it was refused rightly
 pub record IsRightlyHandled (Shows : ℕ → Showing) (setup : Setup) (numbers : List ℕ) (post : Post) (old new : Holding) (told : AnswerView) : Type 0 where

@@ -19,7 +19,7 @@ use Rattle.workers_core.specs.Chains.{AreHandled, IsHandledOnce, IsWorked, at_fi
 use Rattle.workers_core.specs.Handled.{Holding, IsTalked, AnswerView}
 use Rattle.workers_core.specs.Served.{AreServed, IsPart, Money, Report, credits_of, recharged_in, reports_of, returns_of, settles_of}
 use Rattle.run_values.specs.Setups.{Setup, place_of}
-use Rattle.dialogue_core.specs.Talks.{is_ask, sent_by}
+use Rattle.dialogue_core.specs.Talks.{is_ask, orders_sent_by}
 use Rattle.workers_core.specs.Verdicts.{home_of}
 use Rattle.run_values.specs.declared.post.Body.{Body}
 use Rattle.run_values.specs.declared.post.Body.TheVariants.{Ssf}
@@ -29,7 +29,7 @@ use Rattle.run_values.specs.declared.post.Post.{Post}
 abbrev pub WhatIsSaidIsSent : Type 0
 WhatIsSaidIsSent =
     (numbers : List ℕ) (call place : ℕ) (first : Says × Phase) (old new : Holding) (told : AnswerView) → is_ask first.0 ≡ false
-    → IsTalked numbers call place first old new told → (told.orders ≡ sent_by first.0) × (told.refused ≡ None)
+    → IsTalked numbers call place first old new told → (told.orders ≡ orders_sent_by first.0) × (told.refused ≡ None)
 
 -- each entry of a worker comes from what it handled
 abbrev pub EntriesComeFromPosts : Type 0

@@ -17,19 +17,19 @@ has_close (Work content ∷ mails) = has_close mails
 has_close (Close ∷ mails) = true
 
 -- no mails
-abbrev pub is_empty : {T : Type 0} → List (Mail T) → Bool
-is_empty [] = true
-is_empty (mail ∷ mails) = false
+abbrev pub is_empty_log : {T : Type 0} → List (Mail T) → Bool
+is_empty_log [] = true
+is_empty_log (mail ∷ mails) = false
 
 -- whether nothing follows a Close
 abbrev pub ends_at_close : {T : Type 0} → List (Mail T) → Bool
 ends_at_close [] = true
 ends_at_close (Work content ∷ mails) = ends_at_close mails
-ends_at_close (Close ∷ mails) = is_empty mails
+ends_at_close (Close ∷ mails) = is_empty_log mails
 
 -- what one end knows is true: the sender has the list of what was sent, the taker that of what was taken
-abbrev pub Fits : {T : Type 0} → ℕ → ℕ → List (Mail T) → List (Mail T) → ℕ → Log T → Type 0
-Fits sender taker sent taken pass v =
+abbrev pub FitsLog : {T : Type 0} → ℕ → ℕ → List (Mail T) → List (Mail T) → ℕ → Log T → Type 0
+FitsLog sender taker sent taken pass v =
     (v.sends ≡ true → (pass ≡ sender) × (v.sent ≡ sent)) × (v.takes ≡ true → (pass ≡ taker) × (v.taken ≡ taken))
 
 -- one end at most sends and one at most takes, what was sent is what was taken and then what waits, and nothing follows a Close
@@ -40,4 +40,4 @@ pub record Delivered {T : Type 0} (waiting : List (Mail T)) (views : List (Log T
   pub taken : List (Mail T)
   pub in_order : sent ≡ taken ++ waiting
   pub closes : ends_at_close sent ≡ true
-  pub each : (pass : ℕ) (v : Log T) → get_elem? views pass ≡ some v → Fits sender taker sent taken pass v
+  pub each : (pass : ℕ) (v : Log T) → get_elem? views pass ≡ some v → FitsLog sender taker sent taken pass v

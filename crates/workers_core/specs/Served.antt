@@ -94,8 +94,8 @@ held_in (Settles call number info) = []
 held_in (Returns call) = call ∷ []
 
 -- the calls of the Reserves and the Returns among entries
-abbrev pub held_of : List EntryData → List ℕ
-held_of mine = flat_map (λ event. held_in event.asked) mine
+abbrev pub held_calls_of : List EntryData → List ℕ
+held_calls_of mine = flat_map (λ event. held_in event.asked) mine
 
 -- the call that an operation returns
 abbrev pub returned_in : Asked → List ℕ
@@ -113,7 +113,7 @@ returns_of mine = flat_map (λ event. returned_in event.asked) mine
 pub record IsServed (account : ℕ) (posts : List Post) (mine : List EntryData) : Type 0 where
   pub settles : IsPart (settles_of mine) (reports_of posts)
   pub credits : IsPart (credits_of mine) (recharges_of account posts)
-  pub calls : All (λ call. Contains (begun_of posts) call) (held_of mine)
+  pub calls : All (λ call. Contains (begun_of posts) call) (held_calls_of mine)
 
 -- each account's list is served by the posts
 abbrev pub AreServed : List ℕ → List Post → List (List EntryData) → Type 0

@@ -6,7 +6,7 @@ use Rattle.account_core.specs.Ledger.{event_by}
 use Rattle.account_core.specs.declared.fault.AccountFault.{AccountFault}
 use Rattle.cap_values.specs.Orders.{Order}
 use Rattle.dialogue_core.specs.Phases.{Phase, Says, Asks, Sends, Finished}
-use Rattle.dialogue_core.specs.Talks.{Got, is_ask, sent_by, talked}
+use Rattle.dialogue_core.specs.Talks.{Got, is_ask, orders_sent_by, talked}
 
 -- the entry of an ask that got a reply
 abbrev pub entry_of : ℕ → Says → Got → List EntryData
@@ -36,17 +36,17 @@ abbrev pub Showing : Type 1
 Showing = List EntryData → Asked → AccountFault → Type 0
 
 -- what was got for what was said is right, where the seat's own entries were these: a fault is shown to be the account's
-abbrev pub IsRight : Showing → List EntryData → Says → Got → Type 0
-IsRight Shows mine (Asks asked) (Ok reply) = Unit {0}
-IsRight Shows mine (Asks asked) (Err fault) = Shows mine asked fault
-IsRight Shows mine (Sends orders) got = Unit {0}
-IsRight Shows mine Finished got = Unit {0}
+abbrev pub IsRightlyGot : Showing → List EntryData → Says → Got → Type 0
+IsRightlyGot Shows mine (Asks asked) (Ok reply) = Unit {0}
+IsRightlyGot Shows mine (Asks asked) (Err fault) = Shows mine asked fault
+IsRightlyGot Shows mine (Sends orders) got = Unit {0}
+IsRightlyGot Shows mine Finished got = Unit {0}
 
 -- all that was got in a talk is right, each in its place: there the seat had what it had before the talk, and what the asks had entered until then
-abbrev pub AreRight : Showing → ℕ → Says × Phase → List EntryData → List Got → Type 0
-AreRight Shows seat first before [] = Unit {0}
-AreRight Shows seat first before (got ∷ earlier) =
-    IsRight Shows (before ++ entries_of seat first earlier) (talked first earlier).0 got × AreRight Shows seat first before earlier
+abbrev pub AreRightlyGot : Showing → ℕ → Says × Phase → List EntryData → List Got → Type 0
+AreRightlyGot Shows seat first before [] = Unit {0}
+AreRightlyGot Shows seat first before (got ∷ earlier) =
+    IsRightlyGot Shows (before ++ entries_of seat first earlier) (talked first earlier).0 got × AreRightlyGot Shows seat first before earlier
 
 -- a talk from what is said first until no ask is left: where the dialogue is then, what it sends, what the seat has entered, why
 -- the account refused an ask last, if it did, and that each refusal was right
@@ -56,7 +56,7 @@ pub record IsTalk (Shows : Showing) (seat : ℕ) (first : Says × Phase) (before
   pub last : Says
   pub talks : talked first gots ≡ (last, phase)
   pub rests : is_ask last ≡ false
-  pub sends : orders ≡ sent_by last
+  pub sends : orders ≡ orders_sent_by last
   pub enters : after ≡ before ++ entries_of seat first gots
   pub refuses : refused ≡ last_fault gots
-  pub right : AreRight Shows seat first before gots
+  pub right : AreRightlyGot Shows seat first before gots

@@ -47,11 +47,11 @@ begins call called None = Rejects
 begins call called (Some place) = Begins call place called
 
 -- a message of a call without dialogue
-abbrev pub fresh : Setup → ℕ → SsfMsg → Verdict
-fresh setup call (InitialDp other calling called) = begins call called (home_of calling setup)
-fresh setup call (EventReport event leg mode) = Strays
-fresh setup call (ChargingReport active info) = Strays
-fresh setup call Ended = Strays
+abbrev pub fresh_call : Setup → ℕ → SsfMsg → Verdict
+fresh_call setup call (InitialDp other calling called) = begins call called (home_of calling setup)
+fresh_call setup call (EventReport event leg mode) = Strays
+fresh_call setup call (ChargingReport active info) = Strays
+fresh_call setup call Ended = Strays
 
 -- a message of a call with a dialogue, which takes it or refuses it. An InitialDp is refused wherever it is
 abbrev pub goes_on : ℕ → ℕ → Step → Verdict
@@ -60,7 +60,7 @@ goes_on call place (Err fault) = Strays
 
 -- a message, by the call's dialogue
 abbrev pub spoken : Setup → ℕ → ℕ → ℕ → SsfMsg → Option DialogueAt → Verdict
-spoken setup number at call message None = fresh setup call message
+spoken setup number at call message None = fresh_call setup call message
 spoken setup number at call message (Some standing) = goes_on call standing.place (on_message standing.phase number at message)
 
 -- what a post is about, by the setup and the dialogues

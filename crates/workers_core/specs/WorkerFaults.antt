@@ -4,6 +4,6 @@ use Rattle.workers_core.specs.declared.worker_fault.WorkerFault.{WorkerFault}
 use Rattle.workers_core.specs.declared.worker_fault.WorkerFault.TheVariants as fault
 
 -- the name of a fault
-abbrev pub name_of : WorkerFault → List ℕ
-name_of fault.OutOfMemory = codes "OutOfMemory"
-name_of fault.GateClosed = codes "GateClosed"
+abbrev pub worker_fault_name : WorkerFault → List ℕ
+worker_fault_name fault.OutOfMemory = codes "OutOfMemory"
+worker_fault_name fault.GateClosed = codes "GateClosed"

@@ -17,12 +17,12 @@ use Rattle.workers_core.specs.declared.worker.Talk.{Talk}
 use Rattle.workers_core.specs.declared.worker.Worker.{Worker}
 
 -- where a talk is
-abbrev pub standing_of : Talk → DialogueAt
-standing_of talk = record { phase = phase_of talk.dialogue; place = talk.place }
+abbrev pub talk_standing : Talk → DialogueAt
+talk_standing talk = record { phase = phase_of talk.dialogue; place = talk.place }
 
 -- where the dialogues of a map are
 abbrev pub standings_in : List (ℕ × Talk) → ℕ → Option DialogueAt
-standings_in talks call = option_map standing_of (lookup (is_at (nat_cmp call)) talks)
+standings_in talks call = option_map talk_standing (lookup (is_at (nat_cmp call)) talks)
 
 -- the number of an account, by what says its terms
 abbrev pub number_by : {S : Type 0} → (S → Terms) → S → ℕ
@@ -77,7 +77,7 @@ pub record IsOwn (count : ℕ) (posts : List Post) (call : ℕ) (standing : Dial
   pub begun : Contains (begun_of posts) call
 
 -- what a worker holds is in order, where the accounts have these numbers
-pub record IsSound (accounts : List ℕ) (posts : List Post) (h : Holding) : Type 0 where
+pub record IsSoundHolding (accounts : List ℕ) (posts : List Post) (h : Holding) : Type 0 where
   pub served : AreServed accounts posts h.lists
   pub talks : (call : ℕ) → IfSome (h.talks call) (λ standing. IsOwn (length accounts) posts call standing)
 

@@ -5,10 +5,10 @@ ghost use Rattle.std.specs.BTreeMap.{is_at};
 ghost use Rattle.std.specs.Map.{lookup};
 ghost use Rattle.std.specs.Ordering.{nat_cmp};
 ghost use Rattle.workers_core.specs.Calls.{AreCalledIn, IsOnceCalled};
-ghost use Rattle.workers_core.specs.Cases.{HasRoom, IsAsked, IsCredited, IsRightlyActed, IsWithin, with_room};
+ghost use Rattle.workers_core.specs.Cases.{HasRoom, IsAsked, IsCredited, IsRightlyActed, CaseIsWithin, with_room};
 ghost use Rattle.workers_core.specs.Handled.{IsRecharged, IsTalked, answer_view};
 ghost use Rattle.workers_core.specs.Refusals.{RefusesAt, WasAt};
-ghost use Rattle.workers_core.specs.Workers.{standing_of, standings_in};
+ghost use Rattle.workers_core.specs.Workers.{talk_standing, standings_in};
 ghost use Rattle.dialogue_core.specs.Talks.{asks_after, asks_left};
 ghost use Rattle.account_core.specs.Events.{EntryData, asked_of};
 ghost use Rattle.shared_account.specs.Refusals.{IsRefusedAt, Refusal};
@@ -75,7 +75,7 @@ pub(crate) fn act<S: Shared, R: Wait, G: Gate>(
     case: Case,
 ) -> Result<Answer, WorkerFault>
     requires keys { map S.reads.key seats.old.items ≡ map S.key accounts.now }
-    requires within { IsWithin (length accounts.now) case }
+    requires within { CaseIsWithin (length accounts.now) case }
     requires room { HasRoom case talks.old }
     ensures same_keys { OnOk result (map S.reads.key seats.new.items ≡ map
         S.reads.key seats.old.items) }

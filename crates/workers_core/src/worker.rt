@@ -6,7 +6,7 @@ ghost use Rattle.account_core.specs.Events.{EntryData};
 ghost use Rattle.shared_account.specs.Refusals.{Refusal};
 ghost use Rattle.workers_core.specs.Handled.{IsRecharged, IsRightlyHandled, answer_view};
 ghost use Rattle.workers_core.specs.Refusals.{RefusesAt, WasAt};
-ghost use Rattle.workers_core.specs.Verdicts.{Recharges, Rejects, strays, verdict, fresh, goes_on, home_of, recharged};
+ghost use Rattle.workers_core.specs.Verdicts.{Recharges, Rejects, strays, verdict, fresh_call, goes_on, home_of, recharged};
 ghost use Rattle.workers_core.specs.Workers.{IsReady, accounts_of, holding, number_by, number_of, seats_of, setup_of, talks_of, standings_in};
 ghost use Rattle.workers_core.specs.Calls.{AreCalled};
 ghost use Rattle.workers_core.specs.Cases.{IsCase};
@@ -244,7 +244,7 @@ fn go_on(talk: Talk, number: u64, at: u64, call: u64, msg: SsfMsg) -> Case
 /// A message of a call without dialogue: an InitialDp begins one where the caller is a subscriber.
 fn begin(setup: &RunSetup, at: u64, call: u64, msg: SsfMsg) -> Case
     requires { at ≤ HORIZON }
-    ensures { IsCase setup.now at (fresh setup.now call msg) result }
+    ensures { IsCase setup.now at (fresh_call setup.now call msg) result }
 {
     let SsfMsg::InitialDp {
         calling,

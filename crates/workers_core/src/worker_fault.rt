@@ -1,7 +1,7 @@
 //! Why a worker gives up.
 
 ghost use Rattle.std.specs.Prelude.{◌≡◌, Some};
-ghost use Rattle.workers_core.specs.WorkerFaults.{name_of};
+ghost use Rattle.workers_core.specs.WorkerFaults.{worker_fault_name};
 ghost use Rattle.workers_core.specs.declared.worker_fault.WorkerFault.TheVariants as out;
 
 use std::alloc::{AllocError, AllocFailed};
@@ -18,7 +18,7 @@ pub enum WorkerFault {
 }
 
 impl fmt::Display for WorkerFault {
-    ghost output = { λ fault. Some (name_of fault) };
+    ghost output = { λ fault. Some (worker_fault_name fault) };
 
     fn fmt<W: fmt::Write>(&self, f: &mut fmt::Formatter<W>) -> fmt::Result {
         match self {

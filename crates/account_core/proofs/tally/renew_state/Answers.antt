@@ -1,5 +1,5 @@
 use Rattle.std.proofs.Common.{◌≡◌, ◌∙◌, ℕ, ap, subst}
-use Rattle.account_core.specs.CallStates.{Renews, state_of}
+use Rattle.account_core.specs.CallStates.{Renews, call_state_of}
 use Rattle.account_core.specs.Events.{entry_data}
 use Rattle.account_core.proofs.Moves.{its_call}
 use Rattle.account_core.proofs.Tallying.{tells_after, told_by}
@@ -10,7 +10,7 @@ returns-in_ok-renew-in-Ok-clause-legal c = λ yes opening until h tallied.
     let calls = c.args.calls.now in
     let event = entry_data c.args.entry in
     let here : c.call-call.result ≡ its_call event = c.call-call.ensures in
-    let state_is : c.state-state.result ≡ state_of calls (its_call event) = c.state-state.ensures ∙ ap (state_of calls) here in
+    let state_is : c.state-state.result ≡ call_state_of calls (its_call event) = c.state-state.ensures ∙ ap (call_state_of calls) here in
     let (answered, after_is) =
     c.in-Ok.ensures.legal opening until h
     (told_by opening until h calls c.args.funds c.args.available c.args.last_moment event tallied c.state-state.result state_is) in

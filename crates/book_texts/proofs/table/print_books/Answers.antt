@@ -1,5 +1,5 @@
 use Rattle.book_texts.proofs.TextLemmas.{all_so_far, one_more}
-use Rattle.book_texts.specs.BookTexts.{book_rows, book_text, header}
+use Rattle.book_texts.specs.BookTexts.{book_rows, book_text, book_header}
 use Rattle.book_texts.specs.Typed.{IsTyped}
 use Rattle.book_texts.proofs.table.print_books.Goals as goal
 
@@ -7,7 +7,7 @@ pub loop-book-preserved : goal.loop-book-preserved
 unfolding book_text
 loop-book-preserved c = (
   rw c.in_ok-write_book.ensures.text
-      (one_more (book_rows c.args.version) (header c.args.version) _ c.args.books.now c.loop-book.book-index c.book-item.result c.loop-book-test.true c.book-item.is c.loop-book.invariant.0),
+      (one_more (book_rows c.args.version) (book_header c.args.version) _ c.args.books.now c.loop-book.book-index c.book-item.result c.loop-book-test.true c.book-item.is c.loop-book.invariant.0),
   all_so_far IsTyped c.args.books.now c.loop-book.book-index c.book-item.result c.loop-book-test.true c.book-item.is c.loop-book.invariant.1
       c.in_ok-write_book.ensures.typed,
 )

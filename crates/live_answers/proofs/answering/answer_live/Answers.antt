@@ -2,7 +2,7 @@ use Rattle.std.proofs.Common.{◌∙◌, [], rules, sym, ap, subst, subst₂}
 use Rattle.live_answers.proofs.Chain.{answered, writes_on}
 use Rattle.live_answers.proofs.answering.answer_live.Goals as goal
 use Rattle.live_answers.specs.Live.{heard_in}
-use Rattle.live_answers.specs.Runs.{Answers}
+use Rattle.live_answers.specs.Runs.{AnswersLines}
 use Rattle.runs_core.specs.Hearing.{all_heard}
 use Rattle.table_core.proofs.Known.{if_known}
 
@@ -23,6 +23,6 @@ returns-clause-answered g c =
       lines = if_known (remaining c.args.input) _ (λ text known.
           let done = answered remaining contents logged c.args.replay _ ran.heard driver text ran.rounds made.replay made.given made.line made.said made.stage (ap remaining made.input ∙ known) in
           let from_there = rw (made.output, made.log) at done in
-          let said = subst (λ why. Answers c.args.replay why (heard_in text) (all_heard ran.heard) driver.given.items (contents c.args.output.now) (contents driver.output.now) (logged c.args.log.now) (logged driver.log.now)) (sym c.fault.ensures) from_there in
-          subst₂ (λ o l. Answers c.args.replay c.fault.result (heard_in text) (all_heard ran.heard) driver.given.items (contents c.args.output.now) (contents o) (logged c.args.log.now) (logged l)) (search rules) (search rules) said);
+          let said = subst (λ why. AnswersLines c.args.replay why (heard_in text) (all_heard ran.heard) driver.given.items (contents c.args.output.now) (contents driver.output.now) (logged c.args.log.now) (logged driver.log.now)) (sym c.fault.ensures) from_there in
+          subst₂ (λ o l. AnswersLines c.args.replay c.fault.result (heard_in text) (all_heard ran.heard) driver.given.items (contents c.args.output.now) (contents o) (logged c.args.log.now) (logged l)) (search rules) (search rules) said);
     }

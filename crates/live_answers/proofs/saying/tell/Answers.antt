@@ -2,7 +2,7 @@ use Rattle.std.proofs.Common.{◌+◌, ◌-◌, ◌++◌, ◌∙◌, drop, map, 
 use Rattle.live_answers.proofs.GroupLemmas.{at_least, line_more, next_left, no_more, rows_more}
 use Rattle.live_answers.proofs.saying.tell.Goals as goal
 use Rattle.live_answers.specs.Groups.{group_rows}
-use Rattle.live_answers.specs.Said.{said_of}
+use Rattle.live_answers.specs.Said.{line_view_of}
 use Rattle.run_trace.proofs.RowLemmas.{got}
 
 pub loop-one-preserved : goal.loop-one-preserved
@@ -21,8 +21,8 @@ loop-one-preserved g c =
     let more = line_more replay c.loop-one.line place one (drop i said) (drop (i + 1) said) c.next_line-line.result c.next_place-place.result here behind next in
     let told = rows_more replay first answers c.loop-one.line place one (drop (i + 1) said) (string_bytes c.loop-one.text) (string_bytes c.write_line_rows.new.text)
     c.next_line-line.result c.next_place-place.result _ here behind (got answers (place - first) c.get-answer.result c.get-answer.ensures.lookup) c.in_ok-write_line_rows.ensures in (
-      omega (arith, low, at_least (said_of one) place, behind),
-      omega (arith, high, no_more (said_of one) place, behind),
+      omega (arith, low, at_least (line_view_of one) place, behind),
+      omega (arith, high, no_more (line_view_of one) place, behind),
       more ∙ line,
-      told ∙ ap (λ l. string_bytes c.loop-one.text ++ group_rows replay first answers c.loop-one.line place (map said_of l)) (sym next) ∙ rows,
+      told ∙ ap (λ l. string_bytes c.loop-one.text ++ group_rows replay first answers c.loop-one.line place (map line_view_of l)) (sym next) ∙ rows,
     )

@@ -2,7 +2,7 @@ use Rattle.std.proofs.Common.{◌≡◌, ◌≤◌, length, arith}
 use Rattle.std.specs.IoError.{error_kind}
 use Rattle.prepaid_command.proofs.InputLemmas.{failed_may_come, fits, run_fault, same_bytes}
 use Rattle.prepaid_command.proofs.Known.{if_known}
-use Rattle.prepaid_command.specs.Faults.{Refuses}
+use Rattle.prepaid_command.specs.Faults.{RefusesCommand}
 use Rattle.prepaid_command.specs.Input.{sized}
 use Rattle.prepaid_command.proofs.input.read_input.Goals as goal
 
@@ -17,5 +17,5 @@ returns-in-Ok-2 g c =
     }
 
 pub returns-in-Err-clause-read : goal.returns-in-Err-clause-read
-returns-in-Err-clause-read g c = if_known (g.I.Read.remaining c.args.input) (λ text. Refuses c.fault_of.result (sized text)) (λ text known.
+returns-in-Err-clause-read g c = if_known (g.I.Read.remaining c.args.input) (λ text. RefusesCommand c.fault_of.result (sized text)) (λ text known.
     run_fault c.fault_of.result (sized text) (failed_may_come (error_kind c.in-Err.error) c.fault_of.result c.fault_of.ensures.exact))

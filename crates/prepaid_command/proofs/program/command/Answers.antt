@@ -2,9 +2,9 @@ use Rattle.std.proofs.Common.{Global, inl, inr, refl, ℕ, string_bytes}
 use Rattle.std.specs.Prelude.{Vec, option_map}
 use Rattle.tariff_core.specs.RatesOf.{rates_of}
 use Rattle.command_words.specs.Arguments.{AsksFor}
-use Rattle.command_words.specs.QuoteWishes.{wish_of}
+use Rattle.command_words.specs.QuoteWishes.{quote_wish_of}
 use Rattle.command_words.specs.Wishes.{Wish, Audits, Prices, Quotes, Replays, Runs, RunsInto}
-use Rattle.rating.specs.SaidOf.{wish_of as rate_wish_of}
+use Rattle.rating.specs.SaidOf.{rate_wish_of as rate_wish_of}
 use Rattle.run_options.specs.Logs.{log_wish_of}
 use Rattle.run_options.specs.Options.{ask_of, live_ask_of}
 use Rattle.prepaid_command.proofs.AnswerLemmas.{audit_of, filed_of, gives_known, helped_plainly, none_added, price_wished, quote_of, refused_words_told, replay_wished, run_added, run_of, wished}
@@ -81,7 +81,7 @@ returns-in-Ok-Audit-clause-answers g c =
 pub returns-in-Ok-Quote-clause-answers : goal.returns-in-Ok-Quote-clause-answers
 returns-in-Ok-Quote-clause-answers g c =
     inl (wished (λ (bytes : Vec ℕ Global). bytes.items) string_bytes telling_of _ _ _ _ (g.I.Read.remaining c.args.input) c.quote_input-answer.new.kept c.over-in-Ok-Quote.result.more c.over-in-Ok-Quote.result.answer
-    c.quote_input-answer.result c.explains-explains.result (Quotes (wish_of c.in-Ok-Quote.ask)) (quote_of (wish_of c.in-Ok-Quote.ask)) (rw c.in-Ok-Quote.field-0-is at c.in-Ok-Quote.ensures)
+    c.quote_input-answer.result c.explains-explains.result (Quotes (quote_wish_of c.in-Ok-Quote.ask)) (quote_of (quote_wish_of c.in-Ok-Quote.ask)) (rw c.in-Ok-Quote.field-0-is at c.in-Ok-Quote.ensures)
     c.quote_input-answer.ensures.answer c.over-in-Ok-Quote.ensures.answer c.explains-explains.ensures
     c.over-in-Ok-Quote.ensures.only c.quote_input-answer.ensures.kept c.over-in-Ok-Quote.ensures.none c.over-in-Ok-Quote.ensures.said
     (none_added _ string_bytes telling_of (g.I.Read.remaining c.args.input) c.over-in-Ok-Quote.result.more c.quote_input-answer.result c.over-in-Ok-Quote.ensures.plain) c.tell-in-Ok-Quote.ensures.told)

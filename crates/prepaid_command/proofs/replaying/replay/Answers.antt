@@ -5,7 +5,7 @@ use Rattle.table_core.proofs.Known.{map_known}
 use Rattle.table_core.proofs.TableLemmas.{ended, header_stays, not_opened, opened, refused, refuses, row_columns, stopped, taken, told}
 use Rattle.prepaid_command.specs.AskingOf.{asking_of}
 use Rattle.prepaid_command.specs.Asks.{asks_form, asks_of}
-use Rattle.prepaid_command.specs.Replays.{lines_of, replayed}
+use Rattle.prepaid_command.specs.Replays.{replayed_lines, replayed}
 use Rattle.prepaid_command.proofs.ReplayLemmas.{has_operation, ledger_after, none_replayed, one_replayed, step, teller_after}
 use Rattle.prepaid_command.proofs.replaying.replay.Goals as goal
 
@@ -13,7 +13,7 @@ pub returns-in_err-table : goal.returns-in_err-table
 returns-in_err-table g c =
     told (g.I.Read.remaining c.args.reader) _ c.from_residual.result c.in_err-table.field-0.0 _ (λ text. replayed c.args.opening c.args.limit (rows_of text)) c.from_residual.ensures.1
     (not_opened asks_form g.I.Read.remaining _ c.in_err-table.field-0.0 c.in_err-table.ensures.opens)
-    (λ text. refuses asks_form (λ row why. refl) (lines_of c.args.opening None c.args.limit []) (λ why. refl) c.in_err-table.field-0.0 (asks_of (rows_of text)))
+    (λ text. refuses asks_form (λ row why. refl) (replayed_lines c.args.opening None c.args.limit []) (λ why. refl) c.in_err-table.field-0.0 (asks_of (rows_of text)))
 
 pub loop-text-init : goal.loop-text-init
 loop-text-init g c = (
@@ -29,7 +29,7 @@ returns-in_err-next_row g c =
     let (asks, ledger, read, teller_is, replay) = c.loop-text.invariant in
     told (g.I.Read.remaining c.args.reader) _ c.from_residual-in_err-next_row.result c.in_err-next_row.field-0.0 _ (λ text. replayed c.args.opening c.args.limit (rows_of text)) c.from_residual-in_err-next_row.ensures.1
     (stopped asks_form g.I.Read.remaining _ c.loop-text.table c.next_row.new.self asks read c.in_err-next_row.field-0.0 c.in_err-next_row.ensures.steps)
-    (λ text. refuses asks_form (λ row why. refl) (lines_of c.args.opening None c.args.limit []) (λ why. refl) c.in_err-next_row.field-0.0 (asks_of (rows_of text)))
+    (λ text. refuses asks_form (λ row why. refl) (replayed_lines c.args.opening None c.args.limit []) (λ why. refl) c.in_err-next_row.field-0.0 (asks_of (rows_of text)))
 
 pub read_ask-requires : goal.read_ask-requires
 read_ask-requires g c =
@@ -47,7 +47,7 @@ returns-in-Err g c =
     rw c.fault.ensures (map_known (g.I.Read.remaining c.args.reader) _ _
     (refused asks_form g.I.Read.remaining _ c.loop-text.table c.next_row.new.self asks read c.in-Err.kind
     next (rw c.if-branch.true at c.in_ok-next_row.ensures.steps) (rw why refl))
-    (λ text is. ap (lines_of c.args.opening None c.args.limit []) is))
+    (λ text is. ap (replayed_lines c.args.opening None c.args.limit []) is))
 
 pub apply-requires : goal.apply-requires
 apply-requires g c =

@@ -2,7 +2,7 @@ use Rattle.std.proofs.Common.{◌≡◌, ◌≤◌, true, All}
 use Rattle.std.specs.BTreeMap.{get}
 use Rattle.std.specs.Ordering.{nat_cmp}
 use Rattle.run_parts.proofs.Orders.{in_order, in_range, of_each}
-use Rattle.run_texts.specs.Views.{are_in_order}
+use Rattle.run_texts.specs.Views.{rows_are_in_order}
 use Rattle.run_texts.specs.declared.script.ScriptRow.{ScriptRow}
 use Rattle.tariff_core.specs.declared.times.TheConstants.{LAST_MOMENT}
 use Rattle.run_parts.proofs.division.divide.Goals as goal
@@ -16,6 +16,6 @@ returns-clause-in_range c =
 
 pub returns-clause-in_order : goal.returns-clause-in_order
 returns-clause-in_order c =
-    λ are. of_each (λ pile. pile.items) (λ rows. are_in_order 0 rows ≡ true) c.in_ok-firsts.firsts (get nat_cmp c.in_ok-payers.payers) c.args.script.items c.in_ok-scripts.scripts.items
+    λ are. of_each (λ pile. pile.items) (λ rows. rows_are_in_order 0 rows ≡ true) c.in_ok-firsts.firsts (get nat_cmp c.in_ok-payers.payers) c.args.script.items c.in_ok-scripts.scripts.items
     (rw (c.as_slice-4.ensures.value) at c.in_ok-scripts.ensures)
     (λ part. in_order c.in_ok-firsts.firsts (get nat_cmp c.in_ok-payers.payers) c.args.script.items part are)

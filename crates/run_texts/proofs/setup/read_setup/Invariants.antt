@@ -1,5 +1,5 @@
 use Rattle.std.proofs.Common.{◌≡◌, ◌+◌, ◌≤◌, length}
-use Rattle.table_core.specs.Reading.{number_of, room_of}
+use Rattle.table_core.specs.Reading.{row_number_of, room_of}
 use Rattle.table_core.proofs.TableLemmas.{IsRead}
 use Rattle.run_texts.specs.Setups.{setup_form}
 use Rattle.run_texts.specs.Views.{setup_in}
@@ -8,9 +8,9 @@ use Rattle.run_texts.proofs.setup.read_setup.Given as goal
 -- the rows so far
 abbrev pub invariant-loop-directory : goal.invariant-loop-directory
 invariant-loop-directory g l = record {
-  within : number_of l.table ≤ 10001;
+  within : row_number_of l.table ≤ 10001;
   few : length l.directory.accounts ≤ 1000;
-  count : length l.directory.accounts + length l.directory.subscribers + 1 ≡ number_of l.table;
+  count : length l.directory.accounts + length l.directory.subscribers + 1 ≡ row_number_of l.table;
   so_far : IsRead setup_form g.I.Read.remaining (g.I.Read.remaining l.fn.reader) l.table (setup_in l.directory);
 }
 

@@ -3,7 +3,7 @@ use Rattle.std.specs.Vec.Iter.{into_iter_items}
 use Rattle.std.proofs.lemmas.List.{append-nil, append_assoc}
 use Rattle.shared_account.specs.Closed.{Closed}
 use Rattle.runs_core.proofs.Shifting.{empty_by}
-use Rattle.runs_core.specs.Closing.{AreBooksOf}
+use Rattle.runs_core.specs.Closing.{AreBooksOfSeats}
 use Rattle.runs_core.proofs.serving.close_each.Goals as goal
 
 pub loop-account-preserved : goal.loop-account-preserved
@@ -11,11 +11,11 @@ loop-account-preserved g c =
     let rows : into_iter_items c.loop-account.rows_left ≡ c.in-Some-next.seats ∷ into_iter_items c.next-in-loop-account.new.self = search rules in
     let before = rw (c.in-Some.ensures.steps.0, rows) at c.loop-account.invariant in
     let book = c.in_ok-close.field-0 in
-    let done : List Closed → Type 0 = λ later. AreBooksOf g.S.Shared.reads g.S.Shared.was g.S.Shared.stood (map g.S.Shared.terms c.args.accounts.items) (map (λ row. row.items) c.args.rows.items) (c.loop-account.books.items ++ later) in
-    let more = subst (λ seats. (later : List Closed) → AreBooksOf g.S.Shared.reads g.S.Shared.was g.S.Shared.stood (g.S.Shared.terms c.in-Some.account ∷ map g.S.Shared.terms (into_iter_items c.next.new.self)) (map (λ row. row.items) seats) later → done later) rows before.1 in
+    let done : List Closed → Type 0 = λ later. AreBooksOfSeats g.S.Shared.reads g.S.Shared.was g.S.Shared.stood (map g.S.Shared.terms c.args.accounts.items) (map (λ row. row.items) c.args.rows.items) (c.loop-account.books.items ++ later) in
+    let more = subst (λ seats. (later : List Closed) → AreBooksOfSeats g.S.Shared.reads g.S.Shared.was g.S.Shared.stood (g.S.Shared.terms c.in-Some.account ∷ map g.S.Shared.terms (into_iter_items c.next.new.self)) (map (λ row. row.items) seats) later → done later) rows before.1 in
     rw (c.in_ok-push.ensures.items) (
       before.0.1,
-      λ later are. subst (AreBooksOf g.S.Shared.reads g.S.Shared.was g.S.Shared.stood (map g.S.Shared.terms c.args.accounts.items) (map (λ row. row.items) c.args.rows.items))
+      λ later are. subst (AreBooksOfSeats g.S.Shared.reads g.S.Shared.was g.S.Shared.stood (map g.S.Shared.terms c.args.accounts.items) (map (λ row. row.items) c.args.rows.items))
           (sym (append_assoc c.loop-account.books.items (book ∷ []) later)) (more (book ∷ later) (c.in_ok-close.ensures.book, c.in_ok-close.ensures.shows, are)),
       before.2.1,
     )
@@ -24,5 +24,5 @@ pub returns-clause-books : goal.returns-clause-books
 returns-clause-books g c =
     let none : into_iter_items c.loop-account.account-iterator ≡ [] = empty_by _ (omega (arith, c.in-None.ensures.steps.0, c.loop-account.account-iterator.rest.ok)) in
     let left = rw (none) at c.loop-account.invariant in
-    subst (AreBooksOf g.S.Shared.reads g.S.Shared.was g.S.Shared.stood (map g.S.Shared.terms c.args.accounts.items) (map (λ row. row.items) c.args.rows.items))
+    subst (AreBooksOfSeats g.S.Shared.reads g.S.Shared.was g.S.Shared.stood (map g.S.Shared.terms c.args.accounts.items) (map (λ row. row.items) c.args.rows.items))
     (append-nil c.loop-account.books.items) (left.1 [] tt)

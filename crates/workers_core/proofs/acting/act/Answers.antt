@@ -4,7 +4,7 @@ use Rattle.account_core.specs.Asked.{Credits}
 use Rattle.cap_values.specs.Orders.{orders_of}
 use Rattle.dialogue_core.specs.Phases.{Asks}
 use Rattle.dialogue_core.specs.Views.{phase_of, says_of}
-use Rattle.dialogue_core.specs.Talks.{is_ask, sent_by}
+use Rattle.dialogue_core.specs.Talks.{is_ask, orders_sent_by}
 use Rattle.workers_core.specs.Handled.{answer_view}
 use Rattle.workers_core.specs.Workers.{standings_in}
 use Rattle.workers_core.proofs.Doings.{as_many, grown_at, mine_at, numbered_at, on_ok, own_account, recharged_by, same_seats, stands_now, talked_by, was_at, was_there}
@@ -130,7 +130,7 @@ returns-in-Ok-clause-called g c =
         gots = talk.gots;
         called = calls_for _ _ g.S.Shared.reads g.S.Shared.was g.S.Shared.calls _ _ talk.gots _ talk.are_got;
         rests = ap (λ said. is_ask said.0) talk.talks ∙ talk.rests;
-        orders = talk.sends ∙ ap (λ said. sent_by said.0) (sym talk.talks);
+        orders = talk.sends ∙ ap (λ said. orders_sent_by said.0) (sym talk.talks);
         refused = fault_told _ _ g.S.Shared.reads g.S.Shared.was g.S.Shared.calls _ _ talk.gots _ talk.are_got refl;
       };
     })

@@ -1,6 +1,6 @@
 use Rattle.std.proofs.Common.{◌≡◌, ◌∙◌, [], List, ap, length, subst, sym}
 use Rattle.account_core.specs.Answers.{IsLegalPast}
-use Rattle.account_core.specs.Checked.{IsHeardOf, IsSumOf, counted}
+use Rattle.account_core.specs.Checked.{IsHeardOf, IsSumOf, entries_counted}
 use Rattle.account_core.specs.Events.{EntryData}
 use Rattle.account_core.specs.declared.history_check.Heard.TheVariants.{Nothing}
 use Rattle.account_core.proofs.Entering.{nothing_taken_yet}
@@ -18,7 +18,7 @@ returns-in-Nothing c = λ opening until h check.
       record {
         opening_is = ap (λ sum. sum.opening) said ∙ check.opening_is;
         available_is = ap (λ sum. sum.available) said ∙ check.opening_is ∙ sym (nothing_taken_yet opening);
-        entries_are = ap (λ sum. sum.entries) said ∙ check.entries_are ∙ ap (λ h. counted (length h)) empty;
+        entries_are = ap (λ sum. sum.entries) said ∙ check.entries_are ∙ ap (λ h. entries_counted (length h)) empty;
         calls_are = no_sums c.come_to.result.calls.items (ap (λ sum. sum.calls.items) said ∙ c.new.ensures.items);
       },
     )

@@ -2,7 +2,7 @@ use Rattle.std.proofs.Common.{◌≡◌, ◌+◌, ◌%◌, ◌<◌, ◌≤◌, t
 use Rattle.std.specs.Prelude.{All}
 use Rattle.std.proofs.lemmas.Bool.{cases_lt}
 use Rattle.tariff_core.specs.Bands.{counts_on, weekday}
-use Rattle.tariff_core.specs.Digits.{digits_of}
+use Rattle.tariff_core.specs.Digits.{text_of_digits}
 use Rattle.tariff_core.specs.declared.place.Place.{Place}
 use Rattle.tariff_core.specs.declared.row.Row.{Row}
 use Rattle.tariff_core.specs.declared.times.TheConstants.{DAY}
@@ -17,8 +17,8 @@ pub returns-in_err-row-clause-none : goal.returns-in_err-row-clause-none
 returns-in_err-row-clause-none c =
     let none = none_of c.self.inside.by_days (weekday c.args.now) c.key_of-day.result (keyed_at _ c.args.now _ _ c.weekday.ensures.value c.key_of-day.ensures) c.args.prefix 0 (c.since_midnight.result + 1) c.self.inside.index c.self.inside.rows.items c.range.result
     c.self.invariant.indexed (c.range.ensures.in_range tt) c.in_err-row.ensures.steps.0 in
-    let all : All (λ band. band.prefix ≡ digits_of c.args.prefix → counts_on (weekday c.args.now) band ≡ true → c.args.now % DAY < band.start) c.args.self.now =
-    rw (← c.self.view_is) (each_row c.self.inside.rows.items (λ band. band.prefix ≡ digits_of c.args.prefix → counts_on (weekday c.args.now) band ≡ true → c.args.now % DAY < band.start) (λ row listed own counts.
+    let all : All (λ band. band.prefix ≡ text_of_digits c.args.prefix → counts_on (weekday c.args.now) band ≡ true → c.args.now % DAY < band.start) c.args.self.now =
+    rw (← c.self.view_is) (each_row c.self.inside.rows.items (λ band. band.prefix ≡ text_of_digits c.args.prefix → counts_on (weekday c.args.now) band ≡ true → c.args.now % DAY < band.start) (λ row listed own counts.
     elim (cases_lt (c.args.now % DAY) row.start) [
       | inl after ↦ after
       | inr begun ↦ absurd (none row listed (record { own = own; counts = counts; from_start = omega arith; to_end = omega (arith, begun, c.since_midnight.ensures.value) }))
@@ -37,6 +37,6 @@ returns-clause-row c =
       own = entry.row_of.own;
       counts = entry.row_of.counts;
       begun = omega (arith, entry.row_of.to_end, c.since_midnight.ensures.value);
-      latest = each_row c.self.inside.rows.items (λ other. other.prefix ≡ digits_of c.args.prefix → counts_on (weekday c.args.now) other ≡ true → other.start ≤ c.args.now % DAY → other.start ≤ c.in_ok-row.row.now.start) (λ row listed own counts begun.
+      latest = each_row c.self.inside.rows.items (λ other. other.prefix ≡ text_of_digits c.args.prefix → counts_on (weekday c.args.now) other ≡ true → other.start ≤ c.args.now % DAY → other.start ≤ c.in_ok-row.row.now.start) (λ row listed own counts begun.
           latest row listed (record { own = own; counts = counts; from_start = omega arith; to_end = omega (arith, begun, c.since_midnight.ensures.value) }));
     })

@@ -9,7 +9,7 @@ use Rattle.tariff_core.specs.Bands.{Band}
 use Rattle.tariff_core.specs.Tariff.{Indexes, band_of}
 use Rattle.tariff_core.specs.declared.place.Place.{Place}
 use Rattle.tariff_core.specs.declared.row.Row.{Row}
-use Rattle.tariff_core.specs.TariffTable.{Gives, bands_of, tariff_form}
+use Rattle.tariff_core.specs.TariffTable.{GivesBands, bands_of, tariff_form}
 use Rattle.tariff_core.specs.declared.tariff_fault.TariffKind.TheVariants as kind
 use Rattle.tariff_core.proofs.IndexLemmas.{count_more, indexes_none, keeps_indexed, rows_more}
 use Rattle.tariff_core.proofs.Known.{at_known, if_known}
@@ -17,7 +17,7 @@ use Rattle.tariff_core.proofs.TableLemmas.{bands_not_before, given_up, has_colum
 use Rattle.tariff_core.proofs.bands.Bands.read.Goals as goal
 
 pub returns-in-Err : goal.returns-in-Err
-returns-in-Err g c = if_known (g.R.Read.remaining c.args.reader) (λ text. Gives (Err c.at.result) (bands_of (rows_of text))) (λ text known.
+returns-in-Err g c = if_known (g.R.Read.remaining c.args.reader) (λ text. GivesBands (Err c.at.result) (bands_of (rows_of text))) (λ text known.
     rw c.at.ensures (given_up 1 c.in-Err.fault (bands_of (rows_of text)) (bands_not_before (rows_of text))
     (at_known _ _ text known (not_opened tariff_form g.R.Read.remaining _ c.in-Err.fault c.in-Err.ensures.opens))))
 
@@ -31,7 +31,7 @@ loop-found-init g c = record {
 }
 
 pub returns-in-Err-next_row : goal.returns-in-Err-next_row
-returns-in-Err-next_row g c = if_known (g.R.Read.remaining c.args.reader) (λ text. Gives (Err c.at-in-Err-next_row.result) (bands_of (rows_of text))) (λ text known.
+returns-in-Err-next_row g c = if_known (g.R.Read.remaining c.args.reader) (λ text. GivesBands (Err c.at-in-Err-next_row.result) (bands_of (rows_of text))) (λ text known.
     let so_far = c.loop-found.invariant.so_far in
     rw (c.at-in-Err-next_row.ensures, c.number.ensures, c.in-Err-next_row.ensures.moves.1)
     (given_up _ c.in-Err-next_row.fault (bands_of (rows_of text)) (none_before g.R.Read.remaining _ _ _ text known so_far)
@@ -55,7 +55,7 @@ by_header by_days kept row header index bands has_days same is indexed =
     let days = has_days ∙ ap (λ h. nat_le 3 h) (sym (is ∙ same)) in subst (λ by_days. Indexes by_days index bands) days indexed
 
 pub returns-in-Err-judge : goal.returns-in-Err-judge
-returns-in-Err-judge g c = if_known (g.R.Read.remaining c.args.reader) (λ text. Gives (Err (record { row = c.number-in-Err-judge.result; kind = c.in-Err-judge.kind })) (bands_of (rows_of text))) (λ text known.
+returns-in-Err-judge g c = if_known (g.R.Read.remaining c.args.reader) (λ text. GivesBands (Err (record { row = c.number-in-Err-judge.result; kind = c.in-Err-judge.kind })) (bands_of (rows_of text))) (λ text known.
     let next = rw c.if-not-found.false at c.in-Ok-next_row.ensures.moves in
     let why = rw (c.row.ensures, c.header.ensures, next.same.header) at (c.in-Err-judge.ensures _
     (by_header _ _ _ _ c.loop-found.index _ c.loop-found.invariant.has_days next.same.header c.header.ensures c.loop-found.invariant.indexed)) in
@@ -72,7 +72,7 @@ keep-requires g c none =
     (taken_band (header_of c.loop-found.table) _ (fields_of (row_of_table c.next_row.new.self)) (band_of c.in-Ok-judge.row) read).0
 
 pub returns-in-Err-keep : goal.returns-in-Err-keep
-returns-in-Err-keep g c = if_known (g.R.Read.remaining c.args.reader) (λ text. Gives (Err (record { row = c.number-in-Err-keep.result; kind = kind.OutOfMemory })) (bands_of (rows_of text))) (λ text known.
+returns-in-Err-keep g c = if_known (g.R.Read.remaining c.args.reader) (λ text. GivesBands (Err (record { row = c.number-in-Err-keep.result; kind = kind.OutOfMemory })) (bands_of (rows_of text))) (λ text known.
     let next = rw c.if-not-found.false at c.in-Ok-next_row.ensures.moves in
     rw (c.number-in-Err-keep.ensures, next.number) (none_before g.R.Read.remaining _ _ _ text known c.loop-found.invariant.so_far))
 

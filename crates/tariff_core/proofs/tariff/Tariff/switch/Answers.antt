@@ -1,6 +1,6 @@
 use Rattle.std.proofs.Common.{◌≡◌, ◌∙◌, ◌+◌, ◌%◌, sym, arith}
 use Rattle.std.specs.Prelude.{◌≢◌}
-use Rattle.tariff_core.specs.Digits.{digits_of}
+use Rattle.tariff_core.specs.Digits.{text_of_digits}
 use Rattle.tariff_core.specs.Routes.{IsBandAt, IsOnly, IsSoonest}
 use Rattle.tariff_core.specs.Tariff.{band_of}
 use Rattle.tariff_core.proofs.RangeLemmas.{if_none}
@@ -10,14 +10,14 @@ use Rattle.tariff_core.proofs.tariff.Tariff.switch.Goals.{then-band-gt0-via-then
 
 pub returns-in-Some-clause-switch : goal.returns-in-Some-clause-switch
 returns-in-Some-clause-switch c =
-    let soonest : IsSoonest c.args.self.now (digits_of c.args.prefix) c.args.now (band_of c.in-Some.next) = rw (← c.self.view_is) c.in-Some.ensures.row in
+    let soonest : IsSoonest c.args.self.now (text_of_digits c.args.prefix) c.args.now (band_of c.in-Some.next) = rw (← c.self.view_is) c.in-Some.ensures.row in
     let began : c.from.result ≡ c.args.now % 864000 = c.from.ensures ∙ c.since_midnight.ensures.value in
-    rw (began, c.from-in-Some.ensures) (today c.args.self.now (digits_of c.args.prefix) c.args.now (band_of c.args.band) (band_of c.in-Some.next) c.requires.band soonest c.in-Some.next.in_day)
+    rw (began, c.from-in-Some.ensures) (today c.args.self.now (text_of_digits c.args.prefix) c.args.now (band_of c.args.band) (band_of c.in-Some.next) c.requires.band soonest c.in-Some.next.in_day)
 
 pub returns-then-band-gt0-clause-switch : goal.returns-then-band-gt0-clause-switch
 returns-then-band-gt0-clause-switch c =
     let bands = c.args.self.now in
-    let prefix = digits_of c.args.prefix in
+    let prefix = text_of_digits c.args.prefix in
     let now = c.args.now in
     let band = band_of c.args.band in
     let next = band_of c.band_at-next.result in
@@ -35,7 +35,7 @@ returns-then-band-gt0-clause-switch c =
 pub returns-in_err-next-clause-only : goal.returns-in_err-next-clause-only
 returns-in_err-next-clause-only c =
     let bands = c.args.self.now in
-    let prefix = digits_of c.args.prefix in
+    let prefix = text_of_digits c.args.prefix in
     let now = c.args.now in
     let band = band_of c.args.band in
     let view : c.self.inside.bands ≡ bands = c.self.view_is in
@@ -51,7 +51,7 @@ returns-in_err-next-clause-only c =
 pub returns-then-at-now-clause-only : goal.returns-then-at-now-clause-only
 returns-then-at-now-clause-only c moment from to =
     let bands = c.args.self.now in
-    let prefix = digits_of c.args.prefix in
+    let prefix = text_of_digits c.args.prefix in
     let now = c.args.now in
     let band = band_of c.args.band in
     let next = band_of c.in_ok-next.next in
@@ -67,7 +67,7 @@ returns-then-at-now-clause-only c moment from to =
 pub returns-clause-switch : goal.returns-clause-switch
 returns-clause-switch c =
     let bands = c.args.self.now in
-    let prefix = digits_of c.args.prefix in
+    let prefix = text_of_digits c.args.prefix in
     let now = c.args.now in
     let band = band_of c.args.band in
     let next = band_of c.in_ok-next.next in
